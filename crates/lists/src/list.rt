@@ -1,0 +1,141 @@
+ghost use Rattle.std.specs.Prelude.{◌≡◌, [], ◌∷◌, ◌++◌, ◌<◌, ◌==◌, length, slice_get, OnOk, OnErr, Some, IfOk};
+
+use std::alloc::{AllocError, AllocFailed, Global};
+use std::marker::Model;
+use thiserror::Error;
+
+/// Want of memory. It is merged with no other answer.
+#[derive(Clone, Copy, Debug, PartialEq, Eq, Drop, Error)]
+#[error("out of memory")]
+pub struct NoMem;
+
+impl From<AllocError> for NoMem {
+    fn from(_: AllocError) -> NoMem {
+        NoMem
+    }
+}
+
+impl<T: Drop> From<AllocFailed<T>> for NoMem {
+    fn from(_: AllocFailed<T>) -> NoMem {
+        NoMem
+    }
+}
+
+/// A list that grows at its end.
+#[derive(Debug, Drop)]
+pub struct List<T> {
+    items: Vec<T>,
+}
+
+impl<T> Model for List<T> {
+    ghost use Rattle.std.specs.Prelude.{List};
+    ghost use Rattle.std.specs.Coded.{coded_list};
+
+    ghost Value = { List T };
+
+    ghost coded = { coded_list T.code };
+
+    ghost view = { λ list. list.items.items };
+}
+
+impl<T> List<T> {
+    /// An empty list, which takes no memory.
+    pub fn new(alloc: Global) -> List<T>
+        ensures { result ≡ [] }
+    {
+        List {
+            items: Vec::new(alloc),
+        }
+    }
+
+    /// How many items it holds.
+    pub fn len(&self) -> usize
+        ensures { result ≡ length self.now }
+    {
+        self.items.len()
+    }
+
+    /// Whether it holds none.
+    pub fn is_empty(&self) -> bool
+        ensures { result ≡ (length self.now == 0) }
+    {
+        self.items.is_empty()
+    }
+
+    /// Lends item `i`, counted from 0.
+    pub fn at(&self, i: usize) -> &T
+        requires { i < length self.now }
+        ensures { slice_get self.now i ≡ Some result.now }
+    {
+        &self.items[i]
+    }
+
+    /// Lends all items.
+    pub fn as_slice(&self) -> &[T]
+        ensures { result.now ≡ self.now }
+    {
+        self.items.as_slice()
+    }
+}
+
+impl<T: Drop> List<T> {
+    /// Appends one item. Where memory is wanting, the list stays as it was.
+    pub fn push(&mut self, item: T) -> Result<(), NoMem>
+        ensures ok { OnOk result (self.new ≡ self.old ++ item ∷ []) }
+        ensures err { OnErr result (self.new ≡ self.old) }
+    {
+        self.items.push(item)?;
+        Ok(())
+    }
+}
+
+impl<T: Copy> List<T> {
+    /// A list of the same items.
+    pub fn from_slice(alloc: Global, items: &[T]) -> Result<List<T>, NoMem>
+        ensures { IfOk result (λ list. list ≡ items.now) }
+    {
+        let items = Vec::from_slice(alloc, items)?;
+        Ok(List { items })
+    }
+
+    /// Appends all items in order. Where memory is wanting, the list stays as it was.
+    pub fn extend(&mut self, items: &[T]) -> Result<(), NoMem>
+        ensures ok { OnOk result (self.new ≡ self.old ++ items.now) }
+        ensures err { OnErr result (self.new ≡ self.old) }
+    {
+        self.items.extend_from_slice(items)?;
+        Ok(())
+    }
+}
+
+#[cfg(test)]
+mod tests {
+    use super::*;
+    use std::test::Fail;
+
+    #[test]
+    fn grows_at_its_end(rt: HostRuntime) -> Result<(), Fail> {
+        let mut list = List::new(rt.alloc());
+        assert!(rt; list.is_empty());
+        list.push(7u32)?;
+        list.push(9)?;
+        list.extend(&[11, 13])?;
+        assert_eq!(rt; list.len(), 4);
+        assert_eq!(rt; *list.at(1), 9);
+        assert_eq!(rt; list.as_slice(), [7, 9, 11, 13].as_slice());
+        assert!(rt; !list.is_empty());
+        Ok(())
+    }
+
+    #[test]
+    fn copies_a_slice(rt: HostRuntime) -> Result<(), Fail> {
+        let list = List::from_slice(rt.alloc(), b"abc")?;
+        assert_eq!(rt; list.as_slice(), b"abc".as_slice());
+        let error = NoMem;
+        assert_eq!(rt;
+            format!(in rt.alloc(); "{error}")?.as_str(),
+            "out of memory"
+        );
+        Ok(())
+    }
+}
