@@ -1,0 +1,56 @@
+-- Numbers and their bytes.
+use Rattle.std.specs.Prelude.{ℕ, ◌+◌, ◌*◌, ◌^◌, nat_le, Bool, true, false, if◌then◌else◌, List, [], ◌∷◌, length, reverse, ℤ, pos, ◌-ℤ◌, slice_index}
+use Rattle.std.specs.Int.{cast_signed, w8, w16, w32, w64}
+use Rattle.sbe_types.specs.declared.kind.Order.{Order}
+use Rattle.sbe_types.specs.declared.kind.Order.TheVariants.{Little, Big}
+use Rattle.sbe_types.specs.declared.kind.Primitive.{Primitive}
+use Rattle.sbe_types.specs.declared.kind.Primitive.TheVariants.{Char, I8, I16, I32, I64, U8, U16, U32, U64}
+
+-- how many bytes a primitive takes
+abbrev pub prim_width : Primitive → ℕ
+prim_width Char = 1
+prim_width I8 = 1
+prim_width I16 = 2
+prim_width I32 = 4
+prim_width I64 = 8
+prim_width U8 = 1
+prim_width U16 = 2
+prim_width U32 = 4
+prim_width U64 = 8
+
+abbrev pub is_signed : Primitive → Bool
+is_signed I8 = true
+is_signed I16 = true
+is_signed I32 = true
+is_signed I64 = true
+is_signed _ = false
+
+-- the bytes as the digits of a number, the highest first
+abbrev pub big_sum : List ℕ → ℕ
+big_sum [] = 0
+big_sum (b ∷ bs) = b * 256 ^ length bs + big_sum bs
+
+-- the same with the lowest digit first in little-endian order
+abbrev pub sum_in : Order → List ℕ → ℕ
+sum_in Big bs = big_sum bs
+sum_in Little bs = big_sum (reverse bs)
+
+-- n as a signed number of so many values: the upper half counts as below zero
+abbrev pub signed_of : ℕ → ℕ → ℤ
+signed_of values n = if nat_le values (2 * n) then pos n -ℤ pos values else pos n
+
+-- the number that the bytes of a primitive show
+abbrev pub number_of : Order → Primitive → List ℕ → ℤ
+number_of order prim bytes = if is_signed prim then signed_of (256 ^ prim_width prim) (sum_in order bytes) else pos (sum_in order bytes)
+
+-- the number that a primitive's bytes read as, by a reading of unsigned numbers
+abbrev pub read_as : (ℕ → List ℕ → ℕ) → Primitive → List ℕ → ℤ
+read_as number Char bs = pos (slice_index bs 0)
+read_as number U8 bs = pos (slice_index bs 0)
+read_as number I8 bs = cast_signed w8 (slice_index bs 0)
+read_as number U16 bs = pos (number 2 bs)
+read_as number I16 bs = cast_signed w16 (number 2 bs)
+read_as number U32 bs = pos (number 4 bs)
+read_as number I32 bs = cast_signed w32 (number 4 bs)
+read_as number U64 bs = pos (number 8 bs)
+read_as number I64 bs = cast_signed w64 (number 8 bs)

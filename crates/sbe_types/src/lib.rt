@@ -1,0 +1,24 @@
+//! The types of checked schemas and of messages, and the numbers that bytes show.
+#![tactic(auto)]
+
+mod kind;
+mod message;
+mod number;
+mod path;
+mod schema;
+
+pub use kind::{
+    ConstValue, Kind, Leaf, LeafShape, Member, MemberList, Named, NamedList, Order, Presence, Prim,
+    Primitive,
+};
+pub use lists::{Bytes, List, NoMem, Text};
+pub use message::{
+    Block, BlockList, DataVal, DataValList, Elem, ElemList, GroupVal, GroupValList, Msg, Value,
+    ValueList,
+};
+pub use number::get_num;
+pub use path::{Path, Step};
+pub use schema::{
+    DataField, DataFieldList, Field, FieldList, Group, GroupList, Header, Level, LevelList,
+    WireSchema,
+};
