@@ -1,1 +1,5 @@
 pub mod Numbers
+pub mod Places
+pub mod Shown
+pub mod Shows
+pub mod Wire

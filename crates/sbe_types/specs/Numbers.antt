@@ -1,5 +1,5 @@
 -- Numbers and their bytes.
-use Rattle.std.specs.Prelude.{ℕ, ◌+◌, ◌*◌, ◌^◌, nat_le, Bool, true, false, if◌then◌else◌, List, [], ◌∷◌, length, reverse, ℤ, pos, ◌-ℤ◌, slice_index}
+use Rattle.std.specs.Prelude.{ℕ, zero, suc, ◌+◌, ◌-◌, ◌*◌, ◌/◌, ◌%◌, ◌^◌, nat_le, nat_lt, Bool, true, false, if◌then◌else◌, List, [], ◌∷◌, length, reverse, ℤ, pos, negsuc, ◌-ℤ◌, slice_index, Option, Some, None}
 use Rattle.std.specs.Int.{cast_signed, w8, w16, w32, w64}
 use Rattle.sbe_types.specs.declared.kind.Order.{Order}
 use Rattle.sbe_types.specs.declared.kind.Order.TheVariants.{Little, Big}
@@ -42,6 +42,35 @@ signed_of values n = if nat_le values (2 * n) then pos n -ℤ pos values else po
 -- the number that the bytes of a primitive show
 abbrev pub number_of : Order → Primitive → List ℕ → ℤ
 number_of order prim bytes = if is_signed prim then signed_of (256 ^ prim_width prim) (sum_in order bytes) else pos (sum_in order bytes)
+
+-- the digits of n to the base 256, so many, the highest first
+abbrev pub big_digits : ℕ → ℕ → List ℕ
+big_digits zero n = []
+big_digits (suc k) n = (n / 256 ^ k) % 256 ∷ big_digits k n
+
+abbrev pub digits_in : Order → ℕ → ℕ → List ℕ
+digits_in Big k n = big_digits k n
+digits_in Little k n = reverse (big_digits k n)
+
+-- the unsigned number that stands for n among so many values, if one does
+abbrev pub unsigned_of : Bool → ℕ → ℤ → Option ℕ
+unsigned_of false values (pos n) = if nat_lt n values then Some n else None
+unsigned_of false values (negsuc n) = None
+unsigned_of true values (pos n) = if nat_lt (2 * n) values then Some n else None
+unsigned_of true values (negsuc n) = if nat_lt (2 * n) values then Some (values - suc n) else None
+
+abbrev pub has_bytes : Order → ℕ → Option ℕ → Option (List ℕ)
+has_bytes order k None = None
+has_bytes order k (Some n) = Some (digits_in order k n)
+
+-- the bytes of a primitive that show n, if n is one of its numbers
+abbrev pub bytes_of : Order → Primitive → ℤ → Option (List ℕ)
+bytes_of order prim n = has_bytes order (prim_width prim) (unsigned_of (is_signed prim) (256 ^ prim_width prim) n)
+
+-- a whole number without its sign: 0 where it is below zero
+abbrev pub natural : ℤ → ℕ
+natural (pos n) = n
+natural (negsuc n) = 0
 
 -- the number that a primitive's bytes read as, by a reading of unsigned numbers
 abbrev pub read_as : (ℕ → List ℕ → ℕ) → Primitive → List ℕ → ℤ

@@ -1,0 +1,133 @@
+-- How a message lies in a body.
+use Rattle.std.specs.Prelude.{◌≡◌, ℕ, ◌≤◌, Bool, Option, Some, None, List, [], ◌∷◌, ◌++◌, length, take, drop, IsTrue, pos, ⊤, slice_get, codes}
+use Rattle.std.specs.Bool.{MatchBool}
+use Rattle.sbe_types.specs.declared.kind.Order.{Order}
+use Rattle.sbe_types.specs.declared.kind.Member.{Member}
+use Rattle.sbe_types.specs.declared.schema.Field.{Field}
+use Rattle.sbe_types.specs.declared.schema.DataField.{DataField}
+use Rattle.sbe_types.specs.declared.schema.Group.{Group, Group'}
+use Rattle.sbe_types.specs.declared.schema.Level.{Level, Level', out-Level, Row_of-Group, end_of-Group, more_of-Group}
+use Rattle.sbe_types.specs.declared.schema.WireSchema.{WireSchema}
+use Rattle.sbe_types.specs.declared.message.Value.{Value}
+use Rattle.sbe_types.specs.declared.message.Value.TheVariants as value
+use Rattle.sbe_types.specs.declared.message.DataVal.{DataVal}
+use Rattle.sbe_types.specs.declared.message.DataVal.TheVariants as dataval
+use Rattle.sbe_types.specs.declared.message.Block.{Block, out-Block}
+use Rattle.sbe_types.specs.declared.message.GroupVal.{GroupVal}
+use Rattle.sbe_types.specs.declared.message.GroupVal.TheVariants as groupval
+use Rattle.sbe_types.specs.declared.message.Msg.{Msg}
+use Rattle.sbe_types.specs.Numbers.{number_of, prim_width}
+use Rattle.sbe_types.specs.Places.{width, begin_of, end_past, members_end}
+use Rattle.sbe_types.specs.Shown.{admits}
+use Rattle.sbe_types.specs.Shows.{Shows}
+use Rattle.sbe_wire.specs.Versions.{acting, is_known, is_alive, floor}
+use Rattle.sbe_wire.specs.Named.{number_named, is_admitted}
+
+-- ---- pieces of bytes, one after another
+
+-- the bytes are those of the items
+abbrev pub Joined : {X : Type 0} → (X → List ℕ → Type 0) → List X → List ℕ → Type 0
+Joined R [] b = b ≡ []
+Joined R (x ∷ xs) b = (front : List ℕ) × (back : List ℕ) × (b ≡ front ++ back) × R x front × Joined R xs back
+
+-- the bytes are those of the pairs
+abbrev pub JoinedBoth : {X Y : Type 0} → (X → Y → List ℕ → Type 0) → List X → List Y → List ℕ → Type 0
+JoinedBoth R [] [] b = b ≡ []
+JoinedBoth R [] (y ∷ ys) b = ⊥
+JoinedBoth R (x ∷ xs) [] b = ⊥
+JoinedBoth R (x ∷ xs) (y ∷ ys) b = (front : List ℕ) × (back : List ℕ) × (b ≡ front ++ back) × R x y front × JoinedBoth R xs ys back
+
+-- ---- a block; `known`: the version isn't above the schema's; `version`: the acting one
+
+-- a field behind fields that end at e: the bytes at its place show its value, or it isn't alive and is absent
+abbrev pub FieldLays : Order → Bool → ℕ → ℕ → Field → Value → List ℕ → Type 0
+FieldLays order known version e f v b =
+    MatchBool (is_alive version f.since) (Shows order known f.kind v (take (width f.kind) (drop (begin_of e f.offset) b))) (v ≡ value.Absent)
+
+abbrev pub FieldsLay : Order → Bool → ℕ → ℕ → List Field → List Value → List ℕ → Type 0
+FieldsLay order known version e [] [] b = ⊤
+FieldsLay order known version e [] (v ∷ vs) b = ⊥
+FieldsLay order known version e (f ∷ fs) [] b = ⊥
+FieldsLay order known version e (f ∷ fs) (v ∷ vs) b =
+    FieldLays order known version e f v b × FieldsLay order known version (end_past e f.offset f.kind) fs vs b
+
+-- the block reaches the floor, and its fields lie in it; what lies behind them is passed over
+abbrev pub BlockLays : Order → Bool → ℕ → List Field → List Value → List ℕ → Type 0
+BlockLays order known version fields values b = (floor version fields ≤ length b) × FieldsLay order known version 0 fields values b
+
+-- ---- data and groups
+
+-- a length number that is admitted, and so many bytes
+pub record DataLies (order : Order) (part : DataField) (bytes b : List ℕ) : Type 0 where
+  pub before : List ℕ
+  pub whole : b ≡ before ++ bytes
+  pub wide : length before ≡ prim_width part.length.prim
+  pub counts : number_of order part.length.prim before ≡ pos (length bytes)
+  pub admitted : IsTrue (admits part.length (pos (length bytes)))
+
+abbrev pub DataLays : Order → ℕ → DataField → DataVal → List ℕ → Type 0
+DataLays order version part v b =
+    MatchBool (is_alive version part.since)
+    ((bytes : List ℕ) × (v ≡ dataval.Bytes bytes) × DataLies order part bytes b)
+    ((v ≡ dataval.Absent) × (b ≡ []))
+
+-- the dimension says a block length and a count, and the count is admitted
+pub record DimensionLays (order : Order) (dim : List Member) (block count : ℕ) (b : List ℕ) : Type 0 where
+  pub wide : length b ≡ members_end 0 dim
+  pub says_block : number_named order dim (codes "blockLength") b ≡ block
+  pub says_count : number_named order dim (codes "numInGroup") b ≡ count
+  pub admitted : IsTrue (is_admitted dim (codes "numInGroup") count)
+
+-- a block of k bytes, and then the tail
+abbrev pub EntryLays : (Block → List ℕ → Type 0) → Order → Bool → ℕ → List Field → ℕ → Block → List ℕ → Type 0
+EntryLays Tail order known version fields k entry b =
+    (k ≤ length b) × BlockLays order known version fields (out-Block entry).fields (take k b) × Tail entry (drop k b)
+
+-- the dimension, and as many entries as it counts
+abbrev pub GroupLies : (Block → List ℕ → Type 0) → Order → Bool → ℕ → List Member → List Field → List Block → List ℕ → Type 0
+GroupLies Tail order known version dim fields entries b =
+    (k : ℕ) × (head : List ℕ) × (back : List ℕ) × (b ≡ head ++ back) × DimensionLays order dim k (length entries) head
+    × Joined (EntryLays Tail order known version fields k) entries back
+
+abbrev mutual
+  -- the groups of a level and then its data
+  pub TailLays : Order → Bool → ℕ → Level → Block → List ℕ → Type 0
+  TailLays order known version (Level' name id semantic since block_length fields _ groups parts) block b =
+      (front : List ℕ) × (back : List ℕ) × (b ≡ front ++ back) × GroupsLay order known version groups (out-Block block).groups front
+      × JoinedBoth (DataLays order version) parts (out-Block block).parts back
+
+  pub GroupsLay : Order → Bool → ℕ → {n : _} → Row_of-Group n → List GroupVal → List ℕ → Type 0
+  GroupsLay order known version end_of-Group [] b = b ≡ []
+  GroupsLay order known version end_of-Group (v ∷ vs) b = ⊥
+  GroupsLay order known version (more_of-Group g rest) [] b = ⊥
+  GroupsLay order known version (more_of-Group g rest) (v ∷ vs) b =
+      (front : List ℕ) × (back : List ℕ) × (b ≡ front ++ back) × GroupLays order known version g v front × GroupsLay order known version rest vs back
+
+  -- a group that isn't alive is absent and takes no bytes
+  pub GroupLays : Order → Bool → ℕ → Group → GroupVal → List ℕ → Type 0
+  GroupLays order known version (Group' dim level) v b =
+      MatchBool (is_alive version (out-Level level).since)
+      ((entries : List Block) × (v ≡ groupval.Entries entries)
+      × GroupLies (λ entry e. TailLays order known version level entry e) order known version dim (out-Level level).fields entries b)
+      ((v ≡ groupval.Absent) × (b ≡ []))
+
+-- ---- a message
+
+-- the header's four numbers
+pub record HeaderLays (schema : WireSchema) (block template version : ℕ) (b : List ℕ) : Type 0 where
+  pub wide : length b ≡ members_end 0 schema.header.members
+  pub says_block : number_named schema.order schema.header.members (codes "blockLength") b ≡ block
+  pub says_template : number_named schema.order schema.header.members (codes "templateId") b ≡ template
+  pub says_schema : number_named schema.order schema.header.members (codes "schemaId") b ≡ schema.id
+  pub says_version : number_named schema.order schema.header.members (codes "version") b ≡ version
+
+-- the body is the message: header, block, tail, and a rest that only a later version than the schema's may have
+abbrev pub Lays : WireSchema → Msg → List ℕ → Type 0
+Lays schema m body =
+    (level : Level) × (header : List ℕ) × (block : List ℕ) × (tail : List ℕ) × (rest : List ℕ)
+    × (slice_get schema.messages m.template ≡ Some level)
+    × (body ≡ header ++ block ++ tail ++ rest)
+    × HeaderLays schema (length block) (out-Level level).id m.version header
+    × BlockLays schema.order (is_known schema m.version) (acting schema m.version) (out-Level level).fields (out-Block m.block).fields block
+    × TailLays schema.order (is_known schema m.version) (acting schema m.version) level m.block tail
+    × (IsTrue (is_known schema m.version) → rest ≡ [])

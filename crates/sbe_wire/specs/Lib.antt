@@ -1,0 +1,9 @@
+pub mod Versions
+pub mod Named
+pub mod Lays
+pub mod Faults
+pub mod Reading
+pub mod Canonical
+pub mod Fits
+pub mod Misfit
+pub mod Rows

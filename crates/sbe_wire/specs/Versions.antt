@@ -1,0 +1,27 @@
+-- Versions: which parts of a schema stand in a message.
+use Rattle.std.specs.Prelude.{ℕ, min, nat_le, Bool, not, ◌&&◌, if◌then◌else◌, List, [], ◌∷◌}
+use Rattle.sbe_types.specs.declared.schema.Field.{Field}
+use Rattle.sbe_types.specs.declared.schema.WireSchema.{WireSchema}
+use Rattle.sbe_types.specs.Places.{is_const, end_past}
+
+-- the version by which a message with version w in its header is read
+abbrev pub acting : WireSchema → ℕ → ℕ
+acting schema w = min w schema.version
+
+-- the schema knows all parts of such a message
+abbrev pub is_known : WireSchema → ℕ → Bool
+is_known schema w = nat_le w schema.version
+
+-- a part stands on the wire from its effective since on
+abbrev pub is_alive : ℕ → ℕ → Bool
+is_alive version since = nat_le since version
+
+abbrev pub floor_from : ℕ → ℕ → ℕ → List Field → ℕ
+floor_from version e reached [] = reached
+floor_from version e reached (f ∷ fs) =
+    floor_from version (end_past e f.offset f.kind)
+    (if is_alive version f.since && not (is_const f.kind) then end_past e f.offset f.kind else reached) fs
+
+-- the end of the last field that is alive and no constant: a block has at least so many bytes
+abbrev pub floor : ℕ → List Field → ℕ
+floor version fields = floor_from version 0 0 fields

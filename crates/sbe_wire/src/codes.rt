@@ -1,0 +1,51 @@
+/// Why a body isn't a message, as `F01` to `F12`.
+#[derive(Clone, Copy, Debug, PartialEq, Eq)]
+pub enum FCode {
+    /// `F01`: the body is shorter than the header.
+    ShortHeader,
+    /// `F02`: the header's schema id is another.
+    SchemaId,
+    /// `F03`: no message has the header's template id.
+    Template,
+    /// `F04`: a block length is below the end of the fields that are alive.
+    BlockShort,
+    /// `F05`: a part needs more bytes than remain.
+    Truncated,
+    /// `F06`: a number is neither in its range nor null.
+    Range,
+    /// `F07`: an enum's number isn't listed.
+    EnumUnknown,
+    /// `F08`: a set has a bit that isn't listed.
+    SetUnknown,
+    /// `F09`: a text has a byte outside its range.
+    TextByte,
+    /// `F10`: a group's count isn't admitted.
+    Count,
+    /// `F11`: a data part's length isn't admitted.
+    Length,
+    /// `F12`: bytes stand behind the last part.
+    Trailing,
+}
+
+/// Why a message can't be written, as `N01` to `N09`.
+#[derive(Clone, Copy, Debug, PartialEq, Eq)]
+pub enum NCode {
+    /// `N01`: a number isn't admitted, or a text is too long or empty.
+    Range,
+    /// `N02`: an enum's number isn't listed.
+    EnumUnknown,
+    /// `N03`: a set has a bit that isn't listed.
+    SetUnknown,
+    /// `N04`: a text has a byte that may not stand in it.
+    TextByte,
+    /// `N05`: a value is of another kind.
+    Kind,
+    /// `N06`: a group has more or fewer entries than its count admits.
+    Count,
+    /// `N07`: a data part is longer or shorter than its length admits.
+    Length,
+    /// `N08`: the body passes the limit.
+    Full,
+    /// `N09`: the message isn't of the schema's shape.
+    Shape,
+}

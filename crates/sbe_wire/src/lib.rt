@@ -1,0 +1,8 @@
+//! The definitions of the wire: how a message lies in a body, what can be written, and what the
+//! first fault of a body is. They are stated in `specs/`; the code is the codes that they cite.
+#![tactic(auto)]
+
+mod codes;
+pub mod worked;
+
+pub use codes::{FCode, NCode};
