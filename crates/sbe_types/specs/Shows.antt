@@ -1,5 +1,5 @@
 -- Which value the bytes of a kind show.
-use Rattle.std.specs.Prelude.{◌≡◌, ℕ, ◌+◌, ◌*◌, Bool, true, false, not, ◌&&◌, ◌==◌, if◌then◌else◌, Option, Some, None, List, [], ◌∷◌, ◌++◌, length, take, drop, IsTrue, pos, ⊤}
+use Rattle.std.specs.Prelude.{◌≡◌, ◌≤◌, ℕ, ◌+◌, ◌*◌, Bool, true, false, not, ◌&&◌, ◌==◌, if◌then◌else◌, Option, Some, None, List, [], ◌∷◌, ◌++◌, length, take, drop, IsTrue, pos, ⊤}
 use Rattle.std.specs.List.{list_all}
 use Rattle.sbe_types.specs.declared.kind.Order.{Order}
 use Rattle.sbe_types.specs.declared.kind.LeafShape.{LeafShape}
@@ -41,11 +41,12 @@ abbrev pub ShowsText : LeafOf → Value → List ℕ → Type 0
 ShowsText leaf v b =
     (text : List ℕ) × (after : List ℕ) × (b ≡ text ++ after) × EndsText after × IsTrue (list_all (is_text_byte leaf) text) × (v ≡ text_value leaf text)
 
--- the elements of an array, in order
+-- the elements of an array, in order, and nothing behind them
 abbrev pub ShowsElements : Order → LeafOf → List Elem → List ℕ → Type 0
 ShowsElements order leaf [] b = b ≡ []
 ShowsElements order leaf (e ∷ es) b =
-    (shown_element leaf (number_of order leaf.prim (take (prim_width leaf.prim) b)) ≡ Some e) × ShowsElements order leaf es (drop (prim_width leaf.prim) b)
+    (prim_width leaf.prim ≤ length b) × (shown_element leaf (number_of order leaf.prim (take (prim_width leaf.prim) b)) ≡ Some e)
+    × ShowsElements order leaf es (drop (prim_width leaf.prim) b)
 
 abbrev pub ShowsArray : Order → LeafOf → Value → List ℕ → Type 0
 ShowsArray order leaf v b = (elements : List Elem) × (v ≡ value.Nums elements) × ShowsElements order leaf elements b

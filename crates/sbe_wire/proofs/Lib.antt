@@ -1,0 +1,4 @@
+pub mod Combine
+pub mod Judging
+pub mod TextLemmas
+pub mod Values

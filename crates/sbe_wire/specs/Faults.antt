@@ -20,7 +20,7 @@ use Rattle.sbe_types.specs.declared.message.Value.{Value}
 use Rattle.sbe_types.specs.declared.message.DataVal.{DataVal}
 use Rattle.sbe_types.specs.declared.message.Block.{Block, out-Block}
 use Rattle.sbe_types.specs.declared.message.GroupVal.{GroupVal}
-use Rattle.sbe_types.specs.Numbers.{number_of, prim_width}
+use Rattle.sbe_types.specs.Numbers.{number_of, natural, prim_width}
 use Rattle.sbe_types.specs.Places.{width, is_const, begin_of, end_past, members_end}
 use Rattle.sbe_types.specs.Shown.{shown, shown_element, admits}
 use Rattle.sbe_types.specs.Shows.{Shows, is_text_byte}
@@ -145,27 +145,33 @@ BlockFault order known version fields k fault b =
 
 -- ---- data and groups
 
+-- the count that a length number at the front of the bytes says
+abbrev pub count_of : Order → DataField → List ℕ → ℕ
+count_of order part b = natural (number_of order part.length.prim (take (prim_width part.length.prim) b))
+
 -- the length number is cut off, isn't admitted, or the bytes are cut off
 abbrev pub DataFault : Order → ℕ → DataField → Fault → List ℕ → Type 0
 DataFault order version part fault b =
-    let wide = prim_width part.length.prim in
-    let number = number_of order part.length.prim (take (prim_width part.length.prim) b) in
     IsTrue (is_alive version part.since)
-    × (TooShort wide fault b
-    ⊎ ((wide ≤ length b) × (admits part.length number ≡ false) × (fault ≡ fault_at code.Length 0 number))
-    ⊎ ((n : ℕ) × (wide ≤ length b) × (number ≡ pos n) × (admits part.length number ≡ true) × TooShort (wide + n) fault b))
+    × (TooShort (prim_width part.length.prim) fault b
+    ⊎ ((prim_width part.length.prim ≤ length b)
+    × (((admits part.length (pos (count_of order part b)) ≡ false) × (fault ≡ fault_at code.Length 0 (pos (count_of order part b))))
+    ⊎ ((admits part.length (pos (count_of order part b)) ≡ true) × TooShort (prim_width part.length.prim + count_of order part b) fault b))))
 
--- the dimension is cut off, its count isn't admitted, or its block length is below the floor where it counts entries
-abbrev pub DimensionFault : Order → List Member → ℕ → Fault → List ℕ → Type 0
-DimensionFault order dim least fault b =
-    let head = take (members_end 0 dim) b in
+-- the count isn't admitted, or the block length is below the floor where entries are counted
+abbrev pub DimensionRefused : Order → List Member → ℕ → Fault → List ℕ → Type 0
+DimensionRefused order dim least fault head =
     let block = number_named order dim (codes "blockLength") head in
     let count = number_named order dim (codes "numInGroup") head in
-    TooShort (members_end 0 dim) fault b
-    ⊎ ((members_end 0 dim ≤ length b) × (is_admitted dim (codes "numInGroup") count ≡ false)
-    × (fault ≡ fault_at code.Count (place_named dim (codes "numInGroup")) (pos count)))
-    ⊎ ((members_end 0 dim ≤ length b) × (is_admitted dim (codes "numInGroup") count ≡ true) × (0 < count) × (block < least)
+    ((is_admitted dim (codes "numInGroup") count ≡ false) × (fault ≡ fault_at code.Count (place_named dim (codes "numInGroup")) (pos count)))
+    ⊎ ((is_admitted dim (codes "numInGroup") count ≡ true) × (0 < count) × (block < least)
     × (fault ≡ fault_at code.BlockShort (place_named dim (codes "blockLength")) (pos block)))
+
+-- the dimension is cut off, or refused
+abbrev pub DimensionFault : Order → List Member → ℕ → Fault → List ℕ → Type 0
+DimensionFault order dim least fault b =
+    TooShort (members_end 0 dim) fault b
+    ⊎ ((members_end 0 dim ≤ length b) × DimensionRefused order dim least fault (take (members_end 0 dim) b))
 
 -- a fault of the block, or the block lays out and the tail has a fault
 abbrev pub EntryFault : (Fault → List ℕ → Type 0) → Order → Bool → ℕ → List Field → ℕ → Fault → List ℕ → Type 0
@@ -222,18 +228,23 @@ pub record HeadingLays (schema : WireSchema) (h : Heading) (b : List ℕ) : Type
   pub message : message_named 0 (out-Level h.level).id schema.messages ≡ Some (h.template, h.level)
 
 -- the header is of another schema, of no message, or its block length is below the floor
-abbrev pub HeadingFault : WireSchema → Fault → List ℕ → Type 0
-HeadingFault schema fault b =
+abbrev pub HeadingRefused : WireSchema → Fault → List ℕ → Type 0
+HeadingRefused schema fault head =
     let members = schema.header.members in
-    let head = take (members_end 0 members) b in
     let schema_id = number_named schema.order members (codes "schemaId") head in
     let template_id = number_named schema.order members (codes "templateId") head in
-    ((length b < members_end 0 members) × (fault ≡ fault_at code.ShortHeader 0 (pos (length b))))
-    ⊎ ((members_end 0 members ≤ length b) × (schema_id ≢ schema.id) × (fault ≡ fault_at code.SchemaId (place_named members (codes "schemaId")) (pos schema_id)))
-    ⊎ ((members_end 0 members ≤ length b) × (schema_id ≡ schema.id) × (message_named 0 template_id schema.messages ≡ None)
+    ((schema_id ≢ schema.id) × (fault ≡ fault_at code.SchemaId (place_named members (codes "schemaId")) (pos schema_id)))
+    ⊎ ((schema_id ≡ schema.id) × (message_named 0 template_id schema.messages ≡ None)
     × (fault ≡ fault_at code.Template (place_named members (codes "templateId")) (pos template_id)))
-    ⊎ ((h : Heading) × (members_end 0 members ≤ length b) × HeadingLays schema h head × (h.block < floor_in schema h)
+    ⊎ ((h : Heading) × HeadingLays schema h head × (h.block < floor_in schema h)
     × (fault ≡ fault_at code.BlockShort (place_named members (codes "blockLength")) (pos h.block)))
+
+-- the header is cut off, or refused
+abbrev pub HeadingFault : WireSchema → Fault → List ℕ → Type 0
+HeadingFault schema fault b =
+    let wide = members_end 0 schema.header.members in
+    ((length b < wide) × (fault ≡ fault_at code.ShortHeader 0 (pos (length b))))
+    ⊎ ((wide ≤ length b) × HeadingRefused schema fault (take wide b))
 
 abbrev pub HeadingGood : WireSchema → Heading → List ℕ → Type 0
 HeadingGood schema h b = HeadingLays schema h b × (floor_in schema h ≤ h.block)

@@ -16,7 +16,7 @@ use Rattle.sbe_types.specs.declared.message.Block.{Block, out-Block}
 use Rattle.sbe_types.specs.declared.message.GroupVal.{GroupVal}
 use Rattle.sbe_types.specs.declared.message.GroupVal.TheVariants as groupval
 use Rattle.sbe_types.specs.declared.message.Msg.{Msg}
-use Rattle.sbe_types.specs.Numbers.{number_of, prim_width}
+use Rattle.sbe_types.specs.Numbers.{number_of, natural, prim_width}
 use Rattle.sbe_types.specs.Places.{width, begin_of, end_past, members_end}
 use Rattle.sbe_types.specs.Shown.{admits}
 use Rattle.sbe_types.specs.Shows.{Shows}
@@ -62,7 +62,7 @@ pub record DataLies (order : Order) (part : DataField) (bytes b : List ℕ) : Ty
   pub before : List ℕ
   pub whole : b ≡ before ++ bytes
   pub wide : length before ≡ prim_width part.length.prim
-  pub counts : number_of order part.length.prim before ≡ pos (length bytes)
+  pub counts : natural (number_of order part.length.prim before) ≡ length bytes
   pub admitted : IsTrue (admits part.length (pos (length bytes)))
 
 abbrev pub DataLays : Order → ℕ → DataField → DataVal → List ℕ → Type 0

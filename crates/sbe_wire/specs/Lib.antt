@@ -3,6 +3,8 @@ pub mod Named
 pub mod Lays
 pub mod Faults
 pub mod Reading
+pub mod Agree
+pub mod Placed
 pub mod Canonical
 pub mod Fits
 pub mod Misfit

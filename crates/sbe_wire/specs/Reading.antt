@@ -23,7 +23,7 @@ use Rattle.sbe_types.specs.declared.message.Block.{Block}
 use Rattle.sbe_types.specs.declared.message.GroupVal.{GroupVal}
 use Rattle.sbe_types.specs.declared.message.GroupVal.TheVariants as groupval
 use Rattle.sbe_types.specs.declared.message.Msg.{Msg}
-use Rattle.sbe_types.specs.Numbers.{number_of, natural, prim_width}
+use Rattle.sbe_types.specs.Numbers.{number_of, prim_width}
 use Rattle.sbe_types.specs.Places.{width, is_const, begin_of, end_past, members_end}
 use Rattle.sbe_types.specs.Shown.{shown, shown_element, admits}
 use Rattle.sbe_types.specs.Shows.{is_text_byte, text_value}
@@ -31,7 +31,7 @@ use Rattle.sbe_wire.specs.declared.codes.FCode.{FCode}
 use Rattle.sbe_wire.specs.declared.codes.FCode.TheVariants as code
 use Rattle.sbe_wire.specs.Versions.{acting, is_known, is_alive, floor}
 use Rattle.sbe_wire.specs.Named.{number_named, place_named, is_admitted}
-use Rattle.sbe_wire.specs.Faults.{Fault, shifted, under, fault_at, message_named, Heading, floor_in}
+use Rattle.sbe_wire.specs.Faults.{Fault, shifted, under, fault_at, count_of, message_named, Heading, floor_in}
 
 -- ---- readers: the value at the front of some bytes with the bytes behind it, or the first fault
 
@@ -159,16 +159,16 @@ block_read order known version fields k = read_judged (bytes_read k) (fields_rea
 
 -- ---- data and groups
 
-abbrev pub data_bytes : Order → DataField → ℤ → Reader DataVal
-data_bytes order part number b =
-    if admits part.length number
-    then read_judged (bytes_read (prim_width part.length.prim + natural number)) (λ whole. Ok (dataval.Bytes (drop (prim_width part.length.prim) whole))) b
-    else Err (fault_at code.Length 0 number)
+abbrev pub data_bytes : Order → DataField → ℕ → Reader DataVal
+data_bytes order part n b =
+    if admits part.length (pos n)
+    then read_judged (bytes_read (prim_width part.length.prim + n)) (λ whole. Ok (dataval.Bytes (drop (prim_width part.length.prim) whole))) b
+    else Err (fault_at code.Length 0 (pos n))
 
 abbrev pub data_whole : Order → DataField → Reader DataVal
 data_whole order part b =
     if nat_le (prim_width part.length.prim) (length b)
-    then data_bytes order part (number_of order part.length.prim (take (prim_width part.length.prim) b)) b
+    then data_bytes order part (count_of order part b) b
     else Err (fault_at code.Truncated 0 (pos (prim_width part.length.prim)))
 
 abbrev pub data_read : Order → ℕ → DataField → Reader DataVal
