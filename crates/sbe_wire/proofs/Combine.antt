@@ -10,7 +10,7 @@ use Rattle.sbe_types.specs.declared.path.Step.{Step}
 use Rattle.sbe_types.specs.declared.path.Step.TheVariants as way
 use Rattle.sbe_wire.specs.Lays.{Joined, JoinedBoth}
 use Rattle.sbe_wire.specs.Faults.{Fault, shifted, under, fault_at, FaultAfter, TooShort, Under, TimesFault, EachFault}
-use Rattle.sbe_wire.specs.Reading.{Reader, ◌>>=◌, later, inside, and_then, then_read, nothing, judged, read_judged, bytes_read, read_in, times_read, each_read}
+use Rattle.sbe_wire.specs.Reading.{Reader, ◌>>=◌, later, inside, and_then, then_read, nothing, judged, read_judged, bytes_read, read_in, times_read, each_read, ended, then_all}
 use Rattle.sbe_wire.specs.Agree.{Reads, Judges}
 
 -- ---- answers
@@ -78,28 +78,28 @@ abbrev pub After : {X Y : Type 0} → (X → List ℕ → Type 0) → (X → Y �
 After {X} R S y b = (x : X) × (front : List ℕ) × (back : List ℕ) × (b ≡ front ++ back) × R x front × S x y back
 
 pub after : {X Y : Type 0} (p : Reader X) (q : X → Reader Y) (R : X → List ℕ → Type 0) (F : Fault → List ℕ → Type 0) (S : X → Y → List ℕ → Type 0) (G : X → Fault → List ℕ → Type 0) →
-    Reads p R F → ((x : X) → Reads (q x) (S x) (G x)) → Reads (then_read p q) (After R S) (FaultAfter F R G)
+    Reads p R F → ((x : X) (front : List ℕ) → R x front → Reads (q x) (S x) (G x)) → Reads (then_read p q) (After R S) (FaultAfter F R G)
 after {X} {Y} p q R F S G here there = record { sound = sound; complete = complete; told = told; only = only }
   where
     sound : (b : List ℕ) (y : Y) (rest : List ℕ) → then_read p q b ≡ Ok (y, rest) → (front : List ℕ) × (b ≡ front ++ rest) × After R S y front
     sound b y rest h =
         let one = and_then_ok b (p b) q (y, rest) h in
         let first = here.sound b one.0.0 one.0.1 one.1 in
-        let others = (there one.0.0).sound one.0.1 y rest one.2 in
+        let others = (there one.0.0 first.0 first.2).sound one.0.1 y rest one.2 in
         (first.0 ++ others.0, first.1 ∙ ap (λ r. first.0 ++ r) others.1 ∙ sym (append_assoc first.0 others.0 rest), (one.0.0, first.0, others.0, refl, first.2, others.2))
     complete : (y : Y) (front rest : List ℕ) → After R S y front → then_read p q (front ++ rest) ≡ Ok (y, rest)
     complete y front rest h =
         let regrouped : front ++ rest ≡ h.1 ++ (h.2 ++ rest) = ap (λ f. f ++ rest) h.3 ∙ append_assoc h.1 h.2 rest in
         ap (then_read p q) regrouped
         ∙ ap (λ r. and_then (h.1 ++ (h.2 ++ rest)) r q) (here.complete h.0 h.1 (h.2 ++ rest) h.4)
-        ∙ ap (later (length (h.1 ++ (h.2 ++ rest)) - length (h.2 ++ rest))) ((there h.0).complete y h.2 rest h.5)
+        ∙ ap (later (length (h.1 ++ (h.2 ++ rest)) - length (h.2 ++ rest))) ((there h.0 h.1 h.4).complete y h.2 rest h.5)
     told : (b : List ℕ) (f : Fault) → then_read p q b ≡ Err f → FaultAfter F R G f b
     told b f h = elim (and_then_err b (p b) q f h) [
         inl e ↦ inl (here.told b f e)
         | inr e ↦
           let first = here.sound b e.0.0 e.0.1 e.2 in
           let far : length b - length e.0.1 ≡ length first.0 = omega (arith, ap length first.1, length-append first.0 e.0.1) in
-          inr (e.0.0, first.0, e.0.1, e.1, first.1, first.2, (there e.0.0).told e.0.1 e.1 e.3, e.4 ∙ ap (λ n. shifted n e.1) far)
+          inr (e.0.0, first.0, e.0.1, e.1, first.1, first.2, (there e.0.0 first.0 first.2).told e.0.1 e.1 e.3, e.4 ∙ ap (λ n. shifted n e.1) far)
       ]
     only : (b : List ℕ) (f : Fault) → FaultAfter F R G f b → then_read p q b ≡ Err f
     only b f h = elim h [
@@ -107,7 +107,7 @@ after {X} {Y} p q R F S G here there = record { sound = sound; complete = comple
         | inr e ↦
           let read : p b ≡ Ok (e.0, e.2) = ap p e.4 ∙ here.complete e.0 e.1 e.2 e.5 in
           let far : length b - length e.2 ≡ length e.1 = omega (arith, ap length e.4, length-append e.1 e.2) in
-          ap (λ r. and_then b r q) read ∙ ap (later (length b - length e.2)) ((there e.0).only e.2 e.3 e.6) ∙ ap Err (ap (λ n. shifted n e.3) far ∙ sym e.7)
+          ap (λ r. and_then b r q) read ∙ ap (later (length b - length e.2)) ((there e.0 e.1 e.5).only e.2 e.3 e.6) ∙ ap Err (ap (λ n. shifted n e.3) far ∙ sym e.7)
       ]
 
 -- ---- a value that is made of another
@@ -239,22 +239,22 @@ times_from : {X : Type 0} (R : X → List ℕ → Type 0) (n : ℕ) (xs : List X
 times_from R n [] b h = absurd (omega (arith, h.0))
 times_from R n (x ∷ xs) b h = (x, h.1.0, h.1.1, h.1.2, h.1.3, (xs, refl, (omega (arith, h.0), h.1.4)))
 
-pub times : {X : Type 0} (p : Reader X) (R : X → List ℕ → Type 0) (F : Fault → List ℕ → Type 0) → Reads p R F →
-    (i n : ℕ) → Reads (times_read p i n) (Times R n) (TimesFault F R i n)
+pub times : {X : Type 0} (p : Reader X) (R : X → List ℕ → Type 0) (F : Fault → List ℕ → Type 0) →
+    (i n : ℕ) → (0 < n → Reads p R F) → Reads (times_read p i n) (Times R n) (TimesFault F R i n)
 unfolding times_read
-times {X} p R F reads i zero =
+times {X} p R F i zero reads =
     restated (λ b. Ok ([], b)) (λ (xs : List X) b. (xs ≡ []) × (b ≡ [])) (Times R zero) (λ _ _. ⊥) (TimesFault F R i zero)
     (λ xs b h. subst (λ ys. Times R zero ys b) (sym h.0) (refl, h.1)) (λ xs b h. no_items xs b h.0 h.1) (λ f b h. h) (λ f b h. h) none_read
   where
     no_items : (xs : List X) (b : List ℕ) → length xs ≡ 0 → Joined R xs b → (xs ≡ []) × (b ≡ [])
     no_items [] b h k = (refl, k)
     no_items (x ∷ xs) b h k = absurd (omega (arith, h))
-times {X} p R F reads i (suc n) =
+times {X} p R F i (suc n) reads =
     restated (times_read p i (suc n)) (After R (λ x. MadeOf (λ ys. x ∷ ys) (Times R n))) (Times R (suc n)) (FaultAfter (Under (way.Entry i) F) R (λ _. TimesFault F R (suc i) n)) (TimesFault F R i (suc n))
     (times_to R n) (times_from R n) (λ f b h. h) (λ f b h. h)
     (after (read_in (way.Entry i) p) (λ x. then_read (times_read p (suc i) n) (λ xs. nothing (x ∷ xs))) R (Under (way.Entry i) F) (λ x. MadeOf (λ ys. x ∷ ys) (Times R n)) (λ _. TimesFault F R (suc i) n)
-    (stepped (way.Entry i) p R F reads)
-    (λ x. made (times_read p (suc i) n) (λ xs. x ∷ xs) (Times R n) (TimesFault F R (suc i) n) (times p R F reads (suc i) n)))
+    (stepped (way.Entry i) p R F (reads (omega arith)))
+    (λ x front h. made (times_read p (suc i) n) (λ xs. x ∷ xs) (Times R n) (TimesFault F R (suc i) n) (times p R F (suc i) n (λ some. reads (omega arith)))))
 
 each_to : {X Y : Type 0} (R : X → Y → List ℕ → Type 0) (x : X) (xs : List X) (ys : List Y) (b : List ℕ) → After (R x) (λ y. MadeOf (λ zs. y ∷ zs) (JoinedBoth R xs)) ys b → JoinedBoth R (x ∷ xs) ys b
 each_to R x xs ys b h =
@@ -280,7 +280,7 @@ each {X} {Y} p R F reads i (x ∷ xs) =
     (each_to R x xs) (each_from R x xs) (λ f b h. h) (λ f b h. h)
     (after (read_in (way.Part i) (p x)) (λ y. then_read (each_read p (suc i) xs) (λ ys. nothing (y ∷ ys))) (R x) (Under (way.Part i) (F x)) (λ y. MadeOf (λ zs. y ∷ zs) (JoinedBoth R xs)) (λ _. EachFault F R (suc i) xs)
     (stepped (way.Part i) (p x) (R x) (F x) (reads x))
-    (λ y. made (each_read p (suc i) xs) (λ ys. y ∷ ys) (JoinedBoth R xs) (EachFault F R (suc i) xs) (each p R F reads (suc i) xs)))
+    (λ y front h. made (each_read p (suc i) xs) (λ ys. y ∷ ys) (JoinedBoth R xs) (EachFault F R (suc i) xs) (each p R F reads (suc i) xs)))
 
 -- ---- a value that is judged
 
@@ -331,4 +331,49 @@ computed {A} {X} p q R F Given S G reads given judges = record { sound = sound; 
         | inr e ↦
           let read : p b ≡ Ok (e.0, e.2) = ap p e.3 ∙ reads.complete e.0 e.1 e.2 e.4 in
           ap (judged q) read ∙ ap (λ r. r >>= (λ y. Ok (y, e.2))) (judges.only e.0 f e.5)
+      ]
+
+-- ---- what is left at the end is judged
+
+abbrev pub All : {A : Type 0} → A → Type 0
+All a = Unit {0}
+
+ended_ok : {X Y : Type 0} (b : List ℕ) (r : Result (X × List ℕ) Fault) (q : X → List ℕ → Result Y Fault) (y : Y) → ended b r q ≡ Ok y → (x : X × List ℕ) × (r ≡ Ok x) × (q x.0 x.1 ≡ Ok y)
+ended_ok b (Ok x) q y h = (x, refl, later_ok _ (q x.0 x.1) y h)
+ended_ok b (Err f) q y h = cc
+
+ended_err : {X Y : Type 0} (b : List ℕ) (r : Result (X × List ℕ) Fault) (q : X → List ℕ → Result Y Fault) (f : Fault) → ended b r q ≡ Err f →
+    (r ≡ Err f) ⊎ ((x : X × List ℕ) × (g : Fault) × (r ≡ Ok x) × (q x.0 x.1 ≡ Err g) × (f ≡ shifted (length b - length x.1) g))
+ended_err b (Ok x) q f h = let found = later_err _ (q x.0 x.1) f h in inr (x, found.0, refl, found.1, found.2)
+ended_err b (Err g) q f h = inl (ap Err (err_is h))
+
+pub at_end : {X Y : Type 0} (p : Reader X) (q : X → List ℕ → Result Y Fault) (R : X → List ℕ → Type 0) (F : Fault → List ℕ → Type 0) (S : X → Y → List ℕ → Type 0) (G : X → Fault → List ℕ → Type 0) →
+    Reads p R F → ((x : X) (front : List ℕ) → R x front → Judges All (q x) (S x) (G x)) → Judges All (then_all p q) (After R S) (FaultAfter F R G)
+at_end {X} {Y} p q R F S G here there = record { sound = sound; complete = complete; told = told; only = only }
+  where
+    sound : (b : List ℕ) (y : Y) → All b → then_all p q b ≡ Ok y → After R S y b
+    sound b y g h =
+        let one = ended_ok b (p b) q y h in
+        let first = here.sound b one.0.0 one.0.1 one.1 in
+        (one.0.0, first.0, one.0.1, first.1, first.2, (there one.0.0 first.0 first.2).sound one.0.1 y tt one.2)
+    complete : (b : List ℕ) (y : Y) → After R S y b → then_all p q b ≡ Ok y
+    complete b y h =
+        ap (then_all p q) h.3
+        ∙ ap (λ r. ended (h.1 ++ h.2) r q) (here.complete h.0 h.1 h.2 h.4)
+        ∙ ap (later (length (h.1 ++ h.2) - length h.2)) ((there h.0 h.1 h.4).complete h.2 y h.5)
+    told : (b : List ℕ) (f : Fault) → All b → then_all p q b ≡ Err f → FaultAfter F R G f b
+    told b f g h = elim (ended_err b (p b) q f h) [
+        inl e ↦ inl (here.told b f e)
+        | inr e ↦
+          let first = here.sound b e.0.0 e.0.1 e.2 in
+          let far : length b - length e.0.1 ≡ length first.0 = omega (arith, ap length first.1, length-append first.0 e.0.1) in
+          inr (e.0.0, first.0, e.0.1, e.1, first.1, first.2, (there e.0.0 first.0 first.2).told e.0.1 e.1 tt e.3, e.4 ∙ ap (λ n. shifted n e.1) far)
+      ]
+    only : (b : List ℕ) (f : Fault) → FaultAfter F R G f b → then_all p q b ≡ Err f
+    only b f h = elim h [
+        inl e ↦ ap (λ r. ended b r q) (here.only b f e)
+        | inr e ↦
+          let read : p b ≡ Ok (e.0, e.2) = ap p e.4 ∙ here.complete e.0 e.1 e.2 e.5 in
+          let far : length b - length e.2 ≡ length e.1 = omega (arith, ap length e.4, length-append e.1 e.2) in
+          ap (λ r. ended b r q) read ∙ ap (later (length b - length e.2)) ((there e.0 e.1 e.5).only e.2 e.3 e.6) ∙ ap Err (ap (λ n. shifted n e.3) far ∙ sym e.7)
       ]

@@ -2,3 +2,4 @@ pub mod Combine
 pub mod Judging
 pub mod TextLemmas
 pub mod Values
+pub mod Blocks

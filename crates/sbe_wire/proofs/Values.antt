@@ -260,10 +260,10 @@ pub slice_long : (p n : ℕ) (b : List ℕ) → p + n ≤ length b → length (t
 slice_long p n b h = simp (length-take, length-drop) (omega arith)
 
 -- the bytes of a part that ends in time
-pub part_long : (e : ℕ) (offset : Option ℕ) (kind : Kind) (b : List ℕ) (t : Bool) → is_const kind ≡ t → cond t e (begin_of e offset + width kind) ≤ length b →
+pub part_long : (e : ℕ) (offset : Option ℕ) (kind : Kind) (b : List ℕ) (t : Bool) → is_const kind ≡ t → (t ≡ false → begin_of e offset + width kind ≤ length b) →
     length (take (width kind) (drop (begin_of e offset) b)) ≡ width kind
 part_long e offset kind b true c h = rw (const_width kind c) (simp length-take (omega arith))
-part_long e offset kind b false c h = slice_long (begin_of e offset) (width kind) b h
+part_long e offset kind b false c h = slice_long (begin_of e offset) (width kind) b (h refl)
 
 module _ (order : Order) (known : Bool) where
   number_of_kind : (kind : Kind) (p : Primitive) (code : FCode) → Judges (λ b. length b ≡ prim_width p) (λ b. number_value kind known code (number_of order p b)) (λ v b. (length b ≡ prim_width p) × (shown kind known (number_of order p b) ≡ Some v)) (λ f b. NumberFault kind known code (number_of order p b) f)
@@ -335,7 +335,7 @@ module _ (order : Order) (known : Bool) where
         (beside (λ b. row_end next rest ≤ length b) (λ b. later (begin_of e offset) (inside (way.Part i) (value_read order known kind (slice b)))) (row_read order known next (suc i) rest)
         (λ v b. Shows order known kind v (slice b)) (MembersShow order known next rest) (λ f b. (g : Fault) × KindFault order known kind g (slice b) × (f ≡ shifted (begin_of e offset) (under (way.Part i) g))) (RowFault order known next (suc i) rest)
         (moved (λ b. length b ≡ width kind) (value_read order known kind) (Shows order known kind) (KindFault order known kind) (λ b. row_end next rest ≤ length b) slice (begin_of e offset) (way.Part i)
-        (λ b h. part_long e offset kind b (is_const kind) refl (ends b h)) here) there)
+        (λ b h. part_long e offset kind b (is_const kind) refl (λ c. subst (λ (t : Bool). cond t e (begin_of e offset + width kind) ≤ length b) c (ends b h))) here) there)
 
   of_row : (n : _) (members : Row_of-Member _) → JudgesRow 0 0 members → JudgesKind (Comp' n members)
   unfolding value_read

@@ -73,6 +73,14 @@ judged q (Ok r) = q r.0 >>= (λ y. Ok (y, r.1))
 abbrev pub read_judged : {X Y : Type 0} → Reader X → (X → Result Y Fault) → Reader Y
 read_judged p q b = judged q (p b)
 
+abbrev pub ended : {X Y : Type 0} → List ℕ → Result (X × List ℕ) Fault → (X → List ℕ → Result Y Fault) → Result Y Fault
+ended b (Err f) q = Err f
+ended b (Ok r) q = later (length b - length r.1) (q r.0 r.1)
+
+-- a reader, and then a judge of all that is left
+abbrev pub then_all : {X Y : Type 0} → Reader X → (X → List ℕ → Result Y Fault) → List ℕ → Result Y Fault
+then_all p q b = ended b (p b) q
+
 -- n bytes, or how many are wanted
 abbrev pub bytes_read : ℕ → Reader (List ℕ)
 bytes_read n b = if nat_le n (length b) then Ok (take n b, drop n b) else Err (fault_at code.Truncated 0 (pos n))
@@ -250,20 +258,19 @@ abbrev pub heading_read : WireSchema → Reader Heading
 heading_read schema = read_judged (header_bytes (members_end 0 schema.header.members)) (heading_of schema)
 
 -- what is left is passed over in a message of a later version than the schema's
-abbrev pub rest_read : Bool → Reader (Unit {0})
-rest_read known b = if known && nat_lt 0 (length b) then Err (fault_at code.Trailing 0 (pos (length b))) else Ok (tt, [])
+abbrev pub rest_judged : Bool → Msg → List ℕ → Result Msg Fault
+rest_judged known m rest = if known && nat_lt 0 (length rest) then Err (fault_at code.Trailing 0 (pos (length rest))) else Ok m
 
-abbrev pub root_read : WireSchema → Heading → Reader Msg
+abbrev pub message_in : Heading → Block → Msg
+message_in h block = record { template = h.template; version = h.version; block = block }
+
+abbrev pub root_read : WireSchema → Heading → List ℕ → Result Msg Fault
 root_read schema h =
     let known = is_known schema h.version in
     let version = acting schema h.version in
-    then_read (entry_read (tail_read schema.order known version h.level) schema.order known version (out-Level h.level).fields h.block)
-    (λ block. then_read (rest_read known) (λ _. nothing (record { template = h.template; version = h.version; block = block })))
-
-abbrev pub without_rest : Result (Msg × List ℕ) Fault → Result Msg Fault
-without_rest (Ok r) = Ok r.0
-without_rest (Err f) = Err f
+    then_all (entry_read (tail_read schema.order known version h.level) schema.order known version (out-Level h.level).fields h.block)
+    (λ block. rest_judged known (message_in h block))
 
 -- the message that the body is, or its first fault
 unfoldable pub message_of : WireSchema → List ℕ → Result Msg Fault
-message_of schema body = without_rest (then_read (heading_read schema) (root_read schema) body)
+message_of schema body = then_all (heading_read schema) (root_read schema) body
