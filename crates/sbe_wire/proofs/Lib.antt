@@ -3,3 +3,5 @@ pub mod Judging
 pub mod TextLemmas
 pub mod Values
 pub mod Blocks
+pub mod Tails
+pub mod Levels
