@@ -116,6 +116,10 @@ module _ (order : Order) (known : Bool) (version : ℕ) where
         (stepped (way.Part i) (group_read order known version g) (GroupLays order known version g) (GroupFault order known version g) here)
         (λ v front h. made (groups_read order known version (suc i) rest) (λ vs. v ∷ vs) (GroupsLay order known version rest) (GroupsFault order known version (suc i) rest) there))
 
+  -- the tail says nothing of the fields
+  pub ignores : (l : Level) (x y : List Value) (t : Tail) (b : List ℕ) → TailLays order known version l (block_of x t) b → TailLays order known version l (block_of y t) b
+  ignores (Level' name id semantic since block_length fs n groups parts) x y t b h = h
+
   -- ---- a group
 
   module _ (dim : List Member) (level : Level) where
@@ -163,10 +167,6 @@ module _ (order : Order) (known : Bool) (version : ℕ) where
     alive_from v b h =
         let lies = h.2 in
         ((lies.0, length h.0), lies.1, lies.2, lies.3, (lies.4, reaches lies.0 h.0 lies.2 lies.5), (h.0, h.1, (refl, lies.5)))
-
-    -- the tail says nothing of the fields
-    ignores : (l : Level) (x y : List Value) (t : Tail) (b : List ℕ) → TailLays order known version l (block_of x t) b → TailLays order known version l (block_of y t) b
-    ignores (Level' name id semantic since block_length fs n groups parts) x y t b h = h
 
     entry_of : IsPlacedLevel level → ReadsTail level → (k : ℕ) → least ≤ k → Reads (entry_read (tail_read order known version level) order known version fields k) (EntryIs k) (EntryBad k)
     entry_of placed reads k enough =

@@ -5,3 +5,4 @@ pub mod Values
 pub mod Blocks
 pub mod Tails
 pub mod Levels
+pub mod Messages
