@@ -107,7 +107,7 @@ enum_misfit leaf names value.Null = unless (is_optional leaf.presence) other_kin
 enum_misfit leaf names _ = other_kind
 
 abbrev pub set_misfit : List Named → Value → Option Misfit
-set_misfit names (value.Set n) = unless (has_listed_bits names 64 n) (misfit_here code.SetUnknown (pos n))
+set_misfit names (value.Set n) = unless (nat_lt n (2 ^ 64) && has_listed_bits names 64 n) (misfit_here code.SetUnknown (pos n))
 set_misfit names _ = other_kind
 
 abbrev pub const_misfit : Value → Option Misfit

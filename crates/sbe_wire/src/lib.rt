@@ -3,6 +3,7 @@
 #![tactic(auto)]
 
 mod codes;
+pub mod laws;
 pub mod worked;
 
 pub use codes::{FCode, NCode};
