@@ -1,0 +1,187 @@
+-- A frame is read back from its bytes, and a stream is cut into frames in one way.
+use Rattle.std.proofs.Common.{◌≡◌, ◌+◌, ◌<◌, ◌∷◌, append_assoc, ℕ, ◌-◌, ◌^◌, ◌≤◌, Bool, true, false, List, ◌++◌, length, take, drop, Result, Ok, Err, Some, None, refl, sym, ap, ◌∙◌, subst, arith, length-append, length-take-le, length-drop, take-append-drop}
+use Rattle.std.proofs.Math.Seq.{take-append-add, take-append_seam}
+use Rattle.std.specs.Prelude.{nat_lt, nat_le, if◌then◌else◌}
+use Rattle.std.proofs.lemmas.Bool.{leb-true, le-leb}
+use Rattle.std.proofs.lemmas.Bool.Decides.{nat_tests}
+use Rattle.std.proofs.lemmas.List.{drop-take, drop-drop}
+use Rattle.open_framing.specs.Pieces.{joined}
+use Rattle.open_framing.specs.declared.head.Head.{Head}
+use Rattle.open_framing.specs.declared.head.HeadErr.{HeadErr}
+use Rattle.open_framing.specs.declared.head.HeadErr.TheVariants.{HeadShort, LengthShort, LengthOver, Encoding}
+use Rattle.open_framing.specs.Heads.{length_in, encoding_in, is_encoding, judged, head_of, bytes_of, IsBytes}
+use Rattle.open_framing.specs.Frames.{Item, frame_of, IsFrame, item_by, first_item, items_of, Cut, CutEnd, cut_of, end_of}
+use Rattle.open_framing.proofs.PieceLemmas.{more_behind, Reads, pieces_found, rest_found, pieces_once}
+use Rattle.open_framing.proofs.NumberLemmas.{number_of-bytes_of, bytes_of-number_of, IsBytes-take, IsBytes-drop, IsBytes-back, number_of-lt}
+
+-- two numbers that make a head
+pub record AreHead (size encoding limit : ℕ) : Type 0 where
+  pub counts : 6 ≤ size
+  pub within : size ≤ limit
+  pub known : is_encoding encoding ≡ true
+
+pub judged_ok : (size encoding limit : ℕ) → AreHead size encoding limit → judged size encoding limit ≡ Ok (record { length = size; encoding = encoding })
+judged_ok size encoding limit are = grind (arith, nat_tests, are.known, are.counts, are.within)
+
+pub head_whole : (bytes : List ℕ) (limit : ℕ) → 6 ≤ length bytes → AreHead (length_in bytes) (encoding_in bytes) limit →
+    head_of bytes limit ≡ Ok (record { length = length_in bytes; encoding = encoding_in bytes })
+head_whole bytes limit long are = let is = judged_ok (length_in bytes) (encoding_in bytes) limit are in grind (arith, nat_tests, is)
+
+-- the head of bytes that show these numbers
+head_is : (bytes : List ℕ) (limit size encoding : ℕ) → 6 ≤ length bytes → length_in bytes ≡ size → encoding_in bytes ≡ encoding → AreHead size encoding limit →
+    head_of bytes limit ≡ Ok (record { length = size; encoding = encoding })
+head_is bytes limit size encoding long e f are =
+    head_whole bytes limit long (subst (λ k. AreHead k (encoding_in bytes) limit) (sym e) (subst (λ k. AreHead size k limit) (sym f) are)) ∙ ap (λ k. Ok (record { length = k; encoding = encoding_in bytes })) e ∙ ap (λ k. Ok (record { length = size; encoding = k })) f
+
+-- what the tests of a head say where they end in one
+by_tests : (short less over known : Bool) (size encoding : ℕ) (head : Head) →
+    (if short then Err HeadShort else (if less then Err (LengthShort size) else if over then Err (LengthOver size) else if known then Ok (record { length = size; encoding = encoding }) else Err (Encoding encoding))) ≡ Ok head →
+    (short ≡ false) × (less ≡ false) × (over ≡ false) × (known ≡ true) × (head ≡ record { length = size; encoding = encoding })
+by_tests true less over known size encoding head h = cc
+by_tests false true over known size encoding head h = cc
+by_tests false false true known size encoding head h = cc
+by_tests false false false false size encoding head h = cc
+by_tests false false false true size encoding head h = (refl, refl, refl, refl, cc)
+
+pub record IsHeadOf (bytes : List ℕ) (limit : ℕ) (head : Head) : Type 0 where
+  pub long : 6 ≤ length bytes
+  pub are : AreHead (length_in bytes) (encoding_in bytes) limit
+  pub same : head ≡ record { length = length_in bytes; encoding = encoding_in bytes }
+
+pub head_told : (bytes : List ℕ) (limit : ℕ) (head : Head) → head_of bytes limit ≡ Ok head → IsHeadOf bytes limit head
+head_told bytes limit head h =
+    let tests = by_tests (nat_lt (length bytes) 6) (nat_lt (length_in bytes) 6) (nat_lt limit (length_in bytes)) (is_encoding (encoding_in bytes)) (length_in bytes) (encoding_in bytes) head h in
+    let long : 6 ≤ length bytes = grind (arith, nat_tests, tests.0) in
+    let counts : 6 ≤ length_in bytes = grind (arith, nat_tests, tests.1) in
+    let within : length_in bytes ≤ limit = grind (arith, nat_tests, tests.2) in
+    record { long = long; are = record { counts = counts; within = within; known = tests.3 }; same = tests.4 }
+
+-- the parts of a frame of n bytes make up the bytes
+parts : (n : ℕ) (bytes : List ℕ) → ((take 4 bytes ++ take 2 (drop 4 bytes)) ++ drop 6 (take (6 + n) bytes)) ++ drop n (drop 6 bytes) ≡ bytes
+parts n bytes =
+    let body : drop 6 (take (6 + n) bytes) ++ drop n (drop 6 bytes) ≡ drop 6 bytes = rw (drop-take 6 n bytes) (take-append-drop n (drop 6 bytes)) in
+    let behind : take 2 (drop 4 bytes) ++ drop 6 bytes ≡ drop 4 bytes = rw (← drop-drop 2 4 bytes) (take-append-drop 2 (drop 4 bytes)) in
+    append_assoc (take 4 bytes ++ take 2 (drop 4 bytes)) (drop 6 (take (6 + n) bytes)) (drop n (drop 6 bytes))
+    ∙ ap (λ back. (take 4 bytes ++ take 2 (drop 4 bytes)) ++ back) body
+    ∙ append_assoc (take 4 bytes) (take 2 (drop 4 bytes)) (drop 6 bytes)
+    ∙ ap (λ back. take 4 bytes ++ back) behind
+    ∙ take-append-drop 4 bytes
+
+-- the item of a head is there where all its bytes are
+by_whole : (bytes : List ℕ) (head : Head) (item : Item) (whole : Bool) → nat_le head.length (length bytes) ≡ whole →
+    (if whole then Some (record { encoding = head.encoding; body = drop 6 (take head.length bytes) }) else None) ≡ Some item →
+    (head.length ≤ length bytes) × (item ≡ record { encoding = head.encoding; body = drop 6 (take head.length bytes) })
+by_whole bytes head item false is h = cc
+by_whole bytes head item true is h = (leb-true head.length (length bytes) is, cc)
+
+-- what an item that is found says of the head
+pub record IsItemOf (bytes : List ℕ) (r : Result Head HeadErr) (item : Item) : Type 0 where
+  pub head : Head
+  pub read : r ≡ Ok head
+  pub whole : head.length ≤ length bytes
+  pub same : item ≡ record { encoding = head.encoding; body = drop 6 (take head.length bytes) }
+
+item_told : (bytes : List ℕ) (r : Result Head HeadErr) (item : Item) → item_by bytes r ≡ Some item → IsItemOf bytes r item
+item_told bytes (Err fault) item h = cc
+item_told bytes (Ok head) item h =
+    let told = by_whole bytes head item (nat_le head.length (length bytes)) refl h in
+    record { head = head; read = refl; whole = told.0; same = told.1 }
+
+item_there : (bytes : List ℕ) (head : Head) (body : List ℕ) → head.length ≤ length bytes → drop 6 (take head.length bytes) ≡ body →
+    item_by bytes (Ok head) ≡ Some (record { encoding = head.encoding; body = body })
+item_there bytes head body whole e = rw (le-leb head.length (length bytes) whole, e) refl
+
+join : (a a' b b' c c' d : List ℕ) → a ≡ a' → b ≡ b' → c ≡ c' → ((a ++ b) ++ c) ++ d ≡ ((a' ++ b') ++ c') ++ d
+join a a' b b' c c' d e f g = cc
+
+-- the bytes of a whole frame are those of its item
+frame_there : (limit : ℕ) (bytes : List ℕ) → IsBytes bytes → 6 ≤ length bytes → AreHead (length_in bytes) (encoding_in bytes) limit → length_in bytes ≤ length bytes →
+    (item : Item) → item ≡ record { encoding = encoding_in bytes; body = drop 6 (take (length_in bytes) bytes) } → IsFrame limit item × ((more : List ℕ) × (bytes ≡ frame_of item ++ more))
+frame_there limit bytes good long are whole item same =
+    let n : ℕ = length_in bytes - 6 in
+    let counts : 6 ≤ length_in bytes = are.counts in
+    let taken : length (take (length_in bytes) bytes) ≡ length_in bytes = length-take-le (length_in bytes) bytes whole in
+    let body : item.body ≡ drop 6 (take (length_in bytes) bytes) = ap (λ (i : Item). i.body) same in
+    let encoding : item.encoding ≡ encoding_in bytes = ap (λ (i : Item). i.encoding) same in
+    let size : length item.body + 6 ≡ length_in bytes = omega (arith, ap length body, length-drop 6 (take (length_in bytes) bytes)) in
+    let four : length (take 4 bytes) ≡ 4 = length-take-le 4 bytes (omega arith) in
+    let behind : 2 ≤ length (drop 4 bytes) = omega (arith, length-drop 4 bytes) in
+    let two : length (take 2 (drop 4 bytes)) ≡ 2 = length-take-le 2 (drop 4 bytes) behind in
+    let below : length_in bytes < 256 ^ 4 = subst (λ k. length_in bytes < 256 ^ k) four (number_of-lt (take 4 bytes) (IsBytes-take 4 bytes good)) in
+    let fits : length item.body + 6 < 256 ^ 4 = rw size below in
+    let first : bytes_of 4 (length item.body + 6) ≡ take 4 bytes = ap (bytes_of 4) size ∙ bytes_of-number_of 4 (take 4 bytes) four (IsBytes-take 4 bytes good) in
+    let second : bytes_of 2 item.encoding ≡ take 2 (drop 4 bytes) = ap (bytes_of 2) encoding ∙ bytes_of-number_of 2 (take 2 (drop 4 bytes)) two (IsBytes-take 2 (drop 4 bytes) (IsBytes-drop 4 bytes good)) in
+    let split : length_in bytes ≡ 6 + n = omega arith in
+    let third : item.body ≡ drop 6 (take (6 + n) bytes) = body ∙ ap (λ k. drop 6 (take k bytes)) split in
+    let more = drop n (drop 6 bytes) in
+    let known : is_encoding item.encoding ≡ true = ap is_encoding encoding ∙ are.known in (
+      record { fits = fits; within = omega (arith, are.within); known = known },
+      (more, sym (join (bytes_of 4 (length item.body + 6)) (take 4 bytes) (bytes_of 2 item.encoding) (take 2 (drop 4 bytes)) item.body (drop 6 (take (6 + n) bytes)) more first second third ∙ parts n bytes)),
+    )
+
+pub frame_sound : (limit : ℕ) (bytes : List ℕ) (item : Item) → IsBytes bytes → first_item limit bytes ≡ Some item → IsFrame limit item × ((more : List ℕ) × (bytes ≡ frame_of item ++ more))
+frame_sound limit bytes item good h =
+    let told = item_told bytes (head_of bytes limit) item h in
+    let head = head_told bytes limit told.head told.read in
+    let size : told.head.length ≡ length_in bytes = ap (λ (k : Head). k.length) head.same in
+    let encoding : told.head.encoding ≡ encoding_in bytes = ap (λ (k : Head). k.encoding) head.same in
+    let same : item ≡ record { encoding = encoding_in bytes; body = drop 6 (take (length_in bytes) bytes) } = told.same ∙ ap (λ (k : Head). record { encoding = k.encoding; body = drop 6 (take k.length bytes) }) head.same in
+    frame_there limit bytes good head.long head.are (rw (← size) told.whole) item same
+
+-- an encoding type has two bytes
+known_fits : (n : ℕ) → is_encoding n ≡ true → n < 256 ^ 2
+known_fits n h = grind (arith, nat_tests, h)
+
+pub frame_complete : (limit : ℕ) (item : Item) (more : List ℕ) → IsFrame limit item → first_item limit (frame_of item ++ more) ≡ Some item
+frame_complete limit item more is =
+    let bytes = frame_of item ++ more in
+    let size : ℕ = length item.body + 6 in
+    let at_length : length_in bytes ≡ size = number_of-bytes_of 4 size is.fits in
+    let at_encoding : encoding_in bytes ≡ item.encoding = number_of-bytes_of 2 item.encoding (known_fits item.encoding is.known) in
+    let all : length bytes ≡ size + length more = omega (arith, length-append item.body more) in
+    let are : AreHead size item.encoding limit = record { counts = omega arith; within = is.within; known = is.known } in
+    let whole : head_of bytes limit ≡ Ok (record { length = size; encoding = item.encoding }) =
+    head_is bytes limit size item.encoding (omega arith) at_length at_encoding are in
+    let own : length (frame_of item) ≡ size = omega arith in
+    let front : take size bytes ≡ frame_of item = ap (λ k. take k bytes) (sym own) ∙ take-append_seam (frame_of item) more in
+    let body : drop 6 (take size bytes) ≡ item.body = ap (drop 6) front in
+    ap (item_by bytes) whole ∙ item_there bytes (record { length = size; encoding = item.encoding }) item.body (omega arith) body
+
+pub frame_reads : (limit : ℕ) → Reads IsBytes (IsFrame limit) frame_of (first_item limit)
+frame_reads limit = record { sound = frame_sound limit; complete = frame_complete limit; filled = λ item is. omega arith; behind = IsBytes-back }
+
+-- the reader gives a cut
+pub cut_found : (stream : List ℕ) (limit input : ℕ) → IsBytes stream → Cut stream limit input (cut_of stream limit input).0 (cut_of stream limit input).1
+unfolding cut_of items_of
+cut_found stream limit input good =
+    let bytes = take input stream in
+    let found = pieces_found (frame_reads limit) (length bytes) bytes (IsBytes-take input stream good) (omega arith) in
+    record { rest = found.0; pieces = found.1; ends = ap (end_of limit (nat_lt input (length stream))) (rest_found found.1) }
+
+-- a stream is cut in one way
+pub cut_once : (stream : List ℕ) (limit input : ℕ) (xs ys : List Item) (a b : CutEnd) → Cut stream limit input xs a → Cut stream limit input ys b → (xs ≡ ys) × (a ≡ b)
+cut_once stream limit input xs ys a b c d =
+    let same = pieces_once (frame_reads limit) (take input stream) xs ys c.rest d.rest c.pieces d.pieces in
+    (same.0, c.ends ∙ ap (end_of limit (nat_lt input (length stream))) same.1 ∙ sym d.ends)
+
+-- a head's six bytes show its two numbers
+pub head_back : (size encoding limit : ℕ) → size < 256 ^ 4 → encoding < 256 ^ 2 → head_of (bytes_of 4 size ++ bytes_of 2 encoding) limit ≡ judged size encoding limit
+head_back size encoding limit fits fits' =
+    ap (λ k. judged k (encoding_in (bytes_of 4 size ++ bytes_of 2 encoding)) limit) (number_of-bytes_of 4 size fits)
+    ∙ ap (λ k. judged size k limit) (number_of-bytes_of 2 encoding fits')
+
+-- one more frame at the front of a stream
+pub cut_more : (stream : List ℕ) (limit input : ℕ) (item : Item) (items : List Item) (end : CutEnd) → IsFrame limit item → Cut stream limit input items end →
+    Cut (frame_of item ++ stream) limit (length (frame_of item) + input) (item ∷ items) end
+cut_more stream limit input item items end is cut =
+    let goes_on : nat_lt (length (frame_of item) + input) (length (frame_of item ++ stream)) ≡ nat_lt input (length stream) = more_behind (frame_of item) stream input in
+    let all = cut.pieces in
+    record {
+      rest = cut.rest;
+      pieces = record {
+        whole = take-append-add (frame_of item) stream input ∙ ap (λ back. frame_of item ++ back) all.whole ∙ sym (append_assoc (frame_of item) (joined frame_of items) cut.rest);
+        each = (is, all.each);
+        longest = all.longest;
+      };
+      ends = cut.ends ∙ ap (λ k. end_of limit k cut.rest) (sym goes_on);
+    }

@@ -1,0 +1,4 @@
+pub mod NumberLemmas
+pub mod PieceLemmas
+pub mod FrameLemmas
+pub mod LineLemmas

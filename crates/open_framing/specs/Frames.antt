@@ -1,0 +1,78 @@
+-- A stream of frames, cut at their heads: the Simple Open Framing Header 1.0, in this project's profile.
+use Rattle.std.specs.Prelude.{◌≡◌, ℕ, ◌+◌, ◌^◌, ◌<◌, ◌≤◌, nat_le, nat_lt, Bool, true, false, IsTrue, if◌then◌else◌, Result, Ok, Err, Option, Some, None, List, [], ◌∷◌, ◌++◌, length, take, drop}
+use Rattle.open_framing.specs.declared.head.Head.{Head}
+use Rattle.open_framing.specs.declared.head.HeadErr.{HeadErr}
+use Rattle.open_framing.specs.declared.head.HeadErr.TheVariants.{HeadShort, LengthShort, LengthOver, Encoding}
+use Rattle.open_framing.specs.Heads.{bytes_of, head_of, is_encoding}
+use Rattle.open_framing.specs.Pieces.{Pieces, pieces_in, rest_of}
+
+-- Message_Length, which counts the six bytes of the head too, Encoding_Type, and the body
+abbrev pub frame : ℕ → List ℕ → List ℕ
+frame encoding body = bytes_of 4 (length body + 6) ++ bytes_of 2 encoding ++ body
+
+-- what a frame carries
+pub record Item : Type 0 where
+  pub encoding : ℕ
+  pub body : List ℕ
+
+-- the bytes of an item's frame
+abbrev pub frame_of : Item → List ℕ
+frame_of item = frame item.encoding item.body
+
+-- Its length fits the head and the limit, and its encoding type is one of the three.
+pub record IsFrame (limit : ℕ) (item : Item) : Type 0 where
+  pub fits : length item.body + 6 < 256 ^ 4
+  pub within : length item.body + 6 ≤ limit
+  pub known : IsTrue (is_encoding item.encoding)
+
+-- how a cut ends: with nothing left, inside a frame of which so many bytes are there, at a head that is
+-- at fault, or at the limit of the input
+pub data CutEnd : Type 0 where
+  End : CutEnd
+  EndInside : ℕ → CutEnd
+  HeadFault : HeadErr → CutEnd
+  InputLimit : CutEnd
+
+-- the end where the rest has no head that is at fault, and where the stream goes on or not
+abbrev pub end_inside : Bool → List ℕ → CutEnd
+end_inside true rest = InputLimit
+end_inside false [] = End
+end_inside false (b ∷ rest) = EndInside (length (b ∷ rest))
+
+-- the end by the head at the front of the rest: one that is short is no fault
+abbrev pub end_by : Result Head HeadErr → Bool → List ℕ → CutEnd
+end_by (Ok head) goes_on rest = end_inside goes_on rest
+end_by (Err HeadShort) goes_on rest = end_inside goes_on rest
+end_by (Err (LengthShort n)) goes_on rest = HeadFault (LengthShort n)
+end_by (Err (LengthOver n)) goes_on rest = HeadFault (LengthOver n)
+end_by (Err (Encoding n)) goes_on rest = HeadFault (Encoding n)
+
+-- the end of a cut that leaves this rest
+abbrev pub end_of : ℕ → Bool → List ℕ → CutEnd
+end_of limit goes_on rest = end_by (head_of rest limit) goes_on rest
+
+-- The first `input` bytes of the stream are these items' frames, as many as there are, and a rest, at which the cut ends so.
+pub record Cut (stream : List ℕ) (limit input : ℕ) (items : List Item) (end : CutEnd) : Type 0 where
+  pub rest : List ℕ
+  pub pieces : Pieces (IsFrame limit) frame_of (take input stream) items rest
+  pub ends : end ≡ end_of limit (nat_lt input (length stream)) rest
+
+-- the item of a frame with this head, where all of it is there
+abbrev pub item_by : List ℕ → Result Head HeadErr → Option Item
+item_by bytes (Err fault) = None
+item_by bytes (Ok head) = if nat_le head.length (length bytes) then Some (record { encoding = head.encoding; body = drop 6 (take head.length bytes) }) else None
+
+-- the item of the frame at the front of the bytes
+abbrev pub first_item : ℕ → List ℕ → Option Item
+first_item limit bytes = item_by bytes (head_of bytes limit)
+
+-- the items that a cut finds
+unfoldable pub items_of : ℕ → List ℕ → List Item
+items_of limit bytes = pieces_in (first_item limit) frame_of (length bytes) bytes
+
+-- the items and the end of a cut
+unfoldable pub cut_of : List ℕ → ℕ → ℕ → List Item × CutEnd
+cut_of stream limit input =
+    let bytes = take input stream in
+    let items = items_of limit bytes in
+    (items, end_of limit (nat_lt input (length stream)) (rest_of frame_of bytes items))

@@ -1,0 +1,5 @@
+pub mod Heads
+pub mod Pieces
+pub mod Frames
+pub mod Lines
+pub mod Rows

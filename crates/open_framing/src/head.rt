@@ -1,0 +1,170 @@
+ghost use Rattle.std.specs.Prelude.{◌≡◌, ◌++◌, ℕ};
+ghost use Rattle.open_framing.specs.Heads.{bytes_of, head_of, judged};
+
+use byteorder::{BigEndian, ByteOrder};
+use thiserror::Error;
+
+/// How many bytes a head has: four for the length, two for the encoding type.
+pub const HEAD_BYTES: usize = 6;
+
+/// The encoding type of SBE 1.0 in big-endian order. The number is this project's profile.
+pub const SBE_BIG: u16 = 0x5be0;
+
+/// The encoding type of SBE 1.0 in little-endian order. The number is this project's profile.
+pub const SBE_LITTLE: u16 = 0xeb50;
+
+/// The encoding type of tag-value texts. The number is this project's profile.
+pub const TAG_VALUE: u16 = 0xf000;
+
+/// The head of a frame, in the terms of the Simple Open Framing Header 1.0.
+#[derive(Clone, Copy, Debug, PartialEq, Eq)]
+pub struct Head {
+    /// The standard's Message_Length: the bytes of the whole frame. That it counts the head's own
+    /// six bytes is this project's profile.
+    pub length: u32,
+    /// The standard's Encoding_Type.
+    pub encoding: u16,
+}
+
+/// Why bytes begin no frame: the first of these that holds.
+#[derive(Clone, Copy, Debug, PartialEq, Eq, Drop, Error)]
+pub enum HeadErr {
+    /// Fewer than six bytes are there.
+    #[error("a frame's head has six bytes")]
+    HeadShort,
+    /// This length doesn't count the head itself.
+    #[error("a frame of {0} bytes is shorter than its head")]
+    LengthShort(u32),
+    /// This length is above the limit.
+    #[error("a frame of {0} bytes is above the limit")]
+    LengthOver(u32),
+    /// This encoding type is none of the three.
+    #[error("{0:04x} is no encoding type")]
+    Encoding(u16),
+}
+
+/// Reads the head of a frame of at most `limit` bytes. Both numbers are big-endian, which is this
+/// project's profile. Bytes behind the head aren't looked at.
+///
+/// # Errors
+///
+/// Each variant of [`HeadErr`], in their order, exactly where it is the first that holds.
+pub fn read_head(bytes: &[u8], limit: usize) -> Result<Head, HeadErr>
+    ensures { result ≡ head_of bytes.now limit }
+{
+    if bytes.len() < HEAD_BYTES {
+        return Err(HeadErr::HeadShort);
+    }
+    let length = BigEndian::read_u32(bytes);
+    if (length as usize) < HEAD_BYTES {
+        return Err(HeadErr::LengthShort(length));
+    }
+    if length as usize > limit {
+        return Err(HeadErr::LengthOver(length));
+    }
+    let encoding = BigEndian::read_u16(&bytes[4..]);
+    match encoding {
+        SBE_BIG | SBE_LITTLE | TAG_VALUE => Ok(Head { length, encoding }),
+        other => Err(HeadErr::Encoding(other)),
+    }
+}
+
+/// Writes the six bytes of a head, as [`read_head`] reads them. The two numbers aren't judged.
+pub fn put_head(head: &Head, out: &mut [u8; 6])
+    ensures bytes { out.new ≡ bytes_of 4 head.now.length ++ bytes_of 2 head.now.encoding }
+    ensures back { (limit : ℕ) → head_of out.new limit ≡ judged head.now.length head.now.encoding limit }
+{
+    let Head { length, encoding } = *head;
+    BigEndian::write_u32(&mut out[..4], length);
+    BigEndian::write_u16(&mut out[4..], encoding);
+}
+
+#[cfg(test)]
+mod tests {
+    use super::*;
+
+    /// Bytes, the limit, and what they are read as.
+    type Row = (&'static [u8], usize, Result<Head, HeadErr>);
+
+    fn head(length: u32, encoding: u16) -> Result<Head, HeadErr> {
+        Ok(Head { length, encoding })
+    }
+
+    #[test]
+    fn reads_heads(rt: HostRuntime) {
+        let rows: [Row; 20] = [
+            (b"", 65536, Err(HeadErr::HeadShort)),
+            (b"\x00", 65536, Err(HeadErr::HeadShort)),
+            (b"\x00\x00", 65536, Err(HeadErr::HeadShort)),
+            (b"\x00\x00\x00", 65536, Err(HeadErr::HeadShort)),
+            (b"\x00\x00\x00\x14", 65536, Err(HeadErr::HeadShort)),
+            (b"\x00\x00\x00\x14\xeb", 65536, Err(HeadErr::HeadShort)),
+            (
+                b"\x00\x00\x00\x00\xeb\x50",
+                65536,
+                Err(HeadErr::LengthShort(0)),
+            ),
+            (
+                b"\x00\x00\x00\x05\xeb\x50",
+                65536,
+                Err(HeadErr::LengthShort(5)),
+            ),
+            (b"\x00\x00\x00\x05\xf5\x00", 4, Err(HeadErr::LengthShort(5))),
+            (b"\x00\x00\x00\x06\xeb\x50", 65536, head(6, SBE_LITTLE)),
+            (b"\x00\x00\x00\x06\xeb\x50", 6, head(6, SBE_LITTLE)),
+            (b"\x00\x00\x00\x06\xeb\x50", 5, Err(HeadErr::LengthOver(6))),
+            (
+                b"\x00\x00\x00\x14\x5b\xe0\x06\x00",
+                65536,
+                head(20, SBE_BIG),
+            ),
+            (
+                b"\x00\x00\x00\x14\xf0\x00\x06\x00",
+                65536,
+                head(20, TAG_VALUE),
+            ),
+            (b"\x00\x01\x00\x00\xeb\x50", 65536, head(65536, SBE_LITTLE)),
+            (
+                b"\x00\x01\x00\x01\xeb\x50",
+                65536,
+                Err(HeadErr::LengthOver(65537)),
+            ),
+            (
+                b"\x00\x01\x00\x01\xf5\x00",
+                65536,
+                Err(HeadErr::LengthOver(65537)),
+            ),
+            (
+                b"\xff\xff\xff\xff\xeb\x50",
+                1048576,
+                Err(HeadErr::LengthOver(4294967295)),
+            ),
+            (
+                b"\x00\x00\x00\x06\xf5\x00",
+                65536,
+                Err(HeadErr::Encoding(62720)),
+            ),
+            (
+                b"\x00\x00\x00\x06\x50\xeb",
+                65536,
+                Err(HeadErr::Encoding(0x50eb)),
+            ),
+        ];
+        for (bytes, limit, want) in rows {
+            assert_eq!(rt; read_head(bytes, limit), want, "at {bytes:?}");
+        }
+    }
+
+    #[test]
+    fn puts_a_head(rt: HostRuntime) {
+        let mut out = [0xff; 6];
+        put_head(
+            &Head {
+                length: 20,
+                encoding: SBE_LITTLE,
+            },
+            &mut out,
+        );
+        assert_eq!(rt; out, [0x00, 0x00, 0x00, 0x14, 0xeb, 0x50]);
+    }
+}

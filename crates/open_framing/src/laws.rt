@@ -1,0 +1,80 @@
+//! Laws of the definitions, as functions without a body: a stream is cut in one way, the readers find
+//! it, and the rows compute them on small streams.
+
+ghost use Rattle.std.specs.Prelude.{◌≡◌, ◌∷◌, ◌++◌, [], ◌+◌, ◌≢◌, ℕ, List, length, codes};
+ghost use Rattle.std.specs.List.{AllByRecursion};
+ghost use Rattle.open_framing.specs.declared.head.HeadErr.TheVariants.{LengthShort, LengthOver, Encoding};
+ghost use Rattle.open_framing.specs.Heads.{IsBytes};
+ghost use Rattle.open_framing.specs.Frames.{frame, frame_of, IsFrame, Item, Cut, CutEnd, cut_of, End, EndInside, HeadFault, InputLimit};
+ghost use Rattle.open_framing.specs.Lines as lines;
+ghost use Rattle.open_framing.specs.Rows.{ping, ping_item, ping_frame, ping_begun, pings, short_head, long_head, strange_head};
+
+/// A stream is cut into frames in one way.
+pub fn cut_once()
+    ensures { (stream : List ℕ) (limit input : ℕ) (xs ys : List Item) (a b : CutEnd)
+        → Cut stream limit input xs a → Cut stream limit input ys b → (xs ≡ ys) × (a ≡ b) }
+{}
+
+/// The reader gives the cut of any bytes.
+pub fn cut_found()
+    ensures { (stream : List ℕ) (limit input : ℕ) → IsBytes stream
+        → let cut = cut_of stream limit input in Cut stream limit input cut.0 cut.1 }
+{}
+
+/// A frame at the front of a stream is one more item, and the rest is cut as it was.
+pub fn cut_goes_on()
+    ensures { (stream : List ℕ) (limit input : ℕ) (item : Item) (items : List Item) (end : CutEnd)
+        → IsFrame limit item → Cut stream limit input items end
+        → Cut (frame_of item ++ stream) limit (length (frame_of item) + input) (item ∷ items) end }
+{}
+
+/// A stream is cut into lines in one way.
+pub fn lines_once()
+    ensures { (stream : List ℕ) (input : ℕ) (xs ys : List (List ℕ)) (a b : lines.LineEnd)
+        → lines.Lines stream input xs a → lines.Lines stream input ys b → (xs ≡ ys) × (a ≡ b) }
+{}
+
+/// The reader gives the lines of any stream.
+pub fn lines_found()
+    ensures { (stream : List ℕ) (input : ℕ)
+        → let cut = lines.lines_of stream input in lines.Lines stream input cut.0 cut.1 }
+{}
+
+/// A line at the front of a stream is one more line, and the rest is cut as it was.
+pub fn lines_go_on()
+    ensures { (stream : List ℕ) (input : ℕ) (line : List ℕ) (more : List (List ℕ)) (end : lines.LineEnd)
+        → lines.IsLine line → lines.Lines stream input more end
+        → lines.Lines (lines.ended line ++ stream) (length (lines.ended line) + input) (line ∷ more) end }
+{}
+
+/// 1,048,577 bytes without a line end are no line, whatever stands behind them.
+pub fn line_over()
+    ensures { (plain stream : List ℕ) (input : ℕ)
+        → AllByRecursion (λ b. b ≢ 0x0a) plain → length plain ≡ 1_048_577
+        → lines.Lines (plain ++ stream) (length plain + input) [] lines.LineOver }
+{}
+
+/// A frame is its length, its encoding type and its body.
+pub fn frame_row()
+    ensures { frame 0xeb50 ping ≡ ping_frame }
+{}
+
+/// Whole frames, with nothing or with a part of one behind them.
+pub fn cut_rows()
+    ensures one { cut_of ping_frame 65_536 16_777_216 ≡ (ping_item ∷ [], End) }
+    ensures none { cut_of ping_begun 65_536 16_777_216 ≡ ([], EndInside 19) }
+    ensures two { cut_of pings 65_536 16_777_216 ≡ (ping_item ∷ ping_item ∷ [], EndInside 3) }
+    ensures limit { cut_of ping_frame 65_536 10 ≡ ([], InputLimit) }
+{}
+
+/// Heads at fault.
+pub fn fault_rows()
+    ensures short { cut_of short_head 65_536 16_777_216 ≡ ([], HeadFault (LengthShort 5)) }
+    ensures long { cut_of long_head 65_536 16_777_216 ≡ ([], HeadFault (LengthOver 65_537)) }
+    ensures strange { cut_of strange_head 65_536 16_777_216 ≡ ([], HeadFault (Encoding 62_720)) }
+{}
+
+/// Three lines, the last of which lacks its end.
+pub fn line_row()
+    ensures { lines.lines_of (codes "ab" ++ 10 ∷ 10 ∷ codes "cd") 16_777_216 ≡ (codes "ab" ∷ [] ∷ codes "cd" ∷ [], lines.End) }
+{}

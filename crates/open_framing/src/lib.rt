@@ -1,0 +1,10 @@
+//! The heads of frames, and what it means to cut a stream into frames or lines.
+//!
+//! The FIX Simple Open Framing Header 1.0 puts a message length and an encoding type before each
+//! message, so that a reader can tell where a message ends and how to read it.
+#![tactic(auto)]
+
+mod head;
+pub mod laws;
+
+pub use head::{HEAD_BYTES, Head, HeadErr, SBE_BIG, SBE_LITTLE, TAG_VALUE, put_head, read_head};
