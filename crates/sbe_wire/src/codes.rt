@@ -30,7 +30,8 @@ pub enum FCode {
 /// Why a message can't be written, as `N01` to `N09`.
 #[derive(Clone, Copy, Debug, PartialEq, Eq)]
 pub enum NCode {
-    /// `N01`: a number isn't admitted, or a text is too long or empty.
+    /// `N01`: a number isn't admitted or is the null of an optional field, or a text is too long, or
+    /// empty where it is optional.
     Range,
     /// `N02`: an enum's number isn't listed.
     EnumUnknown,
@@ -38,7 +39,7 @@ pub enum NCode {
     SetUnknown,
     /// `N04`: a text has a byte that may not stand in it.
     TextByte,
-    /// `N05`: a value is of another kind.
+    /// `N05`: a value is of another kind, or an array or composite of another length.
     Kind,
     /// `N06`: a group has more or fewer entries than its count admits.
     Count,
