@@ -1,0 +1,31 @@
+-- What loading a file answers.
+use Rattle.std.specs.Prelude.{◌≡◌, ◌<◌, ◌≤◌, ℕ, List, length, Option, Some, None, Result, Ok, Err, ⊤}
+use Rattle.sbe_base.specs.Causes.{Rose}
+use Rattle.sbe_base.specs.declared.files.LoadErr.{LoadErr}
+use Rattle.sbe_base.specs.declared.files.LoadErr.TheVariants.{Failed, Absent, TooLong, Memory}
+
+-- what a file of these bytes, or no file, is answered; a failure and want of memory come before all else
+abbrev pub LoadsFrom : Option (List ℕ) → ℕ → Result (Unit {0}) LoadErr → List ℕ → Type 0
+LoadsFrom file limit (Ok done) into = (file ≡ Some into) × (length into ≤ limit)
+LoadsFrom file limit (Err Absent) into = file ≡ None
+LoadsFrom file limit (Err TooLong) into = (bytes : List ℕ) × (file ≡ Some bytes) × (limit < length bytes)
+LoadsFrom file limit (Err Failed) into = ⊤
+LoadsFrom file limit (Err Memory) into = ⊤
+
+-- the same at a name, where the contents are told
+abbrev pub Loads : Option (List ℕ → Option (List ℕ)) → List ℕ → ℕ → Result (Unit {0}) LoadErr → List ℕ → Type 0
+Loads None name limit result into = ⊤
+Loads (Some look) name limit result into = LoadsFrom (look name) limit result into
+
+-- the same of all that a reader has left, where that is told
+abbrev pub LoadsRest : Option (List ℕ) → ℕ → Result (Unit {0}) LoadErr → List ℕ → Type 0
+LoadsRest None limit result into = ⊤
+LoadsRest (Some left) limit result into = LoadsFrom (Some left) limit result into
+
+-- the count of faults never falls; it rose at a failure, and every other answer leaves it
+abbrev pub CausedLoad : ℕ → ℕ → Result (Unit {0}) LoadErr → Type 0
+CausedLoad before now (Err Failed) = (before ≤ now) × Rose before now
+CausedLoad before now (Err Absent) = now ≡ before
+CausedLoad before now (Err TooLong) = now ≡ before
+CausedLoad before now (Err Memory) = now ≡ before
+CausedLoad before now (Ok done) = now ≡ before

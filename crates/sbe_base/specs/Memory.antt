@@ -1,0 +1,47 @@
+-- What the objects in memory hold.
+use Rattle.std.specs.Prelude.{◌≡◌, ◌≢◌, ◌<◌, ◌≤◌, ℕ, Bool, true, false, List, length, Option, Some, Result, Err, option_map, find, ◌⊎◌, IsSomeAnd}
+use Rattle.std.specs.Str.{bytes_eq}
+use Rattle.sbe_base.specs.Calls.{CallLog, IsListed}
+use Rattle.sbe_base.specs.declared.files.LoadErr.{LoadErr}
+use Rattle.sbe_base.specs.declared.files.LoadErr.TheVariants.{Failed}
+use Rattle.sbe_base.specs.declared.mem_files.MemFile.{MemFile}
+
+-- the bytes still to come, the most that one read gives, and the calls
+pub record SourceState : Type 0 where
+  pub left : List ℕ
+  pub piece : ℕ
+  pub calls : CallLog
+
+-- the bytes taken so far, how many more fit, and the calls
+pub record SinkState : Type 0 where
+  pub held : List ℕ
+  pub room : ℕ
+  pub calls : CallLog
+
+-- the files, and the calls
+pub record FilesState : Type 0 where
+  pub files : List MemFile
+  pub calls : CallLog
+
+-- a write of these bytes is to fail: its call is listed, or no byte of some fits
+abbrev pub WriteFails : SinkState → List ℕ → Type 0
+WriteFails sink bytes = IsListed sink.calls ⊎ ((sink.room ≡ 0) × (0 < length bytes))
+
+-- the bytes of the first file of that name
+abbrev pub found : List ℕ → List MemFile → Option (List ℕ)
+found name files = option_map (λ file. file.bytes) (find (λ file. bytes_eq file.name name) files)
+
+-- the name now has these bytes, and all else is as it was
+pub record Replaces (old new : FilesState) (name bytes : List ℕ) : Type 0 where
+  pub here : found name new.files ≡ Some bytes
+  pub elsewhere : (other : List ℕ) → other ≢ name → found other new.files ≡ found other old.files
+  pub calls : new.calls ≡ old.calls
+
+-- there is a file, and it has at most so many bytes
+abbrev pub MayLoad : Option (List ℕ) → ℕ → Type 0
+MayLoad file limit = IsSomeAnd file (λ bytes. length bytes ≤ limit)
+
+-- whether a load is answered by a failure
+abbrev pub is_failed : Result (Unit {0}) LoadErr → Bool
+is_failed (Err Failed) = true
+is_failed _ = false

@@ -1,0 +1,157 @@
+ghost use Rattle.std.specs.Prelude.{◌≡◌, ◌≤◌, [], length, None, OnOk};
+ghost use Rattle.sbe_base.specs.Adapters.{WrapsRuntime};
+ghost use Rattle.sbe_base.specs.Loads.{LoadsRest};
+
+use crate::{Files, LoadErr};
+use std::alloc::Global;
+use std::io::{ErrorKind, Read};
+use std::{fs, rt};
+
+/// How many bytes one read asks for at most.
+const PIECE: usize = 4096;
+
+/// The files of the file system, by their paths, with a count of their failures. It tells no contents.
+#[derive(Drop)]
+pub struct DirFiles<R: rt::Files + Drop> {
+    rt: R,
+    faults: u64,
+}
+
+impl<R: rt::Files + Drop> DirFiles<R> {
+    /// The files that the runtime reaches.
+    pub fn new(rt: R) -> DirFiles<R>
+        ensures { WrapsRuntime rt result }
+    {
+        DirFiles { rt, faults: 0 }
+    }
+}
+
+impl<R: rt::Files + Drop> Files for DirFiles<R> {
+    ghost contents = { λ files. None };
+
+    ghost faults = { λ files. files.faults };
+
+    fn load(
+        &mut self,
+        _alloc: Global,
+        name: &str,
+        limit: usize,
+        into: &mut Vec<u8>,
+    ) -> Result<(), LoadErr> {
+        into.clear();
+        match load_file(&self.rt, name, limit, into) {
+            Ok(()) => Ok(()),
+            Err(e) => {
+                into.clear();
+                if e == LoadErr::Failed {
+                    self.faults = self.faults.saturating_add(1);
+                }
+                Err(e)
+            }
+        }
+    }
+}
+
+/// Appends the bytes of the file to an empty buffer.
+fn load_file<R: rt::Files>(
+    rt: &R,
+    name: &str,
+    limit: usize,
+    into: &mut Vec<u8>,
+) -> Result<(), LoadErr>
+    requires { into.old.items ≡ [] }
+    ensures { OnOk result (length into.new.items ≤ limit) }
+{
+    match fs::open(rt, name) {
+        Ok(mut file) => read_whole(&mut file, limit, into),
+        Err(e) if e.kind() == ErrorKind::NotFound => Err(LoadErr::Absent),
+        Err(_) => Err(LoadErr::Failed),
+    }
+}
+
+/// Appends all that the reader has, which is too long as soon as one byte more than `limit` came.
+fn read_whole<R: Read>(reader: &mut R, limit: usize, into: &mut Vec<u8>) -> Result<(), LoadErr>
+    requires { into.old.items ≡ [] }
+    ensures within { OnOk result (length into.new.items ≤ limit) }
+    ensures whole { LoadsRest (R.remaining reader.old) limit result into.new.items }
+{
+    let mut piece = [0u8; PIECE];
+    while into.len() <= limit {
+        let most = (limit - into.len()).min(PIECE - 1) + 1;
+        let count = match reader.read(&mut piece[..most]) {
+            Ok(0) => return Ok(()),
+            Ok(count) => count,
+            Err(_) => return Err(LoadErr::Failed),
+        };
+        let Ok(()) = into.extend_from_slice(&piece[..count]) else {
+            return Err(LoadErr::Memory);
+        };
+    }
+    Err(LoadErr::TooLong)
+}
+
+#[cfg(test)]
+mod tests {
+    use super::*;
+    use std::test::Fail;
+    use std::{env, io};
+
+    /// Gives one byte a read, and fails where none are left.
+    #[derive(Drop)]
+    struct Torn(u8);
+
+    impl Read for Torn {
+        fn read(&mut self, buf: &mut [u8]) -> io::Result<usize> {
+            if self.0 == 0 {
+                return Err(io::Error::from(io::ErrorKind::UnexpectedEof));
+            }
+            self.0 -= 1;
+            Ok(buf.len().min(1))
+        }
+    }
+
+    /// Loads as a caller does that knows the trait alone.
+    fn load_from<F: Files>(
+        files: &mut F,
+        alloc: Global,
+        name: &str,
+        limit: usize,
+        into: &mut Vec<u8>,
+    ) -> Result<(), LoadErr> {
+        files.load(alloc, name, limit, into)
+    }
+
+    #[test]
+    fn loads_what_the_file_system_has(rt: HostRuntime) -> Result<(), Fail> {
+        let dir = env::temp_dir(&rt)?;
+        let dir = dir.as_path().to_string_lossy();
+        let here = format!(in rt.alloc(); "{dir}/sbe_base_loads")?;
+        let gone = format!(in rt.alloc(); "{dir}/sbe_base_gone")?;
+        fs::write(&rt, here.as_str(), "hello")?;
+        let rows: [(&str, usize, Result<(), LoadErr>, &[u8]); 5] = [
+            (here.as_str(), 5, Ok(()), b"hello"),
+            (here.as_str(), 4, Err(LoadErr::TooLong), b""),
+            (here.as_str(), usize::MAX, Ok(()), b"hello"),
+            (gone.as_str(), 5, Err(LoadErr::Absent), b""),
+            (dir, 5, Err(LoadErr::Failed), b""),
+        ];
+        let mut files = DirFiles::new(rt.clone()?);
+        let mut into = Vec::from_slice(rt.alloc(), b"before")?;
+        for (name, limit, answer, bytes) in rows {
+            let loaded = load_from(&mut files, rt.alloc(), name, limit, &mut into);
+            assert_eq!(rt; loaded, answer, "{name} at {limit}");
+            assert_eq!(rt; into.as_slice(), bytes);
+        }
+        assert_eq!(rt; files.faults, 1);
+        fs::remove_file(&rt, here.as_str())?;
+        Ok(())
+    }
+
+    #[test]
+    fn a_read_that_fails_in_mid_stream_is_a_failure(rt: HostRuntime) {
+        for (limit, answer) in [(9, LoadErr::Failed), (2, LoadErr::TooLong)] {
+            let mut into = Vec::new(rt.alloc());
+            assert_eq!(rt; read_whole(&mut Torn(3), limit, &mut into), Err(answer));
+        }
+    }
+}

@@ -1,0 +1,21 @@
+//! The outside of a run: where bytes come from, where they go and where files are, with the faults of each
+//! counted; what a run ends with, and how much it takes in.
+#![tactic(auto)]
+
+mod adapters;
+mod calls;
+mod dir_files;
+mod files;
+mod mem_files;
+mod memory;
+mod status;
+mod stream;
+
+pub use adapters::{StdSink, StdSource};
+pub use dir_files::DirFiles;
+pub use files::{Files, LoadErr};
+pub use lists::NoMem;
+pub use mem_files::MemFiles;
+pub use memory::{MemSink, MemSource};
+pub use status::{Limits, Status};
+pub use stream::{Failed, Sink, Source, WriteFault, write_all_to};

@@ -1,0 +1,154 @@
+ghost use Rattle.std.specs.Prelude.{◌≡◌, ◌≤◌, ◌↔◌, Some, [], length, IfOk, OnOk, OnErr, position};
+ghost use Rattle.sbe_base.specs.Calls.{IsListed, no_calls, one_call};
+ghost use Rattle.sbe_base.specs.Loads.{LoadsFrom, CausedLoad};
+ghost use Rattle.sbe_base.specs.Memory.{found, Replaces, MayLoad, is_failed};
+ghost use Rattle.std.specs.Str.{bytes_eq};
+
+use crate::calls::Calls;
+use crate::{Files, LoadErr};
+use lists::{Bytes, NoMem, Text};
+use std::alloc::Global;
+use std::marker::Model;
+
+/// A file in memory.
+#[derive(Drop)]
+pub struct MemFile {
+    name: Text,
+    bytes: Bytes,
+}
+
+/// Files in memory. The calls of `load` whose numbers it was made with fail.
+#[derive(Drop)]
+pub struct MemFiles {
+    alloc: Global,
+    files: Vec<MemFile>,
+    calls: Calls,
+}
+
+impl Model for MemFiles {
+    ghost use Rattle.sbe_base.specs.Memory.{FilesState};
+
+    ghost Value = { FilesState };
+
+    ghost view = { λ files. record { files = files.files.items; calls = files.calls } };
+}
+
+impl MemFiles {
+    /// No files. The calls of `load` with these numbers, counted from 1, are to fail.
+    pub fn new(alloc: Global, failing: &[u64]) -> Result<MemFiles, NoMem>
+        ensures files { IfOk result (λ files. files.files ≡ []) }
+        ensures calls { IfOk result (λ files. files.calls ≡ no_calls failing.now) }
+    {
+        Ok(MemFiles {
+            alloc,
+            files: Vec::new(alloc),
+            calls: Calls::new(alloc, failing)?,
+        })
+    }
+
+    /// Adds the file, or replaces the one of that name. Where memory is wanting, all stays as it was.
+    pub fn put(&mut self, name: &str, bytes: &[u8]) -> Result<(), NoMem>
+        ensures ok { OnOk result (Replaces self.old self.new name.now bytes.now) }
+        ensures err { OnErr result (self.new ≡ self.old) }
+    {
+        let bytes = Bytes::from_slice(self.alloc, bytes)?;
+        match place_of(self.files.as_slice(), name.as_bytes()) {
+            Some(i) => self.files[i].bytes = bytes,
+            None => {
+                let name = Text::from_slice(self.alloc, name.as_bytes())?;
+                self.files.push(MemFile { name, bytes })?;
+            }
+        }
+        Ok(())
+    }
+}
+
+impl Files for MemFiles {
+    ghost contents = { λ files. Some (λ name. found name files.files) };
+
+    ghost faults = { λ files. files.calls.faults };
+
+    fn load(
+        &mut self,
+        _alloc: Global,
+        name: &str,
+        limit: usize,
+        into: &mut Vec<u8>,
+    ) -> Result<(), LoadErr>
+        ensures kept { self.new.files ≡ self.old.files }
+        ensures loads { LoadsFrom (found name.now self.old.files) limit result into.new.items }
+        ensures within { OnOk result (length into.new.items ≤ limit) }
+        ensures empty { OnErr result (into.new.items ≡ []) }
+        ensures cause { CausedLoad self.old.calls.faults self.new.calls.faults result }
+
+        // It fails exactly at the listed calls, and memory is wanting only for a file that may be loaded.
+        ensures memory { result ≡ Err LoadErr.Memory → MayLoad (found name.now self.old.files) limit }
+        ensures fails { (result ≡ Err LoadErr.Failed) ↔ IsListed self.old.calls }
+        ensures counted { self.new.calls ≡ one_call self.old.calls (is_failed result) }
+    {
+        into.clear();
+        if self.calls.count() {
+            self.calls.fault();
+            return Err(LoadErr::Failed);
+        }
+        let Some(i) = place_of(self.files.as_slice(), name.as_bytes()) else {
+            return Err(LoadErr::Absent);
+        };
+        let bytes = self.files[i].bytes.as_slice();
+        if bytes.len() > limit {
+            return Err(LoadErr::TooLong);
+        }
+        let Ok(()) = into.extend_from_slice(bytes) else {
+            return Err(LoadErr::Memory);
+        };
+        Ok(())
+    }
+}
+
+/// The place of the first file of that name.
+fn place_of(files: &[MemFile], name: &[u8]) -> Option<usize>
+    ensures { result ≡ position (λ file. bytes_eq file.name name.now) files.now }
+{
+    files.iter().position(|file| file.name.as_slice() == name)
+}
+
+#[cfg(test)]
+mod tests {
+    use super::*;
+    use std::test::Fail;
+
+    /// Loads as a caller does that knows the trait alone.
+    fn load_from<F: Files>(
+        files: &mut F,
+        alloc: Global,
+        name: &str,
+        limit: usize,
+        into: &mut Vec<u8>,
+    ) -> Result<(), LoadErr> {
+        files.load(alloc, name, limit, into)
+    }
+
+    #[test]
+    fn loads_by_name_and_fails_where_listed(rt: HostRuntime) -> Result<(), Fail> {
+        let mut files = MemFiles::new(rt.alloc(), &[2])?;
+        files.put("a", b"old")?;
+        files.put("b", b"bbb")?;
+        files.put("a", b"new!")?;
+        let rows: [(&str, usize, Result<(), LoadErr>, &[u8]); 7] = [
+            ("a", 4, Ok(()), b"new!"),
+            ("a", 4, Err(LoadErr::Failed), b""),
+            ("a", 3, Err(LoadErr::TooLong), b""),
+            ("b", 9, Ok(()), b"bbb"),
+            ("c", 9, Err(LoadErr::Absent), b""),
+            ("", 9, Err(LoadErr::Absent), b""),
+            ("a", 9, Ok(()), b"new!"),
+        ];
+        let mut into = Vec::from_slice(rt.alloc(), b"before")?;
+        for (name, limit, answer, bytes) in rows {
+            let loaded = load_from(&mut files, rt.alloc(), name, limit, &mut into);
+            assert_eq!(rt; loaded, answer, "{name} at {limit}");
+            assert_eq!(rt; into.as_slice(), bytes);
+        }
+        Ok(())
+    }
+}

@@ -1,0 +1,247 @@
+ghost use Rattle.std.specs.Prelude.{◌≡◌, ◌<◌, ◌+◌, ◌↔◌, Some, [], min, length, take, IfOk, IsErr, is_err};
+ghost use Rattle.std.specs.Io.{ReadsAtMost, WritesAtMost};
+ghost use Rattle.std.specs.Io.KnownBytes.{ReadConsumes, WriteAppends};
+ghost use Rattle.sbe_base.specs.Causes.{HasCause};
+ghost use Rattle.sbe_base.specs.Calls.{IsListed, no_calls, one_call};
+ghost use Rattle.sbe_base.specs.Memory.{WriteFails};
+
+use crate::calls::Calls;
+use crate::{Failed, Sink, Source};
+use lists::NoMem;
+use std::alloc::Global;
+use std::marker::Model;
+
+/// Bytes in memory, given in pieces. The calls whose numbers it was made with fail.
+#[derive(Drop)]
+pub struct MemSource {
+    bytes: Vec<u8>,
+    at: usize,
+    piece: usize,
+    calls: Calls,
+}
+
+impl Model for MemSource {
+    ghost use Rattle.std.specs.Prelude.{◌<◌, ◌≤◌, length, drop};
+    ghost use Rattle.sbe_base.specs.Memory.{SourceState};
+
+    ghost Value = { SourceState };
+
+    ghost view = { λ source. record { left = drop source.at source.bytes.items; piece = source.piece; calls = source.calls } };
+
+    ghost invariant = { λ source. (source.at ≤ length source.bytes.items) × (0 < source.piece) };
+}
+
+impl MemSource {
+    /// A source of these bytes, which gives at most `piece` of them a read. The calls of these numbers, counted
+    /// from 1, are to fail.
+    pub fn new(
+        alloc: Global,
+        bytes: &[u8],
+        piece: usize,
+        failing: &[u64],
+    ) -> Result<MemSource, NoMem>
+        requires { 0 < piece }
+        ensures left { IfOk result (λ source. source.left ≡ bytes.now) }
+        ensures piece { IfOk result (λ source. source.piece ≡ piece) }
+        ensures calls { IfOk result (λ source. source.calls ≡ no_calls failing.now) }
+    {
+        Ok(MemSource {
+            bytes: Vec::from_slice(alloc, bytes)?,
+            at: 0,
+            piece,
+            calls: Calls::new(alloc, failing)?,
+        })
+    }
+
+    /// The bytes still to come.
+    pub fn left(&self) -> &[u8]
+        ensures { result.now ≡ self.now.left }
+    {
+        &self.bytes[self.at..]
+    }
+}
+
+impl Source for MemSource {
+    ghost left = { λ source. Some source.left };
+
+    ghost faults = { λ source. source.calls.faults };
+
+    fn read(&mut self, buf: &mut [u8]) -> Result<usize, Failed>
+        ensures bound { ReadsAtMost result buf.new }
+        ensures bytes { ReadConsumes (Some self.old.left) (Some self.new.left) result buf.new }
+        ensures cause { HasCause self.old.calls.faults self.new.calls.faults result }
+
+        // It fails exactly at the listed calls, and else gives as much as piece, buffer and bytes allow.
+        ensures fails { IsErr result ↔ IsListed self.old.calls }
+        ensures taken { IfOk result (λ n. n ≡ min self.old.piece (min (length buf.old) (length self.old.left))) }
+        ensures counted { self.new.calls ≡ one_call self.old.calls (is_err result) }
+        ensures piece { self.new.piece ≡ self.old.piece }
+    {
+        if self.calls.count() {
+            self.calls.fault();
+            return Err(Failed);
+        }
+        let n = copy_front(&self.bytes[self.at..], self.piece, buf);
+        self.at += n;
+        Ok(n)
+    }
+}
+
+/// Copies a front of the bytes, of at most so many.
+fn copy_front(from: &[u8], most: usize, buf: &mut [u8]) -> usize
+    ensures count { result ≡ min most (min (length buf.old) (length from.now)) }
+    ensures bytes { take result buf.new ≡ take result from.now }
+{
+    let n = most.min(buf.len().min(from.len()));
+    buf[..n].copy_from_slice(&from[..n]);
+    n
+}
+
+/// Room in memory for bytes. The calls whose numbers it was made with fail.
+#[derive(Drop)]
+pub struct MemSink {
+    bytes: Vec<u8>,
+    room: usize,
+    calls: Calls,
+}
+
+impl Model for MemSink {
+    ghost use Rattle.std.specs.Prelude.{◌+◌, ◌≤◌, vec_len, vec_capacity};
+    ghost use Rattle.sbe_base.specs.Memory.{SinkState};
+
+    ghost Value = { SinkState };
+
+    ghost view = { λ sink. record { held = sink.bytes.items; room = sink.room; calls = sink.calls } };
+
+    ghost invariant = { λ sink. vec_len sink.bytes + sink.room ≤ vec_capacity sink.bytes };
+}
+
+impl MemSink {
+    /// A sink with memory for `room` bytes. The calls of these numbers, counted from 1, are to fail.
+    pub fn new(alloc: Global, room: usize, failing: &[u64]) -> Result<MemSink, NoMem>
+        ensures held { IfOk result (λ sink. sink.held ≡ []) }
+        ensures room { IfOk result (λ sink. sink.room ≡ room) }
+        ensures calls { IfOk result (λ sink. sink.calls ≡ no_calls failing.now) }
+    {
+        Ok(MemSink {
+            bytes: Vec::with_capacity(alloc, room)?,
+            room,
+            calls: Calls::new(alloc, failing)?,
+        })
+    }
+
+    /// The bytes taken so far.
+    pub fn bytes(&self) -> &[u8]
+        ensures { result.now ≡ self.now.held }
+    {
+        self.bytes.as_slice()
+    }
+}
+
+impl Sink for MemSink {
+    ghost held = { λ sink. Some sink.held };
+
+    ghost faults = { λ sink. sink.calls.faults };
+
+    fn write(&mut self, bytes: &[u8]) -> Result<usize, Failed>
+        ensures bound { WritesAtMost result bytes.now }
+        ensures some { IfOk result (λ n. 0 < length bytes.now → 0 < n) }
+        ensures bytes { WriteAppends (Some self.old.held) (Some self.new.held) result bytes.now }
+        ensures cause { HasCause self.old.calls.faults self.new.calls.faults result }
+
+        // It fails exactly at the listed calls and where no room is left, and else takes what fits.
+        ensures fails { IsErr result ↔ WriteFails self.old bytes.now }
+        ensures taken { IfOk result (λ n. n ≡ min self.old.room (length bytes.now)) }
+        ensures room { length self.new.held + self.new.room ≡ length self.old.held + self.old.room }
+        ensures counted { self.new.calls ≡ one_call self.old.calls (is_err result) }
+    {
+        let n = self.room.min(bytes.len());
+        let listed = self.calls.count();
+        if listed || n == 0 && !bytes.is_empty() {
+            self.calls.fault();
+            return Err(Failed);
+        }
+        match self.bytes.extend_from_slice(&bytes[..n]) {
+            Ok(()) => {}
+            // The room was taken when the sink was made.
+            Err(_) => unreachable!(),
+        }
+        self.room -= n;
+        Ok(n)
+    }
+}
+
+#[cfg(test)]
+mod tests {
+    use super::*;
+    use crate::{WriteFault, write_all_to};
+    use std::test::Fail;
+
+    /// Reads as a caller does that knows the trait alone.
+    fn read_from<I: Source>(source: &mut I, buf: &mut [u8]) -> Result<usize, Failed> {
+        source.read(buf)
+    }
+
+    #[test]
+    fn reads_in_pieces_and_fails_where_listed(rt: HostRuntime) -> Result<(), Fail> {
+        let mut source = MemSource::new(rt.alloc(), b"abcde", 2, &[2, 5])?;
+        assert_eq!(rt; source.left(), b"abcde".as_slice());
+        let rows: [(Result<usize, Failed>, &[u8]); 6] = [
+            (Ok(2), b"cde"),
+            (Err(Failed), b"cde"),
+            (Ok(2), b"e"),
+            (Ok(1), b""),
+            (Err(Failed), b""),
+            (Ok(0), b""),
+        ];
+        for (answer, left) in rows {
+            let mut buf = [0u8; 3];
+            assert_eq!(rt; read_from(&mut source, &mut buf), answer);
+            assert_eq!(rt; source.left(), left);
+        }
+        Ok(())
+    }
+
+    #[test]
+    fn fills_the_front_of_the_buffer(rt: HostRuntime) -> Result<(), Fail> {
+        let mut source = MemSource::new(rt.alloc(), b"abc", 9, &[])?;
+        let mut buf = *b"....";
+        assert_eq!(rt; source.read(&mut buf), Ok(3));
+        assert_eq!(rt; buf, *b"abc.");
+        Ok(())
+    }
+
+    #[test]
+    fn takes_what_fits_and_fails_where_listed(rt: HostRuntime) -> Result<(), Fail> {
+        let mut sink = MemSink::new(rt.alloc(), 5, &[2])?;
+        let rows: [(&[u8], Result<usize, Failed>, &[u8]); 6] = [
+            (b"abc", Ok(3), b"abc"),
+            (b"d", Err(Failed), b"abc"),
+            (b"", Ok(0), b"abc"),
+            (b"def", Ok(2), b"abcde"),
+            (b"f", Err(Failed), b"abcde"),
+            (b"", Ok(0), b"abcde"),
+        ];
+        for (piece, answer, held) in rows {
+            assert_eq!(rt; sink.write(piece), answer);
+            assert_eq!(rt; sink.bytes(), held);
+        }
+        Ok(())
+    }
+
+    #[test]
+    fn writes_all_or_a_front(rt: HostRuntime) -> Result<(), Fail> {
+        let rows: [(usize, &[u64], Result<(), WriteFault>, &[u8]); 4] = [
+            (4, &[], Ok(()), b"abcd"),
+            (9, &[], Ok(()), b"abcd"),
+            (3, &[], Err(WriteFault), b"abc"),
+            (9, &[1], Err(WriteFault), b""),
+        ];
+        for (room, failing, answer, held) in rows {
+            let mut sink = MemSink::new(rt.alloc(), room, failing)?;
+            assert_eq!(rt; write_all_to(&mut sink, b"abcd"), answer);
+            assert_eq!(rt; sink.bytes(), held);
+        }
+        Ok(())
+    }
+}

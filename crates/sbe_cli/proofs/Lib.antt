@@ -1,0 +1,4 @@
+pub mod Views
+pub mod Heads
+pub mod Texts
+pub mod TwoWords

@@ -1,0 +1,16 @@
+//! The command line: its words, its commands, and the run of one command.
+#![tactic(auto)]
+
+mod attributes;
+mod block;
+mod dump;
+mod engine;
+mod line;
+mod small;
+mod stop;
+#[cfg(test)]
+mod tests;
+mod words;
+
+pub use engine::run;
+pub use words::{Command, Name, WordsErr, read_words};
