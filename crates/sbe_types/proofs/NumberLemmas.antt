@@ -1,18 +1,18 @@
 -- The two readings of bytes are the digits' sums.
-use Rattle.std.proofs.Common.{◌≡◌, ℕ, zero, suc, ◌+◌, ◌-◌, ◌*◌, ◌^◌, ◌<◌, ◌≤◌, Bool, true, false, if◌then◌else◌, List, [], ◌∷◌, ◌++◌, length, get_or, reverse, ℤ, pos, negsuc, ◌-ℤ◌, refl, sym, ap, ◌∙◌, subst, arith, rules, append_assoc, length-append, add-one}
-use Rattle.std.specs.Prelude.{nat_le, slice_index}
+use Rattle.std.proofs.Common.{◌≡◌, ℕ, suc, ◌+◌, ◌*◌, ◌^◌, ◌<◌, List, [], ◌∷◌, ◌++◌, length, reverse, pos, refl, sym, ap, ◌∙◌, arith, append_assoc, length-append}
+use Rattle.std.specs.Prelude.{slice_index}
 use Rattle.std.proofs.lemmas.Int.{ints}
 use Rattle.std.proofs.lemmas.Bool.Decides.{nat_tests}
 use Rattle.std.proofs.Math.Seq.{get_or-append_seam}
 use Rattle.std.proofs.Math.Nat.{mul_comm, pow-suc}
 use Rattle.std.proofs.lemmas.Nat.{mul-add-lt}
 use Rattle.std.proofs.lemmas.Grind.{reverse_onto}
-use Rattle.std.specs.Int.{Width, cast_signed, w8, w16, w32, w64}
+use Rattle.std.specs.Int.{cast_signed, w8, w16, w32, w64}
 use Rattle.byteorder.specs.Endian.{big_from, little_from, big_number, little_number}
 use Rattle.sbe_types.specs.declared.kind.Order.TheVariants.{Little, Big}
 use Rattle.sbe_types.specs.declared.kind.Primitive.{Primitive}
 use Rattle.sbe_types.specs.declared.kind.Primitive.TheVariants.{Char, I8, I16, I32, I64, U8, U16, U32, U64}
-use Rattle.sbe_types.specs.Numbers.{big_sum, signed_of, sum_in, number_of, read_as, prim_width, is_signed}
+use Rattle.sbe_types.specs.Numbers.{big_sum, signed_of, sum_in, number_of, read_as, prim_width}
 
 pub big_at : (i : ℕ) (front bs : List ℕ) → i ≡ length front → big_from i (length bs) (front ++ bs) ≡ big_sum bs
 big_at i front [] h = refl

@@ -1,5 +1,5 @@
 -- The bytes of a value, and which values fit their kind.
-use Rattle.std.specs.Prelude.{◌≡◌, ℕ, ◌+◌, ◌-◌, ◌*◌, Bool, true, false, ◌==◌, if◌then◌else◌, Option, Some, None, List, [], ◌∷◌, ◌++◌, length, replicate, ℤ, pos}
+use Rattle.std.specs.Prelude.{◌≡◌, ℕ, ◌+◌, ◌-◌, true, ◌==◌, if◌then◌else◌, Option, Some, None, List, [], ◌∷◌, ◌++◌, length, replicate, pos}
 use Rattle.sbe_types.specs.declared.kind.Order.{Order}
 use Rattle.sbe_types.specs.declared.kind.LeafShape.{LeafShape}
 use Rattle.sbe_types.specs.declared.kind.LeafShape.TheVariants.{Number, RangedText, EncodedText, Octets, Numbers}
@@ -10,7 +10,7 @@ use Rattle.sbe_types.specs.declared.message.Elem.{Elem}
 use Rattle.sbe_types.specs.declared.message.Elem.TheVariants as elem
 use Rattle.sbe_types.specs.declared.message.Value.{Value, items-the_row-Value}
 use Rattle.sbe_types.specs.declared.message.Value.TheVariants as value
-use Rattle.sbe_types.specs.Numbers.{bytes_of, prim_width}
+use Rattle.sbe_types.specs.Numbers.{bytes_of}
 use Rattle.sbe_types.specs.Places.{width, is_const, begin_of}
 use Rattle.sbe_types.specs.Shows.{Shows}
 

@@ -1,9 +1,8 @@
 -- What is read of a block is what lies in it.
-use Rattle.std.proofs.Common.{◌≡◌, ◌⊎◌, inl, inr, ℕ, suc, ◌+◌, ◌-◌, ◌≤◌, ◌<◌, Bool, true, false, cond, List, [], ◌∷◌, ◌++◌, length, take, drop, Option, Result, Ok, Err, refl, sym, ap, ◌∙◌, subst, arith, length-append, length-take, length-drop}
+use Rattle.std.proofs.Common.{◌≡◌, inl, inr, ℕ, suc, ◌+◌, ◌≤◌, Bool, true, false, cond, List, [], ◌∷◌, ◌++◌, length, take, drop, Option, Result, Ok, refl, sym, ap, ◌∙◌, subst, arith, length-append, length-take}
 use Rattle.std.proofs.Math.Seq.{take-append_seam, drop-append_seam}
 use Rattle.std.proofs.lemmas.List.{take-append-drop}
-use Rattle.std.specs.Prelude.{IsTrue, not, ◌&&◌}
-use Rattle.std.specs.Bool.{MatchBool}
+use Rattle.std.specs.Prelude.{not, ◌&&◌}
 use Rattle.sbe_types.specs.declared.kind.Order.{Order}
 use Rattle.sbe_types.specs.declared.kind.Kind.{Kind}
 use Rattle.sbe_types.specs.declared.path.Step.TheVariants as way
@@ -16,7 +15,7 @@ use Rattle.sbe_types.specs.Shows.{Shows}
 use Rattle.sbe_wire.specs.Versions.{is_alive, floor, floor_from}
 use Rattle.sbe_wire.specs.Lays.{FieldLays, FieldsLay, BlockLays, EntryLays}
 use Rattle.sbe_wire.specs.Faults.{Fault, shifted, under, TooShort, FaultAfter, KindFault, FieldFault, FieldsFault, BlockFault, EntryFault}
-use Rattle.sbe_wire.specs.Reading.{Reader, ◌>>=◌, later, inside, then_read, nothing, bytes_read, read_judged, value_read, field_read, fields_read, block_read, Tail, block_of, entry_read}
+use Rattle.sbe_wire.specs.Reading.{Reader, later, inside, then_read, nothing, bytes_read, value_read, field_read, fields_read, block_read, Tail, block_of, entry_read}
 use Rattle.sbe_wire.specs.Agree.{Judges, Reads}
 use Rattle.sbe_wire.specs.Placed.{BeginsBehind, ArePlaced}
 use Rattle.sbe_wire.proofs.Combine.{ok_is, restated, After, after, MadeOf, made, so_many, JudgedOf, JudgedFault, computed}
@@ -77,7 +76,7 @@ module _ (order : Order) (known : Bool) (version : ℕ) where
         let there = floor_reaches version (end_past e f.offset f.kind) (reach version e reached f) fs (reach_within version e reached f _ refl within placed.0) placed.2 in
         let past : end_past e f.offset f.kind ≡ begin_of e f.offset + width f.kind = ap (λ t. cond t e (begin_of e f.offset + width f.kind)) c in
         let at : reach version e reached f ≡ end_past e f.offset f.kind =
-            ap (λ t. cond (t && not (is_const f.kind)) (end_past e f.offset f.kind) reached) alive ∙ ap (λ t. cond (true && not t) (end_past e f.offset f.kind) reached) c in
+        ap (λ t. cond (t && not (is_const f.kind)) (end_past e f.offset f.kind) reached) alive ∙ ap (λ t. cond (true && not t) (end_past e f.offset f.kind) reached) c in
         omega (arith, there, past, at, given)
 
     beside_to : (vs : List Value) (b : List ℕ) → Beside (λ v b. FieldLays order known version e f v b) (FieldsLay order known version (end_past e f.offset f.kind) fs) vs b → FieldsLay order known version e (f ∷ fs) vs b
@@ -121,17 +120,17 @@ module _ (order : Order) (known : Bool) (version : ℕ) where
 
   block_fault_to : (fields : List Field) (k : ℕ) (f : Fault) (b : List ℕ) → JudgedFault (TooShort k) (λ x b. (length b ≡ k) × (x ≡ b)) (FieldsFault order known version 0 0 fields) f b → BlockFault order known version fields k f b
   block_fault_to fields k f b h = elim h [
-        inl e ↦ inl e
-        | inr e ↦
-          let front : e.1 ≡ take k b = sym (ap (take k) e.3 ∙ ap (λ n. take n (e.1 ++ e.2)) (sym e.4.0) ∙ take-append_seam e.1 e.2) in
-          inr (omega (arith, ap length e.3, length-append e.1 e.2, e.4.0), subst (FieldsFault order known version 0 0 fields f) (e.4.1 ∙ front) e.5)
-      ]
+    | inl e ↦ inl e
+    | inr e ↦
+        let front : e.1 ≡ take k b = sym (ap (take k) e.3 ∙ ap (λ n. take n (e.1 ++ e.2)) (sym e.4.0) ∙ take-append_seam e.1 e.2) in
+        inr (omega (arith, ap length e.3, length-append e.1 e.2, e.4.0), subst (FieldsFault order known version 0 0 fields f) (e.4.1 ∙ front) e.5)
+  ]
 
   block_fault_from : (fields : List Field) (k : ℕ) (f : Fault) (b : List ℕ) → BlockFault order known version fields k f b → JudgedFault (TooShort k) (λ x b. (length b ≡ k) × (x ≡ b)) (FieldsFault order known version 0 0 fields) f b
   block_fault_from fields k f b h = elim h [
-        inl e ↦ inl e
-        | inr e ↦ let long : k ≤ length b = e.0 in inr (take k b, take k b, drop k b, sym (take-append-drop k b), (simp length-take (omega arith), refl), e.1)
-      ]
+    | inl e ↦ inl e
+    | inr e ↦ let long : k ≤ length b = e.0 in inr (take k b, take k b, drop k b, sym (take-append-drop k b), (simp length-take (omega arith), refl), e.1)
+  ]
 
   pub block_reads : (fields : List Field) (k : ℕ) → floor version fields ≤ k → ArePlaced 0 fields → Reads (block_read order known version fields k) (BlockIs fields k) (BlockFault order known version fields k)
   block_reads fields k reaches placed =
@@ -160,10 +159,10 @@ module _ (order : Order) (known : Bool) (version : ℕ) where
         let front : take k b ≡ h.1 = ap (take k) h.3 ∙ ap (λ n. take n (h.1 ++ h.2)) (sym h.4.0) ∙ take-append_seam h.1 h.2 in
         let back : drop k b ≡ h.2 = ap (drop k) h.3 ∙ ap (λ n. drop n (h.1 ++ h.2)) (sym h.4.0) ∙ drop-append_seam h.1 h.2 in
         let whole : EntryLays TailIs order known version fields k (block_of h.0 h.5.0) b = (
-              omega (arith, ap length h.3, length-append h.1 h.2, h.4.0),
-              subst (BlockLays order known version fields h.0) (sym front) h.4.1,
-              subst (TailIs (block_of h.0 h.5.0)) (sym back) (ignores [] h.0 h.5.0 h.2 h.5.2)
-            ) in
+          omega (arith, ap length h.3, length-append h.1 h.2, h.4.0),
+          subst (BlockLays order known version fields h.0) (sym front) h.4.1,
+          subst (TailIs (block_of h.0 h.5.0)) (sym back) (ignores [] h.0 h.5.0 h.2 h.5.2),
+        ) in
         subst (λ entry. EntryLays TailIs order known version fields k entry b) (sym h.5.1) whole
 
     entry_from : Ignores → (entry : Block) (b : List ℕ) → EntryLays TailIs order known version fields k entry b → Split entry b
@@ -175,21 +174,21 @@ module _ (order : Order) (known : Bool) (version : ℕ) where
 
     entry_fault_to : (f : Fault) (b : List ℕ) → FaultAfter (BlockFault order known version fields k) (BlockIs fields k) (λ _. TailHas) f b → EntryFault TailHas order known version fields k f b
     entry_fault_to f b h = elim h [
-          inl e ↦ inl e
-          | inr e ↦
-            let front : take k b ≡ e.1 = ap (take k) e.4 ∙ ap (λ n. take n (e.1 ++ e.2)) (sym e.5.0) ∙ take-append_seam e.1 e.2 in
-            let back : drop k b ≡ e.2 = ap (drop k) e.4 ∙ ap (λ n. drop n (e.1 ++ e.2)) (sym e.5.0) ∙ drop-append_seam e.1 e.2 in
-            inr (e.0, e.3, omega (arith, ap length e.4, length-append e.1 e.2, e.5.0), subst (BlockLays order known version fields e.0) (sym front) e.5.1, subst (TailHas e.3) (sym back) e.6, e.7 ∙ ap (λ n. shifted n e.3) e.5.0)
-        ]
+      | inl e ↦ inl e
+      | inr e ↦
+          let front : take k b ≡ e.1 = ap (take k) e.4 ∙ ap (λ n. take n (e.1 ++ e.2)) (sym e.5.0) ∙ take-append_seam e.1 e.2 in
+          let back : drop k b ≡ e.2 = ap (drop k) e.4 ∙ ap (λ n. drop n (e.1 ++ e.2)) (sym e.5.0) ∙ drop-append_seam e.1 e.2 in
+          inr (e.0, e.3, omega (arith, ap length e.4, length-append e.1 e.2, e.5.0), subst (BlockLays order known version fields e.0) (sym front) e.5.1, subst (TailHas e.3) (sym back) e.6, e.7 ∙ ap (λ n. shifted n e.3) e.5.0)
+    ]
 
     entry_fault_from : (f : Fault) (b : List ℕ) → EntryFault TailHas order known version fields k f b → FaultAfter (BlockFault order known version fields k) (BlockIs fields k) (λ _. TailHas) f b
     entry_fault_from f b h = elim h [
-          inl e ↦ inl e
-          | inr e ↦
-            let long : k ≤ length b = e.2 in
-            let wide : length (take k b) ≡ k = simp length-take (omega arith) in
-            inr (e.0, take k b, drop k b, e.1, sym (take-append-drop k b), (wide, e.3), e.4, e.5 ∙ ap (λ n. shifted n e.1) (sym wide))
-        ]
+      | inl e ↦ inl e
+      | inr e ↦
+          let long : k ≤ length b = e.2 in
+          let wide : length (take k b) ≡ k = simp length-take (omega arith) in
+          inr (e.0, take k b, drop k b, e.1, sym (take-append-drop k b), (wide, e.3), e.4, e.5 ∙ ap (λ n. shifted n e.1) (sym wide))
+    ]
 
     pub entry_reads : Ignores → floor version fields ≤ k → ArePlaced 0 fields → Reads tail (λ t b. TailIs (block_of [] t) b) TailHas →
         Reads (entry_read tail order known version fields k) (EntryLays TailIs order known version fields k) (EntryFault TailHas order known version fields k)

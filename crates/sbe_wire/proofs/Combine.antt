@@ -1,7 +1,7 @@
 -- Readers that are put together agree with the definitions that are put together in the same way.
-use Rattle.std.proofs.Common.{◌≡◌, ◌⊎◌, inl, inr, ℕ, zero, suc, ◌+◌, ◌-◌, ◌≤◌, ◌<◌, Bool, true, false, cond, List, [], ◌∷◌, ◌++◌, length, take, drop, Result, Ok, Err, refl, sym, ap, ◌∙◌, subst, arith, append_assoc, length-append, length-take}
+use Rattle.std.proofs.Common.{◌≡◌, ◌⊎◌, inl, inr, ℕ, zero, suc, ◌-◌, ◌≤◌, ◌<◌, Bool, true, false, cond, List, [], ◌∷◌, ◌++◌, length, take, drop, Result, Ok, Err, refl, sym, ap, ◌∙◌, subst, arith, append_assoc, length-append, length-take}
 use Rattle.std.proofs.Math.Seq.{take-append_seam, drop-append_seam}
-use Rattle.std.proofs.lemmas.List.{take-append-drop, append-nil}
+use Rattle.std.proofs.lemmas.List.{take-append-drop}
 use Rattle.std.proofs.lemmas.Bool.Decides.{nat_tests}
 use Rattle.std.specs.Prelude.{nat_le, IsTrue, pos}
 use Rattle.sbe_wire.specs.declared.codes.FCode.TheVariants as code
@@ -87,28 +87,31 @@ after {X} {Y} p q R F S G here there = record { sound = sound; complete = comple
         let first = here.sound b one.0.0 one.0.1 one.1 in
         let others = (there one.0.0 first.0 first.2).sound one.0.1 y rest one.2 in
         (first.0 ++ others.0, first.1 ∙ ap (λ r. first.0 ++ r) others.1 ∙ sym (append_assoc first.0 others.0 rest), (one.0.0, first.0, others.0, refl, first.2, others.2))
+
     complete : (y : Y) (front rest : List ℕ) → After R S y front → then_read p q (front ++ rest) ≡ Ok (y, rest)
     complete y front rest h =
         let regrouped : front ++ rest ≡ h.1 ++ (h.2 ++ rest) = ap (λ f. f ++ rest) h.3 ∙ append_assoc h.1 h.2 rest in
         ap (then_read p q) regrouped
         ∙ ap (λ r. and_then (h.1 ++ (h.2 ++ rest)) r q) (here.complete h.0 h.1 (h.2 ++ rest) h.4)
         ∙ ap (later (length (h.1 ++ (h.2 ++ rest)) - length (h.2 ++ rest))) ((there h.0 h.1 h.4).complete y h.2 rest h.5)
+
     told : (b : List ℕ) (f : Fault) → then_read p q b ≡ Err f → FaultAfter F R G f b
     told b f h = elim (and_then_err b (p b) q f h) [
-        inl e ↦ inl (here.told b f e)
-        | inr e ↦
+      | inl e ↦ inl (here.told b f e)
+      | inr e ↦
           let first = here.sound b e.0.0 e.0.1 e.2 in
           let far : length b - length e.0.1 ≡ length first.0 = omega (arith, ap length first.1, length-append first.0 e.0.1) in
           inr (e.0.0, first.0, e.0.1, e.1, first.1, first.2, (there e.0.0 first.0 first.2).told e.0.1 e.1 e.3, e.4 ∙ ap (λ n. shifted n e.1) far)
-      ]
+    ]
+
     only : (b : List ℕ) (f : Fault) → FaultAfter F R G f b → then_read p q b ≡ Err f
     only b f h = elim h [
-        inl e ↦ ap (λ r. and_then b r q) (here.only b f e)
-        | inr e ↦
+      | inl e ↦ ap (λ r. and_then b r q) (here.only b f e)
+      | inr e ↦
           let read : p b ≡ Ok (e.0, e.2) = ap p e.4 ∙ here.complete e.0 e.1 e.2 e.5 in
           let far : length b - length e.2 ≡ length e.1 = omega (arith, ap length e.4, length-append e.1 e.2) in
           ap (λ r. and_then b r q) read ∙ ap (later (length b - length e.2)) ((there e.0 e.1 e.5).only e.2 e.3 e.6) ∙ ap Err (ap (λ n. shifted n e.3) far ∙ sym e.7)
-      ]
+    ]
 
 -- ---- a value that is made of another
 
@@ -126,17 +129,20 @@ made {X} {Y} p make R F reads = record { sound = sound; complete = complete; tol
         let read : p b ≡ Ok (one.0.0, rest) = one.1 ∙ ap (λ r. Ok (one.0.0, r)) (pair_snd is) in
         let first = reads.sound b one.0.0 rest read in
         (first.0, first.1, (one.0.0, sym (pair_fst is), first.2))
+
     complete : (y : Y) (front rest : List ℕ) → MadeOf make R y front → then_read p (λ x. nothing (make x)) (front ++ rest) ≡ Ok (y, rest)
     complete y front rest h =
         ap (λ r. and_then (front ++ rest) r (λ x. nothing (make x))) (reads.complete h.0 front rest h.2) ∙ ap (λ y. Ok (y, rest)) (sym h.1)
+
     told : (b : List ℕ) (f : Fault) → then_read p (λ x. nothing (make x)) b ≡ Err f → F f b
     told b f h = elim (and_then_err b (p b) (λ x. nothing (make x)) f h) [
-        inl e ↦ reads.told b f e
-        | inr e ↦ absurd (never e.3)
-      ]
+      | inl e ↦ reads.told b f e
+      | inr e ↦ absurd (never e.3)
+    ]
       where
         never : {Z : Type 0} {z : Z} {g : Fault} → ◌≡◌ {A = Result Z Fault} (Ok z) (Err g) → ⊥
         never k = cc
+
     only : (b : List ℕ) (f : Fault) → F f b → then_read p (λ x. nothing (make x)) b ≡ Err f
     only b f h = ap (λ r. and_then b r (λ x. nothing (make x))) (reads.only b f h)
 
@@ -171,10 +177,13 @@ so_many n = record { sound = sound; complete = complete; told = told; only = onl
   where
     sound : (b x rest : List ℕ) → bytes_read n b ≡ Ok (x, rest) → (front : List ℕ) × (b ≡ front ++ rest) × ((length front ≡ n) × (x ≡ front))
     sound b x rest h = bytes_sound n b x rest (nat_le n (length b)) refl h
+
     complete : (x front rest : List ℕ) → (length front ≡ n) × (x ≡ front) → bytes_read n (front ++ rest) ≡ Ok (x, rest)
     complete x front rest h = bytes_complete n x front rest h.0 h.1
+
     told : (b : List ℕ) (f : Fault) → bytes_read n b ≡ Err f → TooShort n f b
     told b f h = bytes_told n b f (nat_le n (length b)) refl h
+
     only : (b : List ℕ) (f : Fault) → TooShort n f b → bytes_read n b ≡ Err f
     only b f h = bytes_only n b f h.0 h.1
 
@@ -210,6 +219,7 @@ choice {X} false p none R F reads = record {
   where
     never : {Z : Type 0} {z : Z} {g : Fault} → ◌≡◌ {A = Result Z Fault} (Ok z) (Err g) → ⊥
     never k = cc
+
     untrue : IsTrue false → ⊥
     untrue k = cc
 
@@ -299,9 +309,9 @@ judged_ok q (Ok r) x rest h =
 judged_err : {A X : Type 0} (q : A → Result X Fault) (r : Result (A × List ℕ) Fault) (f : Fault) → judged q r ≡ Err f → (r ≡ Err f) ⊎ ((a : A) × (rest : List ℕ) × (r ≡ Ok (a, rest)) × (q a ≡ Err f))
 judged_err q (Err g) f h = inl (ap Err (err_is h))
 judged_err q (Ok r) f h = elim (bind_err (q r.0) (λ y. Ok (y, r.1)) f h) [
-    inl e ↦ inr (r.0, r.1, refl, e)
-    | inr e ↦ absurd (never e.2)
-  ]
+  | inl e ↦ inr (r.0, r.1, refl, e)
+  | inr e ↦ absurd (never e.2)
+]
   where
     never : {Z : Type 0} {z : Z} {g : Fault} → ◌≡◌ {A = Result Z Fault} (Ok z) (Err g) → ⊥
     never k = cc
@@ -315,23 +325,26 @@ computed {A} {X} p q R F Given S G reads given judges = record { sound = sound; 
         let found = judged_ok q (p b) x rest h in
         let first = reads.sound b found.0 rest found.1 in
         (first.0, first.1, (found.0, first.2, judges.sound found.0 x (given found.0 first.0 first.2) found.2))
+
     complete : (x : X) (front rest : List ℕ) → JudgedOf R S x front → read_judged p q (front ++ rest) ≡ Ok (x, rest)
     complete x front rest h =
         ap (judged q) (reads.complete h.0 front rest h.1) ∙ ap (λ r. r >>= (λ y. Ok (y, rest))) (judges.complete h.0 x h.2)
+
     told : (b : List ℕ) (f : Fault) → read_judged p q b ≡ Err f → JudgedFault F R G f b
     told b f h = elim (judged_err q (p b) f h) [
-        inl e ↦ inl (reads.told b f e)
-        | inr e ↦
+      | inl e ↦ inl (reads.told b f e)
+      | inr e ↦
           let first = reads.sound b e.0 e.1 e.2 in
           inr (e.0, first.0, e.1, first.1, first.2, judges.told e.0 f (given e.0 first.0 first.2) e.3)
-      ]
+    ]
+
     only : (b : List ℕ) (f : Fault) → JudgedFault F R G f b → read_judged p q b ≡ Err f
     only b f h = elim h [
-        inl e ↦ ap (judged q) (reads.only b f e)
-        | inr e ↦
+      | inl e ↦ ap (judged q) (reads.only b f e)
+      | inr e ↦
           let read : p b ≡ Ok (e.0, e.2) = ap p e.3 ∙ reads.complete e.0 e.1 e.2 e.4 in
           ap (judged q) read ∙ ap (λ r. r >>= (λ y. Ok (y, e.2))) (judges.only e.0 f e.5)
-      ]
+    ]
 
 -- ---- what is left at the end is judged
 
@@ -356,24 +369,27 @@ at_end {X} {Y} p q R F S G here there = record { sound = sound; complete = compl
         let one = ended_ok b (p b) q y h in
         let first = here.sound b one.0.0 one.0.1 one.1 in
         (one.0.0, first.0, one.0.1, first.1, first.2, (there one.0.0 first.0 first.2).sound one.0.1 y tt one.2)
+
     complete : (b : List ℕ) (y : Y) → After R S y b → then_all p q b ≡ Ok y
     complete b y h =
         ap (then_all p q) h.3
         ∙ ap (λ r. ended (h.1 ++ h.2) r q) (here.complete h.0 h.1 h.2 h.4)
         ∙ ap (later (length (h.1 ++ h.2) - length h.2)) ((there h.0 h.1 h.4).complete h.2 y h.5)
+
     told : (b : List ℕ) (f : Fault) → All b → then_all p q b ≡ Err f → FaultAfter F R G f b
     told b f g h = elim (ended_err b (p b) q f h) [
-        inl e ↦ inl (here.told b f e)
-        | inr e ↦
+      | inl e ↦ inl (here.told b f e)
+      | inr e ↦
           let first = here.sound b e.0.0 e.0.1 e.2 in
           let far : length b - length e.0.1 ≡ length first.0 = omega (arith, ap length first.1, length-append first.0 e.0.1) in
           inr (e.0.0, first.0, e.0.1, e.1, first.1, first.2, (there e.0.0 first.0 first.2).told e.0.1 e.1 tt e.3, e.4 ∙ ap (λ n. shifted n e.1) far)
-      ]
+    ]
+
     only : (b : List ℕ) (f : Fault) → FaultAfter F R G f b → then_all p q b ≡ Err f
     only b f h = elim h [
-        inl e ↦ ap (λ r. ended b r q) (here.only b f e)
-        | inr e ↦
+      | inl e ↦ ap (λ r. ended b r q) (here.only b f e)
+      | inr e ↦
           let read : p b ≡ Ok (e.0, e.2) = ap p e.4 ∙ here.complete e.0 e.1 e.2 e.5 in
           let far : length b - length e.2 ≡ length e.1 = omega (arith, ap length e.4, length-append e.1 e.2) in
           ap (λ r. ended b r q) read ∙ ap (later (length b - length e.2)) ((there e.0 e.1 e.5).only e.2 e.3 e.6) ∙ ap Err (ap (λ n. shifted n e.3) far ∙ sym e.7)
-      ]
+    ]

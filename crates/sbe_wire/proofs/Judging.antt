@@ -1,5 +1,5 @@
 -- Judges that are put together agree with the definitions that are put together in the same way.
-use Rattle.std.proofs.Common.{◌≡◌, ◌⊎◌, inl, inr, ℕ, Bool, true, false, cond, List, [], ◌∷◌, Option, Some, None, Result, Ok, Err, refl, sym, ap, ◌∙◌, subst}
+use Rattle.std.proofs.Common.{◌≡◌, ◌⊎◌, inl, inr, ℕ, Bool, true, false, cond, List, ◌∷◌, Option, Some, None, Result, Ok, Err, refl, sym, ap, ◌∙◌}
 use Rattle.std.specs.Prelude.{IsTrue}
 use Rattle.std.specs.Bool.{MatchBool}
 use Rattle.std.specs.Option.{ok_or}
@@ -57,9 +57,9 @@ moved G q R F Given slice n step given judges = record {
   sound = λ a x g h. judges.sound (slice a) x (given a g) (inside_ok step (q (slice a)) x (later_ok n (inside step (q (slice a))) x h));
   complete = λ a x h. ap (λ r. later n (inside step r)) (judges.complete (slice a) x h);
   told = λ a f g h.
-  let out = later_err n (inside step (q (slice a))) f h in
-  let deep = inside_err step (q (slice a)) out.0 out.1 in
-  (deep.0, judges.told (slice a) deep.0 (given a g) deep.1, out.2 ∙ ap (shifted n) deep.2);
+      let out = later_err n (inside step (q (slice a))) f h in
+      let deep = inside_err step (q (slice a)) out.0 out.1 in
+      (deep.0, judges.told (slice a) deep.0 (given a g) deep.1, out.2 ∙ ap (shifted n) deep.2);
   only = λ a f h. ap (λ r. later n (inside step r)) (judges.only (slice a) h.0 h.1) ∙ ap Err (sym h.2);
 }
 
@@ -80,25 +80,28 @@ beside {A} {X} G p q R S F K here there = record { sound = sound; complete = com
         let first = bind_ok (p a) (λ x. q a >>= (λ xs. Ok (x ∷ xs))) ys h in
         let others = bind_ok (q a) (λ xs. Ok (first.0 ∷ xs)) ys first.2 in
         (first.0, others.0, sym (ok_is others.2), here.sound a first.0 g first.1, there.sound a others.0 g others.1)
+
     complete : (a : A) (ys : List X) → Beside R S ys a → p a >>= (λ x. q a >>= (λ xs. Ok (x ∷ xs))) ≡ Ok ys
     complete a ys h =
         ap (λ r. r >>= (λ x. q a >>= (λ xs. Ok (x ∷ xs)))) (here.complete a h.0 h.3)
         ∙ ap (λ r. r >>= (λ xs. Ok (h.0 ∷ xs))) (there.complete a h.1 h.4) ∙ ap Ok (sym h.2)
+
     told : (a : A) (f : Fault) → G a → p a >>= (λ x. q a >>= (λ xs. Ok (x ∷ xs))) ≡ Err f → BesideFault F R K f a
     told a f g h = elim (bind_err (p a) (λ x. q a >>= (λ xs. Ok (x ∷ xs))) f h) [
-        inl e ↦ inl (here.told a f g e)
-        | inr e ↦ elim (bind_err (q a) (λ xs. Ok (e.0 ∷ xs)) f e.2) [
-            inl d ↦ inr (e.0, here.sound a e.0 g e.1, there.told a f g d)
-            | inr d ↦ absurd (never d.2)
-          ]
+      | inl e ↦ inl (here.told a f g e)
+      | inr e ↦ elim (bind_err (q a) (λ xs. Ok (e.0 ∷ xs)) f e.2) [
+        | inl d ↦ inr (e.0, here.sound a e.0 g e.1, there.told a f g d)
+        | inr d ↦ absurd (never d.2)
       ]
+    ]
+
     only : (a : A) (f : Fault) → BesideFault F R K f a → p a >>= (λ x. q a >>= (λ xs. Ok (x ∷ xs))) ≡ Err f
     only a f h = elim h [
-        inl e ↦ ap (λ r. r >>= (λ x. q a >>= (λ xs. Ok (x ∷ xs)))) (here.only a f e)
-        | inr e ↦
+      | inl e ↦ ap (λ r. r >>= (λ x. q a >>= (λ xs. Ok (x ∷ xs)))) (here.only a f e)
+      | inr e ↦
           ap (λ r. r >>= (λ x. q a >>= (λ xs. Ok (x ∷ xs)))) (here.complete a e.0 e.1)
           ∙ ap (λ r. r >>= (λ xs. Ok (e.0 ∷ xs))) (there.only a f e.2)
-      ]
+    ]
 
 -- ---- a part that is alive, or absent
 

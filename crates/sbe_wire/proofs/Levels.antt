@@ -1,6 +1,5 @@
 -- What is read of a level's groups and data is what lies there, by induction on the schema.
-use Rattle.std.proofs.Common.{◌≡◌, ◌⊎◌, inl, inr, ℕ, suc, ◌+◌, ◌-◌, ◌≤◌, ◌<◌, Bool, true, false, List, [], ◌∷◌, ◌++◌, length, take, drop, Result, Ok, Err, refl, sym, ap, ◌∙◌, subst, arith, length-take}
-use Rattle.std.specs.Prelude.{IsTrue}
+use Rattle.std.proofs.Common.{◌≡◌, ◌⊎◌, inl, inr, ℕ, suc, ◌+◌, ◌≤◌, ◌<◌, Bool, List, [], ◌∷◌, length, take, Ok, refl, sym, subst, arith, length-take}
 use mathlib.Core.Former as former
 use denote.Hole.Carrier as carrier
 use Rattle.lists.specs.formers.list.List as lists
@@ -14,16 +13,16 @@ use Rattle.sbe_types.specs.declared.schema.Group.{Group, Group'}
 use Rattle.sbe_types.specs.declared.schema.Level.{Level, Level', out-Level, Row_of-Group, end_of-Group, more_of-Group}
 use Rattle.sbe_types.specs.declared.message.Value.{Value}
 use Rattle.sbe_types.specs.declared.message.DataVal.{DataVal}
-use Rattle.sbe_types.specs.declared.message.Block.{Block, out-Block}
+use Rattle.sbe_types.specs.declared.message.Block.{Block}
 use Rattle.sbe_types.specs.declared.message.GroupVal.{GroupVal}
 use Rattle.sbe_types.specs.declared.message.GroupVal.TheVariants as groupval
 use Rattle.sbe_wire.specs.Versions.{is_alive, floor}
-use Rattle.sbe_wire.specs.Lays.{Joined, JoinedBoth, DataLays, DimensionLays, EntryLays, GroupLies, TailLays, GroupsLay, GroupLays, BlockLays}
+use Rattle.sbe_wire.specs.Lays.{Joined, JoinedBoth, DataLays, DimensionLays, EntryLays, GroupLies, TailLays, GroupsLay, GroupLays}
 use Rattle.sbe_wire.specs.Faults.{Fault, FaultAfter, Under, TimesFault, EachFault, DataFault, DimensionFault, DimensionGood, EntryFault, TailFault, GroupsFault, GroupFault}
 use Rattle.sbe_wire.specs.Reading.{Reader, then_read, nothing, read_in, times_read, each_read, data_read, dimension_read, Tail, block_of, entry_read, tail_read, groups_read, group_read}
 use Rattle.sbe_wire.specs.Agree.{Reads}
 use Rattle.sbe_wire.specs.Placed.{IsPlacedLevel, ArePlacedGroups, IsPlacedGroup, ArePlaced}
-use Rattle.sbe_wire.proofs.Combine.{restated, After, after, MadeOf, made, stepped, Alive, choice, none_read, Times, times, each}
+use Rattle.sbe_wire.proofs.Combine.{restated, After, after, MadeOf, made, stepped, choice, none_read, Times, times, each}
 use Rattle.sbe_wire.proofs.Blocks.{entry_reads}
 use Rattle.sbe_wire.proofs.Tails.{data_reads, dimension_reads}
 

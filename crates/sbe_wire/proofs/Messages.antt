@@ -1,22 +1,21 @@
 -- The message that is read is the one that lies in the body, and the fault that is told is the first one.
-use Rattle.std.proofs.Common.{◌≡◌, ◌≢◌, ◌⊎◌, inl, inr, ℕ, zero, suc, ◌+◌, ◌-◌, ◌≤◌, ◌<◌, Bool, true, false, cond, List, [], ◌∷◌, ◌++◌, length, take, drop, Option, Some, None, Result, Ok, Err, refl, sym, ap, ◌∙◌, subst, arith, append_assoc, length-append, length-take}
+use Rattle.std.proofs.Common.{◌≡◌, ◌≢◌, ◌⊎◌, inl, inr, ℕ, suc, ◌+◌, ◌≤◌, ◌<◌, Bool, true, false, cond, List, [], ◌∷◌, ◌++◌, length, take, drop, Option, Some, None, Result, Ok, Err, refl, sym, ap, ◌∙◌, subst, arith, append_assoc, length-append, length-take}
 use Rattle.std.proofs.Math.Seq.{take-append_seam, drop-append_seam}
 use Rattle.std.proofs.lemmas.List.{take-append-drop}
 use Rattle.std.proofs.lemmas.Bool.Decides.{nat_tests}
-use Rattle.std.specs.Prelude.{IsTrue, not, ◌&&◌, ◌==◌, nat_le, nat_lt, pos, codes, slice_get}
+use Rattle.std.specs.Prelude.{IsTrue, ◌&&◌, ◌==◌, nat_le, nat_lt, pos, codes, slice_get}
 use Rattle.sbe_types.specs.declared.kind.Member.{Member}
 use Rattle.sbe_types.specs.declared.schema.Level.{Level, out-Level}
 use Rattle.sbe_types.specs.declared.schema.WireSchema.{WireSchema}
 use Rattle.sbe_types.specs.declared.message.Block.{Block, out-Block}
-use Rattle.sbe_types.specs.declared.message.Value.{Value}
 use Rattle.sbe_types.specs.declared.message.Msg.{Msg}
 use Rattle.sbe_types.specs.Places.{members_end}
 use Rattle.sbe_wire.specs.declared.codes.FCode.TheVariants as code
-use Rattle.sbe_wire.specs.Versions.{acting, is_known, floor}
+use Rattle.sbe_wire.specs.Versions.{acting, is_known}
 use Rattle.sbe_wire.specs.Named.{number_named, place_named}
 use Rattle.sbe_wire.specs.Lays.{HeaderLays, BlockLays, EntryLays, TailLays, Lays}
 use Rattle.sbe_wire.specs.Faults.{Fault, fault_at, FaultAfter, EntryFault, TailFault, message_named, Heading, floor_in, HeadingLays, HeadingRefused, HeadingFault, HeadingGood, TrailingFault, FirstFault}
-use Rattle.sbe_wire.specs.Reading.{Reader, read_judged, Tail, block_of, entry_read, tail_read, header_bytes, floor_judged, message_judged, heading_of, heading_read, rest_judged, message_in, then_all, root_read, message_of}
+use Rattle.sbe_wire.specs.Reading.{entry_read, tail_read, header_bytes, message_judged, heading_of, heading_read, rest_judged, message_in, root_read, message_of}
 use Rattle.sbe_wire.specs.Agree.{Judges, Reads}
 use Rattle.sbe_wire.specs.Placed.{IsPlaced, IsPlacedLevel}
 use Rattle.sbe_wire.proofs.Combine.{ok_is, err_is, pair_fst, pair_snd, restated, After, All, JudgedOf, JudgedFault, computed, at_end}
@@ -144,8 +143,8 @@ module _ (schema : WireSchema) where
       let t_is : (says (codes "schemaId") head == schema.id) ≡ true = let same : says (codes "schemaId") head ≡ schema.id = numbers.says_schema in grind (arith, nat_tests) in
       let o_is : found_in head ≡ Some (g.template, g.level) = ap (λ i. message_named 0 i schema.messages) numbers.says_template ∙ h.0.message in
       let is : heading head (g.template, g.level) ≡ g =
-          ap (λ (k : ℕ). let it : Heading = record { block = k; template = g.template; level = g.level; version = says (codes "version") head } in it) numbers.says_block
-          ∙ ap (λ (v : ℕ). let it : Heading = record { block = g.block; template = g.template; level = g.level; version = v } in it) numbers.says_version in
+      ap (λ (k : ℕ). let it : Heading = record { block = k; template = g.template; level = g.level; version = says (codes "version") head } in it) numbers.says_block
+      ∙ ap (λ (v : ℕ). let it : Heading = record { block = g.block; template = g.template; level = g.level; version = v } in it) numbers.says_version in
       let u_is : nat_lt g.block (floor_in schema g) ≡ false = grind (arith, nat_tests) in
       ap (λ t. named t (found_in head) head) t_is ∙ ap (λ o. named true o head) o_is
       ∙ ap (λ k. floored (nat_lt k.block (floor_in schema k)) k) is ∙ ap (λ u. floored u g) u_is
@@ -166,18 +165,18 @@ module _ (schema : WireSchema) where
 
   heading_only : (head : List ℕ) (f : Fault) → HeadingRefused schema f head → heading_of schema head ≡ Err f
   heading_only head f h = elim h [
-      inl e ↦
+    | inl e ↦
         let other : says (codes "schemaId") head ≢ schema.id = e.0 in
         let t_is : (says (codes "schemaId") head == schema.id) ≡ false = grind (arith, nat_tests) in
         ap (λ t. named t (found_in head) head) t_is ∙ ap Err (sym e.1)
-      | inr e ↦ elim e [
-          inl d ↦
-            let same : says (codes "schemaId") head ≡ schema.id = d.0 in
-            let t_is : (says (codes "schemaId") head == schema.id) ≡ true = grind (arith, nat_tests) in
-            ap (λ t. named t (found_in head) head) t_is ∙ ap (λ o. named true o head) d.1 ∙ ap Err (sym d.2)
-          | inr d ↦ low d.0 d.1 d.2 d.3
-        ]
+    | inr e ↦ elim e [
+      | inl d ↦
+          let same : says (codes "schemaId") head ≡ schema.id = d.0 in
+          let t_is : (says (codes "schemaId") head == schema.id) ≡ true = grind (arith, nat_tests) in
+          ap (λ t. named t (found_in head) head) t_is ∙ ap (λ o. named true o head) d.1 ∙ ap Err (sym d.2)
+      | inr d ↦ low d.0 d.1 d.2 d.3
     ]
+  ]
     where
       low : (g : Heading) → HeadingLays schema g head → g.block < floor_in schema g → f ≡ fault_at code.BlockShort (place_named members (codes "blockLength")) (pos g.block) → heading_of schema head ≡ Err f
       low g lays short is =
@@ -186,8 +185,8 @@ module _ (schema : WireSchema) where
           let t_is : (says (codes "schemaId") head == schema.id) ≡ true = grind (arith, nat_tests) in
           let o_is : found_in head ≡ Some (g.template, g.level) = ap (λ i. message_named 0 i schema.messages) numbers.says_template ∙ lays.message in
           let whole : heading head (g.template, g.level) ≡ g =
-              ap (λ (k : ℕ). let it : Heading = record { block = k; template = g.template; level = g.level; version = says (codes "version") head } in it) numbers.says_block
-              ∙ ap (λ (v : ℕ). let it : Heading = record { block = g.block; template = g.template; level = g.level; version = v } in it) numbers.says_version in
+          ap (λ (k : ℕ). let it : Heading = record { block = k; template = g.template; level = g.level; version = says (codes "version") head } in it) numbers.says_block
+          ∙ ap (λ (v : ℕ). let it : Heading = record { block = g.block; template = g.template; level = g.level; version = v } in it) numbers.says_version in
           let u_is : nat_lt g.block (floor_in schema g) ≡ true = grind (arith, nat_tests) in
           ap (λ t. named t (found_in head) head) t_is ∙ ap (λ o. named true o head) o_is
           ∙ ap (λ k. floored (nat_lt k.block (floor_in schema k)) k) whole ∙ ap (λ u. floored u g) u_is ∙ ap Err (sym is)
@@ -202,19 +201,19 @@ module _ (schema : WireSchema) where
 
   fault_to : (f : Fault) (b : List ℕ) → JudgedFault (ShortHeader wide) (Exactly wide) (λ g head. HeadingRefused schema g head) f b → HeadingFault schema f b
   fault_to f b h = elim h [
-      inl e ↦ inl e
-      | inr e ↦
+    | inl e ↦ inl e
+    | inr e ↦
         let front : e.1 ≡ take wide b = sym (ap (take wide) e.3 ∙ ap (λ n. take n (e.1 ++ e.2)) (sym e.4.0) ∙ take-append_seam e.1 e.2) in
         inr (omega (arith, ap length e.3, length-append e.1 e.2, e.4.0), subst (HeadingRefused schema f) (e.4.1 ∙ front) e.5)
-    ]
+  ]
 
   fault_from : (f : Fault) (b : List ℕ) → HeadingFault schema f b → JudgedFault (ShortHeader wide) (Exactly wide) (λ g head. HeadingRefused schema g head) f b
   fault_from f b h = elim h [
-      inl e ↦ inl e
-      | inr e ↦
+    | inl e ↦ inl e
+    | inr e ↦
         let long : wide ≤ length b = e.0 in
         inr (take wide b, take wide b, drop wide b, sym (take-append-drop wide b), (simp length-take (omega arith), refl), e.1)
-    ]
+  ]
 
   heading_reads : Reads (heading_read schema) (HeadingGood schema) (HeadingFault schema)
   heading_reads =
@@ -314,11 +313,18 @@ module _ (schema : WireSchema) where
       let numbers = h.4.0.numbers in
       let header_lays : HeaderLays schema (length (take k root.1)) (out-Level heading.level).id heading.version h.1 = subst (λ n. HeaderLays schema n (out-Level heading.level).id heading.version h.1) (sym wide) numbers in
       let whole : Lays schema (message_in heading entry) body = (
-            heading.level, h.1, take k root.1, drop k root.1, root.2,
-            named_is schema (out-Level heading.level).id (heading.template, heading.level) h.4.0.message,
-            pieces body h.1 h.2 (take k root.1) (drop k root.1) root.2 root.1 h.3 root.3 (sym (take-append-drop k root.1)),
-            header_lays, root.4.1, root.4.2, root.5.1
-          ) in
+        heading.level,
+        h.1,
+        take k root.1,
+        drop k root.1,
+        root.2,
+        named_is schema (out-Level heading.level).id (heading.template, heading.level) h.4.0.message,
+        pieces body h.1 h.2 (take k root.1) (drop k root.1) root.2 root.1 h.3 root.3 (sym (take-append-drop k root.1)),
+        header_lays,
+        root.4.1,
+        root.4.2,
+        root.5.1,
+      ) in
       subst (λ m. Lays schema m body) (sym root.5.0) whole
 
   lays_from : IsPlaced schema → (m : Msg) (body : List ℕ) → Lays schema m body → Whole m body
@@ -333,13 +339,17 @@ module _ (schema : WireSchema) where
       let front : take (length block) (block ++ tail) ≡ block = take-append_seam block tail in
       let back : drop (length block) (block ++ tail) ≡ tail = drop-append_seam block tail in
       let root : Root heading m.block (block ++ tail) = (
-            omega (arith, length-append block tail),
-            subst (BlockLays schema.order (is_known schema m.version) (acting schema m.version) (out-Level level).fields (out-Block m.block).fields) (sym front) h.8,
-            subst (TailLays schema.order (is_known schema m.version) (acting schema m.version) level m.block) (sym back) h.9
-          ) in
-      (heading, header, (block ++ tail) ++ rest,
+        omega (arith, length-append block tail),
+        subst (BlockLays schema.order (is_known schema m.version) (acting schema m.version) (out-Level level).fields (out-Block m.block).fields) (sym front) h.8,
+        subst (TailLays schema.order (is_known schema m.version) (acting schema m.version) level m.block) (sym back) h.9,
+      ) in (
+        heading,
+        header,
+        (block ++ tail) ++ rest,
         h.6 ∙ append_assoc (header ++ block) tail rest ∙ append_assoc header block (tail ++ rest) ∙ ap (λ r. header ++ r) (sym (append_assoc block tail rest)),
-        good, (m.block, block ++ tail, rest, refl, root, (refl, h.10)))
+        good,
+        (m.block, block ++ tail, rest, refl, root, (refl, h.10)),
+      )
 
   pub message_judges : IsPlaced schema → Judges All (message_of schema) (Lays schema) (FirstFault schema)
   unfolding message_of

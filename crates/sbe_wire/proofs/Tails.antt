@@ -1,37 +1,26 @@
 -- What is read of groups and data is what lies in them.
-use Rattle.std.proofs.Common.{◌≡◌, ◌⊎◌, inl, inr, ℕ, suc, ◌+◌, ◌-◌, ◌≤◌, ◌<◌, Bool, true, false, cond, List, [], ◌∷◌, ◌++◌, length, take, drop, Result, Ok, Err, refl, sym, ap, ◌∙◌, subst, arith, append_assoc, length-append, length-take, length-drop}
+use Rattle.std.proofs.Common.{◌≡◌, ◌⊎◌, inl, inr, ℕ, ◌+◌, ◌≤◌, ◌<◌, Bool, true, false, cond, List, ◌++◌, length, take, drop, Result, Ok, Err, refl, sym, ap, ◌∙◌, subst, arith, length-append, length-take, length-drop}
 use Rattle.std.proofs.Math.Seq.{take-append_seam, drop-append_seam}
-use Rattle.std.proofs.lemmas.List.{take-append-drop, take-append-le, append-nil}
+use Rattle.std.proofs.lemmas.List.{take-append-drop, take-append-le}
 use Rattle.std.proofs.lemmas.Bool.Decides.{nat_tests}
-use Rattle.std.specs.Prelude.{IsTrue, not, ◌&&◌, nat_le, nat_lt, pos, codes}
-use Rattle.std.specs.Bool.{MatchBool}
+use Rattle.std.specs.Prelude.{not, ◌&&◌, nat_le, nat_lt, pos, codes}
 use Rattle.sbe_types.specs.declared.kind.Order.{Order}
 use Rattle.sbe_types.specs.declared.kind.Member.{Member}
-use Rattle.sbe_types.specs.declared.path.Step.TheVariants as way
-use Rattle.sbe_types.specs.declared.schema.Field.{Field}
 use Rattle.sbe_types.specs.declared.schema.DataField.{DataField}
-use Rattle.sbe_types.specs.declared.schema.Group.{Group, Group'}
-use Rattle.sbe_types.specs.declared.schema.Level.{Level, Level', out-Level, Row_of-Group, end_of-Group, more_of-Group}
-use Rattle.sbe_types.specs.declared.message.Value.{Value}
 use Rattle.sbe_types.specs.declared.message.DataVal.{DataVal}
 use Rattle.sbe_types.specs.declared.message.DataVal.TheVariants as dataval
-use Rattle.sbe_types.specs.declared.message.Block.{Block, out-Block}
-use Rattle.sbe_types.specs.declared.message.GroupVal.{GroupVal}
-use Rattle.sbe_types.specs.declared.message.GroupVal.TheVariants as groupval
 use Rattle.sbe_types.specs.Numbers.{number_of, natural, prim_width}
 use Rattle.sbe_types.specs.Places.{members_end}
 use Rattle.sbe_types.specs.Shown.{admits}
 use Rattle.sbe_wire.specs.declared.codes.FCode.TheVariants as code
-use Rattle.sbe_wire.specs.Versions.{is_alive, floor}
+use Rattle.sbe_wire.specs.Versions.{is_alive}
 use Rattle.sbe_wire.specs.Named.{number_named, place_named, is_admitted}
-use Rattle.sbe_wire.specs.Lays.{Joined, JoinedBoth, DataLies, DataLays, DimensionLays, EntryLays, GroupLies, TailLays, GroupsLay, GroupLays, BlockLays}
-use Rattle.sbe_wire.specs.Faults.{Fault, shifted, under, fault_at, TooShort, FaultAfter, Under, TimesFault, EachFault, count_of, DataFault, DimensionRefused, DimensionFault, DimensionGood, EntryFault, TailFault, GroupsFault, GroupFault}
-use Rattle.sbe_wire.specs.Reading.{Reader, ◌>>=◌, then_read, nothing, bytes_read, read_judged, read_in, times_read, each_read, data_bytes, data_whole, data_read, dimension_of, dimension_read, Tail, block_of, entry_read, tail_read, groups_read, group_read}
-use Rattle.sbe_wire.specs.Agree.{Judges, Reads}
-use Rattle.sbe_wire.specs.Placed.{IsPlacedLevel, ArePlacedGroups, IsPlacedGroup, ArePlaced}
-use Rattle.sbe_wire.proofs.Combine.{ok_is, err_is, pair_fst, pair_snd, restated, After, after, MadeOf, made, so_many, stepped, choice, none_read, Times, times, each, All, JudgedOf, JudgedFault, computed}
+use Rattle.sbe_wire.specs.Lays.{DataLies, DataLays}
+use Rattle.sbe_wire.specs.Faults.{Fault, fault_at, TooShort, count_of, DataFault, DimensionRefused, DimensionFault, DimensionGood}
+use Rattle.sbe_wire.specs.Reading.{Reader, bytes_read, read_judged, data_whole, data_read, dimension_of, dimension_read}
+use Rattle.sbe_wire.specs.Agree.{Reads}
+use Rattle.sbe_wire.proofs.Combine.{ok_is, err_is, restated, so_many, choice, All, JudgedOf, JudgedFault, computed}
 use Rattle.sbe_wire.proofs.Judging.{never}
-use Rattle.sbe_wire.proofs.Blocks.{entry_reads}
 
 -- ---- data
 
@@ -88,14 +77,21 @@ module _ (order : Order) (part : DataField) where
       let is : v ≡ dataval.Bytes (drop w front) = found.2.2 ∙ ap (λ k. dataval.Bytes (drop w k)) found.2.1.1 in
       let enough : w ≤ length front = omega (arith, long) in
       let counted : natural (number_of order part.length.prim (take w front)) ≡ count b = sym (count_in front rest enough) ∙ ap count (sym found.1) in
-      let left : length (drop w front) ≡ count b = simp length-drop (omega (arith, long)) in
-      (front, found.1, (drop w front, is, record {
-        before = take w front;
-        whole = sym (take-append-drop w front);
-        wide = simp length-take (omega arith);
-        counts = counted ∙ sym left;
-        admitted = ap (λ n. admits part.length (pos n)) left ∙ d;
-      }))
+      let left : length (drop w front) ≡ count b = simp length-drop (omega (arith, long)) in (
+        front,
+        found.1,
+        (
+          drop w front,
+          is,
+          record {
+            before = take w front;
+            whole = sym (take-append-drop w front);
+            wide = simp length-take (omega arith);
+            counts = counted ∙ sym left;
+            admitted = ap (λ n. admits part.length (pos n)) left ∙ d;
+          },
+        ),
+      )
 
   data_complete : (v : DataVal) (front rest : List ℕ) → DataIs v front → data_whole order part (front ++ rest) ≡ Ok (v, rest)
   data_complete v front rest h =
@@ -117,23 +113,23 @@ module _ (order : Order) (part : DataField) where
   data_told b f false u e d h = inl (grind (arith, nat_tests), sym (err_is h))
   data_told b f true false e d h = inr (grind (arith, nat_tests), inl (d, sym (err_is h)))
   data_told b f true true e d h = elim ((piece_reads (count b)).told b f h) [
-      inl k ↦ inr (grind (arith, nat_tests), inr (d, k))
-      | inr k ↦ absurd k.5
-    ]
+    | inl k ↦ inr (grind (arith, nat_tests), inr (d, k))
+    | inr k ↦ absurd k.5
+  ]
 
   data_only : (b : List ℕ) (f : Fault) → DataBad f b → data_whole order part b ≡ Err f
   data_only b f h = elim h [
-      inl k ↦
+    | inl k ↦
         let t_is : nat_le w (length b) ≡ false = let short : length b < w = k.0 in grind (arith, nat_tests) in
         ap (λ t. answer t (admits part.length (pos (count b))) b) t_is ∙ ap Err (sym k.1)
-      | inr k ↦
+    | inr k ↦
         let long : w ≤ length b = k.0 in
         let t_is : nat_le w (length b) ≡ true = grind (arith, nat_tests) in
         ap (λ t. answer t (admits part.length (pos (count b))) b) t_is ∙ elim k.1 [
-          inl j ↦ ap (λ u. answer true u b) j.0 ∙ ap Err (sym j.1)
+          | inl j ↦ ap (λ u. answer true u b) j.0 ∙ ap Err (sym j.1)
           | inr j ↦ ap (λ u. answer true u b) j.0 ∙ (piece_reads (count b)).only b f (inl j.1)
         ]
-    ]
+  ]
 
   whole_reads : Reads (data_whole order part) DataIs DataBad
   whole_reads = record {
@@ -178,9 +174,9 @@ module _ (order : Order) (dim : List Member) (least : ℕ) where
 
   good_low : (n k : ℕ) → (n ≡ 0) ⊎ (least ≤ k) → (nat_lt 0 n && nat_lt k least) ≡ false
   good_low n k h = elim h [
-      inl e ↦ ap (λ n. nat_lt 0 n && nat_lt k least) e
-      | inr e ↦ let t_is : nat_lt k least ≡ false = grind (arith, nat_tests) in ap (λ u. nat_lt 0 n && u) t_is ∙ and_false (nat_lt 0 n)
-    ]
+    | inl e ↦ ap (λ n. nat_lt 0 n && nat_lt k least) e
+    | inr e ↦ let t_is : nat_lt k least ≡ false = grind (arith, nat_tests) in ap (λ u. nat_lt 0 n && u) t_is ∙ and_false (nat_lt 0 n)
+  ]
     where
       and_false : (t : Bool) → (t && false) ≡ false
       and_false true = refl
@@ -191,7 +187,7 @@ module _ (order : Order) (dim : List Member) (least : ℕ) where
   dimension_sound head d true true long e c h = cc
   dimension_sound head d true false long e c h =
       let whole : DimensionGood order dim least (block_in head, count_in_dimension head) head =
-          (record { wide = long; says_block = refl; says_count = refl; admitted = e }, not_low (count_in_dimension head) (block_in head) _ _ refl refl c) in
+      (record { wide = long; says_block = refl; says_count = refl; admitted = e }, not_low (count_in_dimension head) (block_in head) _ _ refl refl c) in
       subst (λ d. DimensionGood order dim least d head) (ok_is h) whole
 
   dimension_complete : (head : List ℕ) (d : ℕ × ℕ) → DimensionGood order dim least d head → dimension_of order dim least head ≡ Ok d
@@ -210,30 +206,30 @@ module _ (order : Order) (dim : List Member) (least : ℕ) where
 
   dimension_only : (head : List ℕ) (f : Fault) → DimensionRefused order dim least f head → dimension_of order dim least head ≡ Err f
   dimension_only head f h = elim h [
-      inl k ↦ ap (λ t. choices t (low head) head) k.0 ∙ ap Err (sym k.1)
-      | inr k ↦
+    | inl k ↦ ap (λ t. choices t (low head) head) k.0 ∙ ap Err (sym k.1)
+    | inr k ↦
         let some : 0 < count_in_dimension head = k.1 in
         let short : block_in head < least = k.2 in
         let t_is : nat_lt 0 (count_in_dimension head) ≡ true = grind (arith, nat_tests) in
         let u_is : nat_lt (block_in head) least ≡ true = grind (arith, nat_tests) in
         ap (λ t. choices t (low head) head) k.0 ∙ ap (λ t. choices true (t && nat_lt (block_in head) least) head) t_is ∙ ap (λ u. choices true (true && u) head) u_is ∙ ap Err (sym k.3)
-    ]
+  ]
 
   dimension_fault_to : (f : Fault) (b : List ℕ) → JudgedFault (TooShort (members_end 0 dim)) (λ x b. (length b ≡ members_end 0 dim) × (x ≡ b)) (λ g head. DimensionRefused order dim least g head) f b → DimensionFault order dim least f b
   dimension_fault_to f b h = elim h [
-      inl e ↦ inl e
-      | inr e ↦
+    | inl e ↦ inl e
+    | inr e ↦
         let front : e.1 ≡ take (members_end 0 dim) b = sym (ap (take (members_end 0 dim)) e.3 ∙ ap (λ n. take n (e.1 ++ e.2)) (sym e.4.0) ∙ take-append_seam e.1 e.2) in
         inr (omega (arith, ap length e.3, length-append e.1 e.2, e.4.0), subst (DimensionRefused order dim least f) (e.4.1 ∙ front) e.5)
-    ]
+  ]
 
   dimension_fault_from : (f : Fault) (b : List ℕ) → DimensionFault order dim least f b → JudgedFault (TooShort (members_end 0 dim)) (λ x b. (length b ≡ members_end 0 dim) × (x ≡ b)) (λ g head. DimensionRefused order dim least g head) f b
   dimension_fault_from f b h = elim h [
-      inl e ↦ inl e
-      | inr e ↦
+    | inl e ↦ inl e
+    | inr e ↦
         let long : members_end 0 dim ≤ length b = e.0 in
         inr (take (members_end 0 dim) b, take (members_end 0 dim) b, drop (members_end 0 dim) b, sym (take-append-drop (members_end 0 dim) b), (simp length-take (omega arith), refl), e.1)
-    ]
+  ]
 
   pub dimension_reads : Reads (dimension_read order dim least) (DimensionGood order dim least) (DimensionFault order dim least)
   dimension_reads =

@@ -1,6 +1,5 @@
 -- The front of a list that passes a test.
-use Rattle.std.proofs.Common.{◌≡◌, ◌⊎◌, inl, inr, ℕ, suc, Bool, true, false, cond, List, [], ◌∷◌, ◌++◌, length, drop, refl, sym, ap, ◌∙◌, subst}
-use Rattle.std.specs.Prelude.{◌&&◌}
+use Rattle.std.proofs.Common.{◌≡◌, ℕ, Bool, true, false, List, [], ◌∷◌, ◌++◌, length, drop, refl, ap}
 use Rattle.std.specs.List.{take_while, list_all}
 use Rattle.std.proofs.lemmas.List.Sums.{take_while-cons}
 

@@ -1,7 +1,7 @@
 -- What is read as a value is what the bytes show, and the fault that is told is the first one.
-use Rattle.std.proofs.Common.{◌≡◌, ◌≢◌, ◌⊎◌, inl, inr, ℕ, zero, suc, ◌+◌, ◌-◌, ◌*◌, ◌≤◌, ◌<◌, Bool, true, false, cond, List, [], ◌∷◌, ◌++◌, length, take, drop, Option, Some, None, Result, Ok, Err, refl, sym, ap, ◌∙◌, subst, arith, length-append, length-take, length-drop}
+use Rattle.std.proofs.Common.{◌≡◌, inl, inr, ℕ, zero, suc, ◌+◌, ◌*◌, ◌≤◌, Bool, true, false, cond, List, [], ◌∷◌, ◌++◌, length, take, drop, Option, Some, Result, Ok, Err, refl, sym, ap, ◌∙◌, subst, arith, length-take, length-drop}
 use Rattle.std.proofs.Math.Seq.{drop-append_seam}
-use Rattle.std.specs.Prelude.{IsTrue, not, ◌&&◌, ◌==◌, if◌then◌else◌, ℤ, pos, unwrap_or}
+use Rattle.std.specs.Prelude.{not, ◌&&◌, ◌==◌, ℤ, pos}
 use Rattle.std.specs.Option.{ok_or}
 use Rattle.std.specs.List.{take_while, list_all}
 use Rattle.std.proofs.lemmas.Bool.Decides.{nat_tests}
@@ -159,31 +159,31 @@ module _ (order : Order) (leaf : LeafOf) where
   elements_told i zero b f h = absurd (never h)
   elements_told i (suc n) b f h =
       elim (bind_err (inside (way.Elem i) (element_read order leaf b)) (λ e. later w (elements_read order leaf (suc i) n (drop w b)) >>= (λ es. Ok (e ∷ es))) f h) [
-        inl e ↦
-          let deep = inside_err (way.Elem i) (element_read order leaf b) f e in
-          let missed = missed_is (shown_element leaf (number b)) (fault_at code.Range 0 (number b)) deep.0 deep.1 in
-          inl (missed.0, deep.2 ∙ ap (under (way.Elem i)) missed.1)
+        | inl e ↦
+            let deep = inside_err (way.Elem i) (element_read order leaf b) f e in
+            let missed = missed_is (shown_element leaf (number b)) (fault_at code.Range 0 (number b)) deep.0 deep.1 in
+            inl (missed.0, deep.2 ∙ ap (under (way.Elem i)) missed.1)
         | inr e ↦ elim (bind_err (later w (elements_read order leaf (suc i) n (drop w b))) (λ es. Ok (e.0 ∷ es)) f e.2) [
-            inl d ↦
+          | inl d ↦
               let out = later_err w (elements_read order leaf (suc i) n (drop w b)) f d in
               let here : shown_element leaf (number b) ≡ Some e.0 = found_is (shown_element leaf (number b)) _ e.0 (inside_ok (way.Elem i) (element_read order leaf b) e.0 e.1) in
               inr (e.0, out.0, here, elements_told (suc i) n (drop w b) out.0 out.1, out.2)
-            | inr d ↦ absurd (never d.2)
-          ]
+          | inr d ↦ absurd (never d.2)
+        ]
       ]
 
   elements_only : (i n : ℕ) (b : List ℕ) (f : Fault) → ElementsFault order leaf i n f b → elements_read order leaf i n b ≡ Err f
   unfolding elements_read
   elements_only i zero b f h = absurd h
   elements_only i (suc n) b f h = elim h [
-        inl e ↦
-          let here : element_read order leaf b ≡ Err (fault_at code.Range 0 (number b)) = ap (λ o. ok_or o (fault_at code.Range 0 (number b))) e.0 in
-          ap (λ r. inside (way.Elem i) r >>= (λ e. later w (elements_read order leaf (suc i) n (drop w b)) >>= (λ es. Ok (e ∷ es)))) here ∙ ap Err (sym e.1)
-        | inr e ↦
-          let here : element_read order leaf b ≡ Ok e.0 = ap (λ o. ok_or o (fault_at code.Range 0 (number b))) e.2 in
-          ap (λ r. inside (way.Elem i) r >>= (λ e. later w (elements_read order leaf (suc i) n (drop w b)) >>= (λ es. Ok (e ∷ es)))) here
-          ∙ ap (λ r. later w r >>= (λ es. Ok (e.0 ∷ es))) (elements_only (suc i) n (drop w b) e.1 e.3) ∙ ap Err (sym e.4)
-      ]
+    | inl e ↦
+        let here : element_read order leaf b ≡ Err (fault_at code.Range 0 (number b)) = ap (λ o. ok_or o (fault_at code.Range 0 (number b))) e.0 in
+        ap (λ r. inside (way.Elem i) r >>= (λ e. later w (elements_read order leaf (suc i) n (drop w b)) >>= (λ es. Ok (e ∷ es)))) here ∙ ap Err (sym e.1)
+    | inr e ↦
+        let here : element_read order leaf b ≡ Ok e.0 = ap (λ o. ok_or o (fault_at code.Range 0 (number b))) e.2 in
+        ap (λ r. inside (way.Elem i) r >>= (λ e. later w (elements_read order leaf (suc i) n (drop w b)) >>= (λ es. Ok (e ∷ es)))) here
+        ∙ ap (λ r. later w r >>= (λ es. Ok (e.0 ∷ es))) (elements_only (suc i) n (drop w b) e.1 e.3) ∙ ap Err (sym e.4)
+  ]
 
   array_sound : (b : List ℕ) (v : Value) → length b ≡ width (Leaf leaf) → array_read order leaf b ≡ Ok v → ShowsArray order leaf v b
   array_sound b v long h =
@@ -192,9 +192,9 @@ module _ (order : Order) (leaf : LeafOf) where
 
   array_told : (b : List ℕ) (f : Fault) → array_read order leaf b ≡ Err f → ElementsFault order leaf 0 leaf.length f b
   array_told b f h = elim (bind_err (elements_read order leaf 0 leaf.length b) (λ es. Ok (value.Nums es)) f h) [
-        inl e ↦ elements_told 0 leaf.length b f e
-        | inr e ↦ absurd (never e.2)
-      ]
+    | inl e ↦ elements_told 0 leaf.length b f e
+    | inr e ↦ absurd (never e.2)
+  ]
 
   abbrev ShownBy : LeafShape → Value → List ℕ → Type 0
   ShownBy shape v b = (length b ≡ width (Leaf leaf)) × ShowsLeaf order shape leaf v b
@@ -347,6 +347,7 @@ module _ (order : Order) (known : Bool) where
 
   mutual
     unfolding value_read
+
     pub kind_judges : (kind : Kind) → IsPlacedKind kind → JudgesKind kind
     kind_judges (Leaf l) placed = leaf_judges order l l.shape
     kind_judges (Enum l names) placed = number_of_kind (Enum l names) l.prim code.EnumUnknown

@@ -1,5 +1,5 @@
 -- The one canonical body of a message: padding and unused bytes are 00, block lengths are the declared ones.
-use Rattle.std.specs.Prelude.{ℕ, ◌-◌, Bool, true, false, if◌then◌else◌, Option, Some, None, option_map, option_and_then, List, [], ◌∷◌, length, replicate, ℤ, pos, slice_get, codes}
+use Rattle.std.specs.Prelude.{ℕ, ◌-◌, if◌then◌else◌, Option, Some, None, option_map, List, [], ◌∷◌, length, replicate, pos, slice_get, codes}
 use Rattle.std.specs.Str.{bytes_eq}
 use Rattle.sbe_types.specs.declared.kind.Order.{Order}
 use Rattle.sbe_types.specs.declared.kind.Kind.{Kind, Leaf, Enum, Set, Const, Comp'}

@@ -1,5 +1,5 @@
 -- How a message lies in a body.
-use Rattle.std.specs.Prelude.{◌≡◌, ℕ, ◌≤◌, Bool, Option, Some, None, List, [], ◌∷◌, ◌++◌, length, take, drop, IsTrue, pos, ⊤, slice_get, codes}
+use Rattle.std.specs.Prelude.{◌≡◌, ℕ, ◌≤◌, Bool, Some, List, [], ◌∷◌, ◌++◌, length, take, drop, IsTrue, pos, ⊤, slice_get, codes}
 use Rattle.std.specs.Bool.{MatchBool}
 use Rattle.sbe_types.specs.declared.kind.Order.{Order}
 use Rattle.sbe_types.specs.declared.kind.Member.{Member}

@@ -1,5 +1,5 @@
 -- The first reason why a message can't be written.
-use Rattle.std.specs.Prelude.{ℕ, zero, suc, ◌+◌, ◌*◌, ◌^◌, nat_le, nat_lt, Bool, true, false, not, ◌&&◌, ◌||◌, ◌==◌, if◌then◌else◌, Option, Some, None, Result, Ok, Err, List, [], ◌∷◌, length, find, ℤ, pos, slice_get, codes}
+use Rattle.std.specs.Prelude.{ℕ, suc, ◌+◌, ◌^◌, nat_le, nat_lt, Bool, true, false, not, ◌&&◌, ◌==◌, if◌then◌else◌, Option, Some, None, Result, Ok, Err, List, [], ◌∷◌, length, find, ℤ, pos, slice_get, codes}
 use Rattle.sbe_types.specs.declared.kind.LeafShape.{LeafShape}
 use Rattle.sbe_types.specs.declared.kind.LeafShape.TheVariants.{Number, RangedText, EncodedText, Octets, Numbers}
 use Rattle.sbe_types.specs.declared.kind.Leaf.{Leaf as LeafOf}

@@ -1,6 +1,6 @@
 -- What the laws ask of a schema, and the checker sees to: no part begins before the end of the one before it,
 -- and no two messages have one id.
-use Rattle.std.specs.Prelude.{◌≡◌, ℕ, ◌+◌, ◌≤◌, Bool, false, if◌then◌else◌, Option, Some, List, [], ◌∷◌, ⊤, slice_get}
+use Rattle.std.specs.Prelude.{◌≡◌, ℕ, ◌+◌, ◌≤◌, false, if◌then◌else◌, Option, Some, List, [], ◌∷◌, ⊤, slice_get}
 use Rattle.sbe_types.specs.declared.kind.Kind.{Kind, Leaf, Enum, Set, Const, Comp', Row_of-Member, end_of-Member, more_of-Member}
 use Rattle.sbe_types.specs.declared.schema.Field.{Field}
 use Rattle.sbe_types.specs.declared.schema.Group.{Group, Group'}

@@ -1,5 +1,5 @@
 -- Bodies, the messages that they are, and their first faults.
-use Rattle.std.specs.Prelude.{ℕ, List, [], ◌∷◌, ℤ, pos, negsuc, codes}
+use Rattle.std.specs.Prelude.{ℕ, List, [], ◌∷◌, pos, negsuc, codes}
 use Rattle.sbe_types.specs.declared.path.Step.TheVariants as way
 use Rattle.sbe_types.specs.declared.message.Msg.{Msg}
 use Rattle.sbe_types.specs.declared.message.Elem.TheVariants as elem

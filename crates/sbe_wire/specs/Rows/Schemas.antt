@@ -11,7 +11,7 @@ use Rattle.sbe_types.specs.declared.kind.Kind.{Kind, Leaf, Enum, Set, Comp', end
 use Rattle.sbe_types.specs.declared.kind.Member.{Member}
 use Rattle.sbe_types.specs.declared.schema.Field.{Field}
 use Rattle.sbe_types.specs.declared.schema.DataField.{DataField}
-use Rattle.sbe_types.specs.declared.schema.Group.{Group, Group'}
+use Rattle.sbe_types.specs.declared.schema.Group.{Group'}
 use Rattle.sbe_types.specs.declared.schema.Level.{Level, Level', end_of-Group, more_of-Group}
 use Rattle.sbe_types.specs.declared.schema.WireSchema.{WireSchema}
 

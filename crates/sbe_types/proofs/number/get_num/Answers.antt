@@ -1,4 +1,4 @@
-use Rattle.std.proofs.Common.{rules, arith, ap, sym, ◌∙◌}
+use Rattle.std.proofs.Common.{arith}
 use Rattle.std.proofs.lemmas.Int.{to_z-of_z}
 use Rattle.sbe_types.proofs.NumberLemmas.{read_big, read_little}
 use Rattle.sbe_types.proofs.number.get_num.Goals as goal

@@ -1,4 +1,3 @@
-use Rattle.std.proofs.Common.{refl}
 use denote.Hole.Carrier as carrier
 use Rattle.sbe_types.specs.declared.schema.Level as level
 use Rattle.sbe_types.specs.declared.message.GroupVal.{items_hidden-the_row-Block-1}
