@@ -1,10 +1,10 @@
 -- A head that is read counts itself.
-use Rattle.std.proofs.Common.{◌≡◌, ℕ, ◌<◌, ◌≤◌, Bool, true, false, cond, List, length, sym, ap, ◌∙◌, subst, refl, arith}
+use Rattle.std.proofs.Common.{◌≡◌, ℕ, ◌≤◌, Bool, true, false, cond, List, length, sym, refl, arith}
 use Rattle.std.specs.Prelude.{nat_lt, Result, Ok, Err}
 use Rattle.open_framing.specs.declared.head.Head.{Head}
 use Rattle.open_framing.specs.declared.head.HeadErr.{HeadErr}
 use Rattle.open_framing.specs.declared.head.HeadErr.TheVariants.{HeadShort}
-use Rattle.open_framing.specs.Heads.{head_of, judged, length_in, encoding_in, is_encoding}
+use Rattle.open_framing.specs.Heads.{head_of, judged, length_in, encoding_in}
 use borrow.Author.Tests.{ltb-false}
 
 chosen : (size encoding limit : ℕ) (small over known : Bool) (head : Head) (a b c : HeadErr) →

@@ -2,3 +2,14 @@ pub mod Views
 pub mod Heads
 pub mod Texts
 pub mod TwoWords
+pub mod Fronts
+pub mod Fields
+pub mod Progress
+pub mod Consumed
+pub mod Named
+pub mod Bodies
+pub mod Messages
+pub mod SmallLemmas
+pub mod Reports
+pub mod OneReport
+pub mod Runs

@@ -1,6 +1,9 @@
 pub mod Attributes
-pub mod Fronts
 pub mod Words
 pub mod Small
 pub mod Line
 pub mod Stops
+pub mod Dump
+pub mod Block
+pub mod Report
+pub mod Steps

@@ -4,7 +4,7 @@ use Rattle.std.specs.Fmt.{signed_decimal}
 use Rattle.sbe_types.specs.declared.schema.Field.{Field}
 use Rattle.sbe_types.specs.declared.schema.Level.{Level, out-Level}
 use Rattle.sbe_types.specs.declared.schema.WireSchema.{WireSchema}
-use Rattle.sbe_types.specs.declared.message.Value.{Value, Num, Null, Text, Nums, Enum, Set, Comp', Const, Absent}
+use Rattle.sbe_types.specs.declared.message.Value.{Value, Num, Absent}
 use Rattle.sbe_types.specs.declared.message.Block.{out-Block}
 use Rattle.sbe_types.specs.declared.message.Msg.{Msg}
 

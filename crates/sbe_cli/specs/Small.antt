@@ -1,10 +1,10 @@
 -- The small form of a schema: one message of integer fields under the recommended header.
-use Rattle.std.specs.Prelude.{◌≡◌, ℕ, ◌+◌, ◌-◌, ◌*◌, ◌/◌, ◌^◌, ◌==◌, nat_le, Bool, true, false, if◌then◌else◌, List, [], ◌∷◌, ◌++◌, codes, length, sum_by, Option, Some, None, option_and_then, is_some, ℤ, pos, negsuc, ◌+ℤ◌, ◌-ℤ◌, ⊤}
+use Rattle.std.specs.Prelude.{ℕ, ◌+◌, ◌-◌, ◌/◌, ◌^◌, ◌==◌, nat_le, Bool, true, false, if◌then◌else◌, List, [], ◌∷◌, ◌++◌, codes, length, sum_by, Option, Some, None, option_and_then, is_some, ℤ, pos, ◌-ℤ◌}
 use Rattle.std.specs.Str.{bytes_eq}
-use Rattle.serde_json.specs.Data.{Data, null, boolean, number, string, array, object, Items, no_items, item}
+use Rattle.serde_json.specs.Data.{Data, Items, no_items, item}
 use Rattle.serde_json.specs.Find.{get, get_item, as_str}
 use Rattle.serde_json.specs.Read.{read as read_text}
-use Rattle.sbe_types.specs.Numbers.{prim_width, is_signed}
+use Rattle.sbe_types.specs.Numbers.{prim_width}
 use Rattle.sbe_types.specs.declared.kind.Primitive.{Primitive}
 use Rattle.sbe_types.specs.declared.kind.Primitive.TheVariants.{Char, I8, I16, I32, I64, U8, U16, U32, U64}
 use Rattle.sbe_types.specs.declared.kind.Presence.{Presence}

@@ -1,5 +1,8 @@
-ghost use Rattle.std.specs.Prelude.{◌≤◌, length};
-ghost use Rattle.sbe_cli.specs.Fronts.{IsWithin};
+ghost use Rattle.std.specs.Prelude.{◌≡◌, ◌++◌, ◌<◌, ◌≤◌, ◌^◌, Bool, true, length, is_some, IfOk, OnOk, OnErr};
+ghost use Rattle.sbe_base.specs.Causes.{Rose};
+ghost use Rattle.open_framing.specs.Heads.{IsBytes};
+ghost use Rattle.sbe_cli.specs.Block.{IsSmall};
+ghost use Rattle.sbe_cli.specs.Dump.{IsFront, Dumps, answer_of, message_in, cut_end, CausedBy, EndsAt};
 
 use crate::block::{DecodeErr, decode};
 use crate::line::{put, put_message, put_refused};
@@ -34,7 +37,13 @@ pub fn dump<O: Sink>(
     held: &Held,
     limit: usize,
     output: &mut O,
-) -> Result<bool, Stop> {
+) -> Result<bool, Stop>
+    requires small { IsSmall schema.now }
+    requires few { length held.now.bytes.items < 2 ^ 40 }
+    ensures dumps { Dumps schema.now limit held.now.more held.now.bytes.items (O.held output.old) (O.held output.new) result }
+    ensures bytes { IsBytes held.now.bytes.items }
+    ensures cause { CausedBy (O.faults output.old) (O.faults output.new) result }
+{
     let bytes = held.bytes.as_slice();
     let mut line = Vec::new(alloc);
     let mut at = 0;
@@ -46,26 +55,27 @@ pub fn dump<O: Sink>(
                 let end = at + head.length as usize;
                 line.clear();
                 let body = &bytes[at + HEAD_BYTES..end];
-                if !put_answer(alloc, &mut line, schema, head.encoding, body, item)? {
-                    refused = true;
+                match put_answer(alloc, &mut line, schema, head.encoding, body, item) {
+                    Ok(told) => refused |= !told,
+                    Err(_) => return Err(Stop::NoMemory),
                 }
-                write_all_to(output, line.as_slice())?;
+                match write_all_to(output, line.as_slice()) {
+                    Ok(()) => {}
+                    Err(_) => return Err(Stop::WriteFault),
+                }
                 at = end;
                 item += 1;
             }
             Front::Fault(fault) => return Err(Stop::Framing(fault, at as u64)),
-            Front::Part => {
-                end_of(bytes.len(), at, held.more)?;
-                return Ok(refused);
-            }
+            Front::Part => return end_of(bytes.len(), at, held.more, refused),
         }
     }
 }
 
 /// What the bytes begin with.
-#[tactic(auto, using(crate::proofs::Heads::head_counted))]
+#[tactic(auto, using(crate::proofs::Fronts::frame_found, crate::proofs::Fronts::frame_cut, crate::proofs::Fronts::head_missing, crate::proofs::Fronts::short_refused, crate::proofs::Fronts::over_refused, crate::proofs::Fronts::encoding_refused))]
 fn front_of(bytes: &[u8], limit: usize) -> Front
-    ensures { IsWithin result (length bytes.now) }
+    ensures { IsFront result limit bytes.now }
 {
     match read_head(bytes, limit) {
         Ok(head) => {
@@ -82,13 +92,14 @@ fn front_of(bytes: &[u8], limit: usize) -> Front
 }
 
 /// Judges the end of so many bytes of input, of which a part of a frame begins at `at`.
-fn end_of(held: usize, at: usize, more: bool) -> Result<(), Stop>
+fn end_of(held: usize, at: usize, more: bool, refused: bool) -> Result<bool, Stop>
     requires { at ≤ held }
+    ensures { EndsAt result held at more refused }
 {
     if more {
         Err(Stop::InputLimit(held as u64))
     } else if at == held {
-        Ok(())
+        Ok(refused)
     } else {
         let inside = FramingFault::EndInside((held - at) as u64);
         Err(Stop::Framing(inside, at as u64))
@@ -103,7 +114,11 @@ fn put_answer(
     encoding: u16,
     body: &[u8],
     item: u64,
-) -> Result<bool, NoMem> {
+) -> Result<bool, NoMem>
+    requires { IsSmall schema.now }
+    ensures line { OnOk result (line.new.items ≡ line.old.items ++ answer_of schema.now item (message_in schema.now (record { encoding = encoding; body = body.now }))) }
+    ensures told { IfOk result (λ told. told ≡ is_some (message_in schema.now (record { encoding = encoding; body = body.now }))) }
+{
     if encoding != SBE_LITTLE {
         put_refused(line, item)?;
         return Ok(false);

@@ -1,7 +1,8 @@
-ghost use Rattle.std.specs.Prelude.{◌≡◌, ◌≤◌, [], codes, Some, None, length, sum_by, IfOk, IsUtf8};
+ghost use Rattle.std.specs.Prelude.{◌≡◌, ◌≤◌, [], codes, All, Some, None, length, sum_by, IfOk, OnOk, IsUtf8};
 ghost use Rattle.serde_json.specs.View.{view, items_view};
 ghost use Rattle.serde_json.specs.Find.{get};
 ghost use Rattle.sbe_cli.specs.Attributes.{Gives};
+ghost use Rattle.sbe_cli.specs.Block.{IsOneNumber, IsPlain, IsFlat, IsSmall};
 ghost use Rattle.sbe_cli.specs.Small.{there, number_leaf, default_leaf, header_type, header_types, header, types, header_member, small_header, prim_named, presence_named, presence_at, field, has_name, fields_after, field_width, message, content, packages_in, schema_of, small_schema};
 
 use crate::attributes::{
@@ -24,6 +25,8 @@ const MOST: u32 = 65535;
 pub fn read_small(alloc: Global, bytes: &[u8]) -> Result<WireSchema, SmallErr>
     ensures text { IsUtf8 bytes.now → Gives result (small_schema bytes.now) }
     ensures other { ¬ IsUtf8 bytes.now → Gives result None }
+    ensures utf8 { OnOk result (IsUtf8 bytes.now) }
+    ensures small { IfOk result (λ schema. IsSmall schema) }
 {
     match Value::from_slice(alloc, bytes) {
         Ok(value) => wire_schema(alloc, &value),
@@ -38,7 +41,8 @@ pub fn read_small(alloc: Global, bytes: &[u8]) -> Result<WireSchema, SmallErr>
 }
 
 fn wire_schema(alloc: Global, value: &Value) -> Result<WireSchema, SmallErr>
-    ensures { Gives result (schema_of (view value.now)) }
+    ensures read { Gives result (schema_of (view value.now)) }
+    ensures small { IfOk result (λ schema. IsSmall schema) }
 {
     let schema = element_of(value, "messageSchema")?;
     let id = number_of(schema, "id", MOST)?;
@@ -86,7 +90,8 @@ fn package_count(schema: &Value) -> Result<usize, SmallErr>
 
 /// The root of the one message, behind the types.
 fn level_of(alloc: Global, items: &[Value]) -> Result<Level, SmallErr>
-    ensures { Gives result (content (items_view items.now)) }
+    ensures read { Gives result (content (items_view items.now)) }
+    ensures flat { IfOk result (λ level. IsFlat level) }
 {
     if count_items(items) != 2 {
         return Err(SmallErr::NotBuilt);
@@ -169,7 +174,8 @@ fn wire_member(alloc: Global, name: &str) -> Result<Member, SmallErr>
 }
 
 fn read_message(alloc: Global, value: &Value) -> Result<Level, SmallErr>
-    ensures { Gives result (message (view value.now)) }
+    ensures read { Gives result (message (view value.now)) }
+    ensures flat { IfOk result (λ level. IsFlat level) }
 {
     let attributes = element_of(value, "message")?;
     let name = name_of(alloc, attributes)?;
@@ -194,7 +200,8 @@ fn read_message(alloc: Global, value: &Value) -> Result<Level, SmallErr>
 }
 
 fn read_fields(alloc: Global, items: &[Value]) -> Result<FieldList, SmallErr>
-    ensures { Gives result (fields_after [] (items_view items.now)) }
+    ensures read { Gives result (fields_after [] (items_view items.now)) }
+    ensures plain { IfOk result (λ fields. All (λ field. IsPlain field) fields) }
 {
     let mut fields: FieldList = List::new(alloc);
     for item in items {
@@ -220,7 +227,8 @@ fn is_named(fields: &[Field], name: &[u8]) -> bool
 }
 
 fn read_field(alloc: Global, value: &Value) -> Result<Field, SmallErr>
-    ensures { Gives result (field (view value.now)) }
+    ensures read { Gives result (field (view value.now)) }
+    ensures plain { IfOk result (λ field. IsPlain field) }
 {
     let attributes = element_of(value, "field")?;
     let name = name_of(alloc, attributes)?;
@@ -282,7 +290,8 @@ fn presence_by(name: &str) -> Result<Presence, SmallErr>
 /// A number without a stated range: its null is the least signed or the greatest unsigned one, and the
 /// others are its range.
 fn default_of(prim: Prim, presence: Presence) -> Leaf
-    ensures { result ≡ default_leaf prim presence }
+    ensures leaf { result ≡ default_leaf prim presence }
+    ensures number { IsOneNumber result }
 {
     match prim {
         Prim::Char => leaf_of(prim, presence, 0, 0x20, 0x7e),

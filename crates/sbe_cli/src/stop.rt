@@ -1,5 +1,6 @@
 ghost use Rattle.std.specs.Prelude.{◌≡◌};
 ghost use Rattle.sbe_cli.specs.Line.{Puts};
+ghost use Rattle.sbe_cli.specs.Steps.{Told};
 ghost use Rattle.sbe_cli.specs.Stops.{stop_status, stop_line, refused_schema, at_line, framing_line, fault_line};
 
 use crate::line::{put, put_count};
@@ -83,10 +84,13 @@ impl Stop {
 }
 
 /// Notes why the run stops, and answers its status.
-pub fn tell<N: Sink>(alloc: Global, stop: Stop, notes: &mut N) -> Status {
+pub fn tell<N: Sink>(alloc: Global, stop: Stop, notes: &mut N) -> Status
+    ensures { Told stop (N.held notes.old) (N.held notes.new) (N.faults notes.old) (N.faults notes.new) result }
+{
     let mut line = Vec::new(alloc);
-    if put_stop(&mut line, stop).is_err() {
-        return Status::NoMemory;
+    match put_stop(&mut line, stop) {
+        Ok(()) => {}
+        Err(_) => return Status::NoMemory,
     }
     match write_all_to(notes, line.as_slice()) {
         Ok(()) => stop.status(),

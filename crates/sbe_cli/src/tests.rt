@@ -1,4 +1,4 @@
-use crate::run;
+use crate::{Command, WordsErr, read_words, run};
 use sbe_base::{MemFiles, MemSink, MemSource, Status};
 use std::alloc::Global;
 use std::process::Abort;
@@ -27,7 +27,7 @@ const REFUSED: &[u8] =
 const USAGE: &[u8] = b"{\"usage\":\"sbe check compat dump build fixcheck tofix tosbe selftest\"}\n";
 
 /// What a run is given, and which calls of each object fail.
-#[derive(Drop)]
+#[derive(Clone, Copy)]
 struct Trial<'a> {
     words: &'a [&'a str],
     schema: &'a [u8],
@@ -195,7 +195,6 @@ fn refuses_schemas(rt: HostRuntime) -> Result<(), Fail> {
 #[test]
 fn refuses_words(rt: HostRuntime) -> Result<(), Fail> {
     let alloc = rt.alloc();
-    let mut trial = sample();
     let rows: [&[&str]; 6] = [
         &[],
         &["dump"],
@@ -205,10 +204,13 @@ fn refuses_words(rt: HostRuntime) -> Result<(), Fail> {
         &["check", "ping.json"],
     ];
     for words in rows {
-        trial.words = words;
+        let trial = Trial { words, ..sample() };
         expect(&rt, alloc, &trial, Status::Usage, b"", USAGE)?;
     }
-    trial.words = &["dump", "other.json"];
+    let trial = Trial {
+        words: &["dump", "other.json"],
+        ..sample()
+    };
     let absent = b"{\"absent\":\"schema\"}\n";
     expect(&rt, alloc, &trial, Status::NoFile, b"", absent)
 }
@@ -216,20 +218,28 @@ fn refuses_words(rt: HostRuntime) -> Result<(), Fail> {
 #[test]
 fn tells_faults(rt: HostRuntime) -> Result<(), Fail> {
     let alloc = rt.alloc();
-    let mut load = sample();
-    load.load = &[1];
+    let load = Trial {
+        load: &[1],
+        ..sample()
+    };
     let file = b"{\"fault\":\"File\",\"file\":\"schema\"}\n";
     expect(&rt, alloc, &load, Status::FileFault, b"", file)?;
-    let mut read = sample();
-    read.read = &[2];
+    let read = Trial {
+        read: &[2],
+        ..sample()
+    };
     let at = b"{\"fault\":\"Read\",\"at\":7}\n";
     expect(&rt, alloc, &read, Status::ReadFault, b"", at)?;
-    let mut output = sample();
-    output.output = &[1];
+    let output = Trial {
+        output: &[1],
+        ..sample()
+    };
     expect(&rt, alloc, &output, Status::WriteFault, b"", b"")?;
-    let mut notes = sample();
-    notes.words = &[];
-    notes.notes = &[1];
+    let notes = Trial {
+        words: &[],
+        notes: &[1],
+        ..sample()
+    };
     expect(&rt, alloc, &notes, Status::WriteFault, b"", b"")
 }
 
@@ -242,4 +252,22 @@ fn reads_so_many_bytes(rt: HostRuntime) -> Result<(), Fail> {
     trial.input = zeros.as_slice();
     let short = b"{\"framing\":\"LengthShort\",\"at\":0,\"number\":0}\n";
     expect(&rt, alloc, &trial, Status::FramingRefused, b"", short)
+}
+
+#[test]
+fn reads_words(rt: HostRuntime) -> Result<(), Fail> {
+    let alloc = rt.alloc();
+    let form = String::from_str(alloc, "dump")?;
+    let name = String::from_str(alloc, "ping.json")?;
+    let words = Vec::from_array(alloc, [form, name])?;
+    match read_words(alloc, words.as_slice()) {
+        Ok(Command::Dump { schema, limits }) => {
+            assert_eq!(rt; schema.as_str(), "ping.json");
+            assert_eq!(rt; limits.frame, 65_536);
+            assert_eq!(rt; limits.input, 16_777_216);
+        }
+        Err(_) => assert!(rt; false),
+    }
+    assert!(rt; matches!(read_words(alloc, &[]), Err(WordsErr::Usage)));
+    Ok(())
 }

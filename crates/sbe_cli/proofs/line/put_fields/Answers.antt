@@ -1,4 +1,4 @@
-use Rattle.std.proofs.Common.{◌<◌, length, sym, arith}
+use Rattle.std.proofs.Common.{◌<◌, length, arith}
 use Rattle.sbe_cli.proofs.Texts.{fields_more, fields_done}
 use Rattle.sbe_cli.proofs.line.put_fields.Goals as goal
 

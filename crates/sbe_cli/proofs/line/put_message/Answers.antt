@@ -1,4 +1,4 @@
-use Rattle.std.proofs.Common.{◌≡◌, sym, subst}
+use Rattle.std.proofs.Common.{sym, subst}
 use Rattle.sbe_cli.specs.Line.{Puts, line_at}
 use Rattle.sbe_cli.proofs.Texts.{then_put}
 use Rattle.sbe_cli.proofs.line.put_message.Goals as goal
