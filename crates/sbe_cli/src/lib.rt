@@ -5,6 +5,7 @@ mod attributes;
 mod block;
 mod dump;
 mod engine;
+mod laws;
 mod line;
 mod small;
 mod stop;
@@ -13,4 +14,5 @@ mod tests;
 mod words;
 
 pub use engine::run;
+pub use laws::one_report;
 pub use words::{Command, Name, WordsErr, read_words};

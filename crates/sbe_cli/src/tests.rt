@@ -70,7 +70,7 @@ fn expect(
     files.put("ping.json", trial.schema)?;
     let piece = trial.piece.max(1);
     let mut input = MemSource::new(alloc, trial.input, piece, trial.read)?;
-    let mut out = MemSink::new(alloc, 1024, trial.output)?;
+    let mut out = MemSink::new(alloc, 32_768, trial.output)?;
     let mut said = MemSink::new(alloc, 1024, trial.notes)?;
     let ended = run(
         alloc,
@@ -93,6 +93,11 @@ fn answers_frames(rt: HostRuntime) -> Result<(), Fail> {
     expect(&rt, alloc, &trial, Status::Done, LINE, b"")?;
     trial.input = b"";
     expect(&rt, alloc, &trial, Status::Done, b"", b"")?;
+    trial.input = FRAME;
+    for piece in 1..22usize {
+        trial.piece = piece;
+        expect(&rt, alloc, &trial, Status::Done, LINE, b"")?;
+    }
     let short_block =
         b"\x00\x00\x00\x13\xeb\x50\x06\x00\x01\x00\x07\x00\x00\x00\x02\x01\x00\x00\x00";
     let big_endian =
@@ -147,7 +152,15 @@ fn ends_inside_a_frame(rt: HostRuntime) -> Result<(), Fail> {
 fn names_faulty_heads(rt: HostRuntime) -> Result<(), Fail> {
     let alloc = rt.alloc();
     let mut trial = sample();
-    let rows: [(&[u8], &[u8]); 4] = [
+    let rows: [(&[u8], &[u8]); 6] = [
+        (
+            b"\x00\x01\x00\x01\xeb\x50",
+            b"{\"framing\":\"LengthOver\",\"at\":0,\"number\":65537}\n",
+        ),
+        (
+            b"\x00\x00\x00\x06\xf5\x00",
+            b"{\"framing\":\"Encoding\",\"at\":0,\"number\":62720}\n",
+        ),
         (
             b"\x00\x00\x00\x00\xeb\x50",
             b"{\"framing\":\"LengthShort\",\"at\":0,\"number\":0}\n",
@@ -243,15 +256,74 @@ fn tells_faults(rt: HostRuntime) -> Result<(), Fail> {
     expect(&rt, alloc, &notes, Status::WriteFault, b"", b"")
 }
 
+/// Each call of each object fails in turn.
 #[test]
-fn reads_so_many_bytes(rt: HostRuntime) -> Result<(), Fail> {
+fn ends_at_each_failing_call(rt: HostRuntime) -> Result<(), Fail> {
     let alloc = rt.alloc();
-    let mut trial = sample();
-    let zeros = vec![in alloc; 0u8; 16_777_216]?;
-    trial.piece = 1_048_576;
-    trial.input = zeros.as_slice();
-    let short = b"{\"framing\":\"LengthShort\",\"at\":0,\"number\":0}\n";
-    expect(&rt, alloc, &trial, Status::FramingRefused, b"", short)
+    let reads: [(u64, &[u8]); 4] = [
+        (1, b"{\"fault\":\"Read\",\"at\":0}\n"),
+        (2, b"{\"fault\":\"Read\",\"at\":6}\n"),
+        (3, b"{\"fault\":\"Read\",\"at\":12}\n"),
+        (5, b"{\"fault\":\"Read\",\"at\":20}\n"),
+    ];
+    for (call, notes) in reads {
+        let calls = [call];
+        let trial = Trial {
+            piece: 6,
+            read: &calls,
+            ..sample()
+        };
+        expect(&rt, alloc, &trial, Status::ReadFault, b"", notes)?;
+    }
+    let later = Trial {
+        load: &[2],
+        read: &[5],
+        output: &[2],
+        notes: &[1],
+        ..sample()
+    };
+    expect(&rt, alloc, &later, Status::Done, LINE, b"")
+}
+
+/// Frames of the greatest length that fill the input's limit, and a number of bytes behind them.
+fn frames_to_the_limit(alloc: Global, behind: u8) -> Result<Vec<u8>, Fail> {
+    let mut frame = vec![in alloc; 0u8; 65_536]?;
+    frame[..6].copy_from_slice(b"\x00\x01\x00\x00\xeb\x50");
+    let mut input = Vec::new(alloc);
+    for _ in 0..256u32 {
+        input.extend_from_slice(frame.as_slice())?;
+    }
+    for _ in 0..behind {
+        input.push(0)?;
+    }
+    Ok(input)
+}
+
+#[test]
+fn ends_at_the_limit_of_the_input(rt: HostRuntime) -> Result<(), Fail> {
+    let alloc = rt.alloc();
+    let mut lines = String::new(alloc);
+    for i in 0..256usize {
+        let line = format!(in alloc;
+            "{{\"refused\":\"F00\",\"item\":{i},\"offset\":null,\"path\":\"\",\"detail\":\"\"}}\n"
+        )?;
+        lines.push_str(line.as_str())?;
+    }
+    let limit = b"{\"limit\":\"Input\",\"at\":16777216}\n";
+    let rows: [(u8, Status, &[u8]); 2] = [
+        (0, Status::SomeRefused, b""),
+        (1, Status::InputLimit, limit),
+    ];
+    for (behind, status, notes) in rows {
+        let input = frames_to_the_limit(alloc, behind)?;
+        let trial = Trial {
+            input: input.as_slice(),
+            piece: 1_048_576,
+            ..sample()
+        };
+        expect(&rt, alloc, &trial, status, lines.as_bytes(), notes)?;
+    }
+    Ok(())
 }
 
 #[test]
