@@ -13,3 +13,4 @@ pub mod SmallLemmas
 pub mod Reports
 pub mod OneReport
 pub mod Runs
+pub mod SomeReport

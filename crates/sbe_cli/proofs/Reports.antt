@@ -97,7 +97,7 @@ module _ (schema : WireSchema) (placed : IsPlaced schema) where
           ends = ap (end_of limits.frame goes_on) (rest_found found.1) ∙ ap (λ t. end_of limits.frame t found.0) over;
         }
 
-    the_report : IsBytes bytes → bytes ≡ take limits.input input → goes_on ≡ nat_lt limits.input (length input) → (notes : List ℕ) (code : Status) →
+    pub the_report : IsBytes bytes → bytes ≡ take limits.input input → goes_on ≡ nat_lt limits.input (length input) → (notes : List ℕ) (code : Status) →
         EndsWith (ended limits.frame goes_on bytes) (place_of limits.frame bytes) limits.input (refuses schema items) notes code → DumpReport schema limits input (dumped schema limits.frame bytes) notes code
     the_report good same over notes code ends =
         (items, ended limits.frame goes_on bytes, refuses schema items, the_cut good same over, answers_hold 0 items, ends)

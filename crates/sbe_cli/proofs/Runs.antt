@@ -1,5 +1,5 @@
 -- What a run's steps give, put together.
-use Rattle.std.proofs.Common.{◌≡◌, inl, inr, ℕ, ◌<◌, ◌≤◌, arith, Bool, List, [], ◌∷◌, ◌++◌, length, Option, Some, None, Result, Ok, Err, refl, sym, ◌∙◌, subst}
+use Rattle.std.proofs.Common.{ap, ◌≡◌, inl, inr, ℕ, ◌<◌, ◌≤◌, arith, Bool, List, [], ◌∷◌, ◌++◌, length, Option, Some, None, Result, Ok, Err, refl, sym, ◌∙◌, subst}
 use Rattle.std.specs.Io.KnownBytes.{Appends, Keeps}
 use Rattle.std.proofs.KnownBytes.{Appends-nil}
 use Rattle.std.proofs.lemmas.List.{append-nil}
@@ -11,7 +11,7 @@ use Rattle.sbe_base.specs.declared.status.Status.TheVariants as status
 use Rattle.sbe_types.specs.declared.schema.WireSchema.{WireSchema}
 use Rattle.sbe_wire.specs.Placed.{IsPlaced}
 use Rattle.sbe_cli.specs.Report.{schema_bytes, DumpReport, FileReport, Report, done_status, Fronts}
-use Rattle.sbe_cli.specs.Steps.{LoadedFrom, LoadCause, ReadsSchema, Holds, AnsweredInput, AnsweredInputBy, AnsweredFile, AnsweredFileBy, Answered, AnsweredBy, IsDumpStop, Took, Told, noted, wanting, failed, ReadStands}
+use Rattle.sbe_cli.specs.Steps.{LoadedFrom, LoadCause, ReadsSchema, Holds, AnsweredInput, AnsweredInputBy, AnsweredFile, AnsweredFileBy, Answered, AnsweredBy, IsDumpStop, FilesCause, InputCause, Took, Told, noted, wanting, failed, ReadStands}
 use Rattle.sbe_cli.specs.Stops.{stop_line, stop_status}
 use Rattle.sbe_cli.specs.declared.dump.Held.{Held}
 use Rattle.sbe_cli.specs.declared.stop.Stop.{Stop}
@@ -156,36 +156,43 @@ empty_part n n' line h = by h.0 h.1 h.2 h.3
 
 -- ---- fronts of the report
 
-module _ (words : List (List ℕ)) (files : List ℕ → Option (List ℕ)) (input : List ℕ) (o o' n n' : Option (List ℕ)) where
-  reported_fronts : (out notes : List ℕ) (code : Status) → Report words files input out notes code → Appends o o' out → AppendsPart n n' notes → Fronts words (Some files) (Some input) o o' n n'
+module _ (words : List (List ℕ)) (files : List ℕ → Option (List ℕ)) (input : List ℕ) (left' o o' n n' : Option (List ℕ)) (f f' i i' : ℕ) where
+  abbrev AreFronts : Type 0
+  AreFronts = Fronts words (Some files) (Some input) left' o o' n n' f f' i i'
+
+  reported_fronts : (out notes : List ℕ) (code : Status) → Report words files input out notes code → Appends o o' out → AppendsPart n n' notes → AreFronts
   reported_fronts out notes code r wrote said = λ out' notes' code' r'.
       let same = one_report words files input out out' notes notes' code code' r r' in
       (whole_part o o' out' (subst (Appends o o') same.0 wrote), inl (subst (AppendsPart n n') same.1 said))
 
-  fronts_by : (s : Stop) (before now : ℕ) (code : Status) → AnsweredBy words files input o o' (Err s) → Told s n n' before now code → Fronts words (Some files) (Some input) o o' n n'
-  fronts_by stop.FileFault before now code h t = λ out notes code' r. (none_part o o' out h, inr (stop_line stop.FileFault, inl refl, told_part stop.FileFault n n' before now code t))
-  fronts_by (stop.ReadFault at) before now code h t = λ out notes code' r. (none_part o o' out h, inr (stop_line (stop.ReadFault at), inr (at, refl), told_part (stop.ReadFault at) n n' before now code t))
-  fronts_by stop.WriteFault before now code h t = λ out notes code' r. (h out notes code' r, inl (empty_part n n' notes (told_part stop.WriteFault n n' before now code t)))
-  fronts_by stop.NoMemory before now code h t = λ out notes code' r. (h out notes code' r, inl (empty_part n n' notes (told_part stop.NoMemory n n' before now code t)))
-  fronts_by stop.Usage before now code h t = reported_fronts h.0 _ _ h.1 h.2 (told_part stop.Usage n n' before now code t)
-  fronts_by stop.NoFile before now code h t = reported_fronts h.0 _ _ h.1 h.2 (told_part stop.NoFile n n' before now code t)
-  fronts_by stop.NotBuilt before now code h t = reported_fronts h.0 _ _ h.1 h.2 (told_part stop.NotBuilt n n' before now code t)
-  fronts_by stop.SchemaLong before now code h t = reported_fronts h.0 _ _ h.1 h.2 (told_part stop.SchemaLong n n' before now code t)
-  fronts_by (stop.Framing f at) before now code h t = reported_fronts h.0 _ _ h.1 h.2 (told_part (stop.Framing f at) n n' before now code t)
-  fronts_by (stop.InputLimit m) before now code h t = reported_fronts h.0 _ _ h.1 h.2 (told_part (stop.InputLimit m) n n' before now code t)
+  fronts_by : (s : Stop) (before now : ℕ) (code : Status) → AnsweredBy words files input o o' (Err s) → Took (Some input) left' (Err s) → FilesCause f f' (Err s) → InputCause i i' (Err s) → Told s n n' before now code → AreFronts
+  fronts_by stop.FileFault before now code h took c d t = λ out notes code' r.
+      (none_part o o' out h, inr (stop_line stop.FileFault, inl (c.1, refl), told_part stop.FileFault n n' before now code t))
+  fronts_by (stop.ReadFault at) before now code h took c d t = λ out notes code' r.
+      (none_part o o' out h, inr (stop_line (stop.ReadFault at), inr (d.1, (took.0, took.2, ap (λ k. stop_line (stop.ReadFault k)) (sym took.1))), told_part (stop.ReadFault at) n n' before now code t))
+  fronts_by stop.WriteFault before now code h took c d t = λ out notes code' r. (h out notes code' r, inl (empty_part n n' notes (told_part stop.WriteFault n n' before now code t)))
+  fronts_by stop.NoMemory before now code h took c d t = λ out notes code' r. (h out notes code' r, inl (empty_part n n' notes (told_part stop.NoMemory n n' before now code t)))
+  fronts_by stop.Usage before now code h took c d t = reported_fronts h.0 _ _ h.1 h.2 (told_part stop.Usage n n' before now code t)
+  fronts_by stop.NoFile before now code h took c d t = reported_fronts h.0 _ _ h.1 h.2 (told_part stop.NoFile n n' before now code t)
+  fronts_by stop.NotBuilt before now code h took c d t = reported_fronts h.0 _ _ h.1 h.2 (told_part stop.NotBuilt n n' before now code t)
+  fronts_by stop.SchemaLong before now code h took c d t = reported_fronts h.0 _ _ h.1 h.2 (told_part stop.SchemaLong n n' before now code t)
+  fronts_by (stop.Framing g at) before now code h took c d t = reported_fronts h.0 _ _ h.1 h.2 (told_part (stop.Framing g at) n n' before now code t)
+  fronts_by (stop.InputLimit m) before now code h took c d t = reported_fronts h.0 _ _ h.1 h.2 (told_part (stop.InputLimit m) n n' before now code t)
 
-pub stopped_fronts : (words : List (List ℕ)) (contents : Option (List ℕ → Option (List ℕ))) (input o o' n n' : Option (List ℕ)) (s : Stop) (before now : ℕ) (code : Status) →
-    Answered words contents input o o' (Err s) → Told s n n' before now code → Fronts words contents input o o' n n'
-stopped_fronts words None input o o' n n' s before now code h t = tt
-stopped_fronts words (Some files) None o o' n n' s before now code h t = tt
-stopped_fronts words (Some files) (Some input) o o' n n' s before now code h t = fronts_by words files input o o' n n' s before now code h t
+module _ (words : List (List ℕ)) (f f' i i' : ℕ) where
+  pub stopped_fronts : (contents : Option (List ℕ → Option (List ℕ))) (left left' o o' n n' : Option (List ℕ)) (s : Stop) (before now : ℕ) (code : Status) →
+      Answered words contents left o o' (Err s) → Took left left' (Err s) → FilesCause f f' (Err s) → InputCause i i' (Err s) → Told s n n' before now code →
+      Fronts words contents left left' o o' n n' f f' i i'
+  stopped_fronts None left left' o o' n n' s before now code h took c d t = tt
+  stopped_fronts (Some files) None left' o o' n n' s before now code h took c d t = tt
+  stopped_fronts (Some files) (Some input) left' o o' n n' s before now code h took c d t = fronts_by words files input left' o o' n n' f f' i i' s before now code h took c d t
 
-pub answered_fronts : (words : List (List ℕ)) (contents : Option (List ℕ → Option (List ℕ))) (input o o' n : Option (List ℕ)) (refused : Bool) →
-    Answered words contents input o o' (Ok refused) → Fronts words contents input o o' n n
-answered_fronts words None input o o' n refused h = tt
-answered_fronts words (Some files) None o o' n refused h = tt
-answered_fronts words (Some files) (Some input) o o' n refused h =
-    reported_fronts words files input o o' n n h.0 [] (done_status refused) h.1 h.2 ([], [], refl, Appends-nil n)
+  pub answered_fronts : (contents : Option (List ℕ → Option (List ℕ))) (left left' o o' n : Option (List ℕ)) (refused : Bool) →
+      Answered words contents left o o' (Ok refused) → Fronts words contents left left' o o' n n f f' i i'
+  answered_fronts None left left' o o' n refused h = tt
+  answered_fronts (Some files) None left' o o' n refused h = tt
+  answered_fronts (Some files) (Some input) left' o o' n refused h =
+      reported_fronts words files input left' o o' n n f f' i i' h.0 [] (done_status refused) h.1 h.2 ([], [], refl, Appends-nil n)
 
 -- ---- what stands after a fault
 

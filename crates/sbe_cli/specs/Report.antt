@@ -1,7 +1,7 @@
 -- What a run writes, and its status: one report for each command line, files and input.
 use Rattle.std.specs.Prelude.{◌≡◌, ◌≤◌, ◌<◌, ◌⊎◌, ℕ, suc, Bool, true, false, ◌||◌, if◌then◌else◌, Option, Some, None, List, [], ◌∷◌, ◌++◌, length, codes, ⊤, IsUtf8}
-use Rattle.std.specs.Io.KnownBytes.{Appends}
-use Rattle.sbe_base.specs.Causes.{AppendsPart}
+use Rattle.std.specs.Io.KnownBytes.{Appends, Consumes}
+use Rattle.sbe_base.specs.Causes.{AppendsPart, Rose}
 use Rattle.sbe_base.specs.declared.status.Limits.{Limits}
 use Rattle.sbe_base.specs.declared.status.Status.{Status}
 use Rattle.sbe_base.specs.declared.status.Status.TheVariants as status
@@ -115,17 +115,19 @@ Reports words (Some files) None o o' n n' code = ⊤
 Reports words (Some files) (Some input) o o' n n' code =
     (out : List ℕ) × (notes : List ℕ) × Report words files input out notes code × Appends o o' out × Appends n n' notes
 
--- a line that tells a fault of the outside
-abbrev pub IsFaultLine : List ℕ → Type 0
-IsFaultLine line = (line ≡ stop_line stop.FileFault) ⊎ ((at : ℕ) × (line ≡ stop_line (stop.ReadFault at)))
+-- A line that tells a fault of the files, or of the input behind the bytes that it gave. That object's count rose.
+abbrev pub IsFaultLine : ℕ → ℕ → ℕ → ℕ → Option (List ℕ) → Option (List ℕ) → List ℕ → Type 0
+IsFaultLine f f' i i' left left' line =
+    (Rose f f' × (line ≡ stop_line stop.FileFault))
+    ⊎ (Rose i i' × ((taken : List ℕ) × Consumes left left' taken × (line ≡ stop_line (stop.ReadFault (length taken)))))
 
--- notes grew by a front of these, or by a front of a fault's line
-abbrev pub NotesPart : Option (List ℕ) → Option (List ℕ) → List ℕ → Type 0
-NotesPart n n' notes = AppendsPart n n' notes ⊎ ((line : List ℕ) × IsFaultLine line × AppendsPart n n' line)
+-- notes grew by a front of these, or by a front of such a line
+abbrev pub NotesPart : ℕ → ℕ → ℕ → ℕ → Option (List ℕ) → Option (List ℕ) → Option (List ℕ) → Option (List ℕ) → List ℕ → Type 0
+NotesPart f f' i i' left left' n n' notes = AppendsPart n n' notes ⊎ ((line : List ℕ) × IsFaultLine f f' i i' left left' line × AppendsPart n n' line)
 
 -- output and notes grew by fronts of any report's
-abbrev pub Fronts : List (List ℕ) → Option (List ℕ → Option (List ℕ)) → Option (List ℕ) → Option (List ℕ) → Option (List ℕ) → Option (List ℕ) → Option (List ℕ) → Type 0
-Fronts words None input o o' n n' = ⊤
-Fronts words (Some files) None o o' n n' = ⊤
-Fronts words (Some files) (Some input) o o' n n' =
-    (out notes : List ℕ) (code : Status) → Report words files input out notes code → AppendsPart o o' out × NotesPart n n' notes
+abbrev pub Fronts : List (List ℕ) → Option (List ℕ → Option (List ℕ)) → Option (List ℕ) → Option (List ℕ) → Option (List ℕ) → Option (List ℕ) → Option (List ℕ) → Option (List ℕ) → ℕ → ℕ → ℕ → ℕ → Type 0
+Fronts words None left left' o o' n n' f f' i i' = ⊤
+Fronts words (Some files) None left' o o' n n' f f' i i' = ⊤
+Fronts words (Some files) (Some input) left' o o' n n' f f' i i' =
+    (out notes : List ℕ) (code : Status) → Report words files input out notes code → AppendsPart o o' out × NotesPart f f' i i' (Some input) left' n n' notes

@@ -27,7 +27,8 @@ const CHUNK: usize = 65_536;
 ///
 /// Output, notes and status are those of the one report for these words, files and input, which the clause `report`
 /// says. It speaks of every status but four: a fault of the files, of the input or of a sink, which comes only where
-/// that object's count of faults rose, and want of memory. After these, what was written is a front of the report.
+/// that object's count of faults rose, and want of memory. After these the output is a front of the report's, and the
+/// notes are a front of the report's or of the fault's line.
 pub fn run<F: Files, I: Source, O: Sink, N: Sink>(
     alloc: Global,
     words: &[String],
@@ -48,8 +49,9 @@ pub fn run<F: Files, I: Source, O: Sink, N: Sink>(
     ensures write_fault { result ≡ Status.WriteFault → Rose (O.faults output.old) (O.faults output.new) ⊎ Rose (N.faults notes.old) (N.faults notes.new) }
 
     // What stands after a fault or want of memory.
-    ensures fronts { Fronts (map (λ word. string_bytes word) words.now) (F.contents files.old) (I.left input.old)
-        (O.held output.old) (O.held output.new) (N.held notes.old) (N.held notes.new) }
+    ensures fronts { Fronts (map (λ word. string_bytes word) words.now) (F.contents files.old) (I.left input.old) (I.left input.new)
+        (O.held output.old) (O.held output.new) (N.held notes.old) (N.held notes.new)
+        (F.faults files.old) (F.faults files.new) (I.faults input.old) (I.faults input.new) }
     ensures read_stands { result ≡ Status.ReadFault → ReadStands (F.contents files.old) (I.left input.old) (I.left input.new)
         (O.held output.old) (O.held output.new) (N.held notes.old) (N.held notes.new) }
     ensures file_stands { result ≡ Status.FileFault → FileStands (F.contents files.old) (I.left input.old)

@@ -14,5 +14,5 @@ mod tests;
 mod words;
 
 pub use engine::run;
-pub use laws::one_report;
+pub use laws::{one_report, some_report};
 pub use words::{Command, Name, WordsErr, read_words};
