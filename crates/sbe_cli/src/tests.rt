@@ -327,6 +327,19 @@ fn ends_at_the_limit_of_the_input(rt: HostRuntime) -> Result<(), Fail> {
 }
 
 #[test]
+fn refuses_so_many_zeros(rt: HostRuntime) -> Result<(), Fail> {
+    let alloc = rt.alloc();
+    let zeros = vec![in alloc; 0u8; 16_777_216]?;
+    let trial = Trial {
+        input: zeros.as_slice(),
+        piece: 1_048_576,
+        ..sample()
+    };
+    let short = b"{\"framing\":\"LengthShort\",\"at\":0,\"number\":0}\n";
+    expect(&rt, alloc, &trial, Status::FramingRefused, b"", short)
+}
+
+#[test]
 fn reads_words(rt: HostRuntime) -> Result<(), Fail> {
     let alloc = rt.alloc();
     let form = String::from_str(alloc, "dump")?;
