@@ -4,9 +4,8 @@ ghost use Rattle.sbe_cli.specs.Steps.{Told};
 ghost use Rattle.sbe_cli.specs.Stops.{stop_status, stop_line, refused_schema, at_line, framing_line, fault_line};
 
 use crate::line::{put, put_count};
-use crate::words::WordsErr;
 use lists::NoMem;
-use sbe_base::{Sink, Status, WriteFault, write_all_to};
+use sbe_base::{Sink, Status, write_all_to};
 use std::alloc::Global;
 
 /// Why the input is no row of whole frames.
@@ -41,27 +40,6 @@ pub enum Stop {
     InputLimit(u64),
     WriteFault,
     NoMemory,
-}
-
-impl From<NoMem> for Stop {
-    fn from(_: NoMem) -> Stop {
-        Stop::NoMemory
-    }
-}
-
-impl From<WriteFault> for Stop {
-    fn from(_: WriteFault) -> Stop {
-        Stop::WriteFault
-    }
-}
-
-impl From<WordsErr> for Stop {
-    fn from(error: WordsErr) -> Stop {
-        match error {
-            WordsErr::Usage => Stop::Usage,
-            WordsErr::Memory => Stop::NoMemory,
-        }
-    }
 }
 
 impl Stop {
