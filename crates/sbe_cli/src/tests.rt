@@ -260,10 +260,11 @@ fn tells_faults(rt: HostRuntime) -> Result<(), Fail> {
 #[test]
 fn ends_at_each_failing_call(rt: HostRuntime) -> Result<(), Fail> {
     let alloc = rt.alloc();
-    let reads: [(u64, &[u8]); 4] = [
+    let reads: [(u64, &[u8]); 5] = [
         (1, b"{\"fault\":\"Read\",\"at\":0}\n"),
         (2, b"{\"fault\":\"Read\",\"at\":6}\n"),
         (3, b"{\"fault\":\"Read\",\"at\":12}\n"),
+        (4, b"{\"fault\":\"Read\",\"at\":18}\n"),
         (5, b"{\"fault\":\"Read\",\"at\":20}\n"),
     ];
     for (call, notes) in reads {
