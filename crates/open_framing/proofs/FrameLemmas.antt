@@ -5,14 +5,16 @@ use Rattle.std.specs.Prelude.{nat_lt, nat_le, if◌then◌else◌}
 use Rattle.std.proofs.lemmas.Bool.{leb-true, le-leb}
 use Rattle.std.proofs.lemmas.Bool.Decides.{nat_tests}
 use Rattle.std.proofs.lemmas.List.{drop-take, drop-drop}
+use Rattle.digits.specs.Digits.{IsBytes, digits_high_first}
+use Rattle.digits.proofs.Bytes.{IsBytes-take, IsBytes-drop, IsBytes-back}
+use Rattle.digits.proofs.HighFirst.{number-digits-fit, digits-number, number-lt}
 use Rattle.open_framing.specs.Pieces.{joined}
 use Rattle.open_framing.specs.declared.head.Head.{Head}
 use Rattle.open_framing.specs.declared.head.HeadErr.{HeadErr}
 use Rattle.open_framing.specs.declared.head.HeadErr.TheVariants.{HeadShort, LengthShort, LengthOver, Encoding}
-use Rattle.open_framing.specs.Heads.{length_in, encoding_in, is_encoding, judged, head_of, bytes_of, IsBytes}
+use Rattle.open_framing.specs.Heads.{length_in, encoding_in, is_encoding, judged, head_of}
 use Rattle.open_framing.specs.Frames.{Item, frame_of, IsFrame, item_by, first_item, items_of, Cut, CutEnd, cut_of, end_of}
 use Rattle.open_framing.proofs.PieceLemmas.{more_behind, Reads, pieces_found, rest_found, pieces_once}
-use Rattle.open_framing.proofs.NumberLemmas.{number_of-bytes_of, bytes_of-number_of, IsBytes-take, IsBytes-drop, IsBytes-back, number_of-lt}
 
 -- two numbers that make a head
 pub record AreHead (size encoding limit : ℕ) : Type 0 where
@@ -107,16 +109,16 @@ frame_there limit bytes good long are whole item same =
     let four : length (take 4 bytes) ≡ 4 = length-take-le 4 bytes (omega arith) in
     let behind : 2 ≤ length (drop 4 bytes) = omega (arith, length-drop 4 bytes) in
     let two : length (take 2 (drop 4 bytes)) ≡ 2 = length-take-le 2 (drop 4 bytes) behind in
-    let below : length_in bytes < 256 ^ 4 = subst (λ k. length_in bytes < 256 ^ k) four (number_of-lt (take 4 bytes) (IsBytes-take 4 bytes good)) in
+    let below : length_in bytes < 256 ^ 4 = subst (λ k. length_in bytes < 256 ^ k) four (number-lt (take 4 bytes) (IsBytes-take 4 bytes good)) in
     let fits : length item.body + 6 < 256 ^ 4 = rw size below in
-    let first : bytes_of 4 (length item.body + 6) ≡ take 4 bytes = ap (bytes_of 4) size ∙ bytes_of-number_of 4 (take 4 bytes) four (IsBytes-take 4 bytes good) in
-    let second : bytes_of 2 item.encoding ≡ take 2 (drop 4 bytes) = ap (bytes_of 2) encoding ∙ bytes_of-number_of 2 (take 2 (drop 4 bytes)) two (IsBytes-take 2 (drop 4 bytes) (IsBytes-drop 4 bytes good)) in
+    let first : digits_high_first 4 (length item.body + 6) ≡ take 4 bytes = ap (digits_high_first 4) size ∙ digits-number 4 (take 4 bytes) four (IsBytes-take 4 bytes good) in
+    let second : digits_high_first 2 item.encoding ≡ take 2 (drop 4 bytes) = ap (digits_high_first 2) encoding ∙ digits-number 2 (take 2 (drop 4 bytes)) two (IsBytes-take 2 (drop 4 bytes) (IsBytes-drop 4 bytes good)) in
     let split : length_in bytes ≡ 6 + n = omega arith in
     let third : item.body ≡ drop 6 (take (6 + n) bytes) = body ∙ ap (λ k. drop 6 (take k bytes)) split in
     let more = drop n (drop 6 bytes) in
     let known : is_encoding item.encoding ≡ true = ap is_encoding encoding ∙ are.known in (
       record { fits = fits; within = omega (arith, are.within); known = known },
-      (more, sym (join (bytes_of 4 (length item.body + 6)) (take 4 bytes) (bytes_of 2 item.encoding) (take 2 (drop 4 bytes)) item.body (drop 6 (take (6 + n) bytes)) more first second third ∙ parts n bytes)),
+      (more, sym (join (digits_high_first 4 (length item.body + 6)) (take 4 bytes) (digits_high_first 2 item.encoding) (take 2 (drop 4 bytes)) item.body (drop 6 (take (6 + n) bytes)) more first second third ∙ parts n bytes)),
     )
 
 pub frame_sound : (limit : ℕ) (bytes : List ℕ) (item : Item) → IsBytes bytes → first_item limit bytes ≡ Some item → IsFrame limit item × ((more : List ℕ) × (bytes ≡ frame_of item ++ more))
@@ -136,8 +138,8 @@ pub frame_complete : (limit : ℕ) (item : Item) (more : List ℕ) → IsFrame l
 frame_complete limit item more is =
     let bytes = frame_of item ++ more in
     let size : ℕ = length item.body + 6 in
-    let at_length : length_in bytes ≡ size = number_of-bytes_of 4 size is.fits in
-    let at_encoding : encoding_in bytes ≡ item.encoding = number_of-bytes_of 2 item.encoding (known_fits item.encoding is.known) in
+    let at_length : length_in bytes ≡ size = number-digits-fit 4 size is.fits in
+    let at_encoding : encoding_in bytes ≡ item.encoding = number-digits-fit 2 item.encoding (known_fits item.encoding is.known) in
     let all : length bytes ≡ size + length more = omega (arith, length-append item.body more) in
     let are : AreHead size item.encoding limit = record { counts = omega arith; within = is.within; known = is.known } in
     let whole : head_of bytes limit ≡ Ok (record { length = size; encoding = item.encoding }) =
@@ -165,10 +167,10 @@ cut_once stream limit input xs ys a b c d =
     (same.0, c.ends ∙ ap (end_of limit (nat_lt input (length stream))) same.1 ∙ sym d.ends)
 
 -- a head's six bytes show its two numbers
-pub head_back : (size encoding limit : ℕ) → size < 256 ^ 4 → encoding < 256 ^ 2 → head_of (bytes_of 4 size ++ bytes_of 2 encoding) limit ≡ judged size encoding limit
+pub head_back : (size encoding limit : ℕ) → size < 256 ^ 4 → encoding < 256 ^ 2 → head_of (digits_high_first 4 size ++ digits_high_first 2 encoding) limit ≡ judged size encoding limit
 head_back size encoding limit fits fits' =
-    ap (λ k. judged k (encoding_in (bytes_of 4 size ++ bytes_of 2 encoding)) limit) (number_of-bytes_of 4 size fits)
-    ∙ ap (λ k. judged size k limit) (number_of-bytes_of 2 encoding fits')
+    ap (λ k. judged k (encoding_in (digits_high_first 4 size ++ digits_high_first 2 encoding)) limit) (number-digits-fit 4 size fits)
+    ∙ ap (λ k. judged size k limit) (number-digits-fit 2 encoding fits')
 
 -- one more frame at the front of a stream
 pub cut_more : (stream : List ℕ) (limit input : ℕ) (item : Item) (items : List Item) (end : CutEnd) → IsFrame limit item → Cut stream limit input items end →

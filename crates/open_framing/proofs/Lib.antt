@@ -1,4 +1,3 @@
-pub mod NumberLemmas
 pub mod PieceLemmas
 pub mod FrameLemmas
 pub mod LineLemmas

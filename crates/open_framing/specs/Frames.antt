@@ -3,12 +3,13 @@ use Rattle.std.specs.Prelude.{◌≡◌, ℕ, ◌+◌, ◌^◌, ◌<◌, ◌≤�
 use Rattle.open_framing.specs.declared.head.Head.{Head}
 use Rattle.open_framing.specs.declared.head.HeadErr.{HeadErr}
 use Rattle.open_framing.specs.declared.head.HeadErr.TheVariants.{HeadShort, LengthShort, LengthOver, Encoding}
-use Rattle.open_framing.specs.Heads.{bytes_of, head_of, is_encoding}
+use Rattle.digits.specs.Digits.{digits_high_first}
+use Rattle.open_framing.specs.Heads.{head_of, is_encoding}
 use Rattle.open_framing.specs.Pieces.{Pieces, pieces_in, rest_of}
 
 -- Message_Length, which counts the six bytes of the head too, Encoding_Type, and the body
 abbrev pub frame : ℕ → List ℕ → List ℕ
-frame encoding body = bytes_of 4 (length body + 6) ++ bytes_of 2 encoding ++ body
+frame encoding body = digits_high_first 4 (length body + 6) ++ digits_high_first 2 encoding ++ body
 
 -- what a frame carries
 pub record Item : Type 0 where

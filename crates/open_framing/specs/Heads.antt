@@ -1,21 +1,18 @@
 -- The head of a frame: the Simple Open Framing Header 1.0, in this project's profile.
-use Rattle.std.specs.Prelude.{ℕ, zero, suc, ◌+◌, ◌*◌, ◌/◌, ◌%◌, ◌^◌, ◌<◌, slice_index, nat_lt, ◌==◌, Bool, ◌||◌, if◌then◌else◌, Result, Ok, Err, List, [], ◌∷◌, length, take, drop}
+use Rattle.std.specs.Prelude.{ℕ, nat_lt, ◌==◌, Bool, ◌||◌, if◌then◌else◌, Result, Ok, Err, List, length, take, drop}
+pub use Rattle.digits.specs.Digits.{IsBytes}
+use Rattle.digits.specs.Digits.{number_high_first}
 use Rattle.open_framing.specs.declared.head.Head.{Head}
 use Rattle.open_framing.specs.declared.head.HeadErr.{HeadErr}
 use Rattle.open_framing.specs.declared.head.HeadErr.TheVariants.{HeadShort, LengthShort, LengthOver, Encoding}
 
--- the number that bytes show, the highest byte first
-abbrev pub number_of : List ℕ → ℕ
-number_of [] = 0
-number_of (b ∷ bytes) = b * 256 ^ length bytes + number_of bytes
-
 -- Message_Length: the first four bytes
 abbrev pub length_in : List ℕ → ℕ
-length_in bytes = number_of (take 4 bytes)
+length_in bytes = number_high_first (take 4 bytes)
 
 -- Encoding_Type: the two bytes behind them
 abbrev pub encoding_in : List ℕ → ℕ
-encoding_in bytes = number_of (take 2 (drop 4 bytes))
+encoding_in bytes = number_high_first (take 2 (drop 4 bytes))
 
 -- SBE 1.0 in big-endian order, SBE 1.0 in little-endian order, tag-value
 abbrev pub is_encoding : ℕ → Bool
@@ -32,12 +29,3 @@ judged size encoding limit =
 -- the head at the front of the bytes, or its first fault
 abbrev pub head_of : List ℕ → ℕ → Result Head HeadErr
 head_of bytes limit = if nat_lt (length bytes) 6 then Err HeadShort else judged (length_in bytes) (encoding_in bytes) limit
-
--- the lowest n bytes of a number, the highest of them first
-abbrev pub bytes_of : ℕ → ℕ → List ℕ
-bytes_of zero x = []
-bytes_of (suc n) x = x / 256 ^ n % 256 ∷ bytes_of n x
-
--- each is a byte
-abbrev pub IsBytes : List ℕ → Type 0
-IsBytes bytes = (i : ℕ) → slice_index bytes i < 256

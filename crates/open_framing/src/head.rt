@@ -1,5 +1,6 @@
 ghost use Rattle.std.specs.Prelude.{◌≡◌, ◌++◌, ℕ};
-ghost use Rattle.open_framing.specs.Heads.{bytes_of, head_of, judged};
+ghost use Rattle.digits.specs.Digits.{digits_high_first};
+ghost use Rattle.open_framing.specs.Heads.{head_of, judged};
 
 use byteorder::{BigEndian, ByteOrder};
 use thiserror::Error;
@@ -71,7 +72,7 @@ pub fn read_head(bytes: &[u8], limit: usize) -> Result<Head, HeadErr>
 
 /// Writes the six bytes of a head, as [`read_head`] reads them. The two numbers aren't judged.
 pub fn put_head(head: &Head, out: &mut [u8; 6])
-    ensures bytes { out.new ≡ bytes_of 4 head.now.length ++ bytes_of 2 head.now.encoding }
+    ensures bytes { out.new ≡ digits_high_first 4 head.now.length ++ digits_high_first 2 head.now.encoding }
     ensures back { (limit : ℕ) → head_of out.new limit ≡ judged head.now.length head.now.encoding limit }
 {
     let Head { length, encoding } = *head;

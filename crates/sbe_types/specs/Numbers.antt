@@ -1,6 +1,7 @@
 -- Numbers and their bytes.
-use Rattle.std.specs.Prelude.{ℕ, zero, suc, ◌+◌, ◌-◌, ◌*◌, ◌/◌, ◌%◌, ◌^◌, nat_le, nat_lt, Bool, true, false, if◌then◌else◌, List, [], ◌∷◌, length, reverse, ℤ, pos, negsuc, ◌-ℤ◌, slice_index, Option, Some, None}
+use Rattle.std.specs.Prelude.{ℕ, suc, ◌-◌, ◌*◌, ◌^◌, nat_le, nat_lt, Bool, true, false, if◌then◌else◌, List, ℤ, pos, negsuc, ◌-ℤ◌, slice_index, Option, Some, None}
 use Rattle.std.specs.Int.{cast_signed, w8, w16, w32, w64}
+use Rattle.digits.specs.Digits.{number_high_first, number_low_first, digits_high_first, digits_low_first}
 use Rattle.sbe_types.specs.declared.kind.Order.{Order}
 use Rattle.sbe_types.specs.declared.kind.Order.TheVariants.{Little, Big}
 use Rattle.sbe_types.specs.declared.kind.Primitive.{Primitive}
@@ -18,22 +19,22 @@ prim_width U16 = 2
 prim_width U32 = 4
 prim_width U64 = 8
 
+-- the integers that have numbers below zero
 abbrev pub is_signed : Primitive → Bool
 is_signed I8 = true
 is_signed I16 = true
 is_signed I32 = true
 is_signed I64 = true
-is_signed _ = false
+is_signed Char = false
+is_signed U8 = false
+is_signed U16 = false
+is_signed U32 = false
+is_signed U64 = false
 
--- the bytes as the digits of a number, the highest first
-abbrev pub big_sum : List ℕ → ℕ
-big_sum [] = 0
-big_sum (b ∷ bs) = b * 256 ^ length bs + big_sum bs
-
--- the same with the lowest digit first in little-endian order
+-- the number that bytes show in a byte order, without a sign
 abbrev pub sum_in : Order → List ℕ → ℕ
-sum_in Big bs = big_sum bs
-sum_in Little bs = big_sum (reverse bs)
+sum_in Big bytes = number_high_first bytes
+sum_in Little bytes = number_low_first bytes
 
 -- n as a signed number of so many values: the upper half counts as below zero
 abbrev pub signed_of : ℕ → ℕ → ℤ
@@ -43,14 +44,10 @@ signed_of values n = if nat_le values (2 * n) then pos n -ℤ pos values else po
 abbrev pub number_of : Order → Primitive → List ℕ → ℤ
 number_of order prim bytes = if is_signed prim then signed_of (256 ^ prim_width prim) (sum_in order bytes) else pos (sum_in order bytes)
 
--- the digits of n to the base 256, so many, the highest first
-abbrev pub big_digits : ℕ → ℕ → List ℕ
-big_digits zero n = []
-big_digits (suc k) n = (n / 256 ^ k) % 256 ∷ big_digits k n
-
+-- the k lowest bytes of n in a byte order
 abbrev pub digits_in : Order → ℕ → ℕ → List ℕ
-digits_in Big k n = big_digits k n
-digits_in Little k n = reverse (big_digits k n)
+digits_in Big k n = digits_high_first k n
+digits_in Little k n = digits_low_first k n
 
 -- the unsigned number that stands for n among so many values, if one does
 abbrev pub unsigned_of : Bool → ℕ → ℤ → Option ℕ
@@ -59,6 +56,7 @@ unsigned_of false values (negsuc n) = None
 unsigned_of true values (pos n) = if nat_lt (2 * n) values then Some n else None
 unsigned_of true values (negsuc n) = if nat_lt (2 * n) values then Some (values - suc n) else None
 
+-- the bytes of that number, if there is one
 abbrev pub has_bytes : Order → ℕ → Option ℕ → Option (List ℕ)
 has_bytes order k None = None
 has_bytes order k (Some n) = Some (digits_in order k n)

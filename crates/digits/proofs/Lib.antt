@@ -1,0 +1,4 @@
+pub mod Bytes
+pub mod HighFirst
+pub mod LowFirst
+pub mod Words

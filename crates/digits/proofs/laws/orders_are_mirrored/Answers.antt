@@ -1,0 +1,8 @@
+use Rattle.digits.proofs.LowFirst as low
+use Rattle.digits.proofs.laws.orders_are_mirrored.Goals as goal
+
+pub returns-clause-number : goal.returns-clause-number
+returns-clause-number c = low.number-mirrored
+
+pub returns-clause-digits : goal.returns-clause-digits
+returns-clause-digits c = low.digits-mirrored

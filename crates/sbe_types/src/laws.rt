@@ -1,0 +1,19 @@
+//! Laws of the definitions, as functions without a body.
+
+ghost use Rattle.std.specs.Prelude.{◌≡◌, ℕ, ℤ, List, Some, length};
+ghost use Rattle.digits.specs.Digits.{IsBytes};
+ghost use Rattle.sbe_types.specs.declared.kind.Order.{Order};
+ghost use Rattle.sbe_types.specs.declared.kind.Primitive.{Primitive};
+ghost use Rattle.sbe_types.specs.Numbers.{number_of, bytes_of, prim_width};
+
+/// The bytes of a number show that number, and are as many as the primitive takes.
+pub fn bytes_show_their_number()
+    ensures number { (order : Order) (prim : Primitive) (n : ℤ) (bytes : List ℕ) → bytes_of order prim n ≡ Some bytes → number_of order prim bytes ≡ n }
+    ensures width { (order : Order) (prim : Primitive) (n : ℤ) (bytes : List ℕ) → bytes_of order prim n ≡ Some bytes → (length bytes ≡ prim_width prim) × IsBytes bytes }
+{}
+
+/// As many bytes as a primitive takes are the bytes of the number that they show.
+pub fn number_has_its_bytes()
+    ensures { (order : Order) (prim : Primitive) (bytes : List ℕ) → length bytes ≡ prim_width prim → IsBytes bytes
+        → bytes_of order prim (number_of order prim bytes) ≡ Some bytes }
+{}
