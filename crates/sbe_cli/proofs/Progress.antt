@@ -8,8 +8,8 @@ use Rattle.sbe_base.specs.Causes.{AppendsPart}
 use Rattle.sbe_base.proofs.Known.{appends_more}
 use Rattle.sbe_types.specs.declared.schema.WireSchema.{WireSchema}
 use Rattle.sbe_types.specs.declared.message.Msg.{Msg}
-use Rattle.open_framing.specs.Heads.{bytes_of}
-use Rattle.open_framing.proofs.NumberLemmas.{length-bytes_of}
+use Rattle.digits.specs.Digits.{digits_high_first}
+use Rattle.digits.proofs.HighFirst.{length-digits}
 use Rattle.open_framing.specs.Pieces.{joined, then_pieces, pieces_in}
 use Rattle.open_framing.specs.declared.head.Head.{Head}
 use Rattle.open_framing.specs.Frames.{Item, frame_of, first_item, items_of, end_of, end_inside, EndInside, End}
@@ -105,7 +105,7 @@ pub frame_long : (n encoding : ℕ) (bytes : List ℕ) → 6 ≤ n → n ≤ len
 frame_long n encoding bytes counts whole =
     let body = drop 6 (take n bytes) in
     let long : length body ≡ n - 6 = simp (length-drop, length-take) (omega arith) in
-    omega (arith, length-append (bytes_of 4 (length body + 6) ++ bytes_of 2 encoding) body, length-append (bytes_of 4 (length body + 6)) (bytes_of 2 encoding), length-bytes_of 4 (length body + 6), length-bytes_of 2 encoding, long)
+    omega (arith, length-append (digits_high_first 4 (length body + 6) ++ digits_high_first 2 encoding) body, length-append (digits_high_first 4 (length body + 6)) (digits_high_first 2 encoding), length-digits 4 (length body + 6), length-digits 2 encoding, long)
 
 -- ---- the end
 

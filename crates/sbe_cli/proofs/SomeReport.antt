@@ -9,7 +9,7 @@ use Rattle.sbe_base.specs.declared.status.Status.{Status}
 use Rattle.sbe_types.specs.declared.schema.WireSchema.{WireSchema}
 use Rattle.sbe_wire.specs.Placed.{IsPlaced}
 use Rattle.open_framing.specs.Heads.{IsBytes, head_of}
-use Rattle.open_framing.proofs.NumberLemmas.{IsBytes-take}
+use Rattle.digits.proofs.Bytes.{IsBytes-take}
 use Rattle.open_framing.specs.declared.head.Head.{Head}
 use Rattle.open_framing.specs.declared.head.HeadErr.{HeadErr}
 use Rattle.open_framing.specs.declared.head.HeadErr.TheVariants as head
