@@ -14,7 +14,7 @@ use Rattle.open_framing.specs.declared.head.HeadErr.{HeadErr}
 use Rattle.open_framing.specs.declared.head.HeadErr.TheVariants.{HeadShort, LengthShort, LengthOver, Encoding}
 use Rattle.open_framing.specs.Heads.{length_in, encoding_in, is_encoding, judged, head_of}
 use Rattle.open_framing.specs.Frames.{Item, frame_of, IsFrame, item_by, first_item, items_of, Cut, CutEnd, cut_of, end_of}
-use Rattle.open_framing.proofs.PieceLemmas.{more_behind, Reads, pieces_found, rest_found, pieces_once}
+use Rattle.open_framing.proofs.PieceLemmas.{more_behind, FindsPieces, pieces_found, rest_found, pieces_once}
 
 -- two numbers that make a head
 pub record AreHead (size encoding limit : ℕ) : Type 0 where
@@ -149,7 +149,7 @@ frame_complete limit item more is =
     let body : drop 6 (take size bytes) ≡ item.body = ap (drop 6) front in
     ap (item_by bytes) whole ∙ item_there bytes (record { length = size; encoding = item.encoding }) item.body (omega arith) body
 
-pub frame_reads : (limit : ℕ) → Reads IsBytes (IsFrame limit) frame_of (first_item limit)
+pub frame_reads : (limit : ℕ) → FindsPieces IsBytes (IsFrame limit) frame_of (first_item limit)
 frame_reads limit = record { sound = frame_sound limit; complete = frame_complete limit; filled = λ item is. omega arith; behind = IsBytes-back }
 
 -- the reader gives a cut

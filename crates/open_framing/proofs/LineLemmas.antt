@@ -6,7 +6,7 @@ use Rattle.std.specs.Prelude.{nat_lt, nat_le, ◌==◌, ◌≢◌, if◌then◌e
 use Rattle.std.specs.List.{AllByRecursion}
 use Rattle.open_framing.specs.Pieces.{joined, pieces_in, rest_of}
 use Rattle.open_framing.specs.Lines.{LineOver, longest_line, line_end, ended, IsLine, LineEnd, last_of, Lines, with_byte, before_end, if_within, first_line, ended_lines_of, lines_of}
-use Rattle.open_framing.proofs.PieceLemmas.{more_behind, Reads, pieces_found, rest_found, pieces_once}
+use Rattle.open_framing.proofs.PieceLemmas.{more_behind, FindsPieces, pieces_found, rest_found, pieces_once}
 
 -- what stands before a line end is found
 before_end-ended : (line more : List ℕ) → AllByRecursion (λ b. b ≢ line_end) line → before_end (ended line ++ more) ≡ Some line
@@ -56,7 +56,7 @@ line_complete line more is = ap if_within (before_end-ended line more is.plain) 
   kept : if_within (Some line) ≡ Some line
   kept = rw (le-leb (length line) longest_line is.within) refl
 
-pub line_reads : Reads (λ _. ⊤) IsLine ended first_line
+pub line_reads : FindsPieces (λ _. ⊤) IsLine ended first_line
 line_reads = record { sound = λ bytes line good h. line_sound bytes line h; complete = line_complete; filled = λ line is. omega (arith, length-append line (line_end ∷ [])); behind = λ front back good. tt }
 
 -- the reader gives the lines

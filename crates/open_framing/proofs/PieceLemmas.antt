@@ -7,7 +7,7 @@ use Rattle.std.proofs.Math.Seq.{drop-append_seam}
 use Rattle.open_framing.specs.Pieces.{joined, Pieces, then_pieces, pieces_in, rest_of}
 
 -- A reader of the first piece: it tells pieces, on good bytes, and it tells every piece.
-pub record Reads {X : Type 0} (IsGood : List ℕ → Type 0) (IsPiece : X → Type 0) (bytes_of : X → List ℕ) (first : List ℕ → Option X) : Type 0 where
+pub record FindsPieces {X : Type 0} (IsGood : List ℕ → Type 0) (IsPiece : X → Type 0) (bytes_of : X → List ℕ) (first : List ℕ → Option X) : Type 0 where
   pub sound : (bytes : List ℕ) (x : X) → IsGood bytes → first bytes ≡ Some x → IsPiece x × ((more : List ℕ) × (bytes ≡ bytes_of x ++ more))
   pub complete : (x : X) (more : List ℕ) → IsPiece x → first (bytes_of x ++ more) ≡ Some x
   pub filled : (x : X) → IsPiece x → 0 < length (bytes_of x)
@@ -17,19 +17,19 @@ pub record Reads {X : Type 0} (IsGood : List ℕ → Type 0) (IsPiece : X → Ty
 abbrev Found : {X : Type 0} → (X → Type 0) → (X → List ℕ) → List ℕ → List X → Type 0
 Found IsPiece bytes_of bytes pieces = (rest : List ℕ) × Pieces IsPiece bytes_of bytes pieces rest
 
-none_more : {X : Type 0} {G : List ℕ → Type 0} {P : X → Type 0} {b : X → List ℕ} {first : List ℕ → Option X} → Reads G P b first →
+none_more : {X : Type 0} {G : List ℕ → Type 0} {P : X → Type 0} {b : X → List ℕ} {first : List ℕ → Option X} → FindsPieces G P b first →
     (bytes : List ℕ) → first bytes ≡ None → Found P b bytes []
 none_more {X} {G} {P} {b} {first} reads bytes none =
     (bytes, record { whole = refl; each = tt; longest = λ x more piece e. let told : first bytes ≡ Some x = ap first e ∙ reads.complete x more piece in cc })
 
 -- nothing is cut of no bytes
-none_left : {X : Type 0} {G : List ℕ → Type 0} {P : X → Type 0} {b : X → List ℕ} {first : List ℕ → Option X} → Reads G P b first →
+none_left : {X : Type 0} {G : List ℕ → Type 0} {P : X → Type 0} {b : X → List ℕ} {first : List ℕ → Option X} → FindsPieces G P b first →
     (bytes : List ℕ) → length bytes ≤ 0 → Found P b bytes []
 none_left {X} {G} {P} {b} {first} reads bytes short =
     (bytes, record { whole = refl; each = tt; longest = λ x more piece e. let some = reads.filled x piece in absurd (omega (arith, ap length e, length-append (b x) more)) })
 
 -- one piece and then what is found behind it
-one_more : {X : Type 0} {G : List ℕ → Type 0} {P : X → Type 0} {b : X → List ℕ} {first : List ℕ → Option X} → Reads G P b first →
+one_more : {X : Type 0} {G : List ℕ → Type 0} {P : X → Type 0} {b : X → List ℕ} {first : List ℕ → Option X} → FindsPieces G P b first →
     (n : ℕ) (later : List ℕ → List X) → ((bytes : List ℕ) → G bytes → length bytes ≤ n → Found P b bytes (later bytes)) →
     (bytes : List ℕ) → G bytes → length bytes ≤ suc n → (o : Option X) → first bytes ≡ o → Found P b bytes (then_pieces b later bytes o)
 one_more reads n later found bytes good size None told = none_more reads bytes told
@@ -51,7 +51,7 @@ one_more {X} {G} {P} {b} {first} reads n later found bytes good size (Some x) to
     )
 
 -- the reader's pieces are the cut
-pub pieces_found : {X : Type 0} {G : List ℕ → Type 0} {P : X → Type 0} {b : X → List ℕ} {first : List ℕ → Option X} → Reads G P b first →
+pub pieces_found : {X : Type 0} {G : List ℕ → Type 0} {P : X → Type 0} {b : X → List ℕ} {first : List ℕ → Option X} → FindsPieces G P b first →
     (n : ℕ) (bytes : List ℕ) → G bytes → length bytes ≤ n → Found P b bytes (pieces_in first b n bytes)
 unfolding pieces_in
 pieces_found reads zero bytes good size = none_left reads bytes size
@@ -62,7 +62,7 @@ pub rest_found : {X : Type 0} {P : X → Type 0} {b : X → List ℕ} {bytes : L
 rest_found {b = b} {pieces = pieces} {rest = rest} cut = ap (drop (length (joined b pieces))) cut.whole ∙ drop-append_seam (joined b pieces) rest
 
 -- a cut is the only one
-pub pieces_once : {X : Type 0} {G : List ℕ → Type 0} {P : X → Type 0} {b : X → List ℕ} {first : List ℕ → Option X} → Reads G P b first →
+pub pieces_once : {X : Type 0} {G : List ℕ → Type 0} {P : X → Type 0} {b : X → List ℕ} {first : List ℕ → Option X} → FindsPieces G P b first →
     (bytes : List ℕ) (xs ys : List X) (r s : List ℕ) → Pieces P b bytes xs r → Pieces P b bytes ys s → (xs ≡ ys) × (r ≡ s)
 pieces_once reads bytes [] [] r s c d = (refl, sym c.whole ∙ d.whole)
 pieces_once {b = b} reads bytes [] (y ∷ ys) r s c d = absurd (c.longest y (joined b ys ++ s) d.each.0 (sym c.whole ∙ d.whole ∙ append_assoc (b y) (joined b ys) s))

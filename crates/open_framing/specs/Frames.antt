@@ -1,5 +1,6 @@
 -- A stream of frames, cut at their heads: the Simple Open Framing Header 1.0, in this project's profile.
 use Rattle.std.specs.Prelude.{◌≡◌, ℕ, ◌+◌, ◌^◌, ◌<◌, ◌≤◌, nat_le, nat_lt, Bool, true, false, IsTrue, if◌then◌else◌, Result, Ok, Err, Option, Some, None, List, [], ◌∷◌, ◌++◌, length, take, drop}
+use Rattle.open_framing.specs.declared.head.TheConstants.{HEAD_BYTES}
 use Rattle.open_framing.specs.declared.head.Head.{Head}
 use Rattle.open_framing.specs.declared.head.HeadErr.{HeadErr}
 use Rattle.open_framing.specs.declared.head.HeadErr.TheVariants.{HeadShort, LengthShort, LengthOver, Encoding}
@@ -9,7 +10,7 @@ use Rattle.open_framing.specs.Pieces.{Pieces, pieces_in, rest_of}
 
 -- Message_Length, which counts the six bytes of the head too, Encoding_Type, and the body
 abbrev pub frame : ℕ → List ℕ → List ℕ
-frame encoding body = digits_high_first 4 (length body + 6) ++ digits_high_first 2 encoding ++ body
+frame encoding body = digits_high_first 4 (length body + HEAD_BYTES) ++ digits_high_first 2 encoding ++ body
 
 -- what a frame carries
 pub record Item : Type 0 where
@@ -22,8 +23,8 @@ frame_of item = frame item.encoding item.body
 
 -- Its length fits the head and the limit, and its encoding type is one of the three.
 pub record IsFrame (limit : ℕ) (item : Item) : Type 0 where
-  pub fits : length item.body + 6 < 256 ^ 4
-  pub within : length item.body + 6 ≤ limit
+  pub fits : length item.body + HEAD_BYTES < 256 ^ 4
+  pub within : length item.body + HEAD_BYTES ≤ limit
   pub known : IsTrue (is_encoding item.encoding)
 
 -- how a cut ends: with nothing left, inside a frame of which so many bytes are there, at a head that is
@@ -61,7 +62,7 @@ pub record Cut (stream : List ℕ) (limit input : ℕ) (items : List Item) (end 
 -- the item of a frame with this head, where all of it is there
 abbrev pub item_by : List ℕ → Result Head HeadErr → Option Item
 item_by bytes (Err fault) = None
-item_by bytes (Ok head) = if nat_le head.length (length bytes) then Some (record { encoding = head.encoding; body = drop 6 (take head.length bytes) }) else None
+item_by bytes (Ok head) = if nat_le head.length (length bytes) then Some (record { encoding = head.encoding; body = drop HEAD_BYTES (take head.length bytes) }) else None
 
 -- the item of the frame at the front of the bytes
 abbrev pub first_item : ℕ → List ℕ → Option Item

@@ -1,15 +1,16 @@
 -- A stream of lines.
 use Rattle.std.specs.Prelude.{◌≡◌, ◌≢◌, ℕ, ◌≤◌, nat_le, nat_lt, ◌==◌, Bool, if◌then◌else◌, Option, Some, None, List, [], ◌∷◌, ◌++◌, length, take}
 use Rattle.std.specs.List.{AllByRecursion}
+use Rattle.open_framing.specs.declared.line.TheConstants.{LONGEST_LINE, LINE_END}
 use Rattle.open_framing.specs.Pieces.{Pieces, pieces_in, rest_of}
 
 -- the bytes that a line may have
 abbrev pub longest_line : ℕ
-longest_line = 1_048_576
+longest_line = LONGEST_LINE
 
 -- the byte behind a line
 abbrev pub line_end : ℕ
-line_end = 0x0a
+line_end = LINE_END
 
 -- a line with the byte behind it
 abbrev pub ended : List ℕ → List ℕ

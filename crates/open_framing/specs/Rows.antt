@@ -1,5 +1,6 @@
 -- Streams that the laws are computed on.
 use Rattle.std.specs.Prelude.{ℕ, List, [], ◌∷◌, ◌++◌, take}
+use Rattle.open_framing.specs.declared.head.TheConstants.{SBE_LITTLE}
 use Rattle.open_framing.specs.Frames.{Item}
 
 -- an SBE message: block length 6, template 1, schema 7, version 0, and six bytes of fields
@@ -8,7 +9,7 @@ ping = 0x06 ∷ 0x00 ∷ 0x01 ∷ 0x00 ∷ 0x07 ∷ 0x00 ∷ 0x00 ∷ 0x00 ∷ 0
 
 -- its item in little-endian order
 abbrev pub ping_item : Item
-ping_item = record { encoding = 0xeb50; body = ping }
+ping_item = record { encoding = SBE_LITTLE; body = ping }
 
 -- the frame of it: 20 bytes
 abbrev pub ping_frame : List ℕ

@@ -3,6 +3,7 @@
 
 ghost use Rattle.std.specs.Prelude.{◌≡◌, ◌∷◌, ◌++◌, [], ◌+◌, ◌≢◌, ℕ, List, length, codes};
 ghost use Rattle.std.specs.List.{AllByRecursion};
+ghost use Rattle.open_framing.specs.declared.head.TheConstants.{SBE_LITTLE};
 ghost use Rattle.open_framing.specs.declared.head.HeadErr.TheVariants.{LengthShort, LengthOver, Encoding};
 ghost use Rattle.open_framing.specs.Heads.{IsBytes};
 ghost use Rattle.open_framing.specs.Frames.{frame, frame_of, IsFrame, Item, Cut, CutEnd, cut_of, End, EndInside, HeadFault, InputLimit};
@@ -47,16 +48,16 @@ pub fn lines_go_on()
         → lines.Lines (lines.ended line ++ stream) (length (lines.ended line) + input) (line ∷ more) end }
 {}
 
-/// 1,048,577 bytes without a line end are no line, whatever stands behind them.
+/// One byte more than the longest line has, without a line end, is no line, whatever stands behind them.
 pub fn line_over()
     ensures { (plain stream : List ℕ) (input : ℕ)
-        → AllByRecursion (λ b. b ≢ 0x0a) plain → length plain ≡ 1_048_577
+        → AllByRecursion (λ b. b ≢ lines.line_end) plain → length plain ≡ lines.longest_line + 1
         → lines.Lines (plain ++ stream) (length plain + input) [] lines.LineOver }
 {}
 
 /// A frame is its length, its encoding type and its body.
 pub fn frame_row()
-    ensures { frame 0xeb50 ping ≡ ping_frame }
+    ensures { frame SBE_LITTLE ping ≡ ping_frame }
 {}
 
 /// Whole frames, with nothing or with a part of one behind them.
@@ -76,5 +77,5 @@ pub fn fault_rows()
 
 /// Three lines, the last of which lacks its end.
 pub fn line_row()
-    ensures { lines.lines_of (codes "ab" ++ 10 ∷ 10 ∷ codes "cd") 16_777_216 ≡ (codes "ab" ∷ [] ∷ codes "cd" ∷ [], lines.End) }
+    ensures { lines.lines_of (codes "ab" ++ lines.line_end ∷ lines.line_end ∷ codes "cd") 16_777_216 ≡ (codes "ab" ∷ [] ∷ codes "cd" ∷ [], lines.End) }
 {}

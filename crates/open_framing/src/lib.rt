@@ -6,5 +6,7 @@
 
 mod head;
 pub mod laws;
+mod line;
 
 pub use head::{HEAD_BYTES, Head, HeadErr, SBE_BIG, SBE_LITTLE, TAG_VALUE, put_head, read_head};
+pub use line::{LINE_END, LONGEST_LINE};

@@ -1,9 +1,9 @@
 -- What the objects in memory hold.
-use Rattle.std.specs.Prelude.{◌≡◌, ◌≢◌, ◌<◌, ◌≤◌, ℕ, Bool, true, false, List, length, Option, Some, Result, Err, option_map, find, ◌⊎◌, IsSomeAnd}
+use Rattle.std.specs.Prelude.{◌≡◌, ◌≢◌, ◌<◌, ◌≤◌, ℕ, Bool, true, false, List, length, Option, Some, Result, Ok, Err, option_map, find, ◌⊎◌, IsSomeAnd}
 use Rattle.std.specs.Str.{bytes_eq}
 use Rattle.sbe_base.specs.Calls.{CallLog, IsListed}
 use Rattle.sbe_base.specs.declared.files.LoadErr.{LoadErr}
-use Rattle.sbe_base.specs.declared.files.LoadErr.TheVariants.{Failed}
+use Rattle.sbe_base.specs.declared.files.LoadErr.TheVariants.{Failed, Absent, TooLong, Memory}
 use Rattle.sbe_base.specs.declared.mem_files.MemFile.{MemFile}
 
 -- the bytes still to come, the most that one read gives, and the calls
@@ -44,4 +44,7 @@ MayLoad file limit = IsSomeAnd file (λ bytes. length bytes ≤ limit)
 -- whether a load is answered by a failure
 abbrev pub is_failed : Result (Unit {0}) LoadErr → Bool
 is_failed (Err Failed) = true
-is_failed _ = false
+is_failed (Err Absent) = false
+is_failed (Err TooLong) = false
+is_failed (Err Memory) = false
+is_failed (Ok done) = false

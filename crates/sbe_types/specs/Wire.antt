@@ -35,16 +35,35 @@ elements_bytes order leaf (e ∷ es) = both (element_bytes order leaf e) (elemen
 abbrev pub number_bytes : Order → LeafOf → Value → Option (List ℕ)
 number_bytes order leaf (value.Num n) = bytes_of order leaf.prim n
 number_bytes order leaf value.Null = bytes_of order leaf.prim leaf.null
-number_bytes order leaf _ = None
+number_bytes order leaf (value.Text text) = None
+number_bytes order leaf (value.Nums elements) = None
+number_bytes order leaf (value.Enum n) = None
+number_bytes order leaf (value.Set n) = None
+number_bytes order leaf (value.Comp' n row) = None
+number_bytes order leaf value.Const = None
+number_bytes order leaf value.Absent = None
 
 abbrev pub text_bytes : LeafOf → Value → Option (List ℕ)
 text_bytes leaf (value.Text text) = Some (padded (width (Leaf leaf)) text)
 text_bytes leaf value.Null = Some (padded (width (Leaf leaf)) [])
-text_bytes leaf _ = None
+text_bytes leaf (value.Num n) = None
+text_bytes leaf (value.Nums elements) = None
+text_bytes leaf (value.Enum n) = None
+text_bytes leaf (value.Set n) = None
+text_bytes leaf (value.Comp' n row) = None
+text_bytes leaf value.Const = None
+text_bytes leaf value.Absent = None
 
 abbrev pub array_bytes : Order → LeafOf → Value → Option (List ℕ)
 array_bytes order leaf (value.Nums elements) = if length elements == leaf.length then elements_bytes order leaf elements else None
-array_bytes order leaf _ = None
+array_bytes order leaf (value.Num n) = None
+array_bytes order leaf value.Null = None
+array_bytes order leaf (value.Text text) = None
+array_bytes order leaf (value.Enum n) = None
+array_bytes order leaf (value.Set n) = None
+array_bytes order leaf (value.Comp' n row) = None
+array_bytes order leaf value.Const = None
+array_bytes order leaf value.Absent = None
 
 abbrev pub leaf_bytes : Order → LeafShape → LeafOf → Value → Option (List ℕ)
 leaf_bytes order Number leaf v = number_bytes order leaf v
@@ -56,20 +75,47 @@ leaf_bytes order Numbers leaf v = array_bytes order leaf v
 abbrev pub enum_bytes : Order → LeafOf → Value → Option (List ℕ)
 enum_bytes order leaf (value.Enum n) = bytes_of order leaf.prim n
 enum_bytes order leaf value.Null = bytes_of order leaf.prim leaf.null
-enum_bytes order leaf _ = None
+enum_bytes order leaf (value.Num n) = None
+enum_bytes order leaf (value.Text text) = None
+enum_bytes order leaf (value.Nums elements) = None
+enum_bytes order leaf (value.Set n) = None
+enum_bytes order leaf (value.Comp' n row) = None
+enum_bytes order leaf value.Const = None
+enum_bytes order leaf value.Absent = None
 
 abbrev pub set_bytes : Order → Primitive → Value → Option (List ℕ)
 set_bytes order prim (value.Set n) = bytes_of order prim (pos n)
-set_bytes order prim _ = None
+set_bytes order prim (value.Num n) = None
+set_bytes order prim value.Null = None
+set_bytes order prim (value.Text text) = None
+set_bytes order prim (value.Nums elements) = None
+set_bytes order prim (value.Enum n) = None
+set_bytes order prim (value.Comp' n row) = None
+set_bytes order prim value.Const = None
+set_bytes order prim value.Absent = None
 
 abbrev pub const_bytes : Value → Option (List ℕ)
 const_bytes value.Const = Some []
-const_bytes _ = None
+const_bytes (value.Num n) = None
+const_bytes value.Null = None
+const_bytes (value.Text text) = None
+const_bytes (value.Nums elements) = None
+const_bytes (value.Enum n) = None
+const_bytes (value.Set n) = None
+const_bytes (value.Comp' n row) = None
+const_bytes value.Absent = None
 
 -- the values of a composite's members
 abbrev pub member_values : Value → Option (List Value)
 member_values (value.Comp' n row) = Some (items-the_row-Value _ row)
-member_values _ = None
+member_values (value.Num n) = None
+member_values value.Null = None
+member_values (value.Text text) = None
+member_values (value.Nums elements) = None
+member_values (value.Enum n) = None
+member_values (value.Set n) = None
+member_values value.Const = None
+member_values value.Absent = None
 
 abbrev mutual
   -- the bytes of a value, if it has some: a value of another kind has none

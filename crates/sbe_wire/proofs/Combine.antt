@@ -10,7 +10,7 @@ use Rattle.sbe_types.specs.declared.path.Step.{Step}
 use Rattle.sbe_types.specs.declared.path.Step.TheVariants as way
 use Rattle.sbe_wire.specs.Lays.{Joined, JoinedBoth}
 use Rattle.sbe_wire.specs.Faults.{Fault, shifted, under, fault_at, FaultAfter, TooShort, Under, TimesFault, EachFault}
-use Rattle.sbe_wire.specs.Reading.{Reader, ◌>>=◌, later, inside, and_then, then_read, nothing, judged, read_judged, bytes_read, read_in, times_read, each_read, ended, then_all}
+use Rattle.sbe_wire.specs.Reading.{Reader, ◌>>=◌, later, inside, and_then, then_read, nothing, and_judged, read_judged, bytes_read, read_in, times_read, each_read, then_all}
 use Rattle.sbe_wire.specs.Agree.{Reads, Judges}
 
 -- ---- answers
@@ -51,11 +51,11 @@ pub inside_err : {X : Type 0} (step : Step) (r : Result X Fault) (f : Fault) →
 inside_err step (Ok y) f h = cc
 inside_err step (Err g) f h = (g, refl, sym (err_is h))
 
-and_then_ok : {X Y : Type 0} (b : List ℕ) (r : Result (X × List ℕ) Fault) (q : X → Reader Y) (y : Y × List ℕ) → and_then b r q ≡ Ok y → (x : X × List ℕ) × (r ≡ Ok x) × (q x.0 x.1 ≡ Ok y)
+and_then_ok : {X Y : Type 0} (b : List ℕ) (r : Result (X × List ℕ) Fault) (q : X → List ℕ → Result Y Fault) (y : Y) → and_then b r q ≡ Ok y → (x : X × List ℕ) × (r ≡ Ok x) × (q x.0 x.1 ≡ Ok y)
 and_then_ok b (Ok x) q y h = (x, refl, later_ok _ (q x.0 x.1) y h)
 and_then_ok b (Err f) q y h = cc
 
-and_then_err : {X Y : Type 0} (b : List ℕ) (r : Result (X × List ℕ) Fault) (q : X → Reader Y) (f : Fault) → and_then b r q ≡ Err f →
+and_then_err : {X Y : Type 0} (b : List ℕ) (r : Result (X × List ℕ) Fault) (q : X → List ℕ → Result Y Fault) (f : Fault) → and_then b r q ≡ Err f →
     (r ≡ Err f) ⊎ ((x : X × List ℕ) × (g : Fault) × (r ≡ Ok x) × (q x.0 x.1 ≡ Err g) × (f ≡ shifted (length b - length x.1) g))
 and_then_err b (Ok x) q f h = let found = later_err _ (q x.0 x.1) f h in inr (x, found.0, refl, found.1, found.2)
 and_then_err b (Err g) q f h = inl (ap Err (err_is h))
@@ -300,13 +300,13 @@ JudgedOf {A} R S x b = (a : A) × R a b × S x a
 abbrev pub JudgedFault : {A : Type 0} → (Fault → List ℕ → Type 0) → (A → List ℕ → Type 0) → (Fault → A → Type 0) → Fault → List ℕ → Type 0
 JudgedFault {A} F R G f b = F f b ⊎ ((a : A) × (front : List ℕ) × (back : List ℕ) × (b ≡ front ++ back) × R a front × G f a)
 
-judged_ok : {A X : Type 0} (q : A → Result X Fault) (r : Result (A × List ℕ) Fault) (x : X) (rest : List ℕ) → judged q r ≡ Ok (x, rest) → (a : A) × (r ≡ Ok (a, rest)) × (q a ≡ Ok x)
+judged_ok : {A X : Type 0} (q : A → Result X Fault) (r : Result (A × List ℕ) Fault) (x : X) (rest : List ℕ) → and_judged q r ≡ Ok (x, rest) → (a : A) × (r ≡ Ok (a, rest)) × (q a ≡ Ok x)
 judged_ok q (Err f) x rest h = cc
 judged_ok q (Ok r) x rest h =
     let found = bind_ok (q r.0) (λ y. Ok (y, r.1)) (x, rest) h in
     (r.0, ap (λ k. Ok (r.0, k)) (pair_snd (ok_is found.2)), found.1 ∙ ap Ok (pair_fst (ok_is found.2)))
 
-judged_err : {A X : Type 0} (q : A → Result X Fault) (r : Result (A × List ℕ) Fault) (f : Fault) → judged q r ≡ Err f → (r ≡ Err f) ⊎ ((a : A) × (rest : List ℕ) × (r ≡ Ok (a, rest)) × (q a ≡ Err f))
+judged_err : {A X : Type 0} (q : A → Result X Fault) (r : Result (A × List ℕ) Fault) (f : Fault) → and_judged q r ≡ Err f → (r ≡ Err f) ⊎ ((a : A) × (rest : List ℕ) × (r ≡ Ok (a, rest)) × (q a ≡ Err f))
 judged_err q (Err g) f h = inl (ap Err (err_is h))
 judged_err q (Ok r) f h = elim (bind_err (q r.0) (λ y. Ok (y, r.1)) f h) [
   | inl e ↦ inr (r.0, r.1, refl, e)
@@ -328,7 +328,7 @@ computed {A} {X} p q R F Given S G reads given judges = record { sound = sound; 
 
     complete : (x : X) (front rest : List ℕ) → JudgedOf R S x front → read_judged p q (front ++ rest) ≡ Ok (x, rest)
     complete x front rest h =
-        ap (judged q) (reads.complete h.0 front rest h.1) ∙ ap (λ r. r >>= (λ y. Ok (y, rest))) (judges.complete h.0 x h.2)
+        ap (and_judged q) (reads.complete h.0 front rest h.1) ∙ ap (λ r. r >>= (λ y. Ok (y, rest))) (judges.complete h.0 x h.2)
 
     told : (b : List ℕ) (f : Fault) → read_judged p q b ≡ Err f → JudgedFault F R G f b
     told b f h = elim (judged_err q (p b) f h) [
@@ -340,10 +340,10 @@ computed {A} {X} p q R F Given S G reads given judges = record { sound = sound; 
 
     only : (b : List ℕ) (f : Fault) → JudgedFault F R G f b → read_judged p q b ≡ Err f
     only b f h = elim h [
-      | inl e ↦ ap (judged q) (reads.only b f e)
+      | inl e ↦ ap (and_judged q) (reads.only b f e)
       | inr e ↦
           let read : p b ≡ Ok (e.0, e.2) = ap p e.3 ∙ reads.complete e.0 e.1 e.2 e.4 in
-          ap (judged q) read ∙ ap (λ r. r >>= (λ y. Ok (y, e.2))) (judges.only e.0 f e.5)
+          ap (and_judged q) read ∙ ap (λ r. r >>= (λ y. Ok (y, e.2))) (judges.only e.0 f e.5)
     ]
 
 -- ---- what is left at the end is judged
@@ -351,33 +351,24 @@ computed {A} {X} p q R F Given S G reads given judges = record { sound = sound; 
 abbrev pub All : {A : Type 0} → A → Type 0
 All a = Unit {0}
 
-ended_ok : {X Y : Type 0} (b : List ℕ) (r : Result (X × List ℕ) Fault) (q : X → List ℕ → Result Y Fault) (y : Y) → ended b r q ≡ Ok y → (x : X × List ℕ) × (r ≡ Ok x) × (q x.0 x.1 ≡ Ok y)
-ended_ok b (Ok x) q y h = (x, refl, later_ok _ (q x.0 x.1) y h)
-ended_ok b (Err f) q y h = cc
-
-ended_err : {X Y : Type 0} (b : List ℕ) (r : Result (X × List ℕ) Fault) (q : X → List ℕ → Result Y Fault) (f : Fault) → ended b r q ≡ Err f →
-    (r ≡ Err f) ⊎ ((x : X × List ℕ) × (g : Fault) × (r ≡ Ok x) × (q x.0 x.1 ≡ Err g) × (f ≡ shifted (length b - length x.1) g))
-ended_err b (Ok x) q f h = let found = later_err _ (q x.0 x.1) f h in inr (x, found.0, refl, found.1, found.2)
-ended_err b (Err g) q f h = inl (ap Err (err_is h))
-
 pub at_end : {X Y : Type 0} (p : Reader X) (q : X → List ℕ → Result Y Fault) (R : X → List ℕ → Type 0) (F : Fault → List ℕ → Type 0) (S : X → Y → List ℕ → Type 0) (G : X → Fault → List ℕ → Type 0) →
     Reads p R F → ((x : X) (front : List ℕ) → R x front → Judges All (q x) (S x) (G x)) → Judges All (then_all p q) (After R S) (FaultAfter F R G)
 at_end {X} {Y} p q R F S G here there = record { sound = sound; complete = complete; told = told; only = only }
   where
     sound : (b : List ℕ) (y : Y) → All b → then_all p q b ≡ Ok y → After R S y b
     sound b y g h =
-        let one = ended_ok b (p b) q y h in
+        let one = and_then_ok b (p b) q y h in
         let first = here.sound b one.0.0 one.0.1 one.1 in
         (one.0.0, first.0, one.0.1, first.1, first.2, (there one.0.0 first.0 first.2).sound one.0.1 y tt one.2)
 
     complete : (b : List ℕ) (y : Y) → After R S y b → then_all p q b ≡ Ok y
     complete b y h =
         ap (then_all p q) h.3
-        ∙ ap (λ r. ended (h.1 ++ h.2) r q) (here.complete h.0 h.1 h.2 h.4)
+        ∙ ap (λ r. and_then (h.1 ++ h.2) r q) (here.complete h.0 h.1 h.2 h.4)
         ∙ ap (later (length (h.1 ++ h.2) - length h.2)) ((there h.0 h.1 h.4).complete h.2 y h.5)
 
     told : (b : List ℕ) (f : Fault) → All b → then_all p q b ≡ Err f → FaultAfter F R G f b
-    told b f g h = elim (ended_err b (p b) q f h) [
+    told b f g h = elim (and_then_err b (p b) q f h) [
       | inl e ↦ inl (here.told b f e)
       | inr e ↦
           let first = here.sound b e.0.0 e.0.1 e.2 in
@@ -387,9 +378,9 @@ at_end {X} {Y} p q R F S G here there = record { sound = sound; complete = compl
 
     only : (b : List ℕ) (f : Fault) → FaultAfter F R G f b → then_all p q b ≡ Err f
     only b f h = elim h [
-      | inl e ↦ ap (λ r. ended b r q) (here.only b f e)
+      | inl e ↦ ap (λ r. and_then b r q) (here.only b f e)
       | inr e ↦
           let read : p b ≡ Ok (e.0, e.2) = ap p e.4 ∙ here.complete e.0 e.1 e.2 e.5 in
           let far : length b - length e.2 ≡ length e.1 = omega (arith, ap length e.4, length-append e.1 e.2) in
-          ap (λ r. ended b r q) read ∙ ap (later (length b - length e.2)) ((there e.0 e.1 e.5).only e.2 e.3 e.6) ∙ ap Err (ap (λ n. shifted n e.3) far ∙ sym e.7)
+          ap (λ r. and_then b r q) read ∙ ap (later (length b - length e.2)) ((there e.0 e.1 e.5).only e.2 e.3 e.6) ∙ ap Err (ap (λ n. shifted n e.3) far ∙ sym e.7)
     ]

@@ -15,7 +15,7 @@ use Rattle.sbe_wire.specs.Versions.{acting, is_known}
 use Rattle.sbe_wire.specs.Named.{number_named, place_named}
 use Rattle.sbe_wire.specs.Lays.{HeaderLays, BlockLays, EntryLays, TailLays, Lays}
 use Rattle.sbe_wire.specs.Faults.{Fault, fault_at, FaultAfter, EntryFault, TailFault, message_named, Heading, floor_in, HeadingLays, HeadingRefused, HeadingFault, HeadingGood, TrailingFault, FirstFault}
-use Rattle.sbe_wire.specs.Reading.{entry_read, tail_read, header_bytes, message_judged, heading_of, heading_read, rest_judged, message_in, root_read, message_of}
+use Rattle.sbe_wire.specs.Reading.{entry_read, tail_read, header_bytes, message_judged, heading_of, heading_read, rest_judged, headed, root_read, message_of}
 use Rattle.sbe_wire.specs.Agree.{Judges, Reads}
 use Rattle.sbe_wire.specs.Placed.{IsPlaced, IsPlacedLevel}
 use Rattle.sbe_wire.proofs.Combine.{ok_is, err_is, pair_fst, pair_snd, restated, After, All, JudgedOf, JudgedFault, computed, at_end}
@@ -277,7 +277,7 @@ module _ (schema : WireSchema) where
   RootBad h = EntryFault (TailFault schema.order (is_known schema h.version) (acting schema h.version) h.level) schema.order (is_known schema h.version) (acting schema h.version) (out-Level h.level).fields h.block
 
   abbrev Ends : Heading → Block → Msg → List ℕ → Type 0
-  Ends h block = RestIs (is_known schema h.version) (message_in h block)
+  Ends h block = RestIs (is_known schema h.version) (headed h block)
 
   placed_level : IsPlaced schema → (h : Heading) (head : List ℕ) → HeadingGood schema h head → IsPlacedLevel h.level
   placed_level placed h head good = placed.levels h.template h.level (named_is schema (out-Level h.level).id (h.template, h.level) good.0.message)
@@ -288,11 +288,11 @@ module _ (schema : WireSchema) where
       let known = is_known schema h.version in
       let version = acting schema h.version in
       let level = placed_level placed h head good in
-      at_end (entry_read (tail_read schema.order known version h.level) schema.order known version (out-Level h.level).fields h.block) (λ block. rest_judged known (message_in h block))
+      at_end (entry_read (tail_read schema.order known version h.level) schema.order known version (out-Level h.level).fields h.block) (λ block. rest_judged known (headed h block))
       (Root h) (RootBad h) (Ends h) (λ block. TrailingFault known)
       (entry_reads schema.order known version (tail_read schema.order known version h.level) (λ entry e. TailLays schema.order known version h.level entry e) (TailFault schema.order known version h.level) (out-Level h.level).fields h.block
       (ignores schema.order known version h.level) good.1 (placed_fields h.level level) (tail_reads schema.order known version h.level level))
-      (λ block front lies. rest_judges known (message_in h block))
+      (λ block front lies. rest_judges known (headed h block))
 
   abbrev Whole : Msg → List ℕ → Type 0
   Whole = After (HeadingGood schema) (λ h. After (Root h) (Ends h))
@@ -312,7 +312,7 @@ module _ (schema : WireSchema) where
       let wide : length (take k root.1) ≡ k = simp length-take (omega arith) in
       let numbers = h.4.0.numbers in
       let header_lays : HeaderLays schema (length (take k root.1)) (out-Level heading.level).id heading.version h.1 = subst (λ n. HeaderLays schema n (out-Level heading.level).id heading.version h.1) (sym wide) numbers in
-      let whole : Lays schema (message_in heading entry) body = (
+      let whole : Lays schema (headed heading entry) body = (
         heading.level,
         h.1,
         take k root.1,

@@ -66,7 +66,13 @@ other_kind = misfit_here code.Kind (pos 0)
 abbrev pub number_misfit : LeafOf → Value → Option Misfit
 number_misfit leaf (value.Num n) = unless (admits leaf n && not (is_null leaf n)) (misfit_here code.Range n)
 number_misfit leaf value.Null = unless (is_optional leaf.presence) other_kind
-number_misfit leaf _ = other_kind
+number_misfit leaf (value.Text text) = other_kind
+number_misfit leaf (value.Nums elements) = other_kind
+number_misfit leaf (value.Enum n) = other_kind
+number_misfit leaf (value.Set n) = other_kind
+number_misfit leaf (value.Comp' n row) = other_kind
+number_misfit leaf value.Const = other_kind
+number_misfit leaf value.Absent = other_kind
 
 abbrev pub byte_misfit : Option ℕ → Option Misfit
 byte_misfit None = None
@@ -78,7 +84,13 @@ text_misfit leaf (value.Text text) =
     or_else (unless (nat_le (length text) (width (Leaf leaf)) && not (is_optional leaf.presence && is_empty text)) (misfit_here code.Range (pos (length text))))
     (byte_misfit (find (λ b. not (is_text_byte leaf b)) text))
 text_misfit leaf value.Null = unless (is_optional leaf.presence) other_kind
-text_misfit leaf _ = other_kind
+text_misfit leaf (value.Num n) = other_kind
+text_misfit leaf (value.Nums elements) = other_kind
+text_misfit leaf (value.Enum n) = other_kind
+text_misfit leaf (value.Set n) = other_kind
+text_misfit leaf (value.Comp' n row) = other_kind
+text_misfit leaf value.Const = other_kind
+text_misfit leaf value.Absent = other_kind
 
 abbrev pub element_misfit : LeafOf → Elem → Option Misfit
 element_misfit leaf (elem.Num n) = unless (admits leaf n && not (is_null leaf n)) (misfit_here code.Range n)
@@ -90,7 +102,14 @@ elements_misfit leaf i (e ∷ es) = or_else (misfit_in (way.Elem i) (element_mis
 
 abbrev pub array_misfit : LeafOf → Value → Option Misfit
 array_misfit leaf (value.Nums elements) = if length elements == leaf.length then elements_misfit leaf 0 elements else other_kind
-array_misfit leaf _ = other_kind
+array_misfit leaf (value.Num n) = other_kind
+array_misfit leaf value.Null = other_kind
+array_misfit leaf (value.Text text) = other_kind
+array_misfit leaf (value.Enum n) = other_kind
+array_misfit leaf (value.Set n) = other_kind
+array_misfit leaf (value.Comp' n row) = other_kind
+array_misfit leaf value.Const = other_kind
+array_misfit leaf value.Absent = other_kind
 
 abbrev pub leaf_misfit : LeafShape → LeafOf → Value → Option Misfit
 leaf_misfit Number leaf v = number_misfit leaf v
@@ -104,15 +123,35 @@ abbrev pub enum_misfit : LeafOf → List Named → Value → Option Misfit
 enum_misfit leaf names (value.Enum n) =
     or_else (unless (is_listed names n) (misfit_here code.EnumUnknown n)) (unless (not (is_null leaf n)) (misfit_here code.Range n))
 enum_misfit leaf names value.Null = unless (is_optional leaf.presence) other_kind
-enum_misfit leaf names _ = other_kind
+enum_misfit leaf names (value.Num n) = other_kind
+enum_misfit leaf names (value.Text text) = other_kind
+enum_misfit leaf names (value.Nums elements) = other_kind
+enum_misfit leaf names (value.Set n) = other_kind
+enum_misfit leaf names (value.Comp' n row) = other_kind
+enum_misfit leaf names value.Const = other_kind
+enum_misfit leaf names value.Absent = other_kind
 
 abbrev pub set_misfit : List Named → Value → Option Misfit
 set_misfit names (value.Set n) = unless (nat_lt n (2 ^ 64) && has_listed_bits names 64 n) (misfit_here code.SetUnknown (pos n))
-set_misfit names _ = other_kind
+set_misfit names (value.Num n) = other_kind
+set_misfit names value.Null = other_kind
+set_misfit names (value.Text text) = other_kind
+set_misfit names (value.Nums elements) = other_kind
+set_misfit names (value.Enum n) = other_kind
+set_misfit names (value.Comp' n row) = other_kind
+set_misfit names value.Const = other_kind
+set_misfit names value.Absent = other_kind
 
 abbrev pub const_misfit : Value → Option Misfit
 const_misfit value.Const = None
-const_misfit _ = other_kind
+const_misfit (value.Num n) = other_kind
+const_misfit value.Null = other_kind
+const_misfit (value.Text text) = other_kind
+const_misfit (value.Nums elements) = other_kind
+const_misfit (value.Enum n) = other_kind
+const_misfit (value.Set n) = other_kind
+const_misfit (value.Comp' n row) = other_kind
+const_misfit value.Absent = other_kind
 
 abbrev pub same_length : {n : _} → Row_of-Member n → List Value → Bool
 same_length end_of-Member [] = true

@@ -53,7 +53,8 @@ abbrev pub inside : {X : Type 0} → Step → Result X Fault → Result X Fault
 inside step (Ok x) = Ok x
 inside step (Err f) = Err (under step f)
 
-abbrev pub and_then : {X Y : Type 0} → List ℕ → Result (X × List ℕ) Fault → (X → Reader Y) → Result (Y × List ℕ) Fault
+-- what comes of a value that was read from b and of the bytes behind it
+abbrev pub and_then : {X Y : Type 0} → List ℕ → Result (X × List ℕ) Fault → (X → List ℕ → Result Y Fault) → Result Y Fault
 and_then b (Err f) q = Err f
 and_then b (Ok r) q = later (length b - length r.1) (q r.0 r.1)
 
@@ -65,21 +66,18 @@ then_read p q b = and_then b (p b) q
 abbrev pub nothing : {X : Type 0} → X → Reader X
 nothing x b = Ok (x, b)
 
-abbrev pub judged : {X Y : Type 0} → (X → Result Y Fault) → Result (X × List ℕ) Fault → Result (Y × List ℕ) Fault
-judged q (Err f) = Err f
-judged q (Ok r) = q r.0 >>= (λ y. Ok (y, r.1))
+-- a value that was read, as a judge has it
+abbrev pub and_judged : {X Y : Type 0} → (X → Result Y Fault) → Result (X × List ℕ) Fault → Result (Y × List ℕ) Fault
+and_judged q (Err f) = Err f
+and_judged q (Ok r) = q r.0 >>= (λ y. Ok (y, r.1))
 
 -- a reader whose value is judged; a fault lies where the value began
 abbrev pub read_judged : {X Y : Type 0} → Reader X → (X → Result Y Fault) → Reader Y
-read_judged p q b = judged q (p b)
-
-abbrev pub ended : {X Y : Type 0} → List ℕ → Result (X × List ℕ) Fault → (X → List ℕ → Result Y Fault) → Result Y Fault
-ended b (Err f) q = Err f
-ended b (Ok r) q = later (length b - length r.1) (q r.0 r.1)
+read_judged p q b = and_judged q (p b)
 
 -- a reader, and then a judge of all that is left
 abbrev pub then_all : {X Y : Type 0} → Reader X → (X → List ℕ → Result Y Fault) → List ℕ → Result Y Fault
-then_all p q b = ended b (p b) q
+then_all p q b = and_then b (p b) q
 
 -- n bytes, or how many are wanted
 abbrev pub bytes_read : ℕ → Reader (List ℕ)
@@ -261,15 +259,16 @@ heading_read schema = read_judged (header_bytes (members_end 0 schema.header.mem
 abbrev pub rest_judged : Bool → Msg → List ℕ → Result Msg Fault
 rest_judged known m rest = if known && nat_lt 0 (length rest) then Err (fault_at code.Trailing 0 (pos (length rest))) else Ok m
 
-abbrev pub message_in : Heading → Block → Msg
-message_in h block = record { template = h.template; version = h.version; block = block }
+-- the message of this heading and block
+abbrev pub headed : Heading → Block → Msg
+headed h block = record { template = h.template; version = h.version; block = block }
 
 abbrev pub root_read : WireSchema → Heading → List ℕ → Result Msg Fault
 root_read schema h =
     let known = is_known schema h.version in
     let version = acting schema h.version in
     then_all (entry_read (tail_read schema.order known version h.level) schema.order known version (out-Level h.level).fields h.block)
-    (λ block. rest_judged known (message_in h block))
+    (λ block. rest_judged known (headed h block))
 
 -- the message that the body is, or its first fault
 unfoldable pub message_of : WireSchema → List ℕ → Result Msg Fault

@@ -51,8 +51,8 @@ abbrev pub data_of : List ℕ → ℕ → ℕ → DataField
 data_of name id since = record { name = name; id = id; since = since; length = uint16 }
 
 -- the header of four uint16
-abbrev pub header : List Member
-header =
+abbrev pub header_members : List Member
+header_members =
     member (codes "blockLength") None uint16 ∷ member (codes "templateId") None uint16
     ∷ member (codes "schemaId") None uint16 ∷ member (codes "version") None uint16 ∷ []
 
@@ -100,7 +100,7 @@ schema7 =
       id = 7;
       version = 0;
       order = Little;
-      header = record { members = header };
+      header = record { members = header_members };
       messages = ping ∷ nul ∷ one ∷ grp ∷ nest ∷ big ∷ [];
     }
 
@@ -112,7 +112,7 @@ event0 =
       id = 8;
       version = 0;
       order = Little;
-      header = record { members = header };
+      header = record { members = header_members };
       messages = Level' (codes "Ev") 1 [] 0 2
           (field (codes "e") 1001 0 (Enum char (record { name = codes "Buy"; number = pos 49 } ∷ record { name = codes "Sell"; number = pos 50 } ∷ []))
           ∷ field (codes "k") 1002 0 (Leaf uint8) ∷ []) [] end_of-Group [] ∷ [];
@@ -124,7 +124,7 @@ event2 =
       id = 8;
       version = 2;
       order = Little;
-      header = record { members = header };
+      header = record { members = header_members };
       messages = Level' (codes "Ev") 1 [] 0 4
           (field (codes "e") 1001 0 (Enum char (record { name = codes "Buy"; number = pos 49 } ∷ record { name = codes "Sell"; number = pos 50 } ∷ record { name = codes "Short"; number = pos 53 } ∷ []))
           ∷ field (codes "k") 1002 0 (Leaf uint8) ∷ field (codes "z") 1003 1 (Leaf uint16) ∷ []) [] end_of-Group (data_of (codes "memo") 1004 2 ∷ []) ∷ [];
@@ -138,7 +138,7 @@ one_data =
       id = 9;
       version = 0;
       order = Little;
-      header = record { members = header };
+      header = record { members = header_members };
       messages = Level' (codes "Ow") 1 [] 0 0 [] [] end_of-Group (data_of (codes "d") 1001 0 ∷ []) ∷ [];
     }
 
@@ -150,7 +150,7 @@ mixed =
       id = 12;
       version = 0;
       order = Big;
-      header = record { members = header };
+      header = record { members = header_members };
       messages = Level' (codes "Mix") 1 [] 0 14
           (field (codes "px") 1001 0 (Comp' (tt ∷ tt ∷ []) (more_of-Member (codes "mantissa") None (Leaf (int32 Required)) (more_of-Member (codes "exponent") None (Leaf int8) end_of-Member)))
           ∷ field (codes "fl") 1002 0 (Set U8 (record { name = codes "A"; number = pos 0 } ∷ record { name = codes "B"; number = pos 2 } ∷ []))
