@@ -20,7 +20,7 @@ use Rattle.sbe_types.specs.Places.{width, is_const, begin_of, end_past}
 use Rattle.sbe_types.specs.Shown.{shown_number}
 use Rattle.sbe_wire.specs.Versions.{is_alive, floor_from}
 use Rattle.sbe_wire.specs.Faults.{Fault}
-use Rattle.sbe_wire.specs.Reading.{later, inside, and_then, ended, judged, value_read, leaf_read, field_read, fields_read}
+use Rattle.sbe_wire.specs.Reading.{later, inside, and_then, and_judged, value_read, leaf_read, field_read, fields_read}
 use Rattle.sbe_wire.specs.Reading as reading
 use Rattle.sbe_cli.specs.Block.{IsNumber, IsPlain, number_shown, fields_shown}
 
@@ -39,7 +39,7 @@ ok_or_ok None f = refl
 ok_or_ok (Some x) f = refl
 
 pub ok_ended : {X Y : Type 0} (b : List ℕ) (r : Result (X × List ℕ) Fault) (q : X → List ℕ → Result Y Fault) →
-    result_ok (ended b r q) ≡ option_and_then (λ s. result_ok (q s.0 s.1)) (result_ok r)
+    result_ok (and_then b r q) ≡ option_and_then (λ s. result_ok (q s.0 s.1)) (result_ok r)
 ok_ended b (Ok s) q = ok_later (length b - length s.1) (q s.0 s.1)
 ok_ended b (Err f) q = refl
 
@@ -53,7 +53,7 @@ ok_with rest (Ok y) = refl
 ok_with rest (Err f) = refl
 
 pub ok_judged : {X Y : Type 0} (q : X → Result Y Fault) (r : Result (X × List ℕ) Fault) →
-    result_ok (judged q r) ≡ option_and_then (λ s. option_and_then (λ y. Some (y, s.1)) (result_ok (q s.0))) (result_ok r)
+    result_ok (and_judged q r) ≡ option_and_then (λ s. option_and_then (λ y. Some (y, s.1)) (result_ok (q s.0))) (result_ok r)
 ok_judged q (Ok s) = ok_with s.1 (q s.0)
 ok_judged q (Err f) = refl
 

@@ -19,7 +19,7 @@ use Rattle.sbe_wire.specs.Versions.{acting, is_known, floor}
 use Rattle.sbe_wire.specs.declared.codes.FCode.TheVariants as code
 use Rattle.sbe_wire.specs.Named.{number_named, place_named}
 use Rattle.sbe_wire.specs.Faults.{Fault, fault_at, Heading, floor_in, message_named}
-use Rattle.sbe_wire.specs.Reading.{Reader, Tail, later, and_then, then_read, nothing, ended, judged, block_of, tail_read, groups_read, each_read, fields_read, rest_judged, message_in, root_read, heading_read, heading_of, message_judged, floor_judged, message_of}
+use Rattle.sbe_wire.specs.Reading.{Reader, Tail, later, and_then, then_read, nothing, and_judged, block_of, tail_read, groups_read, each_read, fields_read, rest_judged, headed, root_read, heading_read, heading_of, message_judged, floor_judged, message_of}
 use Rattle.sbe_wire.specs.Reading as reading
 use Rattle.sbe_cli.specs.Attributes.{guard}
 use Rattle.sbe_cli.specs.declared.block.DecodeErr.{DecodeErr}
@@ -54,7 +54,7 @@ tail_flat order known version level b no_groups no_parts =
 
 -- a heading whose block length is below the floor is refused, and of another the root is read
 judged_floor : (below : Bool) (h : Heading) (body behind : List ℕ) (schema : WireSchema) (f : Fault) →
-    result_ok (ended body (reading.◌>>=◌ (cond below (Err f) (Ok h)) (λ h. Ok (h, behind))) (root_read schema)) ≡ cond below None (result_ok (root_read schema h behind))
+    result_ok (and_then body (reading.◌>>=◌ (cond below (Err f) (Ok h)) (λ h. Ok (h, behind))) (root_read schema)) ≡ cond below None (result_ok (root_read schema h behind))
 judged_floor true h body behind schema f = refl
 judged_floor false h body behind schema f = ok_later (length body - length behind) (root_read schema h behind)
 
@@ -64,15 +64,15 @@ refused false f m = refl
 
 -- the block's values and an empty tail, and what stands behind them
 entry_flat : (tail : Reader Tail) (known : Bool) (h : Heading) (rest behind : List ℕ) → tail behind ≡ Ok (([], []), behind) → (read : Result (List Value) Fault) →
-    result_ok (ended rest (and_then rest (reading.◌>>=◌ read (λ values. Ok (values, behind))) (λ values. then_read tail (λ t. nothing (block_of values t)))) (λ block. rest_judged known (message_in h block)))
+    result_ok (and_then rest (and_then rest (reading.◌>>=◌ read (λ values. Ok (values, behind))) (λ values. then_read tail (λ t. nothing (block_of values t)))) (λ block. rest_judged known (headed h block)))
     ≡ option_and_then (λ values. cond (known && nat_lt 0 (length behind)) None (Some (message_with h.template h.version values))) (result_ok read)
 entry_flat tail known h rest behind empty (Err f) = refl
 entry_flat tail known h rest behind empty (Ok values) =
     let block : Block = block_of values ([], []) in
     let entry : and_then behind (tail behind) (λ t. nothing (block_of values t)) ≡ Ok (block, behind) = ap (λ r. and_then behind r (λ t. nothing (block_of values t))) empty in
-    ap (λ r. result_ok (ended rest (later (length rest - length behind) r) (λ block. rest_judged known (message_in h block)))) entry
-    ∙ ok_later (length rest - length behind) (rest_judged known (message_in h block) behind)
-    ∙ refused (known && nat_lt 0 (length behind)) _ (message_in h block)
+    ap (λ r. result_ok (and_then rest (later (length rest - length behind) r) (λ block. rest_judged known (headed h block)))) entry
+    ∙ ok_later (length rest - length behind) (rest_judged known (headed h block) behind)
+    ∙ refused (known && nat_lt 0 (length behind)) _ (headed h block)
 
 -- the same choices, made in another order
 finished : (reaches passes : Bool) (read : Option (List Value)) (message : List Value → Msg) →
@@ -101,8 +101,8 @@ RootShown schema h rest whole =
     let version = acting schema h.version in
     let fields = (out-Level h.level).fields in
     cond (nat_lt h.block (floor_in schema h)) None
-    (result_ok (ended rest (and_then rest (judged (fields_read schema.order known version 0 0 fields) (cond whole (Ok (take h.block rest, drop h.block rest)) (Err (fault_at code.Truncated 0 (pos h.block)))))
-    (λ values. then_read (tail_read schema.order known version h.level) (λ t. nothing (block_of values t)))) (λ block. rest_judged known (message_in h block))))
+    (result_ok (and_then rest (and_then rest (and_judged (fields_read schema.order known version 0 0 fields) (cond whole (Ok (take h.block rest, drop h.block rest)) (Err (fault_at code.Truncated 0 (pos h.block)))))
+    (λ values. then_read (tail_read schema.order known version h.level) (λ t. nothing (block_of values t)))) (λ block. rest_judged known (headed h block))))
     ≡ option_and_then (λ values. Some (message_with h.template h.version values)) (option_and_then (λ _. option_and_then (λ values. option_and_then (λ _. Some values) (guard (not (known && nat_lt h.block (length rest)))))
     (fields_shown schema.order version 0 fields (take h.block rest))) (guard whole))
 
@@ -140,7 +140,7 @@ root_shown schema h rest flat = root_by schema h rest flat (nat_le h.block (leng
 
 -- the message that a header names, and what stands behind the header
 named_shown : (schema : WireSchema) (head body behind : List ℕ) (id : ℕ) (named : Option (ℕ × Level)) → ((m : ℕ × Level) → named ≡ Some m → IsFlat m.1) →
-    result_ok (ended body (reading.◌>>=◌ (message_judged schema head id named) (λ h. Ok (h, behind))) (root_read schema))
+    result_ok (and_then body (reading.◌>>=◌ (message_judged schema head id named) (λ h. Ok (h, behind))) (root_read schema))
     ≡ option_and_then (λ m. option_and_then (λ values. Some (message_with m.0 (number_named schema.order schema.header.members (codes "version") head) values))
     (block_shown schema (number_named schema.order schema.header.members (codes "version") head) (out-Level m.1).fields (number_named schema.order schema.header.members (codes "blockLength") head) behind)) named
 named_shown schema head body behind id None flat = refl
@@ -149,7 +149,7 @@ named_shown schema head body behind id (Some m) flat =
     judged_floor (nat_lt h.block (floor_in schema h)) h body behind schema _ ∙ root_shown schema h behind (flat m refl)
 
 head_shown : (schema : WireSchema) (head body behind : List ℕ) → IsSmall schema → (ours : Bool) →
-    result_ok (ended body (reading.◌>>=◌ (cond ours (message_judged schema head (number_named schema.order schema.header.members (codes "templateId") head) (message_named 0 (number_named schema.order schema.header.members (codes "templateId") head) schema.messages))
+    result_ok (and_then body (reading.◌>>=◌ (cond ours (message_judged schema head (number_named schema.order schema.header.members (codes "templateId") head) (message_named 0 (number_named schema.order schema.header.members (codes "templateId") head) schema.messages))
     (Err (fault_at code.SchemaId (place_named schema.header.members (codes "schemaId")) (pos (number_named schema.order schema.header.members (codes "schemaId") head))))) (λ h. Ok (h, behind))) (root_read schema))
     ≡ option_and_then (λ _. option_and_then (λ m. option_and_then (λ values. Some (message_with m.0 (number_named schema.order schema.header.members (codes "version") head) values))
     (block_shown schema (number_named schema.order schema.header.members (codes "version") head) (out-Level m.1).fields (number_named schema.order schema.header.members (codes "blockLength") head) behind))
@@ -160,7 +160,7 @@ head_shown schema head body behind small true =
     named_shown schema head body behind id (message_named 0 id schema.messages) (λ m h. flat_named schema id m.0 m.1 small (sym h))
 
 body_shown : (schema : WireSchema) (body : List ℕ) → IsSmall schema → (whole : Bool) →
-    result_ok (ended body (judged (heading_of schema) (cond whole (Ok (take (members_end 0 schema.header.members) body, drop (members_end 0 schema.header.members) body)) (Err (fault_at code.ShortHeader 0 (pos (length body)))))) (root_read schema))
+    result_ok (and_then body (and_judged (heading_of schema) (cond whole (Ok (take (members_end 0 schema.header.members) body, drop (members_end 0 schema.header.members) body)) (Err (fault_at code.ShortHeader 0 (pos (length body)))))) (root_read schema))
     ≡ option_and_then (λ _. option_and_then (λ _. option_and_then (λ m. option_and_then (λ values. Some (message_with m.0 (header_number schema (codes "version") body) values))
     (block_shown schema (header_number schema (codes "version") body) (out-Level m.1).fields (header_number schema (codes "blockLength") body) (drop (members_end 0 schema.header.members) body)))
     (message_named 0 (header_number schema (codes "templateId") body) schema.messages)) (guard (header_number schema (codes "schemaId") body == schema.id))) (guard whole)
