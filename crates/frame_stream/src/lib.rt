@@ -1,0 +1,10 @@
+//! Takes one frame or line after another from a source, through one buffer that is made once.
+//!
+//! The frames are those of the FIX Simple Open Framing Header 1.0, as the crate `open_framing` reads them.
+#![tactic(auto)]
+
+mod held;
+mod stream;
+
+pub use held::Ended;
+pub use stream::{FrameStream, LONGEST_FRAME, StreamErr, Taken};
