@@ -1,7 +1,7 @@
 ghost use Rattle.std.specs.Prelude.{◌≡◌, ◌<◌, ◌≤◌, ◌+◌, false, true, length, take, IfOk};
 ghost use Rattle.open_framing.specs.Heads.{IsBytes};
-ghost use Rattle.open_framing.specs.Frames.{first_item};
-ghost use Rattle.frame_stream.specs.Held.{Begins, Gains, Fills, Nexts, StopCause, IsEndBehind, ReadsBehind, none_held, released};
+ghost use Rattle.open_framing.specs.declared.head.TheConstants.{HEAD_BYTES};
+ghost use Rattle.frame_stream.specs.Held.{IsBegun, Begins, Gains, Fills, Nexts, StopCause, IsEndBehind, ReadsBehind, none_held, released};
 ghost use Rattle.sbe_base.specs.Causes.{HasCause};
 
 use open_framing::{HEAD_BYTES, Head, HeadErr, read_head};
@@ -147,8 +147,8 @@ impl Held {
 
     /// Takes the next frame, of which a part may be held.
     fn next<I: Source>(&mut self, input: &mut I) -> Result<Head, Stop>
-        requires room { 6 ≤ self.old.size }
-        requires none { first_item self.old.size self.old.bytes ≡ None }
+        requires room { HEAD_BYTES ≤ self.old.size }
+        requires begun { IsBegun self.old }
         ensures nexts { Nexts self.old self.new (I.left input.old) (I.left input.new) result }
         ensures cause { StopCause (I.faults input.old) (I.faults input.new) result }
     {
@@ -170,8 +170,8 @@ impl Held {
 
     /// Takes the next frame. Where a whole one was held, that is let go first.
     pub(crate) fn after<I: Source>(&mut self, input: &mut I, whole: bool) -> Result<Head, Stop>
-        requires room { 6 ≤ self.old.size }
-        requires none { whole ≡ false → first_item self.old.size self.old.bytes ≡ None }
+        requires room { HEAD_BYTES ≤ self.old.size }
+        requires begun { whole ≡ false → IsBegun self.old }
         ensures nexts { Nexts (released whole self.old) self.new (I.left input.old) (I.left input.new) result }
         ensures cause { StopCause (I.faults input.old) (I.faults input.new) result }
     {
@@ -184,8 +184,8 @@ impl Held {
 
     /// Reads until a head is held.
     fn begin<I: Source>(&mut self, input: &mut I) -> Result<(), Stop>
-        requires room { 6 ≤ self.old.size }
-        requires none { first_item self.old.size self.old.bytes ≡ None }
+        requires room { HEAD_BYTES ≤ self.old.size }
+        requires begun { IsBegun self.old }
         ensures begins { Begins self.old self.new (I.left input.old) (I.left input.new) result }
         ensures cause { StopCause (I.faults input.old) (I.faults input.new) result }
     {

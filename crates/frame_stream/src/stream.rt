@@ -1,4 +1,4 @@
-ghost use Rattle.std.specs.Prelude.{◌≡◌, ◌<◌, ◌≤◌, ◌+◌, None, IfOk, IfSome, IsSome};
+ghost use Rattle.std.specs.Prelude.{◌≡◌, ◌<◌, ◌≤◌, ◌+◌, None, length, IfOk, IfSome, IsSome};
 ghost use Rattle.open_framing.specs.Frames.{first_item};
 ghost use Rattle.open_framing.specs.declared.head.TheConstants.{HEAD_BYTES};
 ghost use Rattle.frame_stream.specs.declared.stream.TheConstants.{LONGEST_FRAME};
@@ -92,6 +92,7 @@ impl FrameStream {
         ensures takes { self.old.ended ≡ None → Takes self.old self.new (I.left input.old) (I.left input.new) result }
         ensures body { BodyOf self.new result }
         ensures part { first_item self.new.frame self.new.held ≡ None }
+        ensures fits { length self.new.held ≤ self.new.frame }
         ensures cause { TakeCause (I.faults input.old) (I.faults input.new) result }
     {
         if let Some(ended) = self.ended {
