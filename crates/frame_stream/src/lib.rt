@@ -4,7 +4,11 @@
 #![tactic(auto)]
 
 mod held;
+mod lines;
+mod reading;
 mod stream;
+mod window;
 
 pub use held::Ended;
+pub use lines::{LONGEST_LINE, LineEnded, LineErr, LineStream, LineTaken};
 pub use stream::{FrameStream, LONGEST_FRAME, StreamErr, Taken};

@@ -4,7 +4,8 @@ ghost use Rattle.open_framing.specs.declared.head.TheConstants.{HEAD_BYTES};
 ghost use Rattle.frame_stream.specs.declared.stream.TheConstants.{LONGEST_FRAME};
 ghost use Rattle.frame_stream.specs.Stream.{Takes, TakeCause, BodyOf, opened, told_by};
 
-use crate::held::{Ended, Held, Stop};
+use crate::held::{Ended, Stop};
+use crate::window::Window;
 use open_framing::{HEAD_BYTES, Head, HeadErr};
 use sbe_base::{Limits, NoMem, Source};
 use std::alloc::Global;
@@ -46,7 +47,7 @@ pub enum StreamErr {
 /// a frame is asked for before the next frame is.
 #[derive(Drop)]
 pub struct FrameStream {
-    bytes: Held,
+    bytes: Window,
     whole: bool,
     ended: Option<Ended>,
 }
@@ -56,9 +57,9 @@ impl Model for FrameStream {
 
     ghost Value = { StreamState };
 
-    ghost view = { λ s. shown s.whole s.bytes s.ended };
+    ghost view = { λ s. shown s.whole s.bytes.held s.ended };
 
-    ghost invariant = { λ s. IsStream s.whole s.bytes s.ended };
+    ghost invariant = { λ s. IsStream s.whole s.bytes.held s.ended };
 }
 
 impl FrameStream {
@@ -70,7 +71,7 @@ impl FrameStream {
         ensures { IfOk result (λ stream. stream ≡ opened limits) }
     {
         Ok(FrameStream {
-            bytes: Held::new(alloc, limits.frame, limits.input)?,
+            bytes: Window::new(alloc, limits.frame, limits.input)?,
             whole: false,
             ended: None,
         })

@@ -1,0 +1,14 @@
+use Rattle.std.proofs.Common.{◌≡◌, ◌-◌, [], None, length}
+use Rattle.open_framing.specs.Lines.{before_end}
+use Rattle.frame_stream.specs.Window.{Moves}
+use Rattle.frame_stream.proofs.window.Window.read_end.Given as goal
+
+abbrev pub invariant-loop-self : goal.invariant-loop-self
+invariant-loop-self g l = record {
+  moved : Moves l.fn.self.held l.self.held (g.I.Source.left l.fn.input) (g.I.Source.left l.input) [];
+  none : before_end l.self.held.bytes ≡ None;
+  faults : g.I.Source.faults l.input ≡ g.I.Source.faults l.fn.input;
+}
+
+abbrev pub decreases-loop-self : goal.decreases-loop-self
+decreases-loop-self g l = l.self.held.size - length l.self.held.bytes

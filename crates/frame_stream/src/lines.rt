@@ -1,0 +1,176 @@
+ghost use Rattle.std.specs.Prelude.{◌≡◌, ◌≤◌, [], None, length, IfOk, IfSome, IsSome};
+ghost use Rattle.open_framing.specs.Lines.{before_end};
+ghost use Rattle.frame_stream.specs.LineTakes.{IsLastTaken, LineCause, LineOf, TakesLine, line_told_by, lines_opened, window_bytes};
+
+use crate::reading::Dry;
+use crate::window::{NoEnd, Window};
+use sbe_base::{Limits, NoMem, Source};
+use std::alloc::Global;
+use std::marker::Model;
+use thiserror::Error;
+
+/// The most bytes of a line, its end not counted.
+pub const LONGEST_LINE: usize = 1_048_576;
+
+/// What a [`LineStream`] took.
+#[derive(Clone, Copy, Debug, PartialEq, Eq)]
+pub enum LineTaken {
+    /// A line, which is [`LineStream::line`].
+    Line,
+    /// The source ended behind a line, or before the first one.
+    End,
+}
+
+/// Why a [`LineStream`] took no line.
+#[derive(Clone, Copy, Debug, PartialEq, Eq, Drop, Error)]
+pub enum LineErr {
+    /// The next 1,048,577 bytes have no line end, the byte 0a.
+    #[error("a line has more than 1048576 bytes")]
+    LineOver,
+    /// As many bytes as the limit of the input were taken, they have no further line end, and the source has more.
+    #[error("the input has more bytes than its limit")]
+    InputLimit,
+    /// A read failed: the source's count of faults rose, or stands at its last value.
+    #[error("a read failed")]
+    ReadFault,
+}
+
+/// How a stream of lines ended. The answer stays.
+#[derive(Clone, Copy, Debug, PartialEq, Eq)]
+pub enum LineEnded {
+    /// The source ended, and all its lines were taken.
+    End,
+    /// The next line is over the limit of a line.
+    Over,
+    /// One byte more came than the limit of the input.
+    Limit,
+}
+
+/// The lines of a source, taken one after another. A line ends with the byte 0a, which the last one may lack.
+///
+/// What comes are the lines of the source's bytes, whatever pieces the source gives them in. The stream reads ahead
+/// into its own buffer, of 1,048,577 bytes; it reads only where no line end stands in the bytes behind the last line.
+#[derive(Drop)]
+pub struct LineStream {
+    bytes: Window,
+    /// How many of the bytes are the last line.
+    line: usize,
+    /// How many of the bytes have been taken with it.
+    front: usize,
+    ended: Option<LineEnded>,
+}
+
+impl Model for LineStream {
+    ghost use Rattle.frame_stream.specs.LineTakes.{LineState, IsLineStream, lines_shown};
+
+    ghost Value = { LineState };
+
+    ghost view = { λ s. lines_shown s.line s.front s.bytes.held s.ended };
+
+    ghost invariant = { λ s. IsLineStream s.line s.front s.bytes.held };
+}
+
+impl LineStream {
+    /// A stream that nothing was taken of, with memory for a line of 1,048,576 bytes and its end, and for an input of
+    /// `limits.input` bytes at most. The limit of a frame isn't looked at.
+    pub fn open(alloc: Global, limits: Limits) -> Result<LineStream, NoMem>
+        ensures { IfOk result (λ stream. stream ≡ lines_opened limits.input) }
+    {
+        Ok(LineStream {
+            bytes: Window::new(alloc, LONGEST_LINE + 1, limits.input)?,
+            line: 0,
+            front: 0,
+            ended: None,
+        })
+    }
+
+    /// Takes the next line, and lets the one before it go. It takes no memory.
+    ///
+    /// Once the answer was an end, a line over the limit or the limit of the input, each later call gives the same
+    /// answer and reads nothing. So it is behind a last line without its end: each later call answers the end.
+    ///
+    /// # Errors
+    ///
+    /// Each variant of [`LineErr`]. After [`LineErr::ReadFault`] the bytes of the unfinished line stay, and the next
+    /// call goes on with them.
+    pub fn take<I: Source>(&mut self, input: &mut I) -> Result<LineTaken, LineErr>
+        ensures stays { IfSome self.old.ended (λ ended. result ≡ line_told_by ended) }
+        ensures kept { IsSome self.old.ended → self.new ≡ record self.old { line = [] } }
+        ensures unread { IsSome self.old.ended → input.new ≡ input.old }
+        ensures takes { self.old.ended ≡ None → TakesLine self.old self.new (I.left input.old) (I.left input.new) result }
+        ensures ahead { IsSome (before_end self.old.held) → input.new ≡ input.old }
+        ensures line { LineOf self.new result }
+        ensures fits { length self.new.held ≤ window_bytes }
+        ensures cause { LineCause (I.faults input.old) (I.faults input.new) result }
+    {
+        self.line = 0;
+        if let Some(ended) = self.ended {
+            return told(ended);
+        }
+        match self.bytes.next_end(input, self.front) {
+            Ok(i) => {
+                self.line = i;
+                self.front = i + 1;
+                Ok(LineTaken::Line)
+            }
+            Err(NoEnd::Dry(Dry::Fault)) => {
+                self.front = 0;
+                Err(LineErr::ReadFault)
+            }
+            Err(NoEnd::Dry(Dry::End)) => {
+                let len = self.bytes.len();
+                self.line = len;
+                self.front = len;
+                self.ended = Some(LineEnded::End);
+                Ok(last_taken(len))
+            }
+            Err(NoEnd::Dry(Dry::Over)) => {
+                self.front = 0;
+                self.ended = Some(LineEnded::Limit);
+                Err(LineErr::InputLimit)
+            }
+            Err(NoEnd::Full) => {
+                self.front = 0;
+                self.ended = Some(LineEnded::Over);
+                Err(LineErr::LineOver)
+            }
+        }
+    }
+
+    /// The line that was taken last, without its end, and no bytes where the last answer was none.
+    pub fn line(&self) -> &[u8]
+        ensures { result.now ≡ self.now.line }
+    {
+        &self.bytes.as_slice()[..self.line]
+    }
+
+    /// How many bytes were taken in all, those that were read ahead too. The one byte that shows that an input is above
+    /// its limit isn't counted.
+    pub fn taken(&self) -> u64
+        ensures { result ≡ self.now.taken }
+    {
+        self.bytes.taken()
+    }
+}
+
+/// The answer at an end.
+fn told(ended: LineEnded) -> Result<LineTaken, LineErr>
+    ensures { result ≡ line_told_by ended }
+{
+    match ended {
+        LineEnded::End => Ok(LineTaken::End),
+        LineEnded::Over => Err(LineErr::LineOver),
+        LineEnded::Limit => Err(LineErr::InputLimit),
+    }
+}
+
+/// What is taken at the end of a source, where so many bytes are held.
+fn last_taken(len: usize) -> LineTaken
+    ensures { IsLastTaken len result }
+{
+    if len == 0 {
+        LineTaken::End
+    } else {
+        LineTaken::Line
+    }
+}

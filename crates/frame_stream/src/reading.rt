@@ -1,0 +1,69 @@
+ghost use Rattle.std.specs.Prelude.{◌≡◌, ◌≤◌, ◌+◌, [], Err, length, take, ℕ};
+ghost use Rattle.sbe_base.specs.Causes.{HasCause};
+ghost use Rattle.frame_stream.specs.Reading.{DryCause, ReadsBehind, ReadsWithin};
+
+use sbe_base::{Failed, Source};
+
+/// Why no byte came.
+#[derive(Clone, Copy, Debug, PartialEq, Eq)]
+pub(crate) enum Dry {
+    /// The read failed.
+    Fault,
+    /// The source has ended.
+    End,
+    /// One byte more came than may be taken.
+    Over,
+}
+
+/// Reads once, behind the first `len` bytes of a buffer and at most `most` bytes. Where none may be taken, one more
+/// byte shows whether the source has ended, and isn't kept.
+pub(crate) fn read_within<I: Source>(
+    input: &mut I,
+    buf: &mut [u8],
+    len: usize,
+    most: usize,
+) -> Result<usize, Dry>
+    requires { len + most ≤ length buf.old }
+    ensures size { length buf.new ≡ length buf.old }
+    ensures kept { take len buf.new ≡ take len buf.old }
+    ensures read { ReadsWithin len most (I.left input.old) (I.left input.new) buf.new result }
+    ensures cause { DryCause (I.faults input.old) (I.faults input.new) result }
+{
+    if most == 0 {
+        return Err(read_over(input));
+    }
+    match read_behind(input, buf, len, most) {
+        Ok(0) => Err(Dry::End),
+        Ok(n) => Ok(n),
+        Err(_) => Err(Dry::Fault),
+    }
+}
+
+/// Asks for one byte more than may be taken.
+fn read_over<I: Source>(input: &mut I) -> Dry
+    ensures read { ReadsWithin 0 0 (I.left input.old) (I.left input.new) [] (Err result) }
+    ensures cause { DryCause {T = ℕ} (I.faults input.old) (I.faults input.new) (Err result) }
+{
+    let mut next = [0u8; 1];
+    match input.read(&mut next) {
+        Ok(0) => Dry::End,
+        Ok(_) => Dry::Over,
+        Err(_) => Dry::Fault,
+    }
+}
+
+/// Reads behind the first bytes of a buffer.
+fn read_behind<I: Source>(
+    input: &mut I,
+    buf: &mut [u8],
+    len: usize,
+    most: usize,
+) -> Result<usize, Failed>
+    requires { len + most ≤ length buf.old }
+    ensures size { length buf.new ≡ length buf.old }
+    ensures kept { take len buf.new ≡ take len buf.old }
+    ensures read { ReadsBehind len most (I.left input.old) (I.left input.new) buf.new result }
+    ensures cause { HasCause (I.faults input.old) (I.faults input.new) result }
+{
+    input.read(&mut buf[len..len + most])
+}

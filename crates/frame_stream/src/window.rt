@@ -1,0 +1,222 @@
+ghost use Rattle.std.specs.Prelude.{◌≡◌, ◌<◌, ◌≤◌, ◌-◌, None, length, take, drop, true, IfOk, IsSome};
+ghost use Rattle.open_framing.specs.Lines.{before_end};
+ghost use Rattle.frame_stream.specs.Held.{released};
+ghost use Rattle.frame_stream.specs.Reading.{DryCause};
+ghost use Rattle.frame_stream.specs.Window.{EndCause, FindsEnd, LineEnds, Reads, let_go_of, none_held};
+
+use crate::reading::{Dry, read_within};
+use memchr::memchr;
+use sbe_base::{NoMem, Source};
+use std::alloc::Global;
+use std::marker::Model;
+
+/// The byte behind a line.
+const LINE_END: u8 = b'\n';
+
+/// Why no line's end is held.
+#[derive(Clone, Copy, Debug, PartialEq, Eq)]
+pub(crate) enum NoEnd {
+    /// No more bytes came.
+    Dry(Dry),
+    /// There is no room for more.
+    Full,
+}
+
+/// Bytes in a buffer, of a source that may give so many at most. Where they lie in it doesn't show.
+#[derive(Drop)]
+pub(crate) struct Window {
+    buffer: Vec<u8>,
+    start: usize,
+    end: usize,
+    taken: u64,
+    limit: u64,
+}
+
+impl Model for Window {
+    ghost use Rattle.std.specs.Prelude.{◌≤◌, ◌-◌, length, take, drop};
+    ghost use Rattle.frame_stream.specs.Window.{WindowState};
+
+    ghost Value = { WindowState };
+
+    ghost view = { λ w. record { held = record { bytes = drop w.start (take w.end w.buffer.items); size = length w.buffer.items; taken = w.taken; limit = w.limit }; free = length w.buffer.items - w.end } };
+
+    ghost invariant = { λ w. (w.start ≤ w.end) × (w.end ≤ length w.buffer.items) × (w.taken ≤ w.limit) };
+}
+
+impl Window {
+    /// No bytes yet, and room for `size`.
+    pub(crate) fn new(alloc: Global, size: usize, limit: u64) -> Result<Window, NoMem>
+        ensures { IfOk result (λ w. w.held ≡ none_held size limit) }
+    {
+        let mut buffer = Vec::with_capacity(alloc, size)?;
+        buffer.resize(size, 0)?;
+        Ok(Window {
+            buffer,
+            start: 0,
+            end: 0,
+            taken: 0,
+            limit,
+        })
+    }
+
+    /// The bytes that are held.
+    pub(crate) fn as_slice(&self) -> &[u8]
+        ensures { result.now ≡ self.now.held.bytes }
+    {
+        &self.buffer[self.start..self.end]
+    }
+
+    /// How many bytes were taken in all.
+    pub(crate) fn taken(&self) -> u64
+        ensures { result ≡ self.now.held.taken }
+    {
+        self.taken
+    }
+
+    /// How many bytes are held.
+    pub(crate) fn len(&self) -> usize
+        ensures { result ≡ length self.now.held.bytes }
+    {
+        self.end - self.start
+    }
+
+    /// What is held has room, and no more bytes were taken than may be.
+    pub(crate) fn is_within(&self)
+        ensures fits { length self.now.held.bytes ≤ self.now.held.size }
+        ensures taken { self.now.held.taken ≤ self.now.held.limit }
+    {
+        let _taken = self.taken;
+    }
+
+    /// How many bytes have room.
+    pub(crate) fn size(&self) -> usize
+        ensures { result ≡ self.now.held.size }
+    {
+        self.buffer.len()
+    }
+
+    /// Lets the first bytes go.
+    fn let_go(&mut self, n: usize)
+        requires { n ≤ length self.old.held.bytes }
+        ensures { self.new.held ≡ let_go_of n self.old.held }
+    {
+        let _taken = self.taken;
+        self.start += n;
+    }
+
+    /// Lets all bytes go.
+    pub(crate) fn let_go_all(&mut self)
+        ensures { self.new.held ≡ released true self.old.held }
+    {
+        self.start = 0;
+        self.end = 0;
+    }
+
+    /// Lets the first bytes go, and tells where the next line end stands. It reads only where none is held.
+    pub(crate) fn next_end<I: Source>(
+        &mut self,
+        input: &mut I,
+        front: usize,
+    ) -> Result<usize, NoEnd>
+        requires { front ≤ length self.old.held.bytes }
+        ensures ends { LineEnds (let_go_of front self.old.held) self.new.held (I.left input.old) (I.left input.new) result }
+        ensures ahead { IsSome (before_end (drop front self.old.held.bytes)) → input.new ≡ input.old }
+        ensures cause { EndCause (I.faults input.old) (I.faults input.new) result }
+    {
+        self.let_go(front);
+        self.is_within();
+        match find_end(self.as_slice(), 0) {
+            Some(i) => Ok(i),
+            None => self.read_end(input),
+        }
+    }
+
+    /// Reads until a line end is held, and tells where it stands.
+    fn read_end<I: Source>(&mut self, input: &mut I) -> Result<usize, NoEnd>
+        requires none { before_end self.old.held.bytes ≡ None }
+        ensures ends { LineEnds self.old.held self.new.held (I.left input.old) (I.left input.new) result }
+        ensures cause { EndCause (I.faults input.old) (I.faults input.new) result }
+    {
+        let size = self.size();
+        self.is_within();
+        while self.len() < size {
+            let seen = self.len();
+            match self.more(input, size) {
+                Ok(()) => {}
+                Err(dry) => return Err(NoEnd::Dry(dry)),
+            }
+            match find_end(self.as_slice(), seen) {
+                Some(i) => return Ok(i),
+                None => {}
+            }
+        }
+        Err(NoEnd::Full)
+    }
+
+    /// Reads once, so that at most so many bytes are held.
+    pub(crate) fn more<I: Source>(&mut self, input: &mut I, want: usize) -> Result<(), Dry>
+        requires less { length self.old.held.bytes < want }
+        requires room { want ≤ self.old.held.size }
+        ensures reads { Reads want self.old.held self.new.held (I.left input.old) (I.left input.new) result }
+        ensures cause { DryCause (I.faults input.old) (I.faults input.new) result }
+    {
+        if self.end == self.buffer.len() {
+            self.compact();
+            return self.more_behind(input, want);
+        }
+        self.more_behind(input, want)
+    }
+
+    /// Moves the bytes to the front of the buffer. Nothing else shows of it.
+    fn compact(&mut self)
+        ensures held { self.new.held ≡ self.old.held }
+        ensures free { self.new.free ≡ self.old.held.size - length self.old.held.bytes }
+    {
+        let (start, end) = (self.start, self.end);
+        move_front(self.buffer.as_mut_slice(), start, end);
+        self.start = 0;
+        self.end = end - start;
+    }
+
+    /// Reads once behind the bytes.
+    fn more_behind<I: Source>(&mut self, input: &mut I, want: usize) -> Result<(), Dry>
+        requires free { 0 < self.old.free }
+        requires less { length self.old.held.bytes < want }
+        ensures reads { Reads want self.old.held self.new.held (I.left input.old) (I.left input.new) result }
+        ensures cause { DryCause (I.faults input.old) (I.faults input.new) result }
+    {
+        let room = self.limit - self.taken;
+        let free = self.buffer.len() - self.end;
+        let most = room.min(free.min(want - self.len()) as u64) as usize;
+        match read_within(input, self.buffer.as_mut_slice(), self.end, most) {
+            Ok(n) => {
+                self.end += n;
+                self.taken += n as u64;
+                Ok(())
+            }
+            Err(dry) => Err(dry),
+        }
+    }
+}
+
+/// Where the first line end stands. The first `plain` bytes have none.
+fn find_end(bytes: &[u8], plain: usize) -> Option<usize>
+    requires within { plain ≤ length bytes.now }
+    requires none { before_end (take plain bytes.now) ≡ None }
+    ensures { FindsEnd bytes.now result }
+{
+    match memchr(LINE_END, &bytes[plain..]) {
+        Some(i) => Some(plain + i),
+        None => None,
+    }
+}
+
+/// Moves a part of a buffer to its front.
+fn move_front(buf: &mut [u8], start: usize, end: usize)
+    requires low { start ≤ end }
+    requires high { end ≤ length buf.old }
+    ensures size { length buf.new ≡ length buf.old }
+    ensures moved { take (end - start) buf.new ≡ drop start (take end buf.old) }
+{
+    buf.copy_within(start..end, 0);
+}
