@@ -1,7 +1,7 @@
 -- Lines that are taken of a source one after another.
 use Rattle.std.specs.Prelude.{◌≡◌, ◌<◌, ◌≤◌, ◌⊎◌, ℕ, ◌+◌, ◌-◌, Option, Some, None, Result, Ok, Err, List, [], ◌∷◌, ◌++◌, length, take, drop, ⊤}
 use Rattle.sbe_base.specs.Causes.{Rose}
-use Rattle.open_framing.specs.Lines.{IsLine, Lines, End, LineOver, InputLimit, before_end, ended, longest_line}
+use Rattle.open_framing.specs.Lines.{IsLine, LineEnd, Lines, End, LineOver, InputLimit, before_end, ended, longest_line}
 use Rattle.frame_stream.specs.Window.{HeldState}
 use Rattle.frame_stream.specs.declared.lines.LineEnded.{LineEnded}
 use Rattle.frame_stream.specs.declared.lines.LineEnded.TheVariants as line_end
@@ -58,6 +58,12 @@ line_told_by line_end.End = Ok line.End
 line_told_by line_end.Over = Err line_err.LineOver
 line_told_by line_end.Limit = Err line_err.InputLimit
 
+-- the end of the lines at which a stream ends so
+abbrev pub lines_end : LineEnded → LineEnd
+lines_end line_end.End = End
+lines_end line_end.Over = LineOver
+lines_end line_end.Limit = InputLimit
+
 -- a line with its end was taken, and the rest is left
 pub record TakesEnded (stream : List ℕ) (old new : LineState) (left' : List ℕ) : Type 0 where
   pub line : IsLine new.line
@@ -80,7 +86,14 @@ TakesLineBy stream old new left' (Err line_err.LineOver) = Lines stream (line_ro
 TakesLineBy stream old new left' (Err line_err.InputLimit) = Lines stream (line_room old) [] InputLimit × ((x : ℕ) × (stream ≡ new.held ++ x ∷ left'))
 TakesLineBy stream old new left' (Err line_err.ReadFault) = stream ≡ new.held ++ left'
 
--- the same where the source tells its bytes, and nothing where it doesn't
+-- these lines are taken of the stream with their ends one after another, and the bytes left are not
+abbrev pub TakesLines : List (List ℕ) → List ℕ → LineState → LineState → List ℕ → Type 0
+TakesLines [] stream old new left = (stream ≡ left) × (new ≡ old)
+TakesLines (line' ∷ lines) stream old new left =
+    (next : LineState) × (left' : List ℕ) × TakesEnded stream old next left' × (line' ≡ next.line) × (line_room old ≡ line_bytes next + line_room next)
+    × TakesLines lines (next.held ++ left') next new left
+
+-- an answer by the bytes of the source where it tells them, and any where it doesn't
 abbrev pub TakesLineFrom : LineState → LineState → Option (List ℕ) → Option (List ℕ) → Result LineTaken LineErr → Type 0
 TakesLineFrom old new None left' result = ⊤
 TakesLineFrom old new (Some left) None result = ⊥

@@ -4,6 +4,7 @@
 #![tactic(auto)]
 
 mod held;
+pub mod laws;
 mod lines;
 mod reading;
 mod stream;
