@@ -1,4 +1,5 @@
-//! The types of checked schemas and of messages, and the numbers that bytes show.
+//! The types of schemas, before and after they are checked, and of messages, and the numbers that
+//! bytes show.
 #![tactic(auto)]
 
 mod kind;
@@ -7,6 +8,7 @@ mod message;
 mod number;
 mod path;
 mod schema;
+mod tree;
 
 pub use kind::{
     ConstValue, Kind, Leaf, LeafShape, Member, MemberList, Named, NamedList, Order, Presence, Prim,
@@ -22,4 +24,9 @@ pub use path::{Path, Step};
 pub use schema::{
     DataField, DataFieldList, Field, FieldList, Group, GroupList, Header, Level, LevelList,
     WireSchema,
+};
+pub use tree::{
+    ChoiceEl, CompositeEl, DataEl, EnumEl, FieldEl, GroupEl, MemberItem, MessageEl, PartItem,
+    PrimitiveType, RefEl, Schema, SchemaItem, SetEl, TypeEl, TypesEl, TypesItem, ValidValueEl,
+    ValueRef,
 };
