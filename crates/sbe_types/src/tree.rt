@@ -18,7 +18,7 @@ pub struct ValueRef {
 }
 
 /// A `messageSchema`: a schema as its file has it, before it is checked.
-#[derive(Drop)]
+#[derive(Debug, Drop)]
 pub struct Schema {
     pub id: u32,
     pub version: u32,
@@ -30,21 +30,21 @@ pub struct Schema {
 }
 
 /// A child of a `messageSchema`.
-#[derive(Drop)]
+#[derive(Debug, Drop)]
 pub enum SchemaItem {
     Types(TypesEl),
     Message(MessageEl),
 }
 
 /// A `types` element, which declares types.
-#[derive(Drop)]
+#[derive(Debug, Drop)]
 pub struct TypesEl {
     pub children: List<TypesItem>,
 }
 
 /// A declared type. Its `offset` is none and its `since_version` 0, since these are said of the
 /// members of composites alone.
-#[derive(Drop)]
+#[derive(Debug, Drop)]
 pub enum TypesItem {
     Type(TypeEl),
     Composite(CompositeEl),
@@ -53,7 +53,7 @@ pub enum TypesItem {
 }
 
 /// A `type`: a primitive, or an array of them.
-#[derive(Drop)]
+#[derive(Debug, Drop)]
 pub struct TypeEl {
     pub name: Text,
     pub primitive_type: PrimitiveType,
@@ -74,7 +74,7 @@ pub struct TypeEl {
 
 /// A `composite`, declared or written inside another.
 #[cycle(composite)]
-#[derive(Drop)]
+#[derive(Debug, Drop)]
 pub struct CompositeEl {
     pub name: Text,
     /// Of a member: where it begins, counted from the first byte of the composite around it.
@@ -85,7 +85,7 @@ pub struct CompositeEl {
 
 /// A member of a composite.
 #[cycle(composite)]
-#[derive(Drop)]
+#[derive(Debug, Drop)]
 pub enum MemberItem {
     Type(TypeEl),
     Enum(EnumEl),
@@ -95,7 +95,7 @@ pub enum MemberItem {
 }
 
 /// An `enum`: a number that is one of its valid values.
-#[derive(Drop)]
+#[derive(Debug, Drop)]
 pub struct EnumEl {
     pub name: Text,
     /// The name of the type of its number.
@@ -114,7 +114,7 @@ pub struct ValidValueEl {
 }
 
 /// A `set`: a number whose bits are its choices.
-#[derive(Drop)]
+#[derive(Debug, Drop)]
 pub struct SetEl {
     pub name: Text,
     /// The name of the type of its number.
@@ -143,7 +143,7 @@ pub struct RefEl {
 }
 
 /// A `message`: a template.
-#[derive(Drop)]
+#[derive(Debug, Drop)]
 pub struct MessageEl {
     pub name: Text,
     pub id: u32,
@@ -156,7 +156,7 @@ pub struct MessageEl {
 
 /// A part of a message or a group.
 #[cycle(part)]
-#[derive(Drop)]
+#[derive(Debug, Drop)]
 pub enum PartItem {
     Field(FieldEl),
     Group(GroupEl),
@@ -164,7 +164,7 @@ pub enum PartItem {
 }
 
 /// A `field`: a value in the block of a message or an entry.
-#[derive(Drop)]
+#[derive(Debug, Drop)]
 pub struct FieldEl {
     pub name: Text,
     pub id: u32,
@@ -178,7 +178,7 @@ pub struct FieldEl {
 
 /// A `group`: entries that repeat.
 #[cycle(part)]
-#[derive(Drop)]
+#[derive(Debug, Drop)]
 pub struct GroupEl {
     pub name: Text,
     pub id: u32,
