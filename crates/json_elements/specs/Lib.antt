@@ -1,0 +1,5 @@
+pub mod Reading
+pub mod Forms
+pub mod Attributes
+pub mod Elements
+pub mod Files

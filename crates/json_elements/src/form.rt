@@ -1,0 +1,146 @@
+ghost use Rattle.std.specs.Prelude.{◌≡◌, ◌==◌, slice_index};
+ghost use Rattle.serde_json.specs.Data.{Data};
+ghost use Rattle.serde_json.specs.View.{view};
+ghost use Rattle.json_elements.specs.Reading.{Reading, Gives, GivesAs};
+ghost use Rattle.json_elements.specs.Forms.{whole, whole_text, id_number, limited, text, text_or_number};
+
+use crate::refusal::{Cause, ElementErr, refuse};
+use itoa::Buffer;
+use lists::{List, Text};
+use serde_json::Value;
+use std::alloc::Global;
+
+/// A form that the value of an attribute may have.
+pub trait Form {
+    type Out: Drop;
+
+    /// What is read of a value.
+    ghost form: { Data → Reading Self.Out };
+
+    fn read(alloc: Global, value: &Value) -> Result<Self::Out, ElementErr>
+        ensures { Gives result (form (view value.now)) };
+}
+
+/// A whole number of 128 bits: a JSON integer, or a string of decimal digits with an optional `-`.
+pub enum WholeNumber {}
+
+impl Form for WholeNumber {
+    type Out = i128;
+
+    ghost form = { whole };
+
+    fn read(alloc: Global, value: &Value) -> Result<i128, ElementErr> {
+        read_whole(alloc, value)
+    }
+}
+
+/// A whole number from 0 to 4294967295.
+pub enum IdNumber {}
+
+impl Form for IdNumber {
+    type Out = u32;
+
+    ghost form = { id_number };
+
+    fn read(alloc: Global, value: &Value) -> Result<u32, ElementErr> {
+        let n = read_whole(alloc, value)?;
+        if n < 0 || n > u32::MAX as i128 {
+            return refuse(alloc, Cause::BadAttribute);
+        }
+        Ok(n as u32)
+    }
+}
+
+/// A JSON string.
+pub enum JsonText {}
+
+impl Form for JsonText {
+    type Out = Text;
+
+    ghost form = { text };
+
+    fn read(alloc: Global, value: &Value) -> Result<Text, ElementErr> {
+        let text = str_of(alloc, value)?;
+        Ok(List::from_slice(alloc, text.as_bytes())?)
+    }
+}
+
+/// A JSON string, or a JSON integer, which is taken as its decimal digits.
+pub enum TextOrNumber {}
+
+impl Form for TextOrNumber {
+    type Out = Text;
+
+    ghost form = { text_or_number };
+
+    fn read(alloc: Global, value: &Value) -> Result<Text, ElementErr> {
+        match value {
+            Value::String(text) => Ok(List::from_slice(alloc, text.as_str().as_bytes())?),
+            Value::Number(_) => {
+                let n = read_whole(alloc, value)?;
+                Ok(List::from_slice(alloc, Buffer::new().format(n).as_bytes())?)
+            }
+            _ => refuse(alloc, Cause::BadAttribute),
+        }
+    }
+}
+
+/// A whole number from 0 on; one above `most` breaks a limit.
+pub fn read_limited(alloc: Global, value: &Value, most: u32) -> Result<u32, ElementErr>
+    ensures { Gives result (limited most (view value.now)) }
+{
+    let n = read_whole(alloc, value)?;
+    if n < 0 {
+        return refuse(alloc, Cause::BadAttribute);
+    }
+    if n > most as i128 {
+        return refuse(alloc, Cause::Limit);
+    }
+    Ok(n as u32)
+}
+
+/// The text of a JSON string.
+pub fn str_of(alloc: Global, value: &Value) -> Result<&str, ElementErr>
+    ensures { GivesAs (λ s. s.now) result (text (view value.now)) }
+{
+    match value.as_str() {
+        Some(text) => Ok(text),
+        None => refuse(alloc, Cause::BadAttribute),
+    }
+}
+
+fn read_whole(alloc: Global, value: &Value) -> Result<i128, ElementErr>
+    ensures { Gives result (whole (view value.now)) }
+{
+    match value {
+        Value::Number(number) => {
+            if let Some(n) = number.as_u64() {
+                return Ok(n as i128);
+            }
+            match number.as_i64() {
+                Some(n) => Ok(n as i128),
+                None => refuse(alloc, Cause::BadAttribute),
+            }
+        }
+        Value::String(text) => whole_of_text(alloc, text.as_str()),
+        _ => refuse(alloc, Cause::BadAttribute),
+    }
+}
+
+fn whole_of_text(alloc: Global, text: &str) -> Result<i128, ElementErr>
+    ensures { Gives result (whole_text text.now) }
+{
+    if has_plus(text.as_bytes()) {
+        return refuse(alloc, Cause::BadAttribute);
+    }
+    match text.parse::<i128>() {
+        Ok(n) => Ok(n),
+        Err(_) => refuse(alloc, Cause::BadAttribute),
+    }
+}
+
+fn has_plus(text: &[u8]) -> bool
+    ensures { result ≡ (slice_index text.now 0 == 43) }
+{
+    !text.is_empty() && text[0] == b'+'
+}

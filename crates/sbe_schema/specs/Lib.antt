@@ -1,0 +1,4 @@
+pub mod Forms
+pub mod Types
+pub mod Messages
+pub mod Schemas

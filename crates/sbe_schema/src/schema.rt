@@ -1,0 +1,253 @@
+ghost use Rattle.std.specs.Prelude.{◌≡◌, ◌≤◌, codes, length};
+ghost use Rattle.serde_json.specs.View.{view, items_view};
+ghost use Rattle.json_elements.specs.Reading.{Gives, at_child};
+ghost use Rattle.json_elements.specs.Attributes.{with_default};
+ghost use Rattle.json_elements.specs.Elements.{lone, named, at_most, each};
+ghost use Rattle.sbe_schema.specs.declared.schema.TheConstants.{TYPE_LIMIT, MESSAGE_LIMIT};
+ghost use Rattle.sbe_schema.specs.Forms.{a_name, element_of};
+ghost use Rattle.sbe_schema.specs.Schemas.{types_child, declared, types_from, schema_child, outer_part, declares, outer_parts, message_count_in, message_count, schema_from, root, schema_of, Answers};
+
+use crate::element_name::ElementName;
+use crate::form::{Name, OrderWord};
+use crate::message::read_message;
+use crate::schema_err::SchemaErr;
+use crate::types::{Standing, read_composite, read_enum, read_set, read_type};
+use json_elements::{
+    Cause, ElementErr, IdNumber, JsonText, at_child, content_of, inside, limit_children, lone_of,
+    needed, path_of, read_value, refuse, with_default,
+};
+use lists::{List, Text};
+use sbe_types::{Order, Schema, SchemaItem, TypesEl, TypesItem};
+use serde_json::Value;
+use std::alloc::Global;
+
+/// The most types that a schema declares.
+pub const TYPE_LIMIT: usize = 1024;
+
+/// The most messages of a schema.
+pub const MESSAGE_LIMIT: usize = 512;
+
+/// The tree of a schema file, or the first refusal with its place, as a JSON pointer. What a file
+/// may hold is told in docs/profile.md under "Schema files".
+pub fn read_schema(alloc: Global, bytes: &[u8]) -> Result<Schema, SchemaErr>
+    ensures { Answers result (schema_of bytes.now) }
+{
+    match read_file(alloc, bytes) {
+        Ok(schema) => Ok(schema),
+        Err(ElementErr::Memory) => Err(SchemaErr::Memory),
+        Err(ElementErr::Refused(cause, steps)) => match path_of(alloc, steps.as_slice()) {
+            Ok(path) => Err(SchemaErr::Refused(cause, path)),
+            Err(_) => Err(SchemaErr::Memory),
+        },
+    }
+}
+
+fn read_file(alloc: Global, bytes: &[u8]) -> Result<Schema, ElementErr>
+    ensures { Gives result (schema_of bytes.now) }
+{
+    let value = read_value(alloc, bytes)?;
+    read_root(alloc, &value)
+}
+
+fn read_root(alloc: Global, value: &Value) -> Result<Schema, ElementErr>
+    ensures { Gives result (named (λ name. root (element_of name)) (view value.now)) }
+{
+    match lone_of(value) {
+        None => refuse(alloc, Cause::Shape),
+        Some((name, element)) => match ElementName::of(name) {
+            ElementName::MessageSchema => {
+                inside("messageSchema", read_message_schema(alloc, element))
+            }
+            _ => refuse(alloc, Cause::Shape),
+        },
+    }
+}
+
+fn read_message_schema(alloc: Global, element: &Value) -> Result<Schema, ElementErr>
+    ensures { Gives result (schema_from (view element.now)) }
+{
+    let children = content_of(alloc, element)?;
+    let id = needed::<IdNumber>(alloc, element, "id")?;
+    let version = with_default::<IdNumber>(alloc, element, "version", 0)?;
+    let package = with_default::<JsonText>(alloc, element, "package", List::new(alloc))?;
+    let byte_order = with_default::<OrderWord>(alloc, element, "byteOrder", Order::Little)?;
+    let header_type = read_header_type(alloc, element)?;
+    limit_messages(alloc, children)?;
+    let children = read_outer_parts(alloc, children)?;
+    Ok(Schema {
+        id,
+        version,
+        package,
+        byte_order,
+        header_type,
+        children,
+    })
+}
+
+fn read_header_type(alloc: Global, element: &Value) -> Result<Text, ElementErr>
+    ensures { Gives result
+        (with_default (codes "messageHeader") a_name (codes "headerType") (view element.now)) }
+{
+    let otherwise = List::from_slice(alloc, b"messageHeader")?;
+    with_default::<Name>(alloc, element, "headerType", otherwise)
+}
+
+fn limit_messages(alloc: Global, items: &[Value]) -> Result<(), ElementErr>
+    ensures { Gives result (at_most MESSAGE_LIMIT (message_count (items_view items.now))) }
+{
+    if count_messages(items) > MESSAGE_LIMIT {
+        return refuse(alloc, Cause::Limit);
+    }
+    Ok(())
+}
+
+fn count_messages(items: &[Value]) -> usize
+    ensures count { result ≡ message_count (items_view items.now) }
+    ensures few { result ≤ length items.now }
+{
+    let mut count = 0;
+    for item in items {
+        count += one_if_message(item);
+    }
+    count
+}
+
+fn one_if_message(item: &Value) -> usize
+    ensures count { result ≡ message_count_in (lone (view item.now)) }
+    ensures few { result ≤ 1 }
+{
+    match lone_of(item) {
+        None => 0,
+        Some((name, _)) => match ElementName::of(name) {
+            ElementName::Message => 1,
+            _ => 0,
+        },
+    }
+}
+
+fn read_outer_parts(alloc: Global, items: &[Value]) -> Result<List<SchemaItem>, ElementErr>
+    ensures { Gives result (outer_parts TYPE_LIMIT 0 (items_view items.now)) }
+{
+    let mut parts = List::new(alloc);
+    let mut room = TYPE_LIMIT;
+    for (i, item) in items.iter().enumerate() {
+        let part = outer_part_at(alloc, room, i, item)?;
+        room = room.saturating_sub(count_declared(&part));
+        parts.push(part)?;
+    }
+    Ok(parts)
+}
+
+fn count_declared(part: &SchemaItem) -> usize
+    ensures { result ≡ declares part.now }
+{
+    match part {
+        SchemaItem::Types(types) => types.children.len(),
+        SchemaItem::Message(_) => 0,
+    }
+}
+
+fn outer_part_at(
+    alloc: Global,
+    room: usize,
+    i: usize,
+    item: &Value,
+) -> Result<SchemaItem, ElementErr>
+    ensures { Gives result (at_child i (outer_part room (view item.now))) }
+{
+    at_child(i, read_outer_part(alloc, room, item))
+}
+
+fn read_outer_part(alloc: Global, room: usize, item: &Value) -> Result<SchemaItem, ElementErr>
+    ensures { Gives result (outer_part room (view item.now)) }
+{
+    match lone_of(item) {
+        None => refuse(alloc, Cause::Shape),
+        Some((name, element)) => read_named_outer(alloc, room, ElementName::of(name), element),
+    }
+}
+
+fn read_named_outer(
+    alloc: Global,
+    room: usize,
+    name: ElementName,
+    element: &Value,
+) -> Result<SchemaItem, ElementErr>
+    ensures { Gives result (schema_child room name (view element.now)) }
+{
+    match name {
+        ElementName::Types => {
+            let found = inside("types", read_types(alloc, room, element))?;
+            Ok(SchemaItem::Types(found))
+        }
+        ElementName::Message => {
+            let found = inside("message", read_message(alloc, element))?;
+            Ok(SchemaItem::Message(found))
+        }
+        _ => refuse(alloc, Cause::Shape),
+    }
+}
+
+/// A `types` element, where `room` types more may be declared.
+fn read_types(alloc: Global, room: usize, element: &Value) -> Result<TypesEl, ElementErr>
+    ensures { Gives result (types_from room (view element.now)) }
+{
+    let children = content_of(alloc, element)?;
+    limit_children(alloc, children, room)?;
+    let children = read_declared(alloc, children)?;
+    Ok(TypesEl { children })
+}
+
+fn read_declared(alloc: Global, items: &[Value]) -> Result<List<TypesItem>, ElementErr>
+    ensures { Gives result (each declared 0 (items_view items.now)) }
+{
+    let mut types = List::new(alloc);
+    for (i, item) in items.iter().enumerate() {
+        types.push(declared_at(alloc, i, item)?)?;
+    }
+    Ok(types)
+}
+
+fn declared_at(alloc: Global, i: usize, item: &Value) -> Result<TypesItem, ElementErr>
+    ensures { Gives result (at_child i (declared (view item.now))) }
+{
+    at_child(i, read_declared_type(alloc, item))
+}
+
+fn read_declared_type(alloc: Global, item: &Value) -> Result<TypesItem, ElementErr>
+    ensures { Gives result (declared (view item.now)) }
+{
+    match lone_of(item) {
+        None => refuse(alloc, Cause::Shape),
+        Some((name, element)) => read_named_type(alloc, ElementName::of(name), element),
+    }
+}
+
+fn read_named_type(
+    alloc: Global,
+    name: ElementName,
+    element: &Value,
+) -> Result<TypesItem, ElementErr>
+    ensures { Gives result (types_child name (view element.now)) }
+{
+    let declared = Standing::Declared;
+    match name {
+        ElementName::Type => {
+            let found = inside("type", read_type(alloc, declared, element))?;
+            Ok(TypesItem::Type(found))
+        }
+        ElementName::Composite => {
+            let found = inside("composite", read_composite(alloc, declared, element))?;
+            Ok(TypesItem::Composite(found))
+        }
+        ElementName::Enum => {
+            let found = inside("enum", read_enum(alloc, declared, element))?;
+            Ok(TypesItem::Enum(found))
+        }
+        ElementName::Set => {
+            let found = inside("set", read_set(alloc, declared, element))?;
+            Ok(TypesItem::Set(found))
+        }
+        _ => refuse(alloc, Cause::Shape),
+    }
+}

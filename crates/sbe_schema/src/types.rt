@@ -1,0 +1,304 @@
+ghost use Rattle.std.specs.Prelude.{◌≡◌};
+ghost use Rattle.serde_json.specs.View.{view, items_view};
+ghost use Rattle.json_elements.specs.Reading.{Gives, at_child};
+ghost use Rattle.json_elements.specs.Elements.{each, branches};
+ghost use Rattle.sbe_schema.specs.Types.{offset_from, since_from, type_from, ref_from, valid_value_from, enum_child, valid_value, enum_from, choice_from, set_child, choice, set_from, composite_from, composite_child, by_member, member_of};
+
+use crate::element_name::ElementName;
+use crate::form::{ArrayLength, BytePlace, DottedName, Name, PresenceWord, PrimitiveWord};
+use json_elements::{
+    Cause, ElementErr, IdNumber, JsonText, TextOrNumber, WholeNumber, at_child, content_of, inside,
+    limit_children, lone_of, needed, optional, refuse, refuse_children, with_default,
+};
+use lists::List;
+use sbe_types::{ChoiceEl, CompositeEl, EnumEl, MemberItem, RefEl, SetEl, TypeEl, ValidValueEl};
+use serde_json::Value;
+use std::alloc::Global;
+
+/// The most members of a composite.
+pub const MEMBER_LIMIT: usize = 256;
+
+/// The most valid values of an enum.
+pub const VALUE_LIMIT: usize = 1024;
+
+/// Where a type stands.
+#[derive(Clone, Copy, Debug, PartialEq, Eq)]
+pub enum Standing {
+    /// In a `types` element.
+    Declared,
+    /// In a composite, where it may have an offset and a version.
+    Member,
+}
+
+pub fn read_type(alloc: Global, standing: Standing, element: &Value) -> Result<TypeEl, ElementErr>
+    ensures { Gives result (type_from standing (view element.now)) }
+{
+    let children = content_of(alloc, element)?;
+    let name = needed::<Name>(alloc, element, "name")?;
+    let primitive_type = needed::<PrimitiveWord>(alloc, element, "primitiveType")?;
+    let length = with_default::<ArrayLength>(alloc, element, "length", 1)?;
+    let presence = optional::<PresenceWord>(alloc, element, "presence")?;
+    let null_value = optional::<WholeNumber>(alloc, element, "nullValue")?;
+    let min_value = optional::<WholeNumber>(alloc, element, "minValue")?;
+    let max_value = optional::<WholeNumber>(alloc, element, "maxValue")?;
+    let character_encoding = optional::<JsonText>(alloc, element, "characterEncoding")?;
+    let value_ref = optional::<DottedName>(alloc, element, "valueRef")?;
+    let text = optional::<TextOrNumber>(alloc, element, "text")?;
+    let offset = read_offset(alloc, standing, element)?;
+    let since_version = read_since(alloc, standing, element)?;
+    refuse_children(alloc, children)?;
+    Ok(TypeEl {
+        name,
+        primitive_type,
+        length,
+        presence,
+        null_value,
+        min_value,
+        max_value,
+        character_encoding,
+        value_ref,
+        text,
+        offset,
+        since_version,
+    })
+}
+
+fn read_offset(
+    alloc: Global,
+    standing: Standing,
+    element: &Value,
+) -> Result<Option<u32>, ElementErr>
+    ensures { Gives result (offset_from standing (view element.now)) }
+{
+    match standing {
+        Standing::Declared => Ok(None),
+        Standing::Member => optional::<BytePlace>(alloc, element, "offset"),
+    }
+}
+
+fn read_since(alloc: Global, standing: Standing, element: &Value) -> Result<u32, ElementErr>
+    ensures { Gives result (since_from standing (view element.now)) }
+{
+    match standing {
+        Standing::Declared => Ok(0),
+        Standing::Member => with_default::<IdNumber>(alloc, element, "sinceVersion", 0),
+    }
+}
+
+fn read_ref(alloc: Global, element: &Value) -> Result<RefEl, ElementErr>
+    ensures { Gives result (ref_from (view element.now)) }
+{
+    let children = content_of(alloc, element)?;
+    let name = needed::<Name>(alloc, element, "name")?;
+    let type_name = needed::<Name>(alloc, element, "type")?;
+    let offset = read_offset(alloc, Standing::Member, element)?;
+    let since_version = read_since(alloc, Standing::Member, element)?;
+    refuse_children(alloc, children)?;
+    Ok(RefEl {
+        name,
+        type_name,
+        offset,
+        since_version,
+    })
+}
+
+pub fn read_enum(alloc: Global, standing: Standing, element: &Value) -> Result<EnumEl, ElementErr>
+    ensures { Gives result (enum_from standing (view element.now)) }
+{
+    let children = content_of(alloc, element)?;
+    let name = needed::<Name>(alloc, element, "name")?;
+    let encoding_type = needed::<Name>(alloc, element, "encodingType")?;
+    let offset = read_offset(alloc, standing, element)?;
+    let since_version = read_since(alloc, standing, element)?;
+    limit_children(alloc, children, VALUE_LIMIT)?;
+    let children = read_valid_values(alloc, children)?;
+    Ok(EnumEl {
+        name,
+        encoding_type,
+        offset,
+        since_version,
+        children,
+    })
+}
+
+fn read_valid_values(alloc: Global, items: &[Value]) -> Result<List<ValidValueEl>, ElementErr>
+    ensures { Gives result (each valid_value 0 (items_view items.now)) }
+{
+    let mut values = List::new(alloc);
+    for (i, item) in items.iter().enumerate() {
+        values.push(valid_value_at(alloc, i, item)?)?;
+    }
+    Ok(values)
+}
+
+fn valid_value_at(alloc: Global, i: usize, item: &Value) -> Result<ValidValueEl, ElementErr>
+    ensures { Gives result (at_child i (valid_value (view item.now))) }
+{
+    at_child(i, read_enum_child(alloc, item))
+}
+
+fn read_enum_child(alloc: Global, item: &Value) -> Result<ValidValueEl, ElementErr>
+    ensures { Gives result (valid_value (view item.now)) }
+{
+    match lone_of(item) {
+        None => refuse(alloc, Cause::Shape),
+        Some((name, element)) => match ElementName::of(name) {
+            ElementName::ValidValue => inside("validValue", read_valid_value(alloc, element)),
+            _ => refuse(alloc, Cause::Shape),
+        },
+    }
+}
+
+fn read_valid_value(alloc: Global, element: &Value) -> Result<ValidValueEl, ElementErr>
+    ensures { Gives result (valid_value_from (view element.now)) }
+{
+    let children = content_of(alloc, element)?;
+    let name = needed::<Name>(alloc, element, "name")?;
+    let text = needed::<TextOrNumber>(alloc, element, "text")?;
+    refuse_children(alloc, children)?;
+    Ok(ValidValueEl { name, text })
+}
+
+pub fn read_set(alloc: Global, standing: Standing, element: &Value) -> Result<SetEl, ElementErr>
+    ensures { Gives result (set_from standing (view element.now)) }
+{
+    let children = content_of(alloc, element)?;
+    let name = needed::<Name>(alloc, element, "name")?;
+    let encoding_type = needed::<Name>(alloc, element, "encodingType")?;
+    let offset = read_offset(alloc, standing, element)?;
+    let since_version = read_since(alloc, standing, element)?;
+    let children = read_choices(alloc, children)?;
+    Ok(SetEl {
+        name,
+        encoding_type,
+        offset,
+        since_version,
+        children,
+    })
+}
+
+fn read_choices(alloc: Global, items: &[Value]) -> Result<List<ChoiceEl>, ElementErr>
+    ensures { Gives result (each choice 0 (items_view items.now)) }
+{
+    let mut choices = List::new(alloc);
+    for (i, item) in items.iter().enumerate() {
+        choices.push(choice_at(alloc, i, item)?)?;
+    }
+    Ok(choices)
+}
+
+fn choice_at(alloc: Global, i: usize, item: &Value) -> Result<ChoiceEl, ElementErr>
+    ensures { Gives result (at_child i (choice (view item.now))) }
+{
+    at_child(i, read_set_child(alloc, item))
+}
+
+fn read_set_child(alloc: Global, item: &Value) -> Result<ChoiceEl, ElementErr>
+    ensures { Gives result (choice (view item.now)) }
+{
+    match lone_of(item) {
+        None => refuse(alloc, Cause::Shape),
+        Some((name, element)) => match ElementName::of(name) {
+            ElementName::Choice => inside("choice", read_choice(alloc, element)),
+            _ => refuse(alloc, Cause::Shape),
+        },
+    }
+}
+
+fn read_choice(alloc: Global, element: &Value) -> Result<ChoiceEl, ElementErr>
+    ensures { Gives result (choice_from (view element.now)) }
+{
+    let children = content_of(alloc, element)?;
+    let name = needed::<Name>(alloc, element, "name")?;
+    let text = needed::<TextOrNumber>(alloc, element, "text")?;
+    refuse_children(alloc, children)?;
+    Ok(ChoiceEl { name, text })
+}
+
+#[cycle(members)]
+#[tactic(auto, using(crate::proofs::Children::branches_each))]
+pub fn read_composite(
+    alloc: Global,
+    standing: Standing,
+    element: &Value,
+) -> Result<CompositeEl, ElementErr>
+    ensures { Gives result
+        (composite_from standing (view element.now) (branches by_member (view element.now))) }
+{
+    let children = content_of(alloc, element)?;
+    let name = needed::<Name>(alloc, element, "name")?;
+    let offset = read_offset(alloc, standing, element)?;
+    let since_version = read_since(alloc, standing, element)?;
+    limit_children(alloc, children, MEMBER_LIMIT)?;
+    let children = read_members(alloc, children)?;
+    Ok(CompositeEl {
+        name,
+        offset,
+        since_version,
+        children,
+    })
+}
+
+#[cycle(members)]
+fn read_members(alloc: Global, items: &[Value]) -> Result<List<MemberItem>, ElementErr>
+    ensures { Gives result (each member_of 0 (items_view items.now)) }
+{
+    let mut members = List::new(alloc);
+    for (i, item) in items.iter().enumerate() {
+        members.push(member_at(alloc, i, item)?)?;
+    }
+    Ok(members)
+}
+
+#[cycle(members)]
+fn member_at(alloc: Global, i: usize, item: &Value) -> Result<MemberItem, ElementErr>
+    ensures { Gives result (at_child i (member_of (view item.now))) }
+{
+    at_child(i, read_member(alloc, item))
+}
+
+#[cycle(members)]
+#[tactic(auto, using(crate::proofs::Children::tree_seen, crate::proofs::Children::tree_unseen))]
+fn read_member(alloc: Global, item: &Value) -> Result<MemberItem, ElementErr>
+    ensures { Gives result (member_of (view item.now)) }
+{
+    match lone_of(item) {
+        None => refuse(alloc, Cause::Shape),
+        Some((name, element)) => read_named_member(alloc, ElementName::of(name), element),
+    }
+}
+
+#[cycle(members)]
+fn read_named_member(
+    alloc: Global,
+    name: ElementName,
+    element: &Value,
+) -> Result<MemberItem, ElementErr>
+    ensures { Gives result
+        (composite_child name (view element.now) (branches by_member (view element.now))) }
+{
+    let member = Standing::Member;
+    match name {
+        ElementName::Type => {
+            let found = inside("type", read_type(alloc, member, element))?;
+            Ok(MemberItem::Type(found))
+        }
+        ElementName::Enum => {
+            let found = inside("enum", read_enum(alloc, member, element))?;
+            Ok(MemberItem::Enum(found))
+        }
+        ElementName::Set => {
+            let found = inside("set", read_set(alloc, member, element))?;
+            Ok(MemberItem::Set(found))
+        }
+        ElementName::Composite => {
+            let found = inside("composite", read_composite(alloc, member, element))?;
+            Ok(MemberItem::Composite(found))
+        }
+        ElementName::Ref => {
+            let found = inside("ref", read_ref(alloc, element))?;
+            Ok(MemberItem::Ref(found))
+        }
+        _ => refuse(alloc, Cause::Shape),
+    }
+}
