@@ -2,6 +2,7 @@
 //! bytes show.
 #![tactic(auto)]
 
+mod copy;
 mod kind;
 pub mod laws;
 mod message;
