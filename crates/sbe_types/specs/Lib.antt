@@ -1,3 +1,4 @@
+pub mod AtPlaces
 pub mod Numbers
 pub mod Places
 pub mod Shown

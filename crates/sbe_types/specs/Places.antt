@@ -1,10 +1,11 @@
 -- Widths, and the places of parts in a block or composite. Constants take no bytes and are passed over.
-use Rattle.std.specs.Prelude.{ℕ, zero, suc, ◌+◌, ◌*◌, Bool, true, false, if◌then◌else◌, Option, Some, None, unwrap_or, List, [], ◌∷◌}
+use Rattle.std.specs.Prelude.{ℕ, zero, suc, ◌+◌, ◌*◌, Bool, true, false, if◌then◌else◌, Option, Some, None, unwrap_or, List, [], ◌∷◌, take, drop}
 use Rattle.sbe_types.specs.declared.kind.Kind.{Kind, Leaf, Enum, Set, Const, Comp', Row_of-Member, end_of-Member, more_of-Member}
 use Rattle.sbe_types.specs.declared.kind.Member.{Member}
 use Rattle.sbe_types.specs.declared.schema.Field.{Field}
 use Rattle.sbe_types.specs.Numbers.{prim_width}
 
+-- a constant takes no bytes
 abbrev pub is_const : Kind → Bool
 is_const (Const c) = true
 is_const (Leaf l) = false
@@ -34,25 +35,33 @@ abbrev mutual
 abbrev pub end_past : ℕ → Option ℕ → Kind → ℕ
 end_past e offset kind = if is_const kind then e else begin_of e offset + width kind
 
--- the same over lists: the end of members, and of fields
+-- the end of a list of members behind members that end at e
 abbrev pub members_end : ℕ → List Member → ℕ
 members_end e [] = e
 members_end e (m ∷ ms) = members_end (end_past e m.offset m.kind) ms
 
+-- the end of fields behind fields that end at e
 abbrev pub fields_end : ℕ → List Field → ℕ
 fields_end e [] = e
 fields_end e (f ∷ fs) = fields_end (end_past e f.offset f.kind) fs
 
+-- the place of a part behind parts that end at e; a constant has none
 abbrev pub place_of : ℕ → Option ℕ → Kind → Option ℕ
 place_of e offset kind = if is_const kind then None else Some (begin_of e offset)
 
--- the place of part i behind parts that end at e; a constant has none
+-- the place of a composite's member i, where the members before the first end at e
 abbrev pub member_place : ℕ → List Member → ℕ → Option ℕ
 member_place e [] i = None
 member_place e (m ∷ ms) zero = place_of e m.offset m.kind
 member_place e (m ∷ ms) (suc i) = member_place (end_past e m.offset m.kind) ms i
 
+-- the place of a level's field i, where the fields before the first end at e
 abbrev pub field_place : ℕ → List Field → ℕ → Option ℕ
 field_place e [] i = None
 field_place e (f ∷ fs) zero = place_of e f.offset f.kind
 field_place e (f ∷ fs) (suc i) = field_place (end_past e f.offset f.kind) fs i
+
+-- the n bytes at a place; without a place there are none
+abbrev pub bytes_at : Option ℕ → ℕ → List ℕ → List ℕ
+bytes_at None n b = []
+bytes_at (Some place) n b = take n (drop place b)

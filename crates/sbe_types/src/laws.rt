@@ -1,9 +1,15 @@
 //! Laws of the definitions, as functions without a body.
 
-ghost use Rattle.std.specs.Prelude.{◌≡◌, ℕ, ℤ, List, Some, length};
+ghost use Rattle.std.specs.Prelude.{◌≡◌, ◌↔◌, ℕ, ℤ, Bool, List, Some, length};
 ghost use Rattle.digits.specs.Digits.{IsBytes};
 ghost use Rattle.sbe_types.specs.declared.kind.Order.{Order};
 ghost use Rattle.sbe_types.specs.declared.kind.Primitive.{Primitive};
+ghost use Rattle.sbe_types.specs.declared.kind.Kind.{Kind};
+ghost use Rattle.sbe_types.specs.declared.kind.Member.{Member};
+ghost use Rattle.sbe_types.specs.declared.message.Value.{Value};
+ghost use Rattle.sbe_types.specs.AtPlaces.{members_of, ShowsMembers};
+ghost use Rattle.sbe_types.specs.Places.{width, members_end};
+ghost use Rattle.sbe_types.specs.Shows.{Shows};
 ghost use Rattle.sbe_types.specs.Numbers.{number_of, bytes_of, prim_width};
 
 /// The bytes of a number show that number, and are as many as the primitive takes.
@@ -16,4 +22,11 @@ pub fn bytes_show_their_number()
 pub fn number_has_its_bytes()
     ensures { (order : Order) (prim : Primitive) (bytes : List ℕ) → length bytes ≡ prim_width prim → IsBytes bytes
         → bytes_of order prim (number_of order prim bytes) ≡ Some bytes }
+{}
+
+/// A composite shows its value where each member shows its own at its place, and ends where they end.
+pub fn members_show_at_their_places()
+    ensures shown { (order : Order) (known : Bool) (kind : Kind) (members : List Member) (v : Value) (b : List ℕ)
+        → members_of kind ≡ Some members → Shows order known kind v b ↔ ShowsMembers order known members v b }
+    ensures width { (kind : Kind) (members : List Member) → members_of kind ≡ Some members → width kind ≡ members_end 0 members }
 {}

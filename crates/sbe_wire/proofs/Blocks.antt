@@ -27,10 +27,10 @@ past_grows e offset kind true c h = omega arith
 past_grows e offset kind false c h = let begins : e ≤ begin_of e offset = h c in omega arith
 
 -- how far the block must reach when one more field is seen
-abbrev reach : ℕ → ℕ → ℕ → Field → ℕ
+abbrev pub reach : ℕ → ℕ → ℕ → Field → ℕ
 reach version e reached f = cond (is_alive version f.since && not (is_const f.kind)) (end_past e f.offset f.kind) reached
 
-reach_within : (version e reached : ℕ) (f : Field) (t : Bool) → (is_alive version f.since && not (is_const f.kind)) ≡ t → reached ≤ e → BeginsBehind e f.offset f.kind → cond t (end_past e f.offset f.kind) reached ≤ end_past e f.offset f.kind
+pub reach_within : (version e reached : ℕ) (f : Field) (t : Bool) → (is_alive version f.since && not (is_const f.kind)) ≡ t → reached ≤ e → BeginsBehind e f.offset f.kind → cond t (end_past e f.offset f.kind) reached ≤ end_past e f.offset f.kind
 reach_within version e reached f true c within h = omega arith
 reach_within version e reached f false c within h = let grows = past_grows e f.offset f.kind (is_const f.kind) refl h in omega (arith, grows)
 

@@ -1,3 +1,4 @@
+pub mod Computing
 pub mod Combine
 pub mod Judging
 pub mod TextLemmas
@@ -6,3 +7,4 @@ pub mod Blocks
 pub mod Tails
 pub mod Levels
 pub mod Messages
+pub mod PlaceLemmas

@@ -1,13 +1,21 @@
 //! Laws of the definitions, for each schema whose parts don't go back and whose messages differ in
 //! their ids, as the checker sees to.
 
-ghost use Rattle.std.specs.Prelude.{◌≡◌, ◌⊎◌, ◌↔◌, ℕ, List, Ok, Err};
+ghost use Rattle.std.specs.Prelude.{◌≡◌, ◌⊎◌, ◌↔◌, ◌+◌, ◌≤◌, ℕ, Bool, true, List, Some, Ok, Err, length, slice_get};
+ghost use Rattle.std.specs.Bool.{MatchBool};
+ghost use Rattle.sbe_types.specs.declared.kind.Order.{Order};
+ghost use Rattle.sbe_types.specs.declared.schema.Field.{Field};
+ghost use Rattle.sbe_types.specs.declared.message.Value.{Value};
+ghost use Rattle.sbe_types.specs.declared.message.Value.TheVariants.{Absent};
+ghost use Rattle.sbe_types.specs.Places.{width, field_place, bytes_at};
+ghost use Rattle.sbe_types.specs.Shows.{Shows};
+ghost use Rattle.sbe_wire.specs.Versions.{is_alive, floor};
 ghost use Rattle.sbe_types.specs.declared.schema.WireSchema.{WireSchema};
 ghost use Rattle.sbe_types.specs.declared.message.Msg.{Msg};
-ghost use Rattle.sbe_wire.specs.Lays.{Lays};
+ghost use Rattle.sbe_wire.specs.Lays.{FieldsLay, Lays};
 ghost use Rattle.sbe_wire.specs.Faults.{Fault, FirstFault};
 ghost use Rattle.sbe_wire.specs.Reading.{message_of};
-ghost use Rattle.sbe_wire.specs.Placed.{IsPlaced};
+ghost use Rattle.sbe_wire.specs.Placed.{ArePlaced, IsPlaced};
 
 /// The message that is computed is the one that lies in the body.
 pub fn computed_message_lies()
@@ -34,4 +42,24 @@ pub fn message_or_one_fault()
 /// A body in which a message lies has no fault.
 pub fn no_fault_of_a_message()
     ensures { (schema : WireSchema) → IsPlaced schema → (body : List ℕ) (m : Msg) (fault : Fault) → Lays schema m body → FirstFault schema fault body → ⊥ }
+{}
+
+/// Fields lie in a block where each field that is alive shows its value at its place, and each other
+/// one is absent.
+pub fn fields_lie_at_their_places()
+    ensures { (order : Order) (known : Bool) (version : ℕ) (fields : List Field) (values : List Value) (b : List ℕ)
+        → FieldsLay order known version 0 fields values b
+        ↔ ((length values ≡ length fields)
+        × ((i : ℕ) (f : Field) (v : Value) → slice_get fields i ≡ Some f → slice_get values i ≡ Some v
+        → MatchBool (is_alive version f.since) (Shows order known f.kind v (bytes_at (field_place 0 fields i) (width f.kind) b)) (v ≡ Absent))) }
+{}
+
+/// Each field that is alive ends at the floor or before it, and one of them at the floor, if it isn't 0.
+pub fn floor_is_the_last_end()
+    ensures holds { (version : ℕ) (fields : List Field) → ArePlaced 0 fields → (i place : ℕ) (f : Field)
+        → slice_get fields i ≡ Some f → is_alive version f.since ≡ true → field_place 0 fields i ≡ Some place
+        → place + width f.kind ≤ floor version fields }
+    ensures met { (version : ℕ) (fields : List Field) → (floor version fields ≡ 0)
+        ⊎ ((i : ℕ) × (place : ℕ) × (f : Field) × (slice_get fields i ≡ Some f) × (is_alive version f.since ≡ true)
+        × (field_place 0 fields i ≡ Some place) × (floor version fields ≡ place + width f.kind)) }
 {}

@@ -1,0 +1,29 @@
+-- The members of a composite, each by its number.
+use Rattle.std.specs.Prelude.{◌≡◌, ℕ, Bool, Option, Some, None, List, length, slice_get}
+use Rattle.sbe_types.specs.declared.kind.Order.{Order}
+use Rattle.sbe_types.specs.declared.kind.Kind.{Kind, Leaf, Enum, Set, Const, Comp', items-the_row-Member}
+use Rattle.sbe_types.specs.declared.kind.Member.{Member}
+use Rattle.sbe_types.specs.declared.message.Value.{Value}
+use Rattle.sbe_types.specs.declared.message.Value.TheVariants as value
+use Rattle.sbe_types.specs.Places.{width, members_end, member_place, bytes_at}
+use Rattle.sbe_types.specs.Shows.{Shows}
+
+-- the members of a composite
+abbrev pub members_of : Kind → Option (List Member)
+members_of (Leaf l) = None
+members_of (Enum l names) = None
+members_of (Set p names) = None
+members_of (Const c) = None
+members_of (Comp' n members) = Some (items-the_row-Member _ members)
+
+-- as many values as members, and each member's value is shown by the bytes at its place
+abbrev pub EachMemberShows : Order → Bool → List Member → List Value → List ℕ → Type 0
+EachMemberShows order known members values b =
+    (length values ≡ length members)
+    × ((i : ℕ) (m : Member) (v : Value) → slice_get members i ≡ Some m → slice_get values i ≡ Some v
+    → Shows order known m.kind v (bytes_at (member_place 0 members i) (width m.kind) b))
+
+-- the bytes are as many as the members end at, and each member shows its value
+abbrev pub ShowsMembers : Order → Bool → List Member → Value → List ℕ → Type 0
+ShowsMembers order known members v b =
+    (length b ≡ members_end 0 members) × ((values : List Value) × (v ≡ value.Comp values) × EachMemberShows order known members values b)
