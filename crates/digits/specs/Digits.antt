@@ -1,4 +1,5 @@
 -- Numbers in bytes: the digits of a number to the base 256, the highest first or the lowest first.
+-- From SBE 1.0, Field encoding: its two byte orders.
 use Rattle.std.specs.Prelude.{ℕ, zero, suc, ◌+◌, ◌*◌, ◌/◌, ◌%◌, ◌^◌, ◌<◌, List, [], ◌∷◌, length, slice_index}
 
 -- each is a byte: below 256

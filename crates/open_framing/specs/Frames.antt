@@ -1,4 +1,4 @@
--- A stream of frames, cut at their heads: the Simple Open Framing Header 1.0, in this project's profile.
+-- A stream of frames, cut at their heads. From SOFH 1.0, Framing header; the limits and the ends are own profile.
 use Rattle.std.specs.Prelude.{◌≡◌, ℕ, ◌+◌, ◌^◌, ◌<◌, ◌≤◌, nat_le, nat_lt, Bool, true, false, IsTrue, if◌then◌else◌, Result, Ok, Err, Option, Some, None, List, [], ◌∷◌, ◌++◌, length, take, drop}
 use Rattle.open_framing.specs.declared.head.TheConstants.{HEAD_BYTES}
 use Rattle.open_framing.specs.declared.head.Head.{Head}

@@ -1,4 +1,5 @@
--- The head of a frame: the Simple Open Framing Header 1.0, in this project's profile.
+-- The head of a frame. From SOFH 1.0, Framing header. Own profile: the byte order, that the length counts the head too, and
+-- the three encoding types.
 use Rattle.std.specs.Prelude.{ℕ, nat_lt, ◌==◌, Bool, ◌||◌, if◌then◌else◌, Result, Ok, Err, List, length, take, drop}
 pub use Rattle.digits.specs.Digits.{IsBytes}
 use Rattle.digits.specs.Digits.{number_high_first}

@@ -1,4 +1,4 @@
--- A stream of lines.
+-- A stream of lines. Own profile.
 use Rattle.std.specs.Prelude.{◌≡◌, ◌≢◌, ℕ, ◌≤◌, nat_le, nat_lt, ◌==◌, Bool, if◌then◌else◌, Option, Some, None, List, [], ◌∷◌, ◌++◌, length, take}
 use Rattle.std.specs.List.{AllByRecursion}
 use Rattle.open_framing.specs.declared.line.TheConstants.{LONGEST_LINE, LINE_END}

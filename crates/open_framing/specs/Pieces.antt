@@ -1,4 +1,4 @@
--- Bytes cut into pieces, as many as there are, and the rest behind them.
+-- Bytes cut into pieces, as many as there are, and the rest behind them. Own profile.
 use Rattle.std.specs.Prelude.{◌≡◌, ◌≢◌, ℕ, zero, suc, List, [], ◌∷◌, ◌++◌, length, drop, Option, Some, None}
 use Rattle.std.specs.List.{flat_map, AllByRecursion}
 

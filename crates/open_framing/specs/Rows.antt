@@ -1,4 +1,4 @@
--- Streams that the laws are computed on.
+-- Streams that the laws are computed on. Own profile.
 use Rattle.std.specs.Prelude.{ℕ, List, [], ◌∷◌, ◌++◌, take}
 use Rattle.open_framing.specs.declared.head.TheConstants.{SBE_LITTLE}
 use Rattle.open_framing.specs.Frames.{Item}
@@ -23,12 +23,14 @@ ping_begun = take 19 ping_frame
 abbrev pub pings : List ℕ
 pings = ping_frame ++ ping_frame ++ take 3 ping_frame
 
--- heads: of five bytes; of one byte above 65536; of an encoding type that isn't there
+-- a head of five bytes
 abbrev pub short_head : List ℕ
 short_head = 0x00 ∷ 0x00 ∷ 0x00 ∷ 0x05 ∷ 0xeb ∷ 0x50 ∷ []
 
+-- a head of one byte above 65,536
 abbrev pub long_head : List ℕ
 long_head = 0x00 ∷ 0x01 ∷ 0x00 ∷ 0x01 ∷ 0xeb ∷ 0x50 ∷ []
 
+-- a head of an encoding type that is not there
 abbrev pub strange_head : List ℕ
 strange_head = 0x00 ∷ 0x00 ∷ 0x00 ∷ 0x06 ∷ 0xf5 ∷ 0x00 ∷ []

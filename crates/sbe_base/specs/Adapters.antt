@@ -1,4 +1,4 @@
--- What the adapters over std wrap.
+-- What the adapters over std wrap. Own profile.
 use Rattle.std.specs.Prelude.{◌≡◌}
 use Rattle.sbe_base.specs.declared.adapters.StdSource.{StdSource}
 use Rattle.sbe_base.specs.declared.adapters.StdSink.{StdSink}

@@ -1,4 +1,4 @@
--- The calls of an object in memory, some of which are to fail.
+-- The calls of an object in memory, some of which are to fail. Own profile.
 use Rattle.std.specs.Prelude.{ℕ, Bool, List, Contains, if◌then◌else◌}
 use Rattle.sbe_base.specs.Causes.{one_more}
 

@@ -1,4 +1,5 @@
--- When a fault may be answered, and what it leaves.
+-- When a fault may be answered, and what it leaves. Each object outside counts its own faults; `before` and `now` are such
+-- counts, and `old` and `new` known bytes before a call and after it. Own profile.
 use Rattle.std.specs.Prelude.{◌≡◌, ℕ, ◌+◌, ◌-◌, ◌^◌, ◌≤◌, min, List, ◌++◌, Option, Result, OnErr, OnOk}
 use Rattle.std.specs.Io.KnownBytes.{Appends}
 

@@ -1,6 +1,6 @@
-pub mod Adapters
-pub mod Calls
 pub mod Causes
 pub mod Loads
-pub mod Memory
 pub mod Status
+pub mod Calls
+pub mod Memory
+pub mod Adapters

@@ -1,4 +1,4 @@
--- What loading a file answers.
+-- What loading a file answers. Own profile.
 use Rattle.std.specs.Prelude.{◌≡◌, ◌<◌, ◌≤◌, ℕ, List, length, Option, Some, None, Result, Ok, Err, ⊤}
 use Rattle.sbe_base.specs.Causes.{Rose}
 use Rattle.sbe_base.specs.declared.files.LoadErr.{LoadErr}

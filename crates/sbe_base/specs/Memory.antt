@@ -1,4 +1,4 @@
--- What the objects in memory hold.
+-- What the objects in memory hold. Own profile.
 use Rattle.std.specs.Prelude.{◌≡◌, ◌≢◌, ◌<◌, ◌≤◌, ℕ, Bool, true, false, List, length, Option, Some, Result, Ok, Err, option_map, find, ◌⊎◌, IsSomeAnd}
 use Rattle.std.specs.Str.{bytes_eq}
 use Rattle.sbe_base.specs.Calls.{CallLog, IsListed}

@@ -1,6 +1,6 @@
-pub mod AtPlaces
 pub mod Numbers
-pub mod Places
 pub mod Shown
+pub mod Places
 pub mod Shows
+pub mod AtPlaces
 pub mod Wire

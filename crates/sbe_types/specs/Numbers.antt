@@ -1,4 +1,4 @@
--- Numbers and their bytes.
+-- Numbers and their bytes. From SBE 1.0, Field encoding.
 use Rattle.std.specs.Prelude.{ℕ, suc, ◌-◌, ◌*◌, ◌^◌, nat_le, nat_lt, Bool, true, false, if◌then◌else◌, List, ℤ, pos, negsuc, ◌-ℤ◌, slice_index, Option, Some, None}
 use Rattle.std.specs.Int.{cast_signed, w8, w16, w32, w64}
 use Rattle.digits.specs.Digits.{number_high_first, number_low_first, digits_high_first, digits_low_first}

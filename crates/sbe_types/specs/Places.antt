@@ -1,4 +1,5 @@
--- Widths, and the places of parts in a block or composite. Constants take no bytes and are passed over.
+-- Widths, and the places of parts in a block or composite. Constants take no bytes and are passed over. From SBE 1.0,
+-- Message structure, and for widths Field encoding.
 use Rattle.std.specs.Prelude.{ℕ, zero, suc, ◌+◌, ◌*◌, Bool, true, false, if◌then◌else◌, Option, Some, None, unwrap_or, List, [], ◌∷◌, take, drop}
 use Rattle.sbe_types.specs.declared.kind.Kind.{Kind, Leaf, Enum, Set, Const, Comp', Row_of-Member, end_of-Member, more_of-Member}
 use Rattle.sbe_types.specs.declared.kind.Member.{Member}

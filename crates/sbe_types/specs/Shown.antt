@@ -1,4 +1,5 @@
--- The value that one number shows.
+-- The value that one number shows. From SBE 1.0, Field encoding, and for valid values and choices Message schema. Own
+-- profile: octets, a null inside the range, and unlisted numbers and bits of later versions.
 use Rattle.std.specs.Prelude.{ℕ, zero, suc, Bool, true, false, not, ◌&&◌, ◌||◌, ◌==◌, if◌then◌else◌, List, ℤ, pos, int_le, Option, Some, None}
 use Rattle.std.specs.List.{list_any}
 use Rattle.std.specs.Ordering.{int_eq}
@@ -16,11 +17,13 @@ use Rattle.sbe_types.specs.declared.message.Value.{Value}
 use Rattle.sbe_types.specs.declared.message.Value.TheVariants as value
 use Rattle.sbe_types.specs.Numbers.{natural}
 
+-- the presence is optional
 abbrev pub is_optional : Presence → Bool
 is_optional Optional = true
 is_optional Required = false
 is_optional Constant = false
 
+-- the leaf is an array of uint8 without a stated range
 abbrev pub is_octets : LeafShape → Bool
 is_octets Octets = true
 is_octets Number = false
@@ -44,6 +47,7 @@ shown_element leaf n = if is_null leaf n then Some elem.Null else (if admits lea
 abbrev pub shown_number : LeafOf → ℤ → Option Value
 shown_number leaf n = if is_null leaf n then Some value.Null else (if admits leaf n then Some (value.Num n) else None)
 
+-- the number is one of the valid values, or the bit one of the choices
 abbrev pub is_listed : List Named → ℤ → Bool
 is_listed names n = list_any (λ name. int_eq name.number n) names
 

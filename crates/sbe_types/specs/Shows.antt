@@ -1,4 +1,6 @@
--- Which value the bytes of a kind show.
+-- Which value the bytes of a kind show. From SBE 1.0, Field encoding. Own profile: any byte may stand in a text with a
+-- character encoding, what stands behind the first 00 of a text is anything, an empty text may be null, and an array is
+-- judged element by element.
 use Rattle.std.specs.Prelude.{◌≡◌, ◌≤◌, ℕ, ◌+◌, Bool, true, false, not, ◌&&◌, ◌==◌, if◌then◌else◌, Some, List, [], ◌∷◌, ◌++◌, length, take, drop, IsTrue, pos, ⊤}
 use Rattle.std.specs.List.{list_all}
 use Rattle.sbe_types.specs.declared.kind.Order.{Order}
@@ -13,10 +15,12 @@ use Rattle.sbe_types.specs.Numbers.{number_of, prim_width}
 use Rattle.sbe_types.specs.Shown.{shown, shown_element, is_optional, admits}
 use Rattle.sbe_types.specs.Places.{width, is_const, begin_of}
 
+-- there are no bytes
 abbrev pub is_empty : List ℕ → Bool
 is_empty [] = true
 is_empty (b ∷ bs) = false
 
+-- a text without a character encoding, whose bytes lie in the range
 abbrev pub is_ranged : LeafShape → Bool
 is_ranged RangedText = true
 is_ranged Number = false
@@ -37,6 +41,7 @@ EndsText (b ∷ bs) = b ≡ 0
 abbrev pub text_value : LeafOf → List ℕ → Value
 text_value leaf text = if is_optional leaf.presence && is_empty text then value.Null else value.Text text
 
+-- a text of good bytes, and what may stand behind it
 abbrev pub ShowsText : LeafOf → Value → List ℕ → Type 0
 ShowsText leaf v b =
     (text : List ℕ) × (after : List ℕ) × (b ≡ text ++ after) × EndsText after × IsTrue (list_all (is_text_byte leaf) text) × (v ≡ text_value leaf text)
@@ -48,9 +53,11 @@ ShowsElements order leaf (e ∷ es) b =
     (prim_width leaf.prim ≤ length b) × (shown_element leaf (number_of order leaf.prim (take (prim_width leaf.prim) b)) ≡ Some e)
     × ShowsElements order leaf es (drop (prim_width leaf.prim) b)
 
+-- the bytes are the elements of an array
 abbrev pub ShowsArray : Order → LeafOf → Value → List ℕ → Type 0
 ShowsArray order leaf v b = (elements : List Elem) × (v ≡ value.Nums elements) × ShowsElements order leaf elements b
 
+-- the bytes show this value of a single number, a text or an array
 abbrev pub ShowsLeaf : Order → LeafShape → LeafOf → Value → List ℕ → Type 0
 ShowsLeaf order Number leaf v b = shown (Leaf leaf) true (number_of order leaf.prim b) ≡ Some v
 ShowsLeaf order RangedText leaf v b = ShowsText leaf v b

@@ -1,4 +1,5 @@
--- The bytes of a value, and which values fit their kind.
+-- The bytes of a value, and which values fit their kind. From SBE 1.0, Field encoding. Own profile: the zeros behind a text
+-- and between members.
 use Rattle.std.specs.Prelude.{◌≡◌, ℕ, ◌+◌, ◌-◌, true, ◌==◌, if◌then◌else◌, Option, Some, None, List, [], ◌∷◌, ◌++◌, length, replicate, pos}
 use Rattle.sbe_types.specs.declared.kind.Order.{Order}
 use Rattle.sbe_types.specs.declared.kind.LeafShape.{LeafShape}
@@ -24,14 +25,17 @@ both (Some x) (Some y) = Some (x ++ y)
 abbrev pub padded : ℕ → List ℕ → List ℕ
 padded n text = text ++ replicate (n - length text) 0
 
+-- the bytes of an element; null has the bytes of the null
 abbrev pub element_bytes : Order → LeafOf → Elem → Option (List ℕ)
 element_bytes order leaf (elem.Num n) = bytes_of order leaf.prim n
 element_bytes order leaf elem.Null = bytes_of order leaf.prim leaf.null
 
+-- the bytes of elements, one after another, where each has some
 abbrev pub elements_bytes : Order → LeafOf → List Elem → Option (List ℕ)
 elements_bytes order leaf [] = Some []
 elements_bytes order leaf (e ∷ es) = both (element_bytes order leaf e) (elements_bytes order leaf es)
 
+-- the bytes of a single number; null has the bytes of the null
 abbrev pub number_bytes : Order → LeafOf → Value → Option (List ℕ)
 number_bytes order leaf (value.Num n) = bytes_of order leaf.prim n
 number_bytes order leaf value.Null = bytes_of order leaf.prim leaf.null
@@ -43,6 +47,7 @@ number_bytes order leaf (value.Comp' n row) = None
 number_bytes order leaf value.Const = None
 number_bytes order leaf value.Absent = None
 
+-- the text with 00 up to the end of its array; null is all 00
 abbrev pub text_bytes : LeafOf → Value → Option (List ℕ)
 text_bytes leaf (value.Text text) = Some (padded (width (Leaf leaf)) text)
 text_bytes leaf value.Null = Some (padded (width (Leaf leaf)) [])
@@ -54,6 +59,7 @@ text_bytes leaf (value.Comp' n row) = None
 text_bytes leaf value.Const = None
 text_bytes leaf value.Absent = None
 
+-- the bytes of the elements, where there are as many as the array is long
 abbrev pub array_bytes : Order → LeafOf → Value → Option (List ℕ)
 array_bytes order leaf (value.Nums elements) = if length elements == leaf.length then elements_bytes order leaf elements else None
 array_bytes order leaf (value.Num n) = None
@@ -65,6 +71,7 @@ array_bytes order leaf (value.Comp' n row) = None
 array_bytes order leaf value.Const = None
 array_bytes order leaf value.Absent = None
 
+-- the bytes of a single number, a text or an array
 abbrev pub leaf_bytes : Order → LeafShape → LeafOf → Value → Option (List ℕ)
 leaf_bytes order Number leaf v = number_bytes order leaf v
 leaf_bytes order RangedText leaf v = text_bytes leaf v
@@ -72,6 +79,7 @@ leaf_bytes order EncodedText leaf v = text_bytes leaf v
 leaf_bytes order Octets leaf v = array_bytes order leaf v
 leaf_bytes order Numbers leaf v = array_bytes order leaf v
 
+-- the bytes of the number of an enum; null has the bytes of the null
 abbrev pub enum_bytes : Order → LeafOf → Value → Option (List ℕ)
 enum_bytes order leaf (value.Enum n) = bytes_of order leaf.prim n
 enum_bytes order leaf value.Null = bytes_of order leaf.prim leaf.null
@@ -83,6 +91,7 @@ enum_bytes order leaf (value.Comp' n row) = None
 enum_bytes order leaf value.Const = None
 enum_bytes order leaf value.Absent = None
 
+-- the bytes of the number of a set
 abbrev pub set_bytes : Order → Primitive → Value → Option (List ℕ)
 set_bytes order prim (value.Set n) = bytes_of order prim (pos n)
 set_bytes order prim (value.Num n) = None
@@ -94,6 +103,7 @@ set_bytes order prim (value.Comp' n row) = None
 set_bytes order prim value.Const = None
 set_bytes order prim value.Absent = None
 
+-- no bytes
 abbrev pub const_bytes : Value → Option (List ℕ)
 const_bytes value.Const = Some []
 const_bytes (value.Num n) = None

@@ -1,4 +1,4 @@
--- What it means that a program of the definitions agrees with them.
+-- What it means that a program of the definitions agrees with them. Own profile.
 use Rattle.std.specs.Prelude.{◌≡◌, ℕ, Result, Ok, Err, List, ◌++◌}
 use Rattle.sbe_wire.specs.Faults.{Fault}
 use Rattle.sbe_wire.specs.Reading.{Reader}

@@ -1,4 +1,6 @@
--- The one canonical body of a message: padding and unused bytes are 00, block lengths are the declared ones.
+-- The one canonical body of a message: padding and unused bytes are 00, block lengths are the declared ones. From SBE 1.0,
+-- Message structure, Repeating group encoding, and Variable-length data. Own profile: the zeros, and the declared block length
+-- of no entry. Some messages that don't fit have bytes here too; only those of a message that fits are its body.
 use Rattle.std.specs.Prelude.{ℕ, ◌-◌, if◌then◌else◌, Option, Some, None, option_map, List, [], ◌∷◌, length, replicate, pos, slice_get, codes}
 use Rattle.std.specs.Str.{bytes_eq}
 use Rattle.sbe_types.specs.declared.kind.Order.{Order}
@@ -22,6 +24,7 @@ use Rattle.sbe_types.specs.Wire.{both, padded, wire_bytes}
 
 -- ---- numbers by name: the header, and dimensions
 
+-- the bytes of a number in a member of a header or dimension
 abbrev pub number_bytes_in : Order → Kind → ℕ → Option (List ℕ)
 number_bytes_in order (Leaf l) n = bytes_of order l.prim (pos n)
 number_bytes_in order (Enum l names) n = None
@@ -36,9 +39,11 @@ named_bytes order numbers e (m ∷ ms) =
     both (both (Some (replicate (begin_of e m.offset - e) 0)) (number_bytes_in order m.kind (numbers m.name)))
     (named_bytes order numbers (end_past e m.offset m.kind) ms)
 
+-- the two numbers of a dimension by their names
 abbrev pub dimension_numbers : ℕ → ℕ → List ℕ → ℕ
 dimension_numbers block count name = if bytes_eq name (codes "blockLength") then block else count
 
+-- the four numbers of a header by their names: the block length is the declared one, the version that of the schema
 abbrev pub header_numbers : WireSchema → Level → List ℕ → ℕ
 header_numbers schema level name =
     if bytes_eq name (codes "blockLength") then (out-Level level).block_length
@@ -60,10 +65,12 @@ fields_bytes order e (f ∷ fs) (v ∷ vs) =
 abbrev pub block_bytes : Order → ℕ → List Field → List Value → Option (List ℕ)
 block_bytes order block_length fields values = option_map (padded block_length) (fields_bytes order 0 fields values)
 
+-- the length number of data, and the data
 abbrev pub part_bytes : Order → DataField → DataVal → Option (List ℕ)
 part_bytes order part dataval.Absent = None
 part_bytes order part (dataval.Bytes bytes) = both (bytes_of order part.length.prim (pos (length bytes))) (Some bytes)
 
+-- the data parts of a level, one after another
 abbrev pub parts_bytes : Order → List DataField → List DataVal → Option (List ℕ)
 parts_bytes order [] [] = Some []
 parts_bytes order [] (v ∷ vs) = None
@@ -75,20 +82,24 @@ abbrev pub all_bytes : {X : Type 0} → (X → Option (List ℕ)) → List X →
 all_bytes f [] = Some []
 all_bytes f (x ∷ xs) = both (f x) (all_bytes f xs)
 
+-- the entries of a group that is there
 abbrev pub entries_in : GroupVal → Option (List Block)
 entries_in groupval.Absent = None
 entries_in (groupval.Entries' n row) = Some (items-the_row-Block _ row)
 
+-- the dimension of the entries, and then each entry
 abbrev pub entries_bytes : Order → List Member → ℕ → (Block → Option (List ℕ)) → Option (List Block) → Option (List ℕ)
 entries_bytes order dim block_length entry None = None
 entries_bytes order dim block_length entry (Some entries) =
     both (named_bytes order (dimension_numbers block_length (length entries)) 0 dim) (all_bytes entry entries)
 
 unfoldable mutual
+  -- the groups of a level and then its data
   pub tail_bytes : Order → Level → Block → Option (List ℕ)
   tail_bytes order (Level' name id semantic since block_length fields _ groups parts) block =
       both (groups_bytes order groups (out-Block block).groups) (parts_bytes order parts (out-Block block).parts)
 
+  -- the groups of a level, one after another
   pub groups_bytes : Order → {n : _} → Row_of-Group n → List GroupVal → Option (List ℕ)
   groups_bytes order end_of-Group [] = Some []
   groups_bytes order end_of-Group (v ∷ vs) = None
@@ -103,6 +114,7 @@ unfoldable mutual
 
 -- ---- a message
 
+-- the body of a message of this root
 abbrev pub root_bytes : WireSchema → Block → Option Level → Option (List ℕ)
 root_bytes schema block None = None
 root_bytes schema block (Some level) =

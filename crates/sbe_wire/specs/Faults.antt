@@ -1,4 +1,5 @@
--- The first fault of a body: its code, the part, the byte and a number.
+-- The first fault of a body: its code, the part, the byte and a number. The standard leaves to each reader what it does with
+-- a bad body. Own profile.
 use Rattle.std.specs.Prelude.{◌≡◌, ◌≢◌, ◌⊎◌, ◌<◌, ◌≤◌, ℕ, zero, suc, ◌+◌, Bool, true, false, not, ◌&&◌, ◌==◌, if◌then◌else◌, Option, Some, None, List, [], ◌∷◌, ◌++◌, length, take, drop, IsTrue, ℤ, pos, codes}
 use Rattle.std.specs.List.{list_all}
 use Rattle.sbe_types.specs.declared.kind.Order.{Order}
@@ -53,7 +54,7 @@ FaultAfter {X} F R G fault b =
     F fault b
     ⊎ ((x : X) × (front : List ℕ) × (back : List ℕ) × (f : Fault) × (b ≡ front ++ back) × R x front × G x f back × (fault ≡ shifted (length front) f))
 
--- the bytes are fewer than the part needs
+-- the bytes are fewer than the part needs (F05)
 abbrev pub TooShort : ℕ → Fault → List ℕ → Type 0
 TooShort n fault b = (length b < n) × (fault ≡ fault_at code.Truncated 0 (pos n))
 
@@ -77,17 +78,17 @@ EachFault F R i (x ∷ xs) fault b = FaultAfter (Under (way.Part i) (F x)) (R x)
 abbrev pub is_bad_byte : LeafOf → ℕ → Bool
 is_bad_byte leaf b = not (b == 0) && not (is_text_byte leaf b)
 
--- the first such byte before the first 00
+-- the first such byte before the first 00 (F09)
 abbrev pub TextFault : LeafOf → Fault → List ℕ → Type 0
 TextFault leaf fault b =
     (good : List ℕ) × (bad : ℕ) × (after : List ℕ) × (b ≡ good ++ bad ∷ after)
     × IsTrue (list_all (is_text_byte leaf) good) × IsTrue (is_bad_byte leaf bad) × (fault ≡ fault_at code.TextByte (length good) (pos bad))
 
--- the number shows no value
+-- the number shows no value (F06, F07, F08)
 abbrev pub NumberFault : Kind → Bool → FCode → ℤ → Fault → Type 0
 NumberFault kind known code n fault = (shown kind known n ≡ None) × (fault ≡ fault_at code 0 n)
 
--- the first of n elements, counted from i, that shows no value
+-- the first of n elements, counted from i, that shows no value (F06)
 abbrev pub ElementsFault : Order → LeafOf → ℕ → ℕ → Fault → List ℕ → Type 0
 ElementsFault order leaf i zero fault b = ⊥
 ElementsFault order leaf i (suc n) fault b =
@@ -96,6 +97,7 @@ ElementsFault order leaf i (suc n) fault b =
     ⊎ ((e : Elem) × (f : Fault) × (shown_element leaf number ≡ Some e)
     × ElementsFault order leaf (suc i) n f (drop (prim_width leaf.prim) b) × (fault ≡ shifted (prim_width leaf.prim) f))
 
+-- the first fault of a single number, a text or an array
 abbrev pub LeafFault : Order → LeafShape → LeafOf → Fault → List ℕ → Type 0
 LeafFault order Number leaf fault b = NumberFault (Leaf leaf) true code.Range (number_of order leaf.prim b) fault
 LeafFault order RangedText leaf fault b = TextFault leaf fault b
@@ -122,6 +124,7 @@ abbrev mutual
 
 -- ---- a block
 
+-- a field that is alive shows no value
 abbrev pub FieldFault : Order → Bool → ℕ → ℕ → ℕ → Field → Fault → List ℕ → Type 0
 FieldFault order known version e i field fault b =
     IsTrue (is_alive version field.since)
@@ -145,7 +148,7 @@ BlockFault order known version fields k fault b =
 abbrev pub count_of : Order → DataField → List ℕ → ℕ
 count_of order part b = natural (number_of order part.length.prim (take (prim_width part.length.prim) b))
 
--- the length number is cut off, isn't admitted, or the bytes are cut off
+-- the length number is cut off (F05), isn't admitted (F11), or the bytes are cut off (F05)
 abbrev pub DataFault : Order → ℕ → DataField → Fault → List ℕ → Type 0
 DataFault order version part fault b =
     IsTrue (is_alive version part.since)
@@ -154,7 +157,7 @@ DataFault order version part fault b =
     × (((admits part.length (pos (count_of order part b)) ≡ false) × (fault ≡ fault_at code.Length 0 (pos (count_of order part b))))
     ⊎ ((admits part.length (pos (count_of order part b)) ≡ true) × TooShort (prim_width part.length.prim + count_of order part b) fault b))))
 
--- the count isn't admitted, or the block length is below the floor where entries are counted
+-- the count isn't admitted (F10), or the block length is below the floor where entries are counted (F04)
 abbrev pub DimensionRefused : Order → List Member → ℕ → Fault → List ℕ → Type 0
 DimensionRefused order dim least fault head =
     let block = number_named order dim (codes "blockLength") head in
@@ -215,6 +218,7 @@ pub record Heading : Type 0 where
   pub level : Level
   pub version : ℕ
 
+-- the floor of the root at the version of its header
 abbrev pub floor_in : WireSchema → Heading → ℕ
 floor_in schema h = floor (acting schema h.version) (out-Level h.level).fields
 
@@ -223,7 +227,7 @@ pub record HeadingLays (schema : WireSchema) (h : Heading) (b : List ℕ) : Type
   pub numbers : HeaderLays schema h.block (out-Level h.level).id h.version b
   pub message : message_named 0 (out-Level h.level).id schema.messages ≡ Some (h.template, h.level)
 
--- the header is of another schema, of no message, or its block length is below the floor
+-- the header is of another schema (F02), of no message (F03), or its block length is below the floor (F04)
 abbrev pub HeadingRefused : WireSchema → Fault → List ℕ → Type 0
 HeadingRefused schema fault head =
     let members = schema.header.members in
@@ -235,17 +239,18 @@ HeadingRefused schema fault head =
     ⊎ ((h : Heading) × HeadingLays schema h head × (h.block < floor_in schema h)
     × (fault ≡ fault_at code.BlockShort (place_named members (codes "blockLength")) (pos h.block)))
 
--- the header is cut off, or refused
+-- the header is cut off (F01), or refused
 abbrev pub HeadingFault : WireSchema → Fault → List ℕ → Type 0
 HeadingFault schema fault b =
     let wide = members_end 0 schema.header.members in
     ((length b < wide) × (fault ≡ fault_at code.ShortHeader 0 (pos (length b))))
     ⊎ ((wide ≤ length b) × HeadingRefused schema fault (take wide b))
 
+-- a header whose block length reaches the floor
 abbrev pub HeadingGood : WireSchema → Heading → List ℕ → Type 0
 HeadingGood schema h b = HeadingLays schema h b × (floor_in schema h ≤ h.block)
 
--- bytes stand behind the last part of a message whose version the schema knows
+-- bytes stand behind the last part of a message whose version the schema knows (F12)
 abbrev pub TrailingFault : Bool → Fault → List ℕ → Type 0
 TrailingFault known fault b = IsTrue known × (0 < length b) × (fault ≡ fault_at code.Trailing 0 (pos (length b)))
 

@@ -1,4 +1,4 @@
--- Which messages can be written.
+-- Which messages can be written. Own profile.
 use Rattle.std.specs.Prelude.{◌≡◌, ℕ, Some, List, [], ◌∷◌, length, IsTrue, pos, ⊤, slice_get, codes}
 use Rattle.sbe_types.specs.declared.kind.Order.{Order}
 use Rattle.sbe_types.specs.declared.schema.Field.{Field}
@@ -28,6 +28,7 @@ FieldsFit order (f ∷ fs) (v ∷ vs) = FitsKind order f.kind v × FieldsFit ord
 abbrev pub PartFits : DataField → DataVal → Type 0
 PartFits part v = (bytes : List ℕ) × (v ≡ dataval.Bytes bytes) × IsTrue (admits part.length (pos (length bytes)))
 
+-- as many data parts as the level has, and each fits
 abbrev pub PartsFit : List DataField → List DataVal → Type 0
 PartsFit [] [] = ⊤
 PartsFit [] (v ∷ vs) = ⊥
@@ -40,10 +41,12 @@ EachFits P [] = ⊤
 EachFits P (x ∷ xs) = P x × EachFits P xs
 
 abbrev mutual
+  -- the fields, groups and data of a level fit
   pub BlockFits : Order → Level → Block → Type 0
   BlockFits order (Level' name id semantic since block_length fields _ groups parts) block =
       FieldsFit order fields (out-Block block).fields × GroupsFit order groups (out-Block block).groups × PartsFit parts (out-Block block).parts
 
+  -- as many groups as the level has, and each fits
   pub GroupsFit : Order → {n : _} → Row_of-Group n → List GroupVal → Type 0
   GroupsFit order end_of-Group [] = ⊤
   GroupsFit order end_of-Group (v ∷ vs) = ⊥

@@ -1,4 +1,5 @@
--- How a message lies in a body.
+-- How a message lies in a body. From SBE 1.0, Message structure, Repeating group encoding, Variable-length data, and Schema
+-- extension mechanism. Own profile: the floor, and that no bytes are left at a version that the schema knows.
 use Rattle.std.specs.Prelude.{◌≡◌, ℕ, ◌≤◌, Bool, Some, List, [], ◌∷◌, ◌++◌, length, take, drop, IsTrue, pos, ⊤, slice_get, codes}
 use Rattle.std.specs.Bool.{MatchBool}
 use Rattle.sbe_types.specs.declared.kind.Order.{Order}
@@ -44,6 +45,7 @@ abbrev pub FieldLays : Order → Bool → ℕ → ℕ → Field → Value → Li
 FieldLays order known version e f v b =
     MatchBool (is_alive version f.since) (Shows order known f.kind v (take (width f.kind) (drop (begin_of e f.offset) b))) (v ≡ value.Absent)
 
+-- one value for each field, behind fields that end at e
 abbrev pub FieldsLay : Order → Bool → ℕ → ℕ → List Field → List Value → List ℕ → Type 0
 FieldsLay order known version e [] [] b = ⊤
 FieldsLay order known version e [] (v ∷ vs) b = ⊥
@@ -65,6 +67,7 @@ pub record DataLies (order : Order) (part : DataField) (bytes b : List ℕ) : Ty
   pub counts : natural (number_of order part.length.prim before) ≡ length bytes
   pub admitted : IsTrue (admits part.length (pos (length bytes)))
 
+-- data that is alive, or absent data without bytes
 abbrev pub DataLays : Order → ℕ → DataField → DataVal → List ℕ → Type 0
 DataLays order version part v b =
     MatchBool (is_alive version part.since)
@@ -96,6 +99,7 @@ abbrev mutual
       (front : List ℕ) × (back : List ℕ) × (b ≡ front ++ back) × GroupsLay order known version groups (out-Block block).groups front
       × JoinedBoth (DataLays order version) parts (out-Block block).parts back
 
+  -- the groups of a level, one after another
   pub GroupsLay : Order → Bool → ℕ → {n : _} → Row_of-Group n → List GroupVal → List ℕ → Type 0
   GroupsLay order known version end_of-Group [] b = b ≡ []
   GroupsLay order known version end_of-Group (v ∷ vs) b = ⊥

@@ -1,5 +1,6 @@
 -- The members of the header and of dimensions, which are found by their names. A checked schema has each of them,
 -- as an unsigned number; elsewhere a missing member counts as 0 and admits nothing.
+-- From SBE 1.0, Message structure and Repeating group encoding.
 use Rattle.std.specs.Prelude.{ℕ, Bool, false, if◌then◌else◌, Option, Some, None, List, [], ◌∷◌, take, drop, pos}
 use Rattle.std.specs.Option.{option_map_or}
 use Rattle.std.specs.Str.{bytes_eq}
@@ -16,6 +17,7 @@ pub record Spot : Type 0 where
   pub place : ℕ
   pub leaf : LeafOf
 
+-- the spot of a part of this kind; only a number has one
 abbrev pub spot_of : ℕ → Kind → Option Spot
 spot_of place (Leaf l) = Some (record { place = place; leaf = l })
 spot_of place (Enum l names) = None

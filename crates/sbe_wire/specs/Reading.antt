@@ -1,4 +1,4 @@
--- The definitions as a program: the message that a body is, or its first fault.
+-- The definitions as a program: the message that a body is, or its first fault. Own profile.
 use Rattle.std.specs.Prelude.{ℕ, zero, suc, ◌+◌, ◌-◌, nat_le, nat_lt, Bool, true, not, ◌&&◌, ◌==◌, if◌then◌else◌, Option, Some, None, Result, Ok, Err, List, [], ◌∷◌, length, take, drop, take_while, ℤ, pos, codes}
 use Rattle.std.specs.Option.{ok_or}
 use Rattle.sbe_types.specs.declared.kind.Order.{Order}
@@ -35,9 +35,11 @@ use Rattle.sbe_wire.specs.Faults.{Fault, shifted, under, fault_at, count_of, mes
 
 -- ---- readers: the value at the front of some bytes with the bytes behind it, or the first fault
 
+-- the value at the front of some bytes and the bytes behind it, or the first fault
 abbrev pub Reader : Type 0 → Type 0
 Reader X = List ℕ → Result (X × List ℕ) Fault
 
+-- goes on with a value; a fault stays
 infixl 10 ◌>>=◌
 abbrev pub ◌>>=◌ : {X Y : Type 0} → Result X Fault → (X → Result Y Fault) → Result Y Fault
 (Ok x) >>= f = f x
@@ -83,6 +85,7 @@ then_all p q b = and_then b (p b) q
 abbrev pub bytes_read : ℕ → Reader (List ℕ)
 bytes_read n b = if nat_le n (length b) then Ok (take n b, drop n b) else Err (fault_at code.Truncated 0 (pos n))
 
+-- a reader inside a step
 abbrev pub read_in : {X : Type 0} → Step → Reader X → Reader X
 read_in step p b = inside step (p b)
 
@@ -98,21 +101,26 @@ each_read p i (x ∷ xs) b = then_read (read_in (way.Part i) (p x)) (λ y. then_
 
 -- ---- a value, from bytes that are as many as its kind is wide
 
+-- the value that a number shows, or the fault with this code
 abbrev pub number_value : Kind → Bool → FCode → ℤ → Result Value Fault
 number_value kind known code n = ok_or (shown kind known n) (fault_at code 0 n)
 
+-- the value of a text, where nothing or a 00 stands behind it
 abbrev pub text_ended : LeafOf → List ℕ → List ℕ → Result Value Fault
 text_ended leaf text [] = Ok (text_value leaf text)
 text_ended leaf text (b ∷ after) = if b == 0 then Ok (text_value leaf text) else Err (fault_at code.TextByte (length text) (pos b))
 
+-- the value of a text: its good bytes, and what stands behind them
 abbrev pub text_read : LeafOf → List ℕ → Result Value Fault
 text_read leaf b = let text = take_while (is_text_byte leaf) b in text_ended leaf text (drop (length text) b)
 
+-- an element of an array
 abbrev pub element_read : Order → LeafOf → List ℕ → Result Elem Fault
 element_read order leaf b =
     let n = number_of order leaf.prim (take (prim_width leaf.prim) b) in
     ok_or (shown_element leaf n) (fault_at code.Range 0 n)
 
+-- n elements, counted from i
 unfoldable pub elements_read : Order → LeafOf → ℕ → ℕ → List ℕ → Result (List Elem) Fault
 elements_read order leaf i zero b = Ok []
 elements_read order leaf i (suc n) b = do
@@ -120,9 +128,11 @@ elements_read order leaf i (suc n) b = do
   es ← later (prim_width leaf.prim) (elements_read order leaf (suc i) n (drop (prim_width leaf.prim) b))
   Ok (e ∷ es)
 
+-- an array, as long as it is stated
 abbrev pub array_read : Order → LeafOf → List ℕ → Result Value Fault
 array_read order leaf b = elements_read order leaf 0 leaf.length b >>= (λ es. Ok (value.Nums es))
 
+-- the value of a single number, a text or an array
 abbrev pub leaf_read : Order → LeafShape → LeafOf → List ℕ → Result Value Fault
 leaf_read order Number leaf b = number_value (Leaf leaf) true code.Range (number_of order leaf.prim b)
 leaf_read order RangedText leaf b = text_read leaf b
@@ -131,6 +141,7 @@ leaf_read order Octets leaf b = array_read order leaf b
 leaf_read order Numbers leaf b = array_read order leaf b
 
 unfoldable mutual
+  -- the value of any kind
   pub value_read : Order → Bool → Kind → List ℕ → Result Value Fault
   value_read order known (Leaf l) b = leaf_read order l.shape l b
   value_read order known (Enum l names) b = number_value (Enum l names) known code.EnumUnknown (number_of order l.prim b)
@@ -138,6 +149,7 @@ unfoldable mutual
   value_read order known (Const c) b = Ok value.Const
   value_read order known (Comp' n members) b = row_read order known 0 0 members b >>= (λ vs. Ok (value.Comp vs))
 
+  -- the values of members that are counted from i, behind members that end at e
   pub row_read : Order → Bool → ℕ → ℕ → {n : _} → Row_of-Member n → List ℕ → Result (List Value) Fault
   row_read order known e i end_of-Member b = Ok []
   row_read order known e i (more_of-Member name offset kind rest) b = do
@@ -147,12 +159,14 @@ unfoldable mutual
 
 -- ---- a block
 
+-- the value of a field, which is absent where it is not alive
 abbrev pub field_read : Order → Bool → ℕ → ℕ → ℕ → Field → List ℕ → Result Value Fault
 field_read order known version e i f b =
     if is_alive version f.since
     then later (begin_of e f.offset) (inside (way.Part i) (value_read order known f.kind (take (width f.kind) (drop (begin_of e f.offset) b))))
     else Ok value.Absent
 
+-- the values of fields that are counted from i, behind fields that end at e
 unfoldable pub fields_read : Order → Bool → ℕ → ℕ → ℕ → List Field → List ℕ → Result (List Value) Fault
 fields_read order known version e i [] b = Ok []
 fields_read order known version e i (f ∷ fs) b = do
@@ -160,23 +174,27 @@ fields_read order known version e i (f ∷ fs) b = do
   vs ← fields_read order known version (end_past e f.offset f.kind) (suc i) fs b
   Ok (v ∷ vs)
 
+-- the values of a block of k bytes
 abbrev pub block_read : Order → Bool → ℕ → List Field → ℕ → Reader (List Value)
 block_read order known version fields k = read_judged (bytes_read k) (fields_read order known version 0 0 fields)
 
 -- ---- data and groups
 
+-- data of n bytes behind their length number
 abbrev pub data_bytes : Order → DataField → ℕ → Reader DataVal
 data_bytes order part n b =
     if admits part.length (pos n)
     then read_judged (bytes_read (prim_width part.length.prim + n)) (λ whole. Ok (dataval.Bytes (drop (prim_width part.length.prim) whole))) b
     else Err (fault_at code.Length 0 (pos n))
 
+-- the length number, and then the data
 abbrev pub data_whole : Order → DataField → Reader DataVal
 data_whole order part b =
     if nat_le (prim_width part.length.prim) (length b)
     then data_bytes order part (count_of order part b) b
     else Err (fault_at code.Truncated 0 (pos (prim_width part.length.prim)))
 
+-- a data part, which is absent where it is not alive
 abbrev pub data_read : Order → ℕ → DataField → Reader DataVal
 data_read order version part b = if is_alive version part.since then data_whole order part b else Ok (dataval.Absent, b)
 
@@ -191,12 +209,15 @@ dimension_of order dim least head =
     then Err (fault_at code.BlockShort (place_named dim (codes "blockLength")) (pos block))
     else Ok (block, count))
 
+-- the dimension at the front of the bytes
 abbrev pub dimension_read : Order → List Member → ℕ → Reader (ℕ × ℕ)
 dimension_read order dim least = read_judged (bytes_read (members_end 0 dim)) (dimension_of order dim least)
 
+-- the groups and the data of a level
 abbrev pub Tail : Type 0
 Tail = List GroupVal × List DataVal
 
+-- the values of a level: its fields, and its tail
 abbrev pub block_of : List Value → Tail → Block
 block_of fields tail = record { fields = fields; groups = tail.0; parts = tail.1 }
 
@@ -206,16 +227,19 @@ entry_read tail order known version fields k =
     then_read (block_read order known version fields k) (λ values. then_read tail (λ t. nothing (block_of values t)))
 
 unfoldable mutual
+  -- the groups of a level and then its data
   pub tail_read : Order → Bool → ℕ → Level → Reader Tail
   tail_read order known version (Level' name id semantic since block_length fields _ groups parts) b =
       then_read (groups_read order known version (length fields) groups)
       (λ gs. then_read (each_read (data_read order version) (length fields + length gs) parts) (λ ds. nothing (gs, ds))) b
 
+  -- groups that are counted from i
   pub groups_read : Order → Bool → ℕ → ℕ → {n : _} → Row_of-Group n → Reader (List GroupVal)
   groups_read order known version i end_of-Group b = Ok ([], b)
   groups_read order known version i (more_of-Group g rest) b =
       then_read (read_in (way.Part i) (group_read order known version g)) (λ v. then_read (groups_read order known version (suc i) rest) (λ vs. nothing (v ∷ vs))) b
 
+  -- a group, which is absent where it is not alive
   pub group_read : Order → Bool → ℕ → Group → Reader GroupVal
   group_read order known version (Group' dim level) b =
       if is_alive version (out-Level level).since
@@ -225,15 +249,18 @@ unfoldable mutual
 
 -- ---- a body
 
+-- the n bytes of a header, or how many are there
 abbrev pub header_bytes : ℕ → Reader (List ℕ)
 header_bytes n b = if nat_le n (length b) then Ok (take n b, drop n b) else Err (fault_at code.ShortHeader 0 (pos (length b)))
 
+-- the heading, if its block length reaches the floor
 abbrev pub floor_judged : WireSchema → Heading → Result Heading Fault
 floor_judged schema h =
     if nat_lt h.block (floor_in schema h)
     then Err (fault_at code.BlockShort (place_named schema.header.members (codes "blockLength")) (pos h.block))
     else Ok h
 
+-- the heading of a message that is there
 abbrev pub message_judged : WireSchema → List ℕ → ℕ → Option (ℕ × Level) → Result Heading Fault
 message_judged schema head id None = Err (fault_at code.Template (place_named schema.header.members (codes "templateId")) (pos id))
 message_judged schema head id (Some m) =
@@ -244,6 +271,7 @@ message_judged schema head id (Some m) =
       version = number_named schema.order schema.header.members (codes "version") head;
     })
 
+-- what the header says, or why it is refused
 abbrev pub heading_of : WireSchema → List ℕ → Result Heading Fault
 heading_of schema head =
     let schema_id = number_named schema.order schema.header.members (codes "schemaId") head in
@@ -252,6 +280,7 @@ heading_of schema head =
     then message_judged schema head id (message_named 0 id schema.messages)
     else Err (fault_at code.SchemaId (place_named schema.header.members (codes "schemaId")) (pos schema_id))
 
+-- the heading at the front of a body
 abbrev pub heading_read : WireSchema → Reader Heading
 heading_read schema = read_judged (header_bytes (members_end 0 schema.header.members)) (heading_of schema)
 
@@ -263,6 +292,7 @@ rest_judged known m rest = if known && nat_lt 0 (length rest) then Err (fault_at
 abbrev pub headed : Heading → Block → Msg
 headed h block = record { template = h.template; version = h.version; block = block }
 
+-- the message behind a heading
 abbrev pub root_read : WireSchema → Heading → List ℕ → Result Msg Fault
 root_read schema h =
     let known = is_known schema h.version in

@@ -1,4 +1,4 @@
--- Versions: which parts of a schema stand in a message.
+-- Versions: which parts of a schema stand in a message. From SBE 1.0, Schema extension mechanism; the floor is own profile.
 use Rattle.std.specs.Prelude.{ℕ, min, nat_le, Bool, not, ◌&&◌, if◌then◌else◌, List, [], ◌∷◌}
 use Rattle.sbe_types.specs.declared.schema.Field.{Field}
 use Rattle.sbe_types.specs.declared.schema.WireSchema.{WireSchema}
@@ -16,6 +16,7 @@ is_known schema w = nat_le w schema.version
 abbrev pub is_alive : ℕ → ℕ → Bool
 is_alive version since = nat_le since version
 
+-- the same behind fields that end at e, where the block must reach so far already
 abbrev pub floor_from : ℕ → ℕ → ℕ → List Field → ℕ
 floor_from version e reached [] = reached
 floor_from version e reached (f ∷ fs) =
