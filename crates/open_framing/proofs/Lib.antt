@@ -1,3 +1,4 @@
+pub mod Computing
 pub mod PieceLemmas
 pub mod FrameLemmas
 pub mod LineLemmas

@@ -10,7 +10,7 @@ use Rattle.sbe_types.specs.declared.path.Step.{Step}
 use Rattle.sbe_types.specs.declared.path.Step.TheVariants as way
 use Rattle.sbe_wire.specs.Lays.{Joined, JoinedBoth}
 use Rattle.sbe_wire.specs.Faults.{Fault, shifted, under, fault_at, FaultAfter, TooShort, Under, TimesFault, EachFault}
-use Rattle.sbe_wire.specs.Reading.{Reader, ◌>>=◌, later, inside, and_then, then_read, nothing, and_judged, read_judged, bytes_read, read_in, times_read, each_read, then_all}
+use Rattle.sbe_wire.specs.Reading.{Reader, ◌>>=◌, later, inside, and_then, then_read, nothing, and_judged, read_judged, bytes_or, bytes_read, read_in, times_read, each_read, then_all}
 use Rattle.sbe_wire.specs.Agree.{Reads, Judges}
 
 -- ---- answers
@@ -26,6 +26,10 @@ pair_fst h = ap (λ p. p.0) h
 
 pub pair_snd : {X Y : Type 0} {x y : X} {u v : Y} → ◌≡◌ {A = X × Y} (x, u) (y, v) → u ≡ v
 pair_snd h = ap (λ p. p.1) h
+
+pub empty_is : (b : List ℕ) → length b ≡ 0 → b ≡ []
+empty_is [] h = refl
+empty_is (x ∷ xs) h = absurd (omega (arith, h))
 
 pub bind_ok : {X Y : Type 0} (r : Result X Fault) (f : X → Result Y Fault) (y : Y) → r >>= f ≡ Ok y → (x : X) × (r ≡ Ok x) × (f x ≡ Ok y)
 bind_ok (Ok x) f y h = (x, refl, h)
@@ -148,44 +152,49 @@ made {X} {Y} p make R F reads = record { sound = sound; complete = complete; tol
 
 -- ---- so many bytes
 
-bytes_sound : (n : ℕ) (b x rest : List ℕ) (t : Bool) → nat_le n (length b) ≡ t → cond {A = Result (List ℕ × List ℕ) Fault} t (Ok (take n b, drop n b)) (Err (fault_at code.Truncated 0 (pos n))) ≡ Ok (x, rest) →
-    (front : List ℕ) × (b ≡ front ++ rest) × ((length front ≡ n) × (x ≡ front))
-bytes_sound n b x rest true e h =
+abbrev pub Exactly : ℕ → List ℕ → List ℕ → Type 0
+Exactly n x b = (length b ≡ n) × (x ≡ b)
+
+-- fewer bytes than n, and the fault that they give
+abbrev pub Fewer : (List ℕ → Fault) → ℕ → Fault → List ℕ → Type 0
+Fewer fault n f b = (length b < n) × (f ≡ fault b)
+
+abbrev bytes_by : Bool → Fault → ℕ → Reader (List ℕ)
+bytes_by there fault n b = cond {A = Result (List ℕ × List ℕ) Fault} there (Ok (take n b, drop n b)) (Err fault)
+
+bytes_sound : (fault : Fault) (n : ℕ) (b x rest : List ℕ) (t : Bool) → nat_le n (length b) ≡ t → bytes_by t fault n b ≡ Ok (x, rest) → (front : List ℕ) × (b ≡ front ++ rest) × Exactly n x front
+bytes_sound fault n b x rest true e h =
     let is = ok_is h in
     let fits : n ≤ length b = grind (arith, nat_tests) in
     (take n b, sym (take-append-drop n b) ∙ ap (λ r. take n b ++ r) (pair_snd is), (simp length-take (omega arith), sym (pair_fst is)))
-bytes_sound n b x rest false e h = cc
+bytes_sound fault n b x rest false e h = cc
 
-bytes_complete : (n : ℕ) (x front rest : List ℕ) → length front ≡ n → x ≡ front → bytes_read n (front ++ rest) ≡ Ok (x, rest)
-bytes_complete n x front rest wide is =
+bytes_complete : (fault : Fault) (n : ℕ) (x front rest : List ℕ) → length front ≡ n → x ≡ front → bytes_or fault n (front ++ rest) ≡ Ok (x, rest)
+bytes_complete fault n x front rest wide is =
     let fits : nat_le n (length (front ++ rest)) ≡ true = grind (arith, nat_tests, length-append) in
     let front_is : take n (front ++ rest) ≡ x = ap (λ k. take k (front ++ rest)) (sym wide) ∙ take-append_seam front rest ∙ sym is in
     let rest_is : drop n (front ++ rest) ≡ rest = ap (λ k. drop k (front ++ rest)) (sym wide) ∙ drop-append_seam front rest in
     rw (fits, front_is, rest_is) refl
 
-bytes_told : (n : ℕ) (b : List ℕ) (f : Fault) (t : Bool) → nat_le n (length b) ≡ t → (cond {A = Result (List ℕ × List ℕ) Fault} t (Ok (take n b, drop n b)) (Err (fault_at code.Truncated 0 (pos n)))) ≡ Err f → TooShort n f b
-bytes_told n b f true e h = cc
-bytes_told n b f false e h = (grind (arith, nat_tests), sym (err_is h))
+bytes_told : (fault : Fault) (n : ℕ) (b : List ℕ) (f : Fault) (t : Bool) → nat_le n (length b) ≡ t → bytes_by t fault n b ≡ Err f → (length b < n) × (f ≡ fault)
+bytes_told fault n b f true e h = cc
+bytes_told fault n b f false e h = (grind (arith, nat_tests), sym (err_is h))
 
-bytes_only : (n : ℕ) (b : List ℕ) (f : Fault) → length b < n → f ≡ fault_at code.Truncated 0 (pos n) → bytes_read n b ≡ Err f
-bytes_only n b f short is =
+bytes_only : (fault : Fault) (n : ℕ) (b : List ℕ) (f : Fault) → length b < n → f ≡ fault → bytes_or fault n b ≡ Err f
+bytes_only fault n b f short is =
     let misses : nat_le n (length b) ≡ false = grind (arith, nat_tests) in
     rw misses (ap Err (sym is))
 
-pub so_many : (n : ℕ) → Reads (bytes_read n) (λ x b. (length b ≡ n) × (x ≡ b)) (TooShort n)
-so_many n = record { sound = sound; complete = complete; told = told; only = only }
-  where
-    sound : (b x rest : List ℕ) → bytes_read n b ≡ Ok (x, rest) → (front : List ℕ) × (b ≡ front ++ rest) × ((length front ≡ n) × (x ≡ front))
-    sound b x rest h = bytes_sound n b x rest (nat_le n (length b)) refl h
+pub so_many_or : (fault : List ℕ → Fault) (n : ℕ) → Reads (λ b. bytes_or (fault b) n b) (Exactly n) (Fewer fault n)
+so_many_or fault n = record {
+  sound = λ b x rest h. bytes_sound (fault b) n b x rest (nat_le n (length b)) refl h;
+  complete = λ x front rest h. bytes_complete (fault (front ++ rest)) n x front rest h.0 h.1;
+  told = λ b f h. bytes_told (fault b) n b f (nat_le n (length b)) refl h;
+  only = λ b f h. bytes_only (fault b) n b f h.0 h.1;
+}
 
-    complete : (x front rest : List ℕ) → (length front ≡ n) × (x ≡ front) → bytes_read n (front ++ rest) ≡ Ok (x, rest)
-    complete x front rest h = bytes_complete n x front rest h.0 h.1
-
-    told : (b : List ℕ) (f : Fault) → bytes_read n b ≡ Err f → TooShort n f b
-    told b f h = bytes_told n b f (nat_le n (length b)) refl h
-
-    only : (b : List ℕ) (f : Fault) → TooShort n f b → bytes_read n b ≡ Err f
-    only b f h = bytes_only n b f h.0 h.1
+pub so_many : (n : ℕ) → Reads (bytes_read n) (Exactly n) (TooShort n)
+so_many n = so_many_or (λ b. fault_at code.Truncated 0 (pos n)) n
 
 -- ---- inside a step
 

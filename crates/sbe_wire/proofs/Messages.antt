@@ -3,7 +3,7 @@ use Rattle.std.proofs.Common.{◌≡◌, ◌≢◌, ◌⊎◌, inl, inr, ℕ, su
 use Rattle.std.proofs.Math.Seq.{take-append_seam, drop-append_seam}
 use Rattle.std.proofs.lemmas.List.{take-append-drop}
 use Rattle.std.proofs.lemmas.Bool.Decides.{nat_tests}
-use Rattle.std.specs.Prelude.{IsTrue, ◌&&◌, ◌==◌, nat_le, nat_lt, pos, codes, slice_get}
+use Rattle.std.specs.Prelude.{IsTrue, ◌&&◌, ◌==◌, nat_lt, pos, codes, slice_get}
 use Rattle.sbe_types.specs.declared.kind.Member.{Member}
 use Rattle.sbe_types.specs.declared.schema.Level.{Level, out-Level}
 use Rattle.sbe_types.specs.declared.schema.WireSchema.{WireSchema}
@@ -18,7 +18,7 @@ use Rattle.sbe_wire.specs.Faults.{Fault, fault_at, FaultAfter, EntryFault, TailF
 use Rattle.sbe_wire.specs.Reading.{entry_read, tail_read, header_bytes, message_judged, heading_of, heading_read, rest_judged, headed, root_read, message_of}
 use Rattle.sbe_wire.specs.Agree.{Judges, Reads}
 use Rattle.sbe_wire.specs.Placed.{IsPlaced, IsPlacedLevel}
-use Rattle.sbe_wire.proofs.Combine.{ok_is, err_is, pair_fst, pair_snd, restated, After, All, JudgedOf, JudgedFault, computed, at_end}
+use Rattle.sbe_wire.proofs.Combine.{ok_is, err_is, empty_is, restated, After, All, Exactly, Fewer, so_many_or, JudgedOf, JudgedFault, computed, at_end}
 use Rattle.sbe_wire.proofs.Judging.{never, rejudged}
 use Rattle.sbe_wire.proofs.Blocks.{entry_reads}
 use Rattle.sbe_wire.proofs.Levels.{placed_fields, ignores, tail_reads}
@@ -28,44 +28,11 @@ some_is h = cc
 
 -- ---- so many bytes of a header
 
-header_sound : (n : ℕ) (b x rest : List ℕ) (t : Bool) → nat_le n (length b) ≡ t → cond {A = Result (List ℕ × List ℕ) Fault} t (Ok (take n b, drop n b)) (Err (fault_at code.ShortHeader 0 (pos (length b)))) ≡ Ok (x, rest) →
-    (front : List ℕ) × (b ≡ front ++ rest) × ((length front ≡ n) × (x ≡ front))
-header_sound n b x rest true e h =
-    let is = ok_is h in
-    let fits : n ≤ length b = grind (arith, nat_tests) in
-    (take n b, sym (take-append-drop n b) ∙ ap (λ r. take n b ++ r) (pair_snd is), (simp length-take (omega arith), sym (pair_fst is)))
-header_sound n b x rest false e h = cc
+abbrev header_fault : List ℕ → Fault
+header_fault b = fault_at code.ShortHeader 0 (pos (length b))
 
-header_complete : (n : ℕ) (x front rest : List ℕ) → length front ≡ n → x ≡ front → header_bytes n (front ++ rest) ≡ Ok (x, rest)
-header_complete n x front rest wide is =
-    let fits : nat_le n (length (front ++ rest)) ≡ true = grind (arith, nat_tests, length-append) in
-    let front_is : take n (front ++ rest) ≡ x = ap (λ k. take k (front ++ rest)) (sym wide) ∙ take-append_seam front rest ∙ sym is in
-    let rest_is : drop n (front ++ rest) ≡ rest = ap (λ k. drop k (front ++ rest)) (sym wide) ∙ drop-append_seam front rest in
-    rw (fits, front_is, rest_is) refl
-
-abbrev ShortHeader : ℕ → Fault → List ℕ → Type 0
-ShortHeader n f b = (length b < n) × (f ≡ fault_at code.ShortHeader 0 (pos (length b)))
-
-header_told : (n : ℕ) (b : List ℕ) (f : Fault) (t : Bool) → nat_le n (length b) ≡ t → (cond {A = Result (List ℕ × List ℕ) Fault} t (Ok (take n b, drop n b)) (Err (fault_at code.ShortHeader 0 (pos (length b))))) ≡ Err f → ShortHeader n f b
-header_told n b f true e h = cc
-header_told n b f false e h = (grind (arith, nat_tests), sym (err_is h))
-
-header_only : (n : ℕ) (b : List ℕ) (f : Fault) → ShortHeader n f b → header_bytes n b ≡ Err f
-header_only n b f h =
-    let short : length b < n = h.0 in
-    let misses : nat_le n (length b) ≡ false = grind (arith, nat_tests) in
-    rw misses (ap Err (sym h.1))
-
-abbrev Exactly : ℕ → List ℕ → List ℕ → Type 0
-Exactly n x b = (length b ≡ n) × (x ≡ b)
-
-header_reads : (n : ℕ) → Reads (header_bytes n) (Exactly n) (ShortHeader n)
-header_reads n = record {
-  sound = λ b x rest h. header_sound n b x rest (nat_le n (length b)) refl h;
-  complete = λ x front rest h. header_complete n x front rest h.0 h.1;
-  told = λ b f h. header_told n b f (nat_le n (length b)) refl h;
-  only = λ b f h. header_only n b f h;
-}
+header_reads : (n : ℕ) → Reads (header_bytes n) (Exactly n) (Fewer header_fault n)
+header_reads n = so_many_or header_fault n
 
 -- ---- the message of an id
 
@@ -199,7 +166,7 @@ module _ (schema : WireSchema) where
     only = heading_only;
   }
 
-  fault_to : (f : Fault) (b : List ℕ) → JudgedFault (ShortHeader wide) (Exactly wide) (λ g head. HeadingRefused schema g head) f b → HeadingFault schema f b
+  fault_to : (f : Fault) (b : List ℕ) → JudgedFault (Fewer header_fault wide) (Exactly wide) (λ g head. HeadingRefused schema g head) f b → HeadingFault schema f b
   fault_to f b h = elim h [
     | inl e ↦ inl e
     | inr e ↦
@@ -207,7 +174,7 @@ module _ (schema : WireSchema) where
         inr (omega (arith, ap length e.3, length-append e.1 e.2, e.4.0), subst (HeadingRefused schema f) (e.4.1 ∙ front) e.5)
   ]
 
-  fault_from : (f : Fault) (b : List ℕ) → HeadingFault schema f b → JudgedFault (ShortHeader wide) (Exactly wide) (λ g head. HeadingRefused schema g head) f b
+  fault_from : (f : Fault) (b : List ℕ) → HeadingFault schema f b → JudgedFault (Fewer header_fault wide) (Exactly wide) (λ g head. HeadingRefused schema g head) f b
   fault_from f b h = elim h [
     | inl e ↦ inl e
     | inr e ↦
@@ -218,20 +185,16 @@ module _ (schema : WireSchema) where
   heading_reads : Reads (heading_read schema) (HeadingGood schema) (HeadingFault schema)
   heading_reads =
       restated (heading_read schema) (JudgedOf (Exactly wide) (HeadingGood schema)) (HeadingGood schema)
-      (JudgedFault (ShortHeader wide) (Exactly wide) (λ g head. HeadingRefused schema g head)) (HeadingFault schema)
+      (JudgedFault (Fewer header_fault wide) (Exactly wide) (λ g head. HeadingRefused schema g head)) (HeadingFault schema)
       (λ g b h. subst (λ a. HeadingGood schema g a) h.1.1 h.2) (λ g b h. (b, (h.0.numbers.wide, refl), h))
       fault_to fault_from
-      (computed (header_bytes wide) (heading_of schema) (Exactly wide) (ShortHeader wide) (λ head. length head ≡ wide) (HeadingGood schema) (λ g head. HeadingRefused schema g head)
+      (computed (header_bytes wide) (heading_of schema) (Exactly wide) (Fewer header_fault wide) (λ head. length head ≡ wide) (HeadingGood schema) (λ g head. HeadingRefused schema g head)
       (header_reads wide) (λ x b h. ap length h.1 ∙ h.0) heading_judges)
 
   -- ---- what is left
 
   abbrev RestIs : Bool → Msg → Msg → List ℕ → Type 0
   RestIs known m n rest = (n ≡ m) × (IsTrue known → rest ≡ [])
-
-  empty_is : (b : List ℕ) → length b ≡ 0 → b ≡ []
-  empty_is [] h = refl
-  empty_is (x ∷ xs) h = absurd (omega (arith, h))
 
   rest_ok : (known : Bool) (m n : Msg) (rest : List ℕ) (u : Bool) → nat_lt 0 (length rest) ≡ u → cond (known && u) (Err (fault_at code.Trailing 0 (pos (length rest)))) (Ok m) ≡ Ok n → RestIs known m n rest
   rest_ok true m n rest true e h = cc

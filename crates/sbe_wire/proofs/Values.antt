@@ -26,7 +26,7 @@ use Rattle.sbe_wire.specs.Faults.{Fault, shifted, under, fault_at, is_bad_byte, 
 use Rattle.sbe_wire.specs.Reading.{◌>>=◌, later, inside, number_value, text_ended, text_read, element_read, elements_read, array_read, leaf_read, value_read, row_read}
 use Rattle.sbe_wire.specs.Agree.{Judges}
 use Rattle.sbe_wire.specs.Placed.{BeginsBehind, IsPlacedKind, IsPlacedRow}
-use Rattle.sbe_wire.proofs.Combine.{ok_is, err_is, bind_ok, bind_err, later_ok, later_err, inside_ok, inside_err}
+use Rattle.sbe_wire.proofs.Combine.{empty_is, ok_is, err_is, bind_ok, bind_err, later_ok, later_err, inside_ok, inside_err}
 use Rattle.sbe_wire.proofs.Judging.{never, found_is, missed_is, rejudged, made_by, MadeBy, moved, beside, Beside, BesideFault}
 use Rattle.sbe_wire.proofs.TextLemmas.{splits, passes, stops, fronts, Stops}
 
@@ -121,10 +121,6 @@ module _ (order : Order) (leaf : LeafOf) where
 
   abbrev number : List ℕ → ℤ
   number b = number_of order leaf.prim (take w b)
-
-  empty_is : (b : List ℕ) → length b ≡ 0 → b ≡ []
-  empty_is [] h = refl
-  empty_is (x ∷ xs) h = absurd (omega (arith, h))
 
   elements_sound : (i n : ℕ) (b : List ℕ) (es : List Elem) → length b ≡ w * n → elements_read order leaf i n b ≡ Ok es → ShowsElements order leaf es b
   unfolding elements_read

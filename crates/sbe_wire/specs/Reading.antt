@@ -81,9 +81,13 @@ read_judged p q b = and_judged q (p b)
 abbrev pub then_all : {X Y : Type 0} → Reader X → (X → List ℕ → Result Y Fault) → List ℕ → Result Y Fault
 then_all p q b = and_then b (p b) q
 
+-- n bytes, or this fault
+abbrev pub bytes_or : Fault → ℕ → Reader (List ℕ)
+bytes_or fault n b = if nat_le n (length b) then Ok (take n b, drop n b) else Err fault
+
 -- n bytes, or how many are wanted
 abbrev pub bytes_read : ℕ → Reader (List ℕ)
-bytes_read n b = if nat_le n (length b) then Ok (take n b, drop n b) else Err (fault_at code.Truncated 0 (pos n))
+bytes_read n b = bytes_or (fault_at code.Truncated 0 (pos n)) n b
 
 -- a reader inside a step
 abbrev pub read_in : {X : Type 0} → Step → Reader X → Reader X
@@ -251,7 +255,7 @@ unfoldable mutual
 
 -- the n bytes of a header, or how many are there
 abbrev pub header_bytes : ℕ → Reader (List ℕ)
-header_bytes n b = if nat_le n (length b) then Ok (take n b, drop n b) else Err (fault_at code.ShortHeader 0 (pos (length b)))
+header_bytes n b = bytes_or (fault_at code.ShortHeader 0 (pos (length b))) n b
 
 -- the heading, if its block length reaches the floor
 abbrev pub floor_judged : WireSchema → Heading → Result Heading Fault
