@@ -11,7 +11,7 @@ use Rattle.open_framing.proofs.LineLemmas.{lines_more}
 use Rattle.frame_stream.specs.declared.held.Ended.{Ended}
 use Rattle.frame_stream.specs.declared.held.Ended.TheVariants as ended'
 use Rattle.frame_stream.specs.declared.lines.LineEnded.{LineEnded}
-use Rattle.frame_stream.specs.declared.lines.LineEnded.TheVariants as line_end
+use Rattle.frame_stream.specs.declared.lines.LineEnded.TheVariants as line_ended
 use Rattle.frame_stream.specs.Stream.{StreamState, TakesBy, TakesItems, cut_end, room, told_by}
 use Rattle.frame_stream.specs.LineTakes.{LineState, TakesLast, TakesLineBy, TakesLines, end_bytes, line_room, line_told_by, lines_end}
 
@@ -63,9 +63,9 @@ lines_items (x ∷ some) more stream input end all cut =
     (subst (λ k. Lines (front ++ (back ++ stream)) k (x ∷ some ++ more) end) (joined_front front back stream input) here)
 
 lines_told : (stream left' : List ℕ) (old new : LineState) (e : LineEnded) → TakesLineBy stream old new left' (line_told_by e) → Lines stream (line_room old) [] (lines_end e)
-lines_told stream left' old new line_end.End h = h.0
-lines_told stream left' old new line_end.Over h = h.0
-lines_told stream left' old new line_end.Limit h = h.0
+lines_told stream left' old new line_ended.End h = h.0
+lines_told stream left' old new line_ended.Over h = h.0
+lines_told stream left' old new line_ended.Limit h = h.0
 
 one_end : (s : LineState) → s.ended ≡ None → end_bytes s.ended ≡ 1
 one_end s none = ap end_bytes none
@@ -81,7 +81,7 @@ before_rest (x ∷ some) more stream left old next end taken rest =
     let stream' = mid.held ++ taken.1 in
     let later = before_rest some more stream' left mid next end taken.5 rest in
     let here = lines_more stream' (line_room mid) mid.line (some ++ more) end by.line later in
-    let size : length (ended mid.line) + line_room mid ≡ line_room old = omega (arith, taken.4, length-append mid.line (10 ∷ []), one_end mid by.ended) in
+    let size : length (ended mid.line) + line_room mid ≡ line_room old = omega (arith, taken.4, length-append mid.line (lines.line_end ∷ []), one_end mid by.ended) in
     subst (λ l. Lines stream (line_room old) (l ∷ some ++ more) end) (sym taken.3)
     (subst (λ s. Lines s (line_room old) (mid.line ∷ some ++ more) end) (sym by.whole) (subst (λ k. Lines (ended mid.line ++ stream') k (mid.line ∷ some ++ more) end) size here))
 

@@ -5,12 +5,12 @@ use Rattle.std.proofs.lemmas.Bool.{le-leb, ne_eqb}
 use Rattle.std.proofs.lemmas.Bool.Decides.{nat_tests}
 use Rattle.std.proofs.lemmas.List.{append-nil, nil_from_length, take_all}
 use Rattle.std.proofs.Math.Seq.{drop-append_seam}
-use Rattle.open_framing.specs.Lines.{LineEnd, Lines, End, LineOver, InputLimit, before_end, ended, first_line, if_within, last_of, longest_line}
+use Rattle.open_framing.specs.Lines.{LineEnd, Lines, End, LineOver, InputLimit, before_end, ended, first_line, if_within, last_of, line_end, longest_line}
 use Rattle.open_framing.proofs.LineLemmas.{line_complete, line_over, line_sound}
 use Rattle.frame_stream.specs.declared.reading.Dry.TheVariants as dry
 use Rattle.frame_stream.specs.declared.window.NoEnd.TheVariants as no_end
 use Rattle.frame_stream.specs.declared.lines.LineEnded.{LineEnded}
-use Rattle.frame_stream.specs.declared.lines.LineEnded.TheVariants as line_end
+use Rattle.frame_stream.specs.declared.lines.LineEnded.TheVariants as line_ended
 use Rattle.frame_stream.specs.declared.lines.LineTaken.{LineTaken}
 use Rattle.frame_stream.specs.declared.lines.LineTaken.TheVariants as line
 use Rattle.frame_stream.specs.declared.lines.LineErr.TheVariants as line_err
@@ -56,7 +56,7 @@ module _ (at front : ℕ) (h n : HeldState) (is : IsLineStream at front h) where
       let fits : if_within (Some line') ≡ Some line' = rw (le-leb (length line') longest_line within) refl in
       let sound = line_sound n.bytes line' (ap if_within found ∙ fits) in
       let more = sound.1.0 in
-      let size : i + 1 ≡ length (ended line') = omega (arith, count, length-append line' (10 ∷ [])) in
+      let size : i + 1 ≡ length (ended line') = omega (arith, count, length-append line' (line_end ∷ [])) in
       let rest : drop (i + 1) n.bytes ≡ more = ap (λ k. drop k n.bytes) size ∙ ap (drop (length (ended line'))) sound.1.1 ∙ drop-append_seam (ended line') more in
       record {
         line = sound.0;
@@ -86,7 +86,7 @@ module _ (at front : ℕ) (h n : HeldState) (is : IsLineStream at front h) where
   -- ---- the end of the source
 
   last_line : (l l' beyond : List ℕ) (len : ℕ) → len ≡ length n.bytes → 0 < len → Moves (let_go_of front h) n (Some l) (Some l') beyond → beyond ≡ [] → l' ≡ [] → before_end n.bytes ≡ None → length n.bytes < n.size →
-      TakesLast (drop front h.bytes ++ l) (was None) (lines_shown len len n (Some line_end.End)) l'
+      TakesLast (drop front h.bytes ++ l) (was None) (lines_shown len len n (Some line_ended.End)) l'
   last_line l l' beyond len count some m nothing over none short =
       let stream = drop front h.bytes ++ l in
       let all = all_held (let_go_of front h) n l l' beyond m nothing over in
@@ -112,30 +112,30 @@ module _ (at front : ℕ) (h n : HeldState) (is : IsLineStream at front h) where
         all.0 ∙ sym (append-nil n.bytes) ∙ ap (λ x. n.bytes ++ x) (sym over) ∙ ap (λ x. x ++ l') (sym held),
       )
 
-  from_last : (l r : Option (List ℕ)) (len : ℕ) (t : LineTaken) → len ≡ length n.bytes → IsLastTaken len t → LineEnds (let_go_of front h) n l r (Err (no_end.Dry dry.End)) → TakesLineFrom (was None) (lines_shown len len n (Some line_end.End)) l r (Ok t)
+  from_last : (l r : Option (List ℕ)) (len : ℕ) (t : LineTaken) → len ≡ length n.bytes → IsLastTaken len t → LineEnds (let_go_of front h) n l r (Err (no_end.Dry dry.End)) → TakesLineFrom (was None) (lines_shown len len n (Some line_ended.End)) l r (Ok t)
   from_last None r len t count last e = tt
   from_last (Some l) None len t count last e = absurd e.1.consumed
   from_last (Some l) (Some l') len line.Line count last e = inr (last_line l l' e.0 len count last e.1 e.4.0 e.4.1 e.2 e.3)
   from_last (Some l) (Some l') len line.End count last e = no_line l l' e.0 len count last e.1 e.4.0 e.4.1 e.2
 
-  last_falls : (l r : Option (List ℕ)) (beyond : List ℕ) (len : ℕ) (t : LineTaken) → len ≡ length n.bytes → IsLastTaken len t → Moves (let_go_of front h) n l r beyond → LineFalls (was None) (lines_shown len len n (Some line_end.End)) (Ok t)
+  last_falls : (l r : Option (List ℕ)) (beyond : List ℕ) (len : ℕ) (t : LineTaken) → len ≡ length n.bytes → IsLastTaken len t → Moves (let_go_of front h) n l r beyond → LineFalls (was None) (lines_shown len len n (Some line_ended.End)) (Ok t)
   last_falls l r beyond len line.Line count last m =
       let size : length (take len n.bytes) ≡ len = length-take-le len n.bytes (omega (arith, count)) in
       (omega (arith, size, count, m.taken, m.within, m.limit, ap length m.grown, length-append (drop front h.bytes) m.more, length-drop len n.bytes), omega (arith, size, last))
   last_falls l r beyond len line.End count last m =
       omega (arith, last, count, m.taken, m.within, m.limit, ap length m.grown, length-append (drop front h.bytes) m.more, length-drop len n.bytes)
 
-  last_held : (len : ℕ) (t : LineTaken) → len ≡ length n.bytes → LineHeldBy (lines_shown len len n (Some line_end.End)) (Ok t)
+  last_held : (len : ℕ) (t : LineTaken) → len ≡ length n.bytes → LineHeldBy (lines_shown len len n (Some line_ended.End)) (Ok t)
   last_held len line.Line count = inr (nil_from_length (drop len n.bytes) (omega (arith, length-drop len n.bytes, count)))
   last_held len line.End count = nil_from_length (drop len n.bytes) (omega (arith, length-drop len n.bytes, count))
 
-  last_ended : (t : LineTaken) → LineEndedBy (Some line_end.End) (Ok t)
+  last_ended : (t : LineTaken) → LineEndedBy (Some line_ended.End) (Ok t)
   last_ended line.Line = inr refl
   last_ended line.End = refl
 
   pub takes_last : (end : Option LineEnded) (l r : Option (List ℕ)) (len : ℕ) (t : LineTaken) → end ≡ None → len ≡ length n.bytes → IsLastTaken len t → LineEnds (let_go_of front h) n l r (Err (no_end.Dry dry.End)) →
-      TakesLine (was end) (lines_shown len len n (Some line_end.End)) l r (Ok t)
-  takes_last end l r len t runs count last e = subst (λ k. TakesLine (was k) (lines_shown len len n (Some line_end.End)) l r (Ok t)) (sym runs) (record {
+      TakesLine (was end) (lines_shown len len n (Some line_ended.End)) l r (Ok t)
+  takes_last end l r len t runs count last e = subst (λ k. TakesLine (was k) (lines_shown len len n (Some line_ended.End)) l r (Ok t)) (sym runs) (record {
     from = from_last l r len t count last e;
     falls = last_falls l r e.0 len t count last e.1;
     held = last_held len t count;
@@ -149,7 +149,7 @@ module _ (at front : ℕ) (h n : HeldState) (is : IsLineStream at front h) where
   room_kept : (l r : Option (List ℕ)) (beyond : List ℕ) (end : Option LineEnded) → Moves (let_go_of front h) n l r beyond → line_room (lines_shown 0 0 n end) ≡ line_room (was None)
   room_kept l r beyond end m = omega (arith, m.taken, m.limit, ap length m.grown, length-append (drop front h.bytes) m.more)
 
-  from_limit : (l r : Option (List ℕ)) → LineEnds (let_go_of front h) n l r (Err (no_end.Dry dry.Over)) → TakesLineFrom (was None) (lines_shown 0 0 n (Some line_end.Limit)) l r (Err line_err.InputLimit)
+  from_limit : (l r : Option (List ℕ)) → LineEnds (let_go_of front h) n l r (Err (no_end.Dry dry.Over)) → TakesLineFrom (was None) (lines_shown 0 0 n (Some line_ended.Limit)) l r (Err line_err.InputLimit)
   from_limit None r e = tt
   from_limit (Some l) None e = absurd e.1.consumed
   from_limit (Some l) (Some l') e =
@@ -161,17 +161,17 @@ module _ (at front : ℕ) (h n : HeldState) (is : IsLineStream at front h) where
         (e.4.0, stream_is g n l l' e.0 e.1 ∙ ap (λ x. n.bytes ++ (x ++ l')) e.4.1),
       )
 
-  pub takes_limit : (end : Option LineEnded) (l r : Option (List ℕ)) → end ≡ None → LineEnds (let_go_of front h) n l r (Err (no_end.Dry dry.Over)) → TakesLine (was end) (lines_shown 0 0 n (Some line_end.Limit)) l r (Err line_err.InputLimit)
-  takes_limit end l r runs e = subst (λ k. TakesLine (was k) (lines_shown 0 0 n (Some line_end.Limit)) l r (Err line_err.InputLimit)) (sym runs) (record {
+  pub takes_limit : (end : Option LineEnded) (l r : Option (List ℕ)) → end ≡ None → LineEnds (let_go_of front h) n l r (Err (no_end.Dry dry.Over)) → TakesLine (was end) (lines_shown 0 0 n (Some line_ended.Limit)) l r (Err line_err.InputLimit)
+  takes_limit end l r runs e = subst (λ k. TakesLine (was k) (lines_shown 0 0 n (Some line_ended.Limit)) l r (Err line_err.InputLimit)) (sym runs) (record {
     from = from_limit l r e;
-    falls = room_kept l r e.0 (Some line_end.Limit) e.1;
+    falls = room_kept l r e.0 (Some line_ended.Limit) e.1;
     held = (e.2, e.5 refl);
     ended = refl;
     within = e.1.within;
     input = e.1.limit;
   })
 
-  from_full : (l r : Option (List ℕ)) → LineEnds (let_go_of front h) n l r (Err no_end.Full) → TakesLineFrom (was None) (lines_shown 0 0 n (Some line_end.Over)) l r (Err line_err.LineOver)
+  from_full : (l r : Option (List ℕ)) → LineEnds (let_go_of front h) n l r (Err no_end.Full) → TakesLineFrom (was None) (lines_shown 0 0 n (Some line_ended.Over)) l r (Err line_err.LineOver)
   from_full None r e = tt
   from_full (Some l) None e = absurd e.0.consumed
   from_full (Some l) (Some l') e =
@@ -185,10 +185,10 @@ module _ (at front : ℕ) (h n : HeldState) (is : IsLineStream at front h) where
         stream,
       )
 
-  pub takes_full : (end : Option LineEnded) (l r : Option (List ℕ)) → end ≡ None → LineEnds (let_go_of front h) n l r (Err no_end.Full) → TakesLine (was end) (lines_shown 0 0 n (Some line_end.Over)) l r (Err line_err.LineOver)
-  takes_full end l r runs e = subst (λ k. TakesLine (was k) (lines_shown 0 0 n (Some line_end.Over)) l r (Err line_err.LineOver)) (sym runs) (record {
+  pub takes_full : (end : Option LineEnded) (l r : Option (List ℕ)) → end ≡ None → LineEnds (let_go_of front h) n l r (Err no_end.Full) → TakesLine (was end) (lines_shown 0 0 n (Some line_ended.Over)) l r (Err line_err.LineOver)
+  takes_full end l r runs e = subst (λ k. TakesLine (was k) (lines_shown 0 0 n (Some line_ended.Over)) l r (Err line_err.LineOver)) (sym runs) (record {
     from = from_full l r e;
-    falls = room_kept l r [] (Some line_end.Over) e.0;
+    falls = room_kept l r [] (Some line_ended.Over) e.0;
     held = (e.1, omega (arith, e.2, e.0.fits, e.0.size, is.size));
     ended = refl;
     within = e.0.within;

@@ -4,7 +4,7 @@ use Rattle.sbe_base.specs.Causes.{Rose}
 use Rattle.open_framing.specs.Lines.{IsLine, LineEnd, Lines, End, LineOver, InputLimit, before_end, ended, longest_line}
 use Rattle.frame_stream.specs.Window.{HeldState}
 use Rattle.frame_stream.specs.declared.lines.LineEnded.{LineEnded}
-use Rattle.frame_stream.specs.declared.lines.LineEnded.TheVariants as line_end
+use Rattle.frame_stream.specs.declared.lines.LineEnded.TheVariants as line_ended
 use Rattle.frame_stream.specs.declared.lines.LineTaken.{LineTaken}
 use Rattle.frame_stream.specs.declared.lines.LineTaken.TheVariants as line
 use Rattle.frame_stream.specs.declared.lines.LineErr.{LineErr}
@@ -54,15 +54,15 @@ line_bytes s = length s.line + end_bytes s.ended
 
 -- the answer at an end
 abbrev pub line_told_by : LineEnded → Result LineTaken LineErr
-line_told_by line_end.End = Ok line.End
-line_told_by line_end.Over = Err line_err.LineOver
-line_told_by line_end.Limit = Err line_err.InputLimit
+line_told_by line_ended.End = Ok line.End
+line_told_by line_ended.Over = Err line_err.LineOver
+line_told_by line_ended.Limit = Err line_err.InputLimit
 
 -- the end of the lines at which a stream ends so
 abbrev pub lines_end : LineEnded → LineEnd
-lines_end line_end.End = End
-lines_end line_end.Over = LineOver
-lines_end line_end.Limit = InputLimit
+lines_end line_ended.End = End
+lines_end line_ended.Over = LineOver
+lines_end line_ended.Limit = InputLimit
 
 -- a line with its end was taken, and the rest is left
 pub record TakesEnded (stream : List ℕ) (old new : LineState) (left' : List ℕ) : Type 0 where
@@ -76,7 +76,7 @@ pub record TakesLast (stream : List ℕ) (old new : LineState) (left' : List ℕ
   pub whole : stream ≡ new.line
   pub held : new.held ≡ []
   pub left : left' ≡ []
-  pub ended : new.ended ≡ Some line_end.End
+  pub ended : new.ended ≡ Some line_ended.End
 
 -- The stream is what was held behind the last line and what the source had left. Its lines go on with this answer.
 abbrev pub TakesLineBy : List ℕ → LineState → LineState → List ℕ → Result LineTaken LineErr → Type 0
@@ -116,10 +116,10 @@ LineHeldBy new (Err line_err.ReadFault) = before_end new.held ≡ None
 
 -- the end that stays behind an answer: a line may be the last one
 abbrev pub LineEndedBy : Option LineEnded → Result LineTaken LineErr → Type 0
-LineEndedBy end (Ok line.Line) = (end ≡ None) ⊎ (end ≡ Some line_end.End)
-LineEndedBy end (Ok line.End) = end ≡ Some line_end.End
-LineEndedBy end (Err line_err.LineOver) = end ≡ Some line_end.Over
-LineEndedBy end (Err line_err.InputLimit) = end ≡ Some line_end.Limit
+LineEndedBy end (Ok line.Line) = (end ≡ None) ⊎ (end ≡ Some line_ended.End)
+LineEndedBy end (Ok line.End) = end ≡ Some line_ended.End
+LineEndedBy end (Err line_err.LineOver) = end ≡ Some line_ended.Over
+LineEndedBy end (Err line_err.InputLimit) = end ≡ Some line_ended.Limit
 LineEndedBy end (Err line_err.ReadFault) = end ≡ None
 
 -- what holds whether the source tells its bytes or not

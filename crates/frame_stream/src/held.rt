@@ -31,31 +31,28 @@ pub(crate) enum Stop {
 }
 
 impl Window {
-    /// Reads until so many bytes are held.
-    fn fill<I: Source>(&mut self, input: &mut I, want: usize) -> Result<(), Stop>
-        requires room { want ≤ self.old.held.size }
-        requires less { length self.old.held.bytes ≤ want }
-        ensures fills { Fills want self.old.held self.new.held (I.left input.old) (I.left input.new) result }
+    /// Takes the next frame. Where a whole one was held, that is let go first.
+    pub(crate) fn next_frame<I: Source>(&mut self, input: &mut I, whole: bool) -> Result<Head, Stop>
+        requires room { HEAD_BYTES ≤ self.old.held.size }
+        requires begun { whole ≡ false → IsBegun self.old.held }
+        ensures nexts { Nexts (released whole self.old.held) self.new.held (I.left input.old) (I.left input.new) result }
         ensures cause { StopCause (I.faults input.old) (I.faults input.new) result }
     {
-        self.is_within();
-        while self.len() < want {
-            match self.more(input, want) {
-                Ok(()) => {}
-                Err(dry) => return Err(stop_of(dry, self.len())),
-            }
+        if whole {
+            self.let_go_all();
+            return self.read_frame(input);
         }
-        Ok(())
+        self.read_frame(input)
     }
 
     /// Takes the next frame, of which a part may be held.
-    fn next<I: Source>(&mut self, input: &mut I) -> Result<Head, Stop>
+    fn read_frame<I: Source>(&mut self, input: &mut I) -> Result<Head, Stop>
         requires room { HEAD_BYTES ≤ self.old.held.size }
         requires begun { IsBegun self.old.held }
         ensures nexts { Nexts self.old.held self.new.held (I.left input.old) (I.left input.new) result }
         ensures cause { StopCause (I.faults input.old) (I.faults input.new) result }
     {
-        match self.begin(input) {
+        match self.begin_frame(input) {
             Ok(()) => {}
             Err(stop) => return Err(stop),
         }
@@ -71,22 +68,8 @@ impl Window {
         }
     }
 
-    /// Takes the next frame. Where a whole one was held, that is let go first.
-    pub(crate) fn after<I: Source>(&mut self, input: &mut I, whole: bool) -> Result<Head, Stop>
-        requires room { HEAD_BYTES ≤ self.old.held.size }
-        requires begun { whole ≡ false → IsBegun self.old.held }
-        ensures nexts { Nexts (released whole self.old.held) self.new.held (I.left input.old) (I.left input.new) result }
-        ensures cause { StopCause (I.faults input.old) (I.faults input.new) result }
-    {
-        if whole {
-            self.let_go_all();
-            return self.next(input);
-        }
-        self.next(input)
-    }
-
     /// Reads until a head is held.
-    fn begin<I: Source>(&mut self, input: &mut I) -> Result<(), Stop>
+    fn begin_frame<I: Source>(&mut self, input: &mut I) -> Result<(), Stop>
         requires room { HEAD_BYTES ≤ self.old.held.size }
         requires begun { IsBegun self.old.held }
         ensures begins { Begins self.old.held self.new.held (I.left input.old) (I.left input.new) result }
@@ -95,6 +78,23 @@ impl Window {
         self.is_within();
         if self.len() < HEAD_BYTES {
             return self.fill(input, HEAD_BYTES);
+        }
+        Ok(())
+    }
+
+    /// Reads until so many bytes are held.
+    fn fill<I: Source>(&mut self, input: &mut I, want: usize) -> Result<(), Stop>
+        requires room { want ≤ self.old.held.size }
+        requires less { length self.old.held.bytes ≤ want }
+        ensures fills { Fills want self.old.held self.new.held (I.left input.old) (I.left input.new) result }
+        ensures cause { StopCause (I.faults input.old) (I.faults input.new) result }
+    {
+        self.is_within();
+        while self.len() < want {
+            match self.more(input, want) {
+                Ok(()) => {}
+                Err(dry) => return Err(stop_of(dry, self.len())),
+            }
         }
         Ok(())
     }

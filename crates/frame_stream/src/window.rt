@@ -95,15 +95,6 @@ impl Window {
         self.buffer.len()
     }
 
-    /// Lets the first bytes go.
-    fn let_go(&mut self, n: usize)
-        requires { n ≤ length self.old.held.bytes }
-        ensures { self.new.held ≡ let_go_of n self.old.held }
-    {
-        let _taken = self.taken;
-        self.start += n;
-    }
-
     /// Lets all bytes go.
     pub(crate) fn let_go_all(&mut self)
         ensures { self.new.held ≡ released true self.old.held }
@@ -129,6 +120,15 @@ impl Window {
             Some(i) => Ok(i),
             None => self.read_end(input),
         }
+    }
+
+    /// Lets the first bytes go.
+    fn let_go(&mut self, n: usize)
+        requires { n ≤ length self.old.held.bytes }
+        ensures { self.new.held ≡ let_go_of n self.old.held }
+    {
+        let _taken = self.taken;
+        self.start += n;
     }
 
     /// Reads until a line end is held, and tells where it stands.
