@@ -9,6 +9,7 @@ use Rattle.digits.specs.Digits.{IsBytes, digits_high_first}
 use Rattle.digits.proofs.Bytes.{IsBytes-take, IsBytes-drop, IsBytes-back}
 use Rattle.digits.proofs.HighFirst.{number-digits-fit, digits-number, number-lt}
 use Rattle.open_framing.specs.Pieces.{joined}
+use Rattle.open_framing.specs.declared.head.TheConstants.{HEAD_BYTES}
 use Rattle.open_framing.specs.declared.head.Head.{Head}
 use Rattle.open_framing.specs.declared.head.HeadErr.{HeadErr}
 use Rattle.open_framing.specs.declared.head.HeadErr.TheVariants.{HeadShort, LengthShort, LengthOver, Encoding}
@@ -18,19 +19,19 @@ use Rattle.open_framing.proofs.PieceLemmas.{more_behind, FindsPieces, pieces_fou
 
 -- two numbers that make a head
 pub record AreHead (size encoding limit : ℕ) : Type 0 where
-  pub counts : 6 ≤ size
+  pub counts : HEAD_BYTES ≤ size
   pub within : size ≤ limit
   pub known : is_encoding encoding ≡ true
 
 pub judged_ok : (size encoding limit : ℕ) → AreHead size encoding limit → judged size encoding limit ≡ Ok (record { length = size; encoding = encoding })
 judged_ok size encoding limit are = grind (arith, nat_tests, are.known, are.counts, are.within)
 
-pub head_whole : (bytes : List ℕ) (limit : ℕ) → 6 ≤ length bytes → AreHead (length_in bytes) (encoding_in bytes) limit →
+pub head_whole : (bytes : List ℕ) (limit : ℕ) → HEAD_BYTES ≤ length bytes → AreHead (length_in bytes) (encoding_in bytes) limit →
     head_of bytes limit ≡ Ok (record { length = length_in bytes; encoding = encoding_in bytes })
 head_whole bytes limit long are = let is = judged_ok (length_in bytes) (encoding_in bytes) limit are in grind (arith, nat_tests, is)
 
 -- the head of bytes that show these numbers
-head_is : (bytes : List ℕ) (limit size encoding : ℕ) → 6 ≤ length bytes → length_in bytes ≡ size → encoding_in bytes ≡ encoding → AreHead size encoding limit →
+head_is : (bytes : List ℕ) (limit size encoding : ℕ) → HEAD_BYTES ≤ length bytes → length_in bytes ≡ size → encoding_in bytes ≡ encoding → AreHead size encoding limit →
     head_of bytes limit ≡ Ok (record { length = size; encoding = encoding })
 head_is bytes limit size encoding long e f are =
     head_whole bytes limit long (subst (λ k. AreHead k (encoding_in bytes) limit) (sym e) (subst (λ k. AreHead size k limit) (sym f) are)) ∙ ap (λ k. Ok (record { length = k; encoding = encoding_in bytes })) e ∙ ap (λ k. Ok (record { length = size; encoding = k })) f
@@ -46,33 +47,33 @@ by_tests false false false false size encoding head h = cc
 by_tests false false false true size encoding head h = (refl, refl, refl, refl, cc)
 
 pub record IsHeadOf (bytes : List ℕ) (limit : ℕ) (head : Head) : Type 0 where
-  pub long : 6 ≤ length bytes
+  pub long : HEAD_BYTES ≤ length bytes
   pub are : AreHead (length_in bytes) (encoding_in bytes) limit
   pub same : head ≡ record { length = length_in bytes; encoding = encoding_in bytes }
 
 pub head_told : (bytes : List ℕ) (limit : ℕ) (head : Head) → head_of bytes limit ≡ Ok head → IsHeadOf bytes limit head
 head_told bytes limit head h =
-    let tests = by_tests (nat_lt (length bytes) 6) (nat_lt (length_in bytes) 6) (nat_lt limit (length_in bytes)) (is_encoding (encoding_in bytes)) (length_in bytes) (encoding_in bytes) head h in
-    let long : 6 ≤ length bytes = grind (arith, nat_tests, tests.0) in
-    let counts : 6 ≤ length_in bytes = grind (arith, nat_tests, tests.1) in
+    let tests = by_tests (nat_lt (length bytes) HEAD_BYTES) (nat_lt (length_in bytes) HEAD_BYTES) (nat_lt limit (length_in bytes)) (is_encoding (encoding_in bytes)) (length_in bytes) (encoding_in bytes) head h in
+    let long : HEAD_BYTES ≤ length bytes = grind (arith, nat_tests, tests.0) in
+    let counts : HEAD_BYTES ≤ length_in bytes = grind (arith, nat_tests, tests.1) in
     let within : length_in bytes ≤ limit = grind (arith, nat_tests, tests.2) in
     record { long = long; are = record { counts = counts; within = within; known = tests.3 }; same = tests.4 }
 
 -- the parts of a frame of n bytes make up the bytes
-parts : (n : ℕ) (bytes : List ℕ) → ((take 4 bytes ++ take 2 (drop 4 bytes)) ++ drop 6 (take (6 + n) bytes)) ++ drop n (drop 6 bytes) ≡ bytes
+parts : (n : ℕ) (bytes : List ℕ) → ((take 4 bytes ++ take 2 (drop 4 bytes)) ++ drop HEAD_BYTES (take (HEAD_BYTES + n) bytes)) ++ drop n (drop HEAD_BYTES bytes) ≡ bytes
 parts n bytes =
-    let body : drop 6 (take (6 + n) bytes) ++ drop n (drop 6 bytes) ≡ drop 6 bytes = rw (drop-take 6 n bytes) (take-append-drop n (drop 6 bytes)) in
-    let behind : take 2 (drop 4 bytes) ++ drop 6 bytes ≡ drop 4 bytes = rw (← drop-drop 2 4 bytes) (take-append-drop 2 (drop 4 bytes)) in
-    append_assoc (take 4 bytes ++ take 2 (drop 4 bytes)) (drop 6 (take (6 + n) bytes)) (drop n (drop 6 bytes))
+    let body : drop HEAD_BYTES (take (HEAD_BYTES + n) bytes) ++ drop n (drop HEAD_BYTES bytes) ≡ drop HEAD_BYTES bytes = rw (drop-take HEAD_BYTES n bytes) (take-append-drop n (drop HEAD_BYTES bytes)) in
+    let behind : take 2 (drop 4 bytes) ++ drop HEAD_BYTES bytes ≡ drop 4 bytes = rw (← drop-drop 2 4 bytes) (take-append-drop 2 (drop 4 bytes)) in
+    append_assoc (take 4 bytes ++ take 2 (drop 4 bytes)) (drop HEAD_BYTES (take (HEAD_BYTES + n) bytes)) (drop n (drop HEAD_BYTES bytes))
     ∙ ap (λ back. (take 4 bytes ++ take 2 (drop 4 bytes)) ++ back) body
-    ∙ append_assoc (take 4 bytes) (take 2 (drop 4 bytes)) (drop 6 bytes)
+    ∙ append_assoc (take 4 bytes) (take 2 (drop 4 bytes)) (drop HEAD_BYTES bytes)
     ∙ ap (λ back. take 4 bytes ++ back) behind
     ∙ take-append-drop 4 bytes
 
 -- the item of a head is there where all its bytes are
 by_whole : (bytes : List ℕ) (head : Head) (item : Item) (whole : Bool) → nat_le head.length (length bytes) ≡ whole →
-    (if whole then Some (record { encoding = head.encoding; body = drop 6 (take head.length bytes) }) else None) ≡ Some item →
-    (head.length ≤ length bytes) × (item ≡ record { encoding = head.encoding; body = drop 6 (take head.length bytes) })
+    (if whole then Some (record { encoding = head.encoding; body = drop HEAD_BYTES (take head.length bytes) }) else None) ≡ Some item →
+    (head.length ≤ length bytes) × (item ≡ record { encoding = head.encoding; body = drop HEAD_BYTES (take head.length bytes) })
 by_whole bytes head item false is h = cc
 by_whole bytes head item true is h = (leb-true head.length (length bytes) is, cc)
 
@@ -81,7 +82,7 @@ pub record IsItemOf (bytes : List ℕ) (r : Result Head HeadErr) (item : Item) :
   pub head : Head
   pub read : r ≡ Ok head
   pub whole : head.length ≤ length bytes
-  pub same : item ≡ record { encoding = head.encoding; body = drop 6 (take head.length bytes) }
+  pub same : item ≡ record { encoding = head.encoding; body = drop HEAD_BYTES (take head.length bytes) }
 
 item_told : (bytes : List ℕ) (r : Result Head HeadErr) (item : Item) → item_by bytes r ≡ Some item → IsItemOf bytes r item
 item_told bytes (Err fault) item h = cc
@@ -89,7 +90,7 @@ item_told bytes (Ok head) item h =
     let told = by_whole bytes head item (nat_le head.length (length bytes)) refl h in
     record { head = head; read = refl; whole = told.0; same = told.1 }
 
-item_there : (bytes : List ℕ) (head : Head) (body : List ℕ) → head.length ≤ length bytes → drop 6 (take head.length bytes) ≡ body →
+item_there : (bytes : List ℕ) (head : Head) (body : List ℕ) → head.length ≤ length bytes → drop HEAD_BYTES (take head.length bytes) ≡ body →
     item_by bytes (Ok head) ≡ Some (record { encoding = head.encoding; body = body })
 item_there bytes head body whole e = rw (le-leb head.length (length bytes) whole, e) refl
 
@@ -97,28 +98,28 @@ join : (a a' b b' c c' d : List ℕ) → a ≡ a' → b ≡ b' → c ≡ c' → 
 join a a' b b' c c' d e f g = cc
 
 -- the bytes of a whole frame are those of its item
-frame_there : (limit : ℕ) (bytes : List ℕ) → IsBytes bytes → 6 ≤ length bytes → AreHead (length_in bytes) (encoding_in bytes) limit → length_in bytes ≤ length bytes →
-    (item : Item) → item ≡ record { encoding = encoding_in bytes; body = drop 6 (take (length_in bytes) bytes) } → IsFrame limit item × ((more : List ℕ) × (bytes ≡ frame_of item ++ more))
+frame_there : (limit : ℕ) (bytes : List ℕ) → IsBytes bytes → HEAD_BYTES ≤ length bytes → AreHead (length_in bytes) (encoding_in bytes) limit → length_in bytes ≤ length bytes →
+    (item : Item) → item ≡ record { encoding = encoding_in bytes; body = drop HEAD_BYTES (take (length_in bytes) bytes) } → IsFrame limit item × ((more : List ℕ) × (bytes ≡ frame_of item ++ more))
 frame_there limit bytes good long are whole item same =
-    let n : ℕ = length_in bytes - 6 in
-    let counts : 6 ≤ length_in bytes = are.counts in
+    let n : ℕ = length_in bytes - HEAD_BYTES in
+    let counts : HEAD_BYTES ≤ length_in bytes = are.counts in
     let taken : length (take (length_in bytes) bytes) ≡ length_in bytes = length-take-le (length_in bytes) bytes whole in
-    let body : item.body ≡ drop 6 (take (length_in bytes) bytes) = ap (λ (i : Item). i.body) same in
+    let body : item.body ≡ drop HEAD_BYTES (take (length_in bytes) bytes) = ap (λ (i : Item). i.body) same in
     let encoding : item.encoding ≡ encoding_in bytes = ap (λ (i : Item). i.encoding) same in
-    let size : length item.body + 6 ≡ length_in bytes = omega (arith, ap length body, length-drop 6 (take (length_in bytes) bytes)) in
+    let size : length item.body + HEAD_BYTES ≡ length_in bytes = omega (arith, ap length body, length-drop HEAD_BYTES (take (length_in bytes) bytes)) in
     let four : length (take 4 bytes) ≡ 4 = length-take-le 4 bytes (omega arith) in
     let behind : 2 ≤ length (drop 4 bytes) = omega (arith, length-drop 4 bytes) in
     let two : length (take 2 (drop 4 bytes)) ≡ 2 = length-take-le 2 (drop 4 bytes) behind in
     let below : length_in bytes < 256 ^ 4 = subst (λ k. length_in bytes < 256 ^ k) four (number-lt (take 4 bytes) (IsBytes-take 4 bytes good)) in
-    let fits : length item.body + 6 < 256 ^ 4 = rw size below in
-    let first : digits_high_first 4 (length item.body + 6) ≡ take 4 bytes = ap (digits_high_first 4) size ∙ digits-number 4 (take 4 bytes) four (IsBytes-take 4 bytes good) in
+    let fits : length item.body + HEAD_BYTES < 256 ^ 4 = rw size below in
+    let first : digits_high_first 4 (length item.body + HEAD_BYTES) ≡ take 4 bytes = ap (digits_high_first 4) size ∙ digits-number 4 (take 4 bytes) four (IsBytes-take 4 bytes good) in
     let second : digits_high_first 2 item.encoding ≡ take 2 (drop 4 bytes) = ap (digits_high_first 2) encoding ∙ digits-number 2 (take 2 (drop 4 bytes)) two (IsBytes-take 2 (drop 4 bytes) (IsBytes-drop 4 bytes good)) in
-    let split : length_in bytes ≡ 6 + n = omega arith in
-    let third : item.body ≡ drop 6 (take (6 + n) bytes) = body ∙ ap (λ k. drop 6 (take k bytes)) split in
-    let more = drop n (drop 6 bytes) in
+    let split : length_in bytes ≡ HEAD_BYTES + n = omega arith in
+    let third : item.body ≡ drop HEAD_BYTES (take (HEAD_BYTES + n) bytes) = body ∙ ap (λ k. drop HEAD_BYTES (take k bytes)) split in
+    let more = drop n (drop HEAD_BYTES bytes) in
     let known : is_encoding item.encoding ≡ true = ap is_encoding encoding ∙ are.known in (
       record { fits = fits; within = omega (arith, are.within); known = known },
-      (more, sym (join (digits_high_first 4 (length item.body + 6)) (take 4 bytes) (digits_high_first 2 item.encoding) (take 2 (drop 4 bytes)) item.body (drop 6 (take (6 + n) bytes)) more first second third ∙ parts n bytes)),
+      (more, sym (join (digits_high_first 4 (length item.body + HEAD_BYTES)) (take 4 bytes) (digits_high_first 2 item.encoding) (take 2 (drop 4 bytes)) item.body (drop HEAD_BYTES (take (HEAD_BYTES + n) bytes)) more first second third ∙ parts n bytes)),
     )
 
 pub frame_sound : (limit : ℕ) (bytes : List ℕ) (item : Item) → IsBytes bytes → first_item limit bytes ≡ Some item → IsFrame limit item × ((more : List ℕ) × (bytes ≡ frame_of item ++ more))
@@ -127,7 +128,7 @@ frame_sound limit bytes item good h =
     let head = head_told bytes limit told.head told.read in
     let size : told.head.length ≡ length_in bytes = ap (λ (k : Head). k.length) head.same in
     let encoding : told.head.encoding ≡ encoding_in bytes = ap (λ (k : Head). k.encoding) head.same in
-    let same : item ≡ record { encoding = encoding_in bytes; body = drop 6 (take (length_in bytes) bytes) } = told.same ∙ ap (λ (k : Head). record { encoding = k.encoding; body = drop 6 (take k.length bytes) }) head.same in
+    let same : item ≡ record { encoding = encoding_in bytes; body = drop HEAD_BYTES (take (length_in bytes) bytes) } = told.same ∙ ap (λ (k : Head). record { encoding = k.encoding; body = drop HEAD_BYTES (take k.length bytes) }) head.same in
     frame_there limit bytes good head.long head.are (rw (← size) told.whole) item same
 
 -- an encoding type has two bytes
@@ -137,7 +138,7 @@ known_fits n h = grind (arith, nat_tests, h)
 pub frame_complete : (limit : ℕ) (item : Item) (more : List ℕ) → IsFrame limit item → first_item limit (frame_of item ++ more) ≡ Some item
 frame_complete limit item more is =
     let bytes = frame_of item ++ more in
-    let size : ℕ = length item.body + 6 in
+    let size : ℕ = length item.body + HEAD_BYTES in
     let at_length : length_in bytes ≡ size = number-digits-fit 4 size is.fits in
     let at_encoding : encoding_in bytes ≡ item.encoding = number-digits-fit 2 item.encoding (known_fits item.encoding is.known) in
     let all : length bytes ≡ size + length more = omega (arith, length-append item.body more) in
@@ -146,7 +147,7 @@ frame_complete limit item more is =
     head_is bytes limit size item.encoding (omega arith) at_length at_encoding are in
     let own : length (frame_of item) ≡ size = omega arith in
     let front : take size bytes ≡ frame_of item = ap (λ k. take k bytes) (sym own) ∙ take-append_seam (frame_of item) more in
-    let body : drop 6 (take size bytes) ≡ item.body = ap (drop 6) front in
+    let body : drop HEAD_BYTES (take size bytes) ≡ item.body = ap (drop HEAD_BYTES) front in
     ap (item_by bytes) whole ∙ item_there bytes (record { length = size; encoding = item.encoding }) item.body (omega arith) body
 
 pub frame_reads : (limit : ℕ) → FindsPieces IsBytes (IsFrame limit) frame_of (first_item limit)
