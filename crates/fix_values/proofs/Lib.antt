@@ -1,0 +1,5 @@
+mod NumeralLemmas
+mod LeafLemmas
+mod CodeLemmas
+mod TableLemmas
+mod DecimalLemmas

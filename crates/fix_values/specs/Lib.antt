@@ -1,0 +1,5 @@
+pub mod Numerals
+pub mod Decimals
+pub mod Codes
+pub mod Tables
+pub mod Values

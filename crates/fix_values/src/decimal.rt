@@ -1,0 +1,213 @@
+ghost use Rattle.std.specs.Prelude.{◌≡◌, ◌∷◌, ◌++◌, [], ◌<◌, ◌≤◌, ◌+◌, ◌*◌, ◌^◌, decimal, pos, Ok, Err, length, IsTrue, unsigned_abs, FitsSigned, neg_ℤ, SomeIff};
+ghost use Rattle.std.specs.Int.{w32, w128};
+ghost use Rattle.std.specs.Str.{all_ascii_digits};
+ghost use Rattle.std.specs.Str.Parse.{digits_value};
+ghost use Rattle.fix_values.specs.Numerals as numerals;
+ghost use Rattle.fix_values.specs.Decimals as decimals;
+ghost use Rattle.fix_values.specs.Decimals.{decimal_of, decimal_text, digits_at, fitted, mantissa_under, parts_shown, pointed, Parts, without_leading, without_trailing};
+ghost use Rattle.fix_values.specs.Values.{Leaves};
+
+use crate::digits::{is_digits, signed_small, small_after, split_sign};
+use crate::{Dec, ROOM, Short, V};
+use itoa::Buffer;
+
+/// How many digits a decimal's text may have. Ten to this power is the greatest one that an i128
+/// holds; and a number of 64 bits has at most twenty digits, to which an exponent adds at most
+/// eighteen.
+pub const MOST_DIGITS: usize = 38;
+
+/// The greatest exponent that is shown. Its negative is the least one.
+pub const MOST_EXPONENT: i32 = 18;
+
+/// Writes the text of a decimal. After a refusal `out` is empty.
+pub fn show_decimal(mantissa: i128, exponent: i32, out: &mut Short) -> Result<(), V>
+    ensures { Leaves result out.new (decimal_text (decimals.dec mantissa exponent)) }
+{
+    out.clear();
+    if exponent < -MOST_EXPONENT || exponent > MOST_EXPONENT {
+        return Err(V::Range);
+    }
+    let size = mantissa.unsigned_abs();
+    if exponent < 0 {
+        let places = exponent.unsigned_abs();
+        let power = 10u128.pow(places);
+        return put_decimal(mantissa < 0, size / power, size % power, places, out);
+    }
+    match size.checked_mul(10u128.pow(exponent as u32)) {
+        Some(whole) => put_decimal(mantissa < 0, whole, 0, 0, out),
+        None => Err(V::Range),
+    }
+}
+
+/// Writes the sign, the whole part and `rest` parts in ten to `places`.
+fn put_decimal(
+    negative: bool,
+    whole: u128,
+    rest: u128,
+    places: u32,
+    out: &mut Short,
+) -> Result<(), V>
+    requires empty { out.old ≡ [] }
+    requires few { places ≤ 18 }
+    requires rest { rest < 10 ^ places }
+    ensures { Leaves result out.new (decimals.shown_text (parts_shown negative whole places rest)) }
+{
+    put_sign(negative, out);
+    let digits = put_whole(whole, out) + put_fraction(rest, places, out);
+    if digits > MOST_DIGITS {
+        out.clear();
+        return Err(V::Range);
+    }
+    Ok(())
+}
+
+fn put_sign(negative: bool, out: &mut Short)
+    requires { length out.old < ROOM }
+    ensures { out.new ≡ out.old ++ numerals.sign negative }
+{
+    if negative {
+        out.push(b'-');
+    }
+}
+
+/// Writes a whole part, and tells how many digits count: of a zero, none.
+fn put_whole(whole: u128, out: &mut Short) -> usize
+    requires { length out.old + 40 ≤ ROOM }
+    ensures text { out.new ≡ out.old ++ decimal whole }
+    ensures count { result ≡ length (without_leading (decimal whole)) }
+    ensures few { result ≤ 40 }
+    ensures short { length (decimal whole) ≤ 40 }
+{
+    let mut buffer = Buffer::new();
+    let digits = buffer.format(whole).as_bytes();
+    out.extend(digits);
+    if whole == 0 { 0 } else { digits.len() }
+}
+
+/// Writes the point and the digits behind it down to the last that isn't zero, and tells how many
+/// digits these are.
+fn put_fraction(rest: u128, places: u32, out: &mut Short) -> usize
+    requires few { places ≤ 18 }
+    requires rest { rest < 10 ^ places }
+    requires room { length out.old + 19 ≤ ROOM }
+    ensures text { out.new ≡ out.old ++ pointed (decimals.fraction_of places rest) }
+    ensures count { result ≡ length (decimals.fraction_of places rest) }
+    ensures few { result ≤ 18 }
+{
+    if rest == 0 {
+        return 0;
+    }
+    out.push(b'.');
+    put_places(rest, places, out)
+}
+
+fn put_places(rest: u128, places: u32, out: &mut Short) -> usize
+    requires few { places ≤ 18 }
+    requires rest { rest < 10 ^ places }
+    requires room { length out.old + places ≤ ROOM }
+    ensures text { out.new ≡ out.old ++ decimals.fraction_of places rest }
+    ensures count { result ≡ length (decimals.fraction_of places rest) }
+    ensures few { result ≤ 18 }
+{
+    let mut rest = rest;
+    let mut left = places;
+    let mut count = 0;
+    while rest > 0 {
+        left -= 1;
+        let power = 10u128.pow(left);
+        out.push(b'0' + (rest / power) as u8);
+        rest %= power;
+        count += 1;
+    }
+    count
+}
+
+/// Reads a decimal. Its mantissa isn't a multiple of ten, and zero has the exponent 0.
+pub fn read_decimal(text: &[u8]) -> Result<Dec, V>
+    ensures { result ≡ decimal_of text.now }
+{
+    let (negative, digits) = split_sign(text);
+    let (whole, fraction) = split_point(digits);
+    if !are_digits(whole, fraction) {
+        return Err(V::Spelling);
+    }
+    let whole = without_leading_zeros(whole);
+    let fraction = without_trailing_zeros(fraction);
+    if whole.len() + fraction.len() > MOST_DIGITS {
+        return Err(V::Range);
+    }
+    Ok(reduced(negative, whole, fraction))
+}
+
+/// What stands before the first point, and what behind it.
+fn split_point(digits: &[u8]) -> (&[u8], &[u8])
+    ensures whole { result.0.now ≡ decimals.before_point digits.now }
+    ensures fraction { result.1.now ≡ decimals.behind_point digits.now }
+{
+    for i in 0..digits.len() {
+        if digits[i] == b'.' {
+            return (&digits[..i], &digits[i + 1..]);
+        }
+    }
+    (digits, &[])
+}
+
+/// Whether both parts are digits, and there is at least one.
+fn are_digits(whole: &[u8], fraction: &[u8]) -> bool
+    ensures { result ≡ decimals.are_digits whole.now fraction.now }
+{
+    let some = !whole.is_empty() || !fraction.is_empty();
+    some && is_digits(whole) && is_digits(fraction)
+}
+
+fn without_leading_zeros(digits: &[u8]) -> &[u8]
+    ensures { result.now ≡ without_leading digits.now }
+{
+    for i in 0..digits.len() {
+        if digits[i] != b'0' {
+            return &digits[i..];
+        }
+    }
+    &[]
+}
+
+fn without_trailing_zeros(digits: &[u8]) -> &[u8]
+    ensures { result.now ≡ without_trailing digits.now }
+{
+    let mut end = digits.len();
+    while end > 0 && digits[end - 1] == b'0' {
+        end -= 1;
+    }
+    &digits[..end]
+}
+
+/// The decimal of a whole part without leading zeros and a fraction without trailing zeros.
+fn reduced(negative: bool, whole: &[u8], fraction: &[u8]) -> Dec
+    requires whole { IsTrue (all_ascii_digits whole.now) }
+    requires fraction { IsTrue (all_ascii_digits fraction.now) }
+    requires few { length whole.now + length fraction.now ≤ MOST_DIGITS }
+    ensures { result ≡ decimals.reduced negative whole.now fraction.now }
+{
+    if fraction.is_empty() {
+        let kept = without_trailing_zeros(whole);
+        return Dec {
+            mantissa: spelled_few(negative, kept, fraction),
+            exponent: (whole.len() - kept.len()) as i32,
+        };
+    }
+    Dec {
+        mantissa: spelled_few(negative, whole, fraction),
+        exponent: -(fraction.len() as i32),
+    }
+}
+
+/// The number of this sign and of the digits of both parts, which are few enough for it.
+fn spelled_few(negative: bool, whole: &[u8], fraction: &[u8]) -> i128
+    requires whole { IsTrue (all_ascii_digits whole.now) }
+    requires fraction { IsTrue (all_ascii_digits fraction.now) }
+    requires few { length whole.now + length fraction.now ≤ MOST_DIGITS }
+    ensures { result ≡ numerals.signed negative (digits_value 10 (whole.now ++ fraction.now)) }
+{
+    let size = small_after(small_after(0, whole), fraction);
+    signed_small(negative, size)
+}

@@ -1,0 +1,18 @@
+//! The texts of single values in tag-value messages: how an integer, a decimal, a character, a
+//! code, a Boolean or a text is spelled, and how a spelling is read back. Nothing rounds: what
+//! doesn't fit exactly is refused. No call takes memory.
+#![tactic(auto)]
+
+mod code;
+mod decimal;
+mod digits;
+mod number;
+mod rule;
+mod short;
+mod text;
+
+pub use decimal::{read_decimal, show_decimal};
+pub use number::show_num;
+pub use rule::{Code, CodeList, Dec, NumRule, V};
+pub use short::{ROOM, Short};
+pub use text::{read_text, show_text};

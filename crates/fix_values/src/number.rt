@@ -1,0 +1,91 @@
+ghost use Rattle.std.specs.Prelude.{◌≡◌, ◌∷◌, ◌++◌, [], ◌<◌, ◌≤◌, ◌+◌, ◌^◌, pos, Ok, Err, Some, None, Option, length, IsTrue, int_le};
+ghost use Rattle.std.specs.Fmt.{signed_decimal};
+ghost use Rattle.sbe_types.specs.Numbers.{natural};
+ghost use Rattle.sbe_types.specs.Shown as shown;
+ghost use Rattle.fix_values.specs.Codes as codes;
+ghost use Rattle.fix_values.specs.Values.{Leaves, text_of, value_of, can_show, can_read, is_asked, char_text, char_value, integer_value, whole_value};
+ghost use Rattle.fix_values.specs.Decimals.{decimal_of};
+
+use crate::code::{show_code, show_codes};
+use crate::text::SOH;
+use crate::{NumRule, Short, V};
+use itoa::Buffer;
+use sbe_types::NamedList;
+
+/// Writes the text of a number by its rule. After a refusal `out` is empty.
+pub fn show_num(rule: &NumRule, n: i128, out: &mut Short) -> Result<(), V>
+    requires rule { IsTrue (can_show rule.now) }
+    requires asked { IsTrue (is_asked rule.now n) }
+    ensures { Leaves result out.new (text_of rule.now n) }
+{
+    out.clear();
+    match rule {
+        NumRule::Int | NumRule::Decimal => show_integer(n, out),
+        NumRule::Char => show_char(n, out),
+        NumRule::Boolean(names) => show_boolean(names, n, out),
+        NumRule::Code(codes) => show_code(codes, n, out),
+        NumRule::Codes(codes) => show_codes(codes, n, out),
+    }
+}
+
+fn show_integer(n: i128, out: &mut Short) -> Result<(), V>
+    requires { out.old ≡ [] }
+    ensures { Leaves result out.new (Ok (signed_decimal n)) }
+{
+    let mut buffer = Buffer::new();
+    out.extend(buffer.format(n).as_bytes());
+    Ok(())
+}
+
+fn show_char(n: i128, out: &mut Short) -> Result<(), V>
+    requires empty { out.old ≡ [] }
+    requires low { IsTrue (int_le (pos 0) n) }
+    requires high { IsTrue (int_le n (pos 255)) }
+    ensures { Leaves result out.new (char_text (natural n)) }
+{
+    let byte = n as u8;
+    if byte == SOH {
+        return Err(V::Spelling);
+    }
+    out.push(byte);
+    Ok(())
+}
+
+fn show_boolean(names: &NamedList, n: i128, out: &mut Short) -> Result<(), V>
+    requires { out.old ≡ [] }
+    ensures { Leaves result out.new (codes.boolean_shown names.now n) }
+{
+    let Some(text) = boolean_text(n) else {
+        return Err(V::UnknownCode);
+    };
+    if !is_listed(names, n) {
+        return Err(V::UnknownCode);
+    }
+    out.push(text);
+    Ok(())
+}
+
+/// Whether the number is one of the listed values.
+fn is_listed(names: &NamedList, n: i128) -> bool
+    ensures { result ≡ shown.is_listed names.now n }
+{
+    for name in names.as_slice() {
+        if name.number == n {
+            return true;
+        }
+    }
+    false
+}
+
+/// `Y` for 1 and the character `Y`, `N` for 0 and the character `N`.
+fn boolean_text(n: i128) -> Option<u8>
+    ensures { result ≡ codes.boolean_text n }
+{
+    if n == 1 || n == 89 {
+        return Some(b'Y');
+    }
+    if n == 0 || n == 78 {
+        return Some(b'N');
+    }
+    None
+}
