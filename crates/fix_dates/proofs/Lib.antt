@@ -1,0 +1,6 @@
+pub mod CalendarFacts
+pub mod DigitFacts
+pub mod DayFacts
+pub mod ClockFacts
+pub mod StampFacts
+pub mod MonthFacts

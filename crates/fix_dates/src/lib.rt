@@ -1,0 +1,21 @@
+//! Dates and times as FIX tag-value spells them, and back.
+//!
+//! Calendar days are those of jiff's civil dates; the contracts state the proleptic Gregorian calendar by its own rule.
+#![tactic(auto)]
+
+mod calendar;
+mod clock;
+mod day;
+mod digits;
+mod moment;
+mod month;
+mod stamp;
+#[cfg(test)]
+mod tests;
+mod time;
+
+pub use day::{read_day, show_day};
+pub use moment::Moment;
+pub use month::{MonthYear, read_month, show_month};
+pub use stamp::{fit_moment, read_stamp, show_stamp};
+pub use time::{read_time, show_time};
