@@ -1,5 +1,5 @@
 -- The calendar by its own rule is the calendar by which jiff counts days.
-use Rattle.std.proofs.Common.{◌≡◌, ◌≢◌, ℕ, zero, suc, ◌+◌, ◌-◌, ◌<◌, ◌≤◌, refl, sym, ap, ◌∙◌, arith, ℤ, pos, neg_ℤ, ◌+ℤ◌, ◌-ℤ◌, ◌<ℤ◌, ◌≤ℤ◌, negsuc, unsigned_abs, subst, to_z, of_z, w16, ◌^◌, Fits}
+use Rattle.std.proofs.Common.{◌≡◌, ℕ, zero, suc, ◌+◌, ◌-◌, ◌<◌, ◌≤◌, refl, sym, ap, arith, ℤ, pos, neg_ℤ, ◌≤ℤ◌, negsuc, unsigned_abs, subst, to_z, of_z, w16, Fits}
 use Rattle.std.proofs.lemmas.Int.{by_lt_z}
 use lib.Dec.{T}
 use lib.Signed.{non_neg}
@@ -14,7 +14,7 @@ use Rattle.jiff_core.proofs.MarchLemmas.{day_count-early}
 use Rattle.jiff_core.proofs.DateLemmas.{civil}
 use borrow.Author.Differences.{up, down}
 use Rattle.fix_dates.specs.declared.calendar.Day.{Day}
-use Rattle.fix_dates.specs.Calendar.{is_leap, year_days, month_days, days_of_years, days_of_months, days_before, epoch, number_of, IsDay}
+use Rattle.fix_dates.specs.Calendar.{month_days, days_of_years, days_of_months, days_before, epoch, number_of, IsDay}
 
 -- the months of a year have the same lengths
 pub months_agree : (year month : ℕ) → jiff.days_of_months (pos year) month ≡ days_of_months year month

@@ -4,3 +4,5 @@ pub mod DayFacts
 pub mod ClockFacts
 pub mod StampFacts
 pub mod MonthFacts
+pub mod OneText
+pub mod KindFacts

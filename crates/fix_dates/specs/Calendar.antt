@@ -1,5 +1,5 @@
 -- The proleptic Gregorian calendar (ISO 8601), from the year 0 on, by its own rule.
-use Rattle.std.specs.Prelude.{◌≡◌, ℕ, zero, suc, ◌+◌, ◌-◌, ◌%◌, ◌<◌, ◌≤◌, Bool, not, ◌&&◌, ◌||◌, ◌==◌, if◌then◌else◌, ℤ, pos, ◌-ℤ◌}
+use Rattle.std.specs.Prelude.{ℕ, zero, suc, ◌+◌, ◌-◌, ◌%◌, ◌≤◌, Bool, not, ◌&&◌, ◌||◌, ◌==◌, if◌then◌else◌, ℤ, pos, ◌-ℤ◌}
 use Rattle.fix_dates.specs.declared.calendar.Day.{Day}
 
 -- Every fourth year has a leap day, but of the years that a hundred divides only every fourth.

@@ -5,3 +5,4 @@ pub mod Days
 pub mod Clocks
 pub mod Stamps
 pub mod Months
+pub mod Rows

@@ -1,6 +1,5 @@
 -- The texts of FIX's MonthYear: YYYYMM, YYYYMMDD or YYYYMMw and the digit of a week.
 use Rattle.std.specs.Prelude.{ℕ, ◌≡◌, ◌<◌, ◌≤◌, ℤ, pos, Option, Some, None, List, [], ◌∷◌, ◌++◌}
-use Rattle.fix_dates.specs.declared.calendar.Day.{Day}
 use Rattle.fix_dates.specs.declared.month.Month.{Month}
 use Rattle.fix_dates.specs.declared.month.MonthYear.{MonthYear}
 use Rattle.fix_dates.specs.declared.month.Part.{Part}

@@ -1,8 +1,7 @@
 -- The texts of FIX's UTCTimestamp, a day and a time of day, and the moments that texts are read as.
-use Rattle.std.specs.Prelude.{ℕ, ◌≡◌, ◌+◌, ◌*◌, ◌^◌, min, ℤ, pos, ◌+ℤ◌, ◌*ℤ◌, Result, Ok, Err, List, ◌∷◌, ◌++◌}
+use Rattle.std.specs.Prelude.{ℕ, ◌≡◌, ◌*◌, ◌^◌, min, ℤ, pos, ◌+ℤ◌, ◌*ℤ◌, Result, Ok, Err, List, ◌∷◌, ◌++◌}
 use Rattle.fix_values.specs.declared.rule.V.{V}
 use Rattle.fix_values.specs.declared.rule.V.TheVariants.{Spelling, Range, Inexact, Soh, Empty, UnknownCode}
-use Rattle.fix_dates.specs.declared.calendar.Day.{Day}
 use Rattle.fix_dates.specs.declared.clock.Clock.{Clock}
 use Rattle.fix_dates.specs.declared.moment.Moment.{Moment}
 use Rattle.fix_dates.specs.declared.stamp.Stamp.{Stamp}

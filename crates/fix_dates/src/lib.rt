@@ -7,8 +7,10 @@ mod calendar;
 mod clock;
 mod day;
 mod digits;
+pub mod laws;
 mod moment;
 mod month;
+pub mod rows;
 mod stamp;
 #[cfg(test)]
 mod tests;

@@ -1,6 +1,5 @@
-use Rattle.std.proofs.Common.{arith, ◌≡◌, ◌∙◌, FitsSigned, to_z, of_z, to_z-of_z, w32, pos}
+use Rattle.std.proofs.Common.{arith, ◌≡◌, pos}
 use Rattle.std.proofs.lemmas.Int.{ints}
-use Rattle.jiff_core.proofs.SignedLemmas.{signed_arith}
 use Rattle.fix_dates.proofs.CalendarFacts.{number_by}
 use Rattle.fix_dates.proofs.calendar.number_of_day.Goals as goal
 

@@ -1,4 +1,4 @@
-use Rattle.std.proofs.Common.{arith, ◌≡◌, ◌≢◌, ℕ, ◌+◌, ◌*◌, ◌-◌, ◌^◌, ◌<◌, length, sym}
+use Rattle.std.proofs.Common.{arith, ◌-◌, ◌<◌, length, sym}
 use Rattle.fix_dates.proofs.ClockFacts.{fraction_apart, fraction_together}
 use Rattle.fix_dates.proofs.clock.fraction_in.Goals as goal
 

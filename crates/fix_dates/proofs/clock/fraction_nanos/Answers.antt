@@ -1,4 +1,4 @@
-use Rattle.std.proofs.Common.{arith, ◌≡◌, ◌≢◌, ℕ, ◌*◌, ◌-◌, ◌^◌, ◌<◌}
+use Rattle.std.proofs.Common.{arith}
 use Rattle.fix_dates.proofs.ClockFacts.{picos_fit, picos_whole, nanos_whole}
 use Rattle.fix_dates.proofs.clock.fraction_nanos.Goals as goal
 

@@ -1,4 +1,4 @@
-use Rattle.std.proofs.Common.{arith, ◌≡◌, ◌≢◌, ℕ, ◌+◌, ◌*◌, ◌^◌, ◌<◌}
+use Rattle.std.proofs.Common.{arith, ◌+◌, ◌*◌, ◌^◌}
 use Rattle.std.proofs.Math.Nat.{one-le-pow}
 use Rattle.fix_dates.proofs.ClockFacts.{rest_whole}
 use Rattle.fix_dates.proofs.clock.nanos_of.Goals as goal

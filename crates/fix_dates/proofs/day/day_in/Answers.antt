@@ -1,4 +1,4 @@
-use Rattle.std.proofs.Common.{arith, ◌≡◌, take, drop, length, sym}
+use Rattle.std.proofs.Common.{arith, sym}
 use Rattle.fix_dates.proofs.DayFacts.{day_apart, day_together}
 use Rattle.fix_dates.proofs.day.day_in.Goals as goal
 

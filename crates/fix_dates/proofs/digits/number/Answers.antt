@@ -1,6 +1,5 @@
-use Rattle.std.proofs.Common.{arith, ◌≤◌, ◌<◌, ◌^◌}
+use Rattle.std.proofs.Common.{arith, ◌≤◌, ◌^◌}
 use Rattle.std.proofs.Math.Nat.{pow-le-pow_right}
-use Rattle.std.proofs.lemmas.Grind.{common_steps}
 use Rattle.fix_dates.proofs.digits.number.Goals as goal
 
 pub overflow_mul-number : goal.overflow_mul-number

@@ -1,4 +1,4 @@
-use Rattle.std.proofs.Common.{◌≡◌, ◌^◌, ◌<◌, drop, length}
+use Rattle.std.proofs.Common.{◌≡◌, ◌^◌, ◌<◌, drop}
 use Rattle.fix_dates.specs.Digits.{number_after, number_in}
 use Rattle.fix_dates.proofs.digits.number.Given as goal
 

@@ -1,4 +1,4 @@
-use Rattle.std.proofs.Common.{arith, ◌≡◌, ◌≢◌, ℕ, ◌<◌, ◌⊎◌, inl, inr, length, sym}
+use Rattle.std.proofs.Common.{arith, ◌<◌, inl, inr, length, sym}
 use Rattle.fix_dates.proofs.MonthFacts.{part_long, part_apart, week_together, day_of_two}
 use Rattle.fix_dates.proofs.month.part_in.Goals as goal
 

@@ -1,4 +1,4 @@
-use Rattle.std.proofs.Common.{arith, ◌≡◌, ◌≢◌, ℕ, ◌+◌, ◌<◌, ◌*◌, ◌^◌, length, sym, ◌∙◌, pos, ◌+ℤ◌, ◌*ℤ◌, rules, FitsSigned, w32, to_z, of_z, to_z-of_z}
+use Rattle.std.proofs.Common.{arith, ◌≡◌, ◌^◌, rules, FitsSigned, w32, to_z, of_z, to_z-of_z}
 use mir.Syntax.{w128}
 use Rattle.std.proofs.Math.Nat.{one-le-pow}
 use Rattle.fix_dates.specs.Calendar.{number_of}

@@ -1,4 +1,4 @@
-use Rattle.std.proofs.Common.{arith, ◌≡◌, ◌≢◌, ℕ, ◌+◌, ◌<◌, ◌*◌, ◌^◌, length, sym, ap, ◌∙◌, pos, ◌+ℤ◌, ◌*ℤ◌, ◌++◌, ◌∷◌, append_assoc, subst, rules, FitsSigned, to_z, of_z, to_z-of_z}
+use Rattle.std.proofs.Common.{◌≡◌, ◌<◌, ◌*◌, ◌^◌, sym, ap, ◌∙◌, pos, ◌+ℤ◌, ◌*ℤ◌, append_assoc, subst, rules, FitsSigned, to_z, of_z, to_z-of_z}
 use mir.Syntax.{w128}
 use Rattle.fix_dates.specs.Calendar.{number_of}
 use Rattle.fix_dates.specs.Clocks.{count_of}

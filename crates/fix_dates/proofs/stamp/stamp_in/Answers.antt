@@ -1,4 +1,4 @@
-use Rattle.std.proofs.Common.{arith, ◌≡◌, ◌≢◌, ℕ, ◌+◌, ◌<◌, length, sym, ◌∙◌, take, drop}
+use Rattle.std.proofs.Common.{arith, ◌∙◌}
 use Rattle.std.proofs.lemmas.List.{take_rest}
 use Rattle.fix_dates.proofs.StampFacts.{stamp_apart}
 use Rattle.fix_dates.proofs.stamp.stamp_in.Goals as goal

@@ -1,0 +1,17 @@
+-- Worked rows, on which the definitions are computed.
+use Rattle.fix_dates.specs.declared.calendar.Day.{Day}
+use Rattle.fix_dates.specs.declared.clock.Clock.{Clock}
+use Rattle.fix_dates.specs.declared.month.Month.{Month}
+use Rattle.fix_dates.specs.declared.month.Part.TheVariants.{Week}
+
+-- 2 January 1970
+abbrev pub second : Day
+second = record { year = 1970; month = 1; day = 2 }
+
+-- a second and a half behind midnight, in milliseconds
+abbrev pub half_past : Clock
+half_past = record { hour = 0; minute = 0; second = 1; fraction = 500; places = 3 }
+
+-- the first week of January 1970
+abbrev pub first_week : Month
+first_week = record { year = 1970; month = 1; part = Week 1 }
