@@ -26,7 +26,8 @@ pub fn day_of(n: i128) -> Option<Day>
     ensures some { IfSome result IsDay }
     ensures year { IfSome result (λ day. day.year < 10000) }
     ensures number { IfSome result (λ day. number_of day ≡ n) }
-    ensures none { IfNone result ((day : AnyDay) → IsDay day → day.year < 10000 → number_of day ≢ n) }
+    ensures none { IfNone result ((day : AnyDay) → IsDay day → day.year < 10000
+        → number_of day ≢ n) }
 {
     if n < FIRST || n > LAST {
         return None;

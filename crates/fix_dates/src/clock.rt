@@ -64,8 +64,10 @@ pub fn is_time(clock: &Clock) -> bool
 pub fn nanos_of(clock: &Clock) -> Option<u64>
     requires fits { FitsClock clock.now }
     requires real { IsTime clock.now }
-    ensures some { IfSome result (λ nanos. nanos * 10 ^ clock.now.places ≡ count_of clock.now * 10 ^ 9) }
-    ensures none { IfNone result ((nanos : ℕ) → nanos * 10 ^ clock.now.places ≢ count_of clock.now * 10 ^ 9) }
+    ensures some { IfSome result (λ nanos.
+        nanos * 10 ^ clock.now.places ≡ count_of clock.now * 10 ^ 9) }
+    ensures none { IfNone result ((nanos : ℕ)
+        → nanos * 10 ^ clock.now.places ≢ count_of clock.now * 10 ^ 9) }
 {
     let minutes = clock.hour as u64 * 60 + clock.minute as u64;
     let seconds = minutes * 60 + clock.second as u64;
@@ -117,7 +119,8 @@ fn put_fraction(out: &mut Short, fraction: u64, places: u8)
 pub fn clock_in(text: &[u8]) -> Option<Clock>
     ensures some { IfSome result (λ clock. text.now ≡ clock_text clock) }
     ensures fits { IfSome result FitsClock }
-    ensures none { IfNone result ((clock : AnyClock) → FitsClock clock → text.now ≢ clock_text clock) }
+    ensures none { IfNone result ((clock : AnyClock) → FitsClock clock
+        → text.now ≢ clock_text clock) }
 {
     if text.len() < 8 || text[2] != b':' || text[5] != b':' {
         return None;

@@ -21,7 +21,8 @@ pub fn show_day(n: i128, out: &mut Short) -> Result<(), V>
 
 /// Reads the number of a day, counted from 1 January 1970, from a text `YYYYMMDD`.
 ///
-/// It is `V::Spelling` where the text isn't eight digits, and then `V::Range` where the calendar has no such day.
+/// It is `V::Spelling` where the text isn't eight digits, and then `V::Range` where the calendar
+/// has no such day.
 pub fn read_day(text: &[u8]) -> Result<i128, V>
     ensures { Reads days text.now result }
 {

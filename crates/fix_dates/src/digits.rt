@@ -3,8 +3,8 @@ ghost use Rattle.fix_dates.specs.Digits.{digits, number_in};
 
 use fix_values::{ROOM, Short};
 
-#[tactic(auto, unfolding(crate::specs::Digits::digits), using(crate::proofs::DigitFacts::length_digits))]
 /// Appends the last `places` decimal digits of a number, the highest first.
+#[tactic(auto, unfolding(crate::specs::Digits::digits), using(crate::proofs::DigitFacts::length_digits))]
 pub fn put_digits(out: &mut Short, number: u64, places: u8)
     requires { length out.old + places ≤ ROOM }
     ensures text { out.new ≡ out.old ++ digits places number }
@@ -16,8 +16,8 @@ pub fn put_digits(out: &mut Short, number: u64, places: u8)
     }
 }
 
-#[tactic(auto, unfolding(crate::specs::Digits::number_after))]
 /// The number that a text of digits spells; none where a byte is no digit.
+#[tactic(auto, unfolding(crate::specs::Digits::number_after))]
 pub fn number(text: &[u8]) -> Option<u64>
     requires { length text.now ≤ 18 }
     ensures value { result ≡ number_in text.now }

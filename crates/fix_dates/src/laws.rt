@@ -14,7 +14,8 @@ ghost use Rattle.fix_dates.specs.Months.{months};
 ghost use Rattle.fix_dates.specs.Reading.{Spells, Reads};
 ghost use Rattle.fix_dates.specs.Stamps.{times, stamps, stamps_in, SameTime, FitsIn};
 
-/// The calendar by its own rule gives each day of the years 0 to 9999 the number that jiff's gives it.
+/// The calendar by its own rule gives each day of the years 0 to 9999 the number that jiff's gives
+/// it.
 pub fn calendars_agree()
     ensures { (day : Day) → IsDay day → day.year < 10000
         → number_of day ≡ days_from_civil (pos day.year) day.month day.day }
@@ -32,7 +33,8 @@ pub fn a_shown_month_is_read()
         → Spells months text value → Reads months text answer → answer ≡ Ok value }
 {}
 
-/// A text that shows a time of day in a unit is read as a moment that is as long, with the unit's digits.
+/// A text that shows a time of day in a unit is read as a moment that is as long, with the unit's
+/// digits.
 pub fn a_shown_time_is_read()
     ensures { (n : ℤ) (unit : ℕ) (text : List ℕ) (answer : Result Moment V)
         → Spells (times_in unit) text n → Reads times text answer
@@ -66,5 +68,6 @@ pub fn a_value_has_one_text()
 /// A text of a day or of a month is read in one way.
 pub fn a_text_has_one_value()
     ensures day { (text : List ℕ) (m n : ℤ) → Spells days text m → Spells days text n → m ≡ n }
-    ensures month { (text : List ℕ) (v w : MonthYear) → Spells months text v → Spells months text w → v ≡ w }
+    ensures month { (text : List ℕ) (v w : MonthYear)
+        → Spells months text v → Spells months text w → v ≡ w }
 {}

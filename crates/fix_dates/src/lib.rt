@@ -1,6 +1,7 @@
 //! Dates and times as FIX tag-value spells them, and back.
 //!
-//! Calendar days are those of jiff's civil dates; the contracts state the proleptic Gregorian calendar by its own rule.
+//! Calendar days are those of jiff's civil dates; the contracts state the proleptic Gregorian
+//! calendar by its own rule.
 #![tactic(auto)]
 
 mod calendar;

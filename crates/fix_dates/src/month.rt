@@ -33,10 +33,11 @@ pub struct Month {
     pub part: Part,
 }
 
-/// Shows a month as `YYYYMM`, and behind it `DD` where it has a day, or `w` and one digit where it has a week.
+/// Shows a month as `YYYYMM`, and behind it `DD` where it has a day, or `w` and one digit where it
+/// has a week.
 ///
-/// It is `V::Range` where the year isn't 0 to 9999, the month isn't 1 to 12, the day isn't in its month, the week isn't
-/// 1 to 5, or both day and week are there; then `out` is empty.
+/// It is `V::Range` where the year isn't 0 to 9999, the month isn't 1 to 12, the day isn't in its
+/// month, the week isn't 1 to 5, or both day and week are there; then `out` is empty.
 pub fn show_month(value: &MonthYear, out: &mut Short) -> Result<(), V>
     ensures { Shows months value.now result out.new }
 {
@@ -53,8 +54,9 @@ pub fn show_month(value: &MonthYear, out: &mut Short) -> Result<(), V>
 
 /// Reads a month, and the day or the week of it that the text names.
 ///
-/// It is `V::Spelling` where the text is neither `YYYYMM` nor `YYYYMMDD` nor `YYYYMM`, `w` and one digit, and then
-/// `V::Range` where the month isn't 1 to 12, the day isn't in its month or the week isn't 1 to 5.
+/// It is `V::Spelling` where the text is neither `YYYYMM` nor `YYYYMMDD` nor `YYYYMM`, `w` and one
+/// digit, and then `V::Range` where the month isn't 1 to 12, the day isn't in its month or the week
+/// isn't 1 to 5.
 pub fn read_month(text: &[u8]) -> Result<MonthYear, V>
     ensures { Reads months text.now result }
 {
@@ -71,7 +73,8 @@ pub fn read_month(text: &[u8]) -> Result<MonthYear, V>
 fn month_of(value: &MonthYear) -> Option<Month>
     ensures some { IfSome result (λ month. value_of month ≡ value.now) }
     ensures fits { IfSome result FitsMonth }
-    ensures none { IfNone result ((month : AnyMonth) → FitsMonth month → value_of month ≢ value.now) }
+    ensures none { IfNone result ((month : AnyMonth) → FitsMonth month
+        → value_of month ≢ value.now) }
 {
     let year = small(value.year, 9999)?;
     let month = small(value.month, 99)?;
@@ -88,7 +91,8 @@ fn part_of(day: Option<i128>, week: Option<i128>) -> Option<Part>
     ensures day { IfSome result (λ part. day_part part ≡ day) }
     ensures week { IfSome result (λ part. week_part part ≡ week) }
     ensures fits { IfSome result FitsPart }
-    ensures none { IfNone result ((part : AnyPart) → FitsPart part → day_part part ≡ day → week_part part ≢ week) }
+    ensures none { IfNone result ((part : AnyPart) → FitsPart part
+        → day_part part ≡ day → week_part part ≢ week) }
 {
     match (day, week) {
         (None, None) => Some(Part::Whole),
@@ -178,7 +182,8 @@ fn put_part(out: &mut Short, part: Part)
 fn month_in(text: &[u8]) -> Option<Month>
     ensures some { IfSome result (λ month. text.now ≡ month_text month) }
     ensures fits { IfSome result FitsMonth }
-    ensures none { IfNone result ((month : AnyMonth) → FitsMonth month → text.now ≢ month_text month) }
+    ensures none { IfNone result ((month : AnyMonth) → FitsMonth month
+        → text.now ≢ month_text month) }
 {
     if text.len() < 6 {
         return None;

@@ -24,7 +24,8 @@ pub fn calendar_rows()
 pub fn text_rows()
     ensures day { day_text second ≡ codes "19700102" }
     ensures time { clock_text half_past ≡ codes "00:00:01.500" }
-    ensures moment { stamp_text (record { day = second; clock = half_past }) ≡ codes "19700102-00:00:01.500" }
+    ensures moment { stamp_text (record { day = second; clock = half_past })
+        ≡ codes "19700102-00:00:01.500" }
     ensures month { month_text first_week ≡ codes "197001w1" }
 {}
 

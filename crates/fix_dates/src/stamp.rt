@@ -22,10 +22,11 @@ const NANOS_OF_A_DAY: i128 = 86_400_000_000_000;
 
 const NANOS_OF_A_SECOND: i128 = 1_000_000_000;
 
-/// Shows a moment, which is a number of units of ten to the minus `unit` seconds since 1 January 1970, as
-/// `YYYYMMDD-HH:MM:SS` with `unit` digits behind a point.
+/// Shows a moment, which is a number of units of ten to the minus `unit` seconds since 1 January
+/// 1970, as `YYYYMMDD-HH:MM:SS` with `unit` digits behind a point.
 ///
-/// It is `V::Range` where the year isn't 0 to 9999, or the unit isn't 0, 3, 6 or 9; then `out` is empty.
+/// It is `V::Range` where the year isn't 0 to 9999, or the unit isn't 0, 3, 6 or 9; then `out` is
+/// empty.
 pub fn show_stamp(n: i128, unit: u8, out: &mut Short) -> Result<(), V>
     ensures { Shows (stamps_in unit) n result out.new }
 {
@@ -45,8 +46,9 @@ pub fn show_stamp(n: i128, unit: u8, out: &mut Short) -> Result<(), V>
 
 /// Reads a moment as its nanoseconds since 1 January 1970.
 ///
-/// It is `V::Spelling` where the text isn't that of a day, a dash and that of a time of day, then `V::Range` where a
-/// part isn't in its range, and then `V::Inexact` where digits behind the ninth aren't 0.
+/// It is `V::Spelling` where the text isn't that of a day, a dash and that of a time of day, then
+/// `V::Range` where a part isn't in its range, and then `V::Inexact` where digits behind the ninth
+/// aren't 0.
 pub fn read_stamp(text: &[u8]) -> Result<Moment, V>
     ensures { Reads stamps text.now result }
 {
