@@ -1,5 +1,5 @@
 -- What is so of every kind of texts in which a text is that of one choice of parts.
-use Rattle.std.proofs.Common.{◌≡◌, ℕ, min, inl, inr, ℤ, pos, ◌*ℤ◌, Result, Ok, Err, List, refl, sym, ap, ◌∙◌, subst, arith}
+use Rattle.std.proofs.Common.{◌≡◌, ℕ, ◌^◌, ◌<◌, min, inl, inr, ℤ, pos, ◌+ℤ◌, ◌*ℤ◌, Result, Ok, Err, List, refl, sym, ap, ◌∙◌, subst, arith}
 use Rattle.std.specs.Prelude.{IsOkAnd}
 use Rattle.jiff_core.proofs.SignedLemmas.{signed_arith}
 use Rattle.fix_values.specs.declared.rule.V.{V}
@@ -9,6 +9,8 @@ use Rattle.fix_dates.specs.Reading.{Kind, Spells, Reads}
 use Rattle.fix_dates.specs.Clocks.{times_in, IsUnit, count_of}
 use Rattle.fix_dates.specs.Stamps.{times, stamps, stamps_in, stamp_count, SameTime, IsMoment, FitsIn}
 use Rattle.fix_dates.proofs.OneText.{one_clock_of_text, one_stamp_of_text}
+use Rattle.fix_dates.proofs.StampFacts.{one_day}
+use Rattle.std.proofs.Math.Nat.{one-le-pow}
 
 -- a text is that of one choice of parts
 abbrev pub HasOneParts : {Parts Value : Type 0} → Kind Parts Value → Type 0
@@ -29,6 +31,34 @@ pub read_back_as : {Parts Value : Type 0} (kind : Kind Parts Value) → HasOnePa
 read_back_as kind one same text value (Ok found) s r =
     ap Ok (same s.parts found value (read_as kind one text s.parts s.fits s.spelled s.real value s.stands (Ok found) r) s.stands)
 read_back_as kind one same text value (Err fault) s r = absurd (read_as kind one text s.parts s.fits s.spelled s.real value s.stands (Err fault) r)
+
+-- a text that is refused is refused in one way
+pub one_refusal : {Parts Value : Type 0} (kind : Kind Parts Value) → HasOneParts kind → (text : List ℕ) (fault : V) (answer : Result Value V) → Reads kind text (Err fault) → Reads kind text answer → answer ≡ Err fault
+one_refusal kind one text Spelling (Ok value) r q = absurd (r q.parts q.fits q.spelled)
+one_refusal kind one text Spelling (Err Spelling) r q = refl
+one_refusal kind one text Spelling (Err Range) r q = absurd (r q.parts q.fits q.spelled)
+one_refusal kind one text Spelling (Err Inexact) r q = absurd (r q.parts q.fits q.spelled)
+one_refusal kind one text Range (Ok value) r q = absurd (r.unreal (subst kind.Real (one text q.parts r.parts q.fits r.fits q.spelled r.spelled) q.real))
+one_refusal kind one text Range (Err Spelling) r q = absurd (q r.parts r.fits r.spelled)
+one_refusal kind one text Range (Err Range) r q = refl
+one_refusal kind one text Range (Err Inexact) r q = absurd (r.unreal (subst kind.Real (one text q.parts r.parts q.fits r.fits q.spelled r.spelled) q.real))
+one_refusal kind one text Inexact (Ok value) r q = absurd (r.inexact value (subst (λ p. kind.Stands p value) (one text q.parts r.parts q.fits r.fits q.spelled r.spelled) q.stands))
+one_refusal kind one text Inexact (Err Spelling) r q = absurd (q r.parts r.fits r.spelled)
+one_refusal kind one text Inexact (Err Range) r q = absurd (q.unreal (subst kind.Real (one text r.parts q.parts r.fits q.fits r.spelled q.spelled) r.real))
+one_refusal kind one text Inexact (Err Inexact) r q = refl
+one_refusal kind one text Soh answer r q = absurd r
+one_refusal kind one text Empty answer r q = absurd r
+one_refusal kind one text UnknownCode answer r q = absurd r
+one_refusal kind one text fault (Err Soh) r q = absurd q
+one_refusal kind one text fault (Err Empty) r q = absurd q
+one_refusal kind one text fault (Err UnknownCode) r q = absurd q
+
+-- a count is one moment
+pub one_moment : (count : ℤ) (places : ℕ) (a b : Moment) → IsMoment count places a → IsMoment count places b → (a.nanos ≡ b.nanos) × (a.digits ≡ b.digits)
+one_moment count places a b x y =
+    let some : 0 < 10 ^ places = one-le-pow places 10 (omega arith) in
+    let long : (a.nanos *ℤ pos (10 ^ places)) +ℤ pos 0 ≡ (b.nanos *ℤ pos (10 ^ places)) +ℤ pos 0 = ap (λ z. z +ℤ pos 0) (x.0 ∙ sym y.0) in
+    (one_day (10 ^ places) a.nanos b.nanos 0 0 some some long, x.1 ∙ sym y.1)
 
 -- a count of a unit is a moment
 pub moment_of : (n : ℤ) (unit : ℕ) → IsUnit unit → (moment : Moment) × IsMoment n unit moment

@@ -65,9 +65,27 @@ pub fn a_value_has_one_text()
         → Spells (stamps_in unit) a n → Spells (stamps_in unit) b n → a ≡ b }
 {}
 
-/// A text of a day or of a month is read in one way.
+/// A text spells one value.
 pub fn a_text_has_one_value()
     ensures day { (text : List ℕ) (m n : ℤ) → Spells days text m → Spells days text n → m ≡ n }
     ensures month { (text : List ℕ) (v w : MonthYear)
         → Spells months text v → Spells months text w → v ≡ w }
+    ensures time { (text : List ℕ) (a b : Moment)
+        → Spells times text a → Spells times text b
+        → (a.nanos ≡ b.nanos) × (a.digits ≡ b.digits) }
+    ensures moment { (text : List ℕ) (a b : Moment)
+        → Spells stamps text a → Spells stamps text b
+        → (a.nanos ≡ b.nanos) × (a.digits ≡ b.digits) }
+{}
+
+/// A text that is refused has no value, and is refused in one way.
+pub fn a_refused_text_has_one_refusal()
+    ensures day { (text : List ℕ) (v : V) (answer : Result ℤ V)
+        → Reads days text (Err v) → Reads days text answer → answer ≡ Err v }
+    ensures month { (text : List ℕ) (v : V) (answer : Result MonthYear V)
+        → Reads months text (Err v) → Reads months text answer → answer ≡ Err v }
+    ensures time { (text : List ℕ) (v : V) (answer : Result Moment V)
+        → Reads times text (Err v) → Reads times text answer → answer ≡ Err v }
+    ensures moment { (text : List ℕ) (v : V) (answer : Result Moment V)
+        → Reads stamps text (Err v) → Reads stamps text answer → answer ≡ Err v }
 {}
