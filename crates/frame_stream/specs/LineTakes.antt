@@ -1,4 +1,4 @@
--- Lines that are taken of a source one after another.
+-- Lines that are taken of a source one after another. Own profile.
 use Rattle.std.specs.Prelude.{◌≡◌, ◌<◌, ◌≤◌, ◌⊎◌, ℕ, ◌+◌, ◌-◌, Option, Some, None, Result, Ok, Err, List, [], ◌∷◌, ◌++◌, length, take, drop, ⊤}
 use Rattle.sbe_base.specs.Causes.{Rose}
 use Rattle.open_framing.specs.Lines.{IsLine, LineEnd, Lines, End, LineOver, InputLimit, before_end, ended, longest_line}

@@ -1,4 +1,4 @@
--- One read of a source.
+-- One read of a source, of which so many bytes may be taken. Own profile.
 use Rattle.std.specs.Prelude.{◌≡◌, ◌<◌, ◌≤◌, ℕ, ◌+◌, Option, Result, Ok, Err, List, [], ◌∷◌, ◌++◌, length, take}
 use Rattle.std.specs.Io.KnownBytes.{Consumes, Keeps, IsAtEnd}
 use Rattle.sbe_base.specs.Causes.{Rose}
@@ -6,11 +6,11 @@ use Rattle.sbe_base.specs.declared.stream.Failed.{Failed}
 use Rattle.frame_stream.specs.declared.reading.Dry.{Dry}
 use Rattle.frame_stream.specs.declared.reading.Dry.TheVariants as dry
 
--- The bytes behind the first ones are those that came, and so many at most. None come only at the end.
-abbrev pub ReadsBehind : ℕ → ℕ → Option (List ℕ) → Option (List ℕ) → List ℕ → Result ℕ Failed → Type 0
-ReadsBehind len most left left' buf (Ok n) =
-    (n ≤ most) × ((more : List ℕ) × (take (len + n) buf ≡ take len buf ++ more) × (length more ≡ n) × Consumes left left' more) × (n ≡ 0 → 0 < most → IsAtEnd left')
-ReadsBehind len most left left' buf (Err e) = Keeps left left'
+-- The bytes behind the first ones are those that came. None come only at the end.
+abbrev pub ReadsBehind : ℕ → Option (List ℕ) → Option (List ℕ) → List ℕ → Result ℕ Failed → Type 0
+ReadsBehind len left left' buf (Ok n) =
+    ((more : List ℕ) × (take (len + n) buf ≡ take len buf ++ more) × (length more ≡ n) × Consumes left left' more) × (n ≡ 0 → IsAtEnd left')
+ReadsBehind len left left' buf (Err e) = Keeps left left'
 
 -- no byte came, for this reason, but for these beyond what may be taken
 abbrev pub Beyond : List ℕ → Option (List ℕ) → Dry → Type 0
@@ -19,10 +19,9 @@ Beyond bytes left' dry.End = (bytes ≡ []) × IsAtEnd left'
 Beyond bytes left' dry.Over = (x : ℕ) × (bytes ≡ x ∷ [])
 
 -- the bytes that came are kept behind the first ones, and those beyond are not
-abbrev pub ReadsWithin : ℕ → ℕ → Option (List ℕ) → Option (List ℕ) → List ℕ → Result ℕ Dry → Type 0
-ReadsWithin len most left left' buf (Ok n) =
-    (0 < n) × (n ≤ most) × ((more : List ℕ) × (take (len + n) buf ≡ take len buf ++ more) × (length more ≡ n) × Consumes left left' more)
-ReadsWithin len most left left' buf (Err d) = (beyond : List ℕ) × Consumes left left' beyond × Beyond beyond left' d × (d ≡ dry.Over → most ≡ 0)
+abbrev pub ReadsWithin : ℕ → Option (List ℕ) → Option (List ℕ) → List ℕ → Result ℕ Dry → Type 0
+ReadsWithin len left left' buf (Ok n) = (0 < n) × ((more : List ℕ) × (take (len + n) buf ≡ take len buf ++ more) × (length more ≡ n) × Consumes left left' more)
+ReadsWithin len left left' buf (Err d) = (beyond : List ℕ) × Consumes left left' beyond × Beyond beyond left' d
 
 -- the count of faults rose at a fault, and stands at every other answer
 abbrev pub DryCause : {T : Type 0} → ℕ → ℕ → Result T Dry → Type 0

@@ -1,4 +1,4 @@
--- Bytes that lie somewhere in a buffer.
+-- Bytes of a source that lie somewhere in a buffer. Own profile.
 use Rattle.std.specs.Io.KnownBytes.{Consumes}
 use Rattle.std.specs.Prelude.{◌+◌, ◌++◌, ◌≡◌, ◌<◌, ◌≤◌, ℕ, Option, Some, None, Result, Ok, Err, List, [], length, take, drop}
 use Rattle.open_framing.specs.Lines.{before_end}
@@ -43,10 +43,10 @@ pub record Moves (old new : HeldState) (left left' : Option (List ℕ)) (beyond 
 abbrev pub AtLimit : HeldState → Dry → Type 0
 AtLimit new d = d ≡ dry.Over → new.taken ≡ new.limit
 
--- bytes came, as many as were wanted at most, or none for this reason
-abbrev pub Reads : ℕ → HeldState → HeldState → Option (List ℕ) → Option (List ℕ) → Result (Unit {0}) Dry → Type 0
-Reads want old new left left' (Ok done) = Moves old new left left' [] × (length old.bytes < length new.bytes) × (length new.bytes ≤ want)
-Reads want old new left left' (Err d) = (beyond : List ℕ) × Moves old new left left' beyond × (new.bytes ≡ old.bytes) × Beyond beyond left' d × AtLimit new d
+-- bytes came, or none for this reason
+abbrev pub Reads : HeldState → HeldState → Option (List ℕ) → Option (List ℕ) → Result (Unit {0}) Dry → Type 0
+Reads old new left left' (Ok done) = Moves old new left left' [] × (length old.bytes < length new.bytes)
+Reads old new left left' (Err d) = (beyond : List ℕ) × Moves old new left left' beyond × (new.bytes ≡ old.bytes) × Beyond beyond left' d × AtLimit new d
 
 -- where the first line end stands
 abbrev pub FindsEnd : List ℕ → Option ℕ → Type 0

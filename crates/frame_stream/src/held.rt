@@ -1,4 +1,4 @@
-ghost use Rattle.std.specs.Prelude.{◌≡◌, ◌<◌, ◌≤◌, false, length};
+ghost use Rattle.std.specs.Prelude.{◌≡◌, ◌<◌, ◌≤◌, false, length, OnErr, OnOk};
 ghost use Rattle.open_framing.specs.Heads.{IsBytes};
 ghost use Rattle.open_framing.specs.declared.head.TheConstants.{HEAD_BYTES};
 ghost use Rattle.frame_stream.specs.Held.{Begins, Fills, IsBegun, IsEndBehind, IsStopOf, Nexts, StopCause, released};
@@ -86,7 +86,9 @@ impl Window {
     fn fill<I: Source>(&mut self, input: &mut I, want: usize) -> Result<(), Stop>
         requires room { want ≤ self.old.held.size }
         requires less { length self.old.held.bytes ≤ want }
-        ensures fills { Fills want self.old.held self.new.held (I.left input.old) (I.left input.new) result }
+        ensures whole { OnOk result (length self.new.held.bytes ≡ want) }
+        ensures part { OnErr result (length self.new.held.bytes < want) }
+        ensures fills { Fills self.old.held self.new.held (I.left input.old) (I.left input.new) result }
         ensures cause { StopCause (I.faults input.old) (I.faults input.new) result }
     {
         self.is_within();

@@ -13,5 +13,5 @@ mod test_inputs;
 mod window;
 
 pub use held::Ended;
-pub use lines::{LONGEST_LINE, LineEnded, LineErr, LineStream, LineTaken};
+pub use lines::{LineEnded, LineErr, LineStream, LineTaken};
 pub use stream::{FrameStream, LONGEST_FRAME, StreamErr, Taken};

@@ -4,13 +4,11 @@ ghost use Rattle.frame_stream.specs.LineTakes.{IsLastTaken, LineCause, LineOf, T
 
 use crate::reading::Dry;
 use crate::window::{NoEnd, Window};
+use open_framing::LONGEST_LINE;
 use sbe_base::{Limits, NoMem, Source};
 use std::alloc::Global;
 use std::marker::Model;
 use thiserror::Error;
-
-/// The most bytes of a line, its end not counted.
-pub const LONGEST_LINE: usize = 1_048_576;
 
 /// What a [`LineStream`] took.
 #[derive(Clone, Copy, Debug, PartialEq, Eq)]

@@ -1,4 +1,4 @@
-ghost use Rattle.std.specs.Prelude.{◌≡◌, ◌≤◌, ◌+◌, [], Err, length, take, ℕ};
+ghost use Rattle.std.specs.Prelude.{◌≡◌, ◌<◌, ◌≤◌, ◌+◌, [], Err, length, take, ℕ, IfOk, IfErr};
 ghost use Rattle.sbe_base.specs.Causes.{HasCause};
 ghost use Rattle.frame_stream.specs.Reading.{DryCause, ReadsBehind, ReadsWithin};
 
@@ -26,7 +26,9 @@ pub(crate) fn read_within<I: Source>(
     requires { len + most ≤ length buf.old }
     ensures size { length buf.new ≡ length buf.old }
     ensures kept { take len buf.new ≡ take len buf.old }
-    ensures read { ReadsWithin len most (I.left input.old) (I.left input.new) buf.new result }
+    ensures bound { IfOk result (λ n. n ≤ most) }
+    ensures over { IfErr result (λ dry. dry ≡ Dry.Over → most ≡ 0) }
+    ensures read { ReadsWithin len (I.left input.old) (I.left input.new) buf.new result }
     ensures cause { DryCause (I.faults input.old) (I.faults input.new) result }
 {
     if most == 0 {
@@ -41,7 +43,7 @@ pub(crate) fn read_within<I: Source>(
 
 /// Asks for one byte more than may be taken.
 fn read_over<I: Source>(input: &mut I) -> Dry
-    ensures read { ReadsWithin 0 0 (I.left input.old) (I.left input.new) [] (Err result) }
+    ensures read { ReadsWithin 0 (I.left input.old) (I.left input.new) [] (Err result) }
     ensures cause { DryCause {T = ℕ} (I.faults input.old) (I.faults input.new) (Err result) }
 {
     let mut next = [0u8; 1];
@@ -59,10 +61,12 @@ fn read_behind<I: Source>(
     len: usize,
     most: usize,
 ) -> Result<usize, Failed>
-    requires { len + most ≤ length buf.old }
+    requires room { len + most ≤ length buf.old }
+    requires some { 0 < most }
     ensures size { length buf.new ≡ length buf.old }
     ensures kept { take len buf.new ≡ take len buf.old }
-    ensures read { ReadsBehind len most (I.left input.old) (I.left input.new) buf.new result }
+    ensures bound { IfOk result (λ n. n ≤ most) }
+    ensures read { ReadsBehind len (I.left input.old) (I.left input.new) buf.new result }
     ensures cause { HasCause (I.faults input.old) (I.faults input.new) result }
 {
     input.read(&mut buf[len..len + most])

@@ -1,4 +1,4 @@
-ghost use Rattle.std.specs.Prelude.{◌≡◌, ◌<◌, ◌≤◌, ◌-◌, None, length, take, drop, true, IfOk, IsSome};
+ghost use Rattle.std.specs.Prelude.{◌≡◌, ◌<◌, ◌≤◌, ◌-◌, None, length, take, drop, true, IfOk, IsSome, OnOk};
 ghost use Rattle.open_framing.specs.Lines.{before_end};
 ghost use Rattle.frame_stream.specs.Held.{released};
 ghost use Rattle.frame_stream.specs.Reading.{DryCause};
@@ -6,12 +6,10 @@ ghost use Rattle.frame_stream.specs.Window.{EndCause, FindsEnd, LineEnds, Reads,
 
 use crate::reading::{Dry, read_within};
 use memchr::memchr;
+use open_framing::LINE_END;
 use sbe_base::{NoMem, Source};
 use std::alloc::Global;
 use std::marker::Model;
-
-/// The byte behind a line.
-const LINE_END: u8 = b'\n';
 
 /// Why no line's end is held.
 #[derive(Clone, Copy, Debug, PartialEq, Eq)]
@@ -157,7 +155,8 @@ impl Window {
     pub(crate) fn more<I: Source>(&mut self, input: &mut I, want: usize) -> Result<(), Dry>
         requires less { length self.old.held.bytes < want }
         requires room { want ≤ self.old.held.size }
-        ensures reads { Reads want self.old.held self.new.held (I.left input.old) (I.left input.new) result }
+        ensures most { OnOk result (length self.new.held.bytes ≤ want) }
+        ensures reads { Reads self.old.held self.new.held (I.left input.old) (I.left input.new) result }
         ensures cause { DryCause (I.faults input.old) (I.faults input.new) result }
     {
         if self.end == self.buffer.len() {
@@ -182,7 +181,8 @@ impl Window {
     fn more_behind<I: Source>(&mut self, input: &mut I, want: usize) -> Result<(), Dry>
         requires free { 0 < self.old.free }
         requires less { length self.old.held.bytes < want }
-        ensures reads { Reads want self.old.held self.new.held (I.left input.old) (I.left input.new) result }
+        ensures most { OnOk result (length self.new.held.bytes ≤ want) }
+        ensures reads { Reads self.old.held self.new.held (I.left input.old) (I.left input.new) result }
         ensures cause { DryCause (I.faults input.old) (I.faults input.new) result }
     {
         let room = self.limit - self.taken;

@@ -8,4 +8,4 @@ loop-self-init g c = record { moved = moves_none c.args.self.now.held (g.I.Sourc
 pub returns-in-Err-clause-fills : goal.returns-in-Err-clause-fills
 returns-in-Err-clause-fills g c =
     let left = g.I.Source.left in
-    stops_dry c.args.want c.args.self.now.held c.loop-self.self.held c.more.new.self.held (left c.args.input.now) (left c.loop-self.input) (left c.more.new.input) c.in-Err.dry _ c.loop-self.invariant.moved (search rules) c.in-Err.ensures.reads (search rules)
+    stops_dry c.args.self.now.held c.loop-self.self.held c.more.new.self.held (left c.args.input.now) (left c.loop-self.input) (left c.more.new.input) c.in-Err.dry _ c.loop-self.invariant.moved c.in-Err.ensures.reads (search rules)

@@ -13,5 +13,5 @@ returns-in-Err-clause-reads g c =
     let bytes = middle_kept w.start w.end w.buffer.len w.buffer.items c.as_mut_slice.result.now new len c.as_mut_slice.ensures.value read.kept in
     let size = ap length (buffer_is w.buffer.len w.buffer.items new len) ∙ read.size ∙ ap length c.as_mut_slice.ensures.value in
     let fits = subst (λ (k : WindowState). length k.held.bytes ≤ k.held.size) c.self.view_is (middle_fits w.start w.end w.buffer.items) in
-    reads_dry c.args.want w.end c.min-most.result c.args.self.now.held _ (left c.args.input.now) (left c.read_within.new.input) c.read_within.new.buf c.in-Err.dry
+    reads_dry w.end c.args.self.now.held _ (left c.args.input.now) (left c.read_within.new.input) c.read_within.new.buf c.in-Err.dry
     (bytes ∙ ap (λ (k : WindowState). k.held.bytes) c.self.view_is) (search rules) (search rules) (size ∙ ap (λ (k : WindowState). k.held.size) c.self.view_is) (search rules) fits (search rules) read.read
