@@ -19,7 +19,7 @@ prim_width U16 = 2
 prim_width U32 = 4
 prim_width U64 = 8
 
--- the integers that have numbers below zero
+-- the primitive has numbers below zero
 abbrev pub is_signed : Primitive → Bool
 is_signed I8 = true
 is_signed I16 = true
@@ -36,7 +36,7 @@ abbrev pub sum_in : Order → List ℕ → ℕ
 sum_in Big bytes = number_high_first bytes
 sum_in Little bytes = number_low_first bytes
 
--- n as a signed number of so many values: the upper half counts as below zero
+-- the signed number that n stands for among so many values: the upper half counts as below zero
 abbrev pub signed_of : ℕ → ℕ → ℤ
 signed_of values n = if nat_le values (2 * n) then pos n -ℤ pos values else pos n
 

@@ -6,7 +6,7 @@ use Rattle.sbe_types.specs.declared.kind.Member.{Member}
 use Rattle.sbe_types.specs.declared.schema.Field.{Field}
 use Rattle.sbe_types.specs.Numbers.{prim_width}
 
--- a constant takes no bytes
+-- the kind is a constant, which takes no bytes
 abbrev pub is_const : Kind → Bool
 is_const (Const c) = true
 is_const (Leaf l) = false

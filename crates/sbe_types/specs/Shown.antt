@@ -35,15 +35,15 @@ is_octets Numbers = false
 abbrev pub admits : LeafOf → ℤ → Bool
 admits leaf n = int_le leaf.low n && int_le n leaf.high
 
--- octets are never null
+-- the leaf is optional and no octets, and the number is its null
 abbrev pub is_null : LeafOf → ℤ → Bool
 is_null leaf n = (is_optional leaf.presence && not (is_octets leaf.shape)) && int_eq n leaf.null
 
--- one element of an integer array
+-- the value of one element of an array: null, or a number in the range
 abbrev pub shown_element : LeafOf → ℤ → Option Elem
 shown_element leaf n = if is_null leaf n then Some elem.Null else (if admits leaf n then Some (elem.Num n) else None)
 
--- a leaf of one number; where the null lies in the range, it is read as null
+-- the value of a single number: null, also where the null lies in the range, or a number in the range
 abbrev pub shown_number : LeafOf → ℤ → Option Value
 shown_number leaf n = if is_null leaf n then Some value.Null else (if admits leaf n then Some (value.Num n) else None)
 
@@ -51,7 +51,7 @@ shown_number leaf n = if is_null leaf n then Some value.Null else (if admits lea
 abbrev pub is_listed : List Named → ℤ → Bool
 is_listed names n = list_any (λ name. int_eq name.number n) names
 
--- an unlisted number stands only in a message of a later version than the schema's
+-- null, a listed number, or any number in a message of a later version than the schema's
 abbrev pub shown_enum : LeafOf → List Named → Bool → ℤ → Option Value
 shown_enum leaf names known n =
     if is_null leaf n then Some value.Null else (if is_listed names n || not known then Some (value.Enum n) else None)
@@ -61,7 +61,7 @@ abbrev pub has_listed_bits : List Named → ℕ → ℕ → Bool
 has_listed_bits names zero n = true
 has_listed_bits names (suc k) n = has_listed_bits names k n && (bit_at n k == 0 || is_listed names (pos k))
 
--- an unlisted bit stands only in a message of a later version than the schema's; no set is null
+-- a set whose bits are listed, or any set in a message of a later version than the schema's; no set is null
 abbrev pub shown_set : List Named → Bool → ℕ → Option Value
 shown_set names known n = if has_listed_bits names 64 n || not known then Some (value.Set n) else None
 

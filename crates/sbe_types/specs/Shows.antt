@@ -20,7 +20,7 @@ abbrev pub is_empty : List ℕ → Bool
 is_empty [] = true
 is_empty (b ∷ bs) = false
 
--- a text without a character encoding, whose bytes lie in the range
+-- the leaf is a text without a character encoding, whose bytes lie in its range
 abbrev pub is_ranged : LeafShape → Bool
 is_ranged RangedText = true
 is_ranged Number = false
@@ -37,7 +37,7 @@ abbrev pub EndsText : List ℕ → Type 0
 EndsText [] = ⊤
 EndsText (b ∷ bs) = b ≡ 0
 
--- an empty text is null where the leaf is optional
+-- the value of a text: null where it is empty and the leaf optional
 abbrev pub text_value : LeafOf → List ℕ → Value
 text_value leaf text = if is_optional leaf.presence && is_empty text then value.Null else value.Text text
 

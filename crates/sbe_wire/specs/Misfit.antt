@@ -84,7 +84,7 @@ abbrev pub byte_misfit : Option ℕ → Option Misfit
 byte_misfit None = None
 byte_misfit (Some b) = misfit_here code.TextByte (pos b)
 
--- the length of a text is judged (N01) before its bytes
+-- a text: its length (N01) is judged before its bytes
 abbrev pub text_misfit : LeafOf → Value → Option Misfit
 text_misfit leaf (value.Text text) =
     or_else (unless (nat_le (length text) (width (Leaf leaf)) && not (is_optional leaf.presence && is_empty text)) (misfit_here code.Range (pos (length text))))
@@ -120,7 +120,7 @@ array_misfit leaf (value.Comp' n row) = other_kind
 array_misfit leaf value.Const = other_kind
 array_misfit leaf value.Absent = other_kind
 
--- of a single number, a text or an array
+-- the misfit of a single number, a text or an array
 abbrev pub leaf_misfit : LeafShape → LeafOf → Value → Option Misfit
 leaf_misfit Number leaf v = number_misfit leaf v
 leaf_misfit RangedText leaf v = text_misfit leaf v
@@ -173,7 +173,7 @@ same_length (more_of-Member name offset kind rest) [] = false
 same_length (more_of-Member name offset kind rest) (v ∷ vs) = same_length rest vs
 
 abbrev mutual
-  -- of a value of any kind
+  -- the misfit of a value of any kind
   pub value_misfit : Kind → Value → Option Misfit
   value_misfit (Leaf l) v = leaf_misfit l.shape l v
   value_misfit (Enum l names) v = enum_misfit l names v
@@ -181,7 +181,7 @@ abbrev mutual
   value_misfit (Const c) v = const_misfit v
   value_misfit (Comp' n members) v = row_misfit 0 members (member_values v)
 
-  -- members counted from i; their number is judged first
+  -- the first one of members that are counted from i; their number is judged first
   pub row_misfit : ℕ → {n : _} → Row_of-Member n → Option (List Value) → Option Misfit
   row_misfit i row None = other_kind
   row_misfit i end_of-Member (Some []) = None
@@ -213,7 +213,7 @@ abbrev pub each_misfit : {X : Type 0} → (X → Option Misfit) → ℕ → List
 each_misfit f i [] = None
 each_misfit f i (x ∷ xs) = or_else (misfit_in (way.Entry i) (f x)) (each_misfit f (suc i) xs)
 
--- of more entries than any count can say, none is looked at
+-- the first one of entries; of more than any count can say, none is looked at
 abbrev pub entries_shape : (Block → Option Misfit) → Option (List Block) → Option Misfit
 entries_shape entry None = bad_shape
 entries_shape entry (Some entries) = if nat_lt (length entries) (2 ^ 32) then each_misfit entry 0 entries else None
@@ -260,7 +260,7 @@ is_full code.Count = false
 is_full code.Length = false
 is_full code.Shape = false
 
--- want of room is the whole body's
+-- the same inside a step; want of room is the whole body's
 abbrev pub taken_in : Step → Taken → Taken
 taken_in step (Ok n) = Ok n
 taken_in step (Err m) = Err (if is_full m.code then m else inside_step step m)
@@ -278,11 +278,11 @@ abbrev pub passed : ℕ → Option Misfit → Taken
 passed n None = Ok n
 passed n (Some m) = Err m
 
--- room for the block comes before its fields
+-- a block: its room comes before its fields
 abbrev pub block_taken : ℕ → ℕ → ℕ → List Field → List Value → Taken
 block_taken limit before n fields values = take_bytes limit before n then (λ after. passed after (fields_misfit 0 fields values))
 
--- the length of data (N07) comes before its room
+-- data: its length (N07) comes before its room
 abbrev pub part_taken : ℕ → ℕ → DataField → DataVal → Taken
 part_taken limit before part dataval.Absent = Ok before
 part_taken limit before part (dataval.Bytes bytes) =
@@ -299,7 +299,7 @@ abbrev pub each_taken : {X : Type 0} → (ℕ → X → Taken) → ℕ → ℕ �
 each_taken f i before [] = Ok before
 each_taken f i before (x ∷ xs) = taken_in (way.Entry i) (f before x) then (λ after. each_taken f (suc i) after xs)
 
--- the count of entries (N06) comes before the room for the dimension
+-- the entries of a group: their count (N06) comes before the room for the dimension
 abbrev pub entries_taken : ℕ → ℕ → List Member → (ℕ → Block → Taken) → Option (List Block) → Taken
 entries_taken limit before dim entry None = Ok before
 entries_taken limit before dim entry (Some entries) =
@@ -334,13 +334,13 @@ abbrev pub refusal_of : Taken → Option Misfit
 refusal_of (Ok n) = None
 refusal_of (Err m) = Some m
 
--- the header and the root's block are one step
+-- the header and the root's block, as one step, and then the tail
 abbrev pub root_taken : WireSchema → ℕ → Level → Block → Taken
 root_taken schema limit level block =
     block_taken limit 0 (members_end 0 schema.header.members + (out-Level level).block_length) (out-Level level).fields (out-Block block).fields
     then (λ after. tail_taken limit after level block)
 
--- of a message of this root
+-- the misfit of a message of this root
 abbrev pub root_misfit : WireSchema → Msg → ℕ → Option Level → Option Misfit
 root_misfit schema m limit None = bad_shape
 root_misfit schema m limit (Some level) =
