@@ -2,3 +2,4 @@ pub mod Forms
 pub mod Types
 pub mod Messages
 pub mod Schemas
+pub mod Rows

@@ -4,10 +4,17 @@
 
 mod element_name;
 mod form;
+#[cfg(test)]
+mod limit_rows;
 mod message;
+#[cfg(test)]
+mod refusal_rows;
 mod schema;
 mod schema_err;
+#[cfg(test)]
+mod tree_rows;
 mod types;
+pub mod worked;
 
 pub use schema::read_schema;
 pub use schema_err::{SCode, SchemaErr};

@@ -1,0 +1,517 @@
+//! Files that are refused, and files at the limits, which are read.
+
+use crate::{SCode, SchemaErr, read_schema};
+use std::alloc::{AllocError, Global};
+use std::process::Abort;
+use std::test::Fail;
+
+/// A text, and why a file with it is refused: the code, and the pointer from where the text stands.
+type Row = (&'static str, SCode, &'static str);
+
+/// What a text stands in: what comes before and behind it, and the pointer to its place.
+#[derive(Clone, Copy)]
+struct Place {
+    before: &'static str,
+    behind: &'static str,
+    path: &'static str,
+}
+
+const FILE: Place = Place {
+    before: "",
+    behind: "",
+    path: "",
+};
+
+/// Attributes of the schema.
+const SCHEMA: Place = Place {
+    before: r#"{"messageSchema":{"id":7,"#,
+    behind: "}}",
+    path: "/messageSchema",
+};
+
+const OUTER: Place = Place {
+    before: r#"{"messageSchema":{"id":7,"content":["#,
+    behind: "]}}",
+    path: "/messageSchema/content/0",
+};
+
+const TYPES: Place = Place {
+    before: r#"{"messageSchema":{"id":7,"content":[{"types":{"content":["#,
+    behind: "]}}]}}",
+    path: "/messageSchema/content/0/types/content/0",
+};
+
+const MEMBER: Place = Place {
+    before: r#"{"messageSchema":{"id":7,"content":[{"types":{"content":[{"composite":{"name":"c","content":["#,
+    behind: "]}}]}}]}}",
+    path: "/messageSchema/content/0/types/content/0/composite/content/0",
+};
+
+const PART: Place = Place {
+    before: r#"{"messageSchema":{"id":7,"content":[{"message":{"name":"m","id":1,"content":["#,
+    behind: "]}}]}}",
+    path: "/messageSchema/content/0/message/content/0",
+};
+
+fn around(alloc: Global, place: &Place, text: &str) -> Result<String, AllocError> {
+    format!(in alloc; "{}{text}{}", place.before, place.behind)
+}
+
+fn expect_refused(
+    rt: &impl Abort,
+    alloc: Global,
+    file: &[u8],
+    code: SCode,
+    path: &str,
+) -> Result<(), Fail> {
+    match read_schema(alloc, file) {
+        Ok(_) => panic!(rt; "read: {file:?}"),
+        Err(SchemaErr::Memory) => panic!(rt; "no memory"),
+        Err(SchemaErr::Refused(found, place)) => {
+            assert_eq!(rt; place.as_slice(), path.as_bytes(), "path of {file:?}");
+            assert_eq!(rt; found, code, "code of {file:?}");
+        }
+    }
+    Ok(())
+}
+
+fn expect_rows(rt: &impl Abort, alloc: Global, place: &Place, rows: &[Row]) -> Result<(), Fail> {
+    for (text, code, path) in rows {
+        let file = around(alloc, place, text)?;
+        let path = format!(in alloc; "{}{path}", place.path)?;
+        expect_refused(rt, alloc, file.as_bytes(), *code, path.as_str())?;
+    }
+    Ok(())
+}
+
+fn expect_read(rt: &impl Abort, alloc: Global, place: &Place, text: &str) -> Result<(), Fail> {
+    let file = around(alloc, place, text)?;
+    let answer = read_schema(alloc, file.as_bytes());
+    assert!(rt; answer.is_ok(), "refused: {file}");
+    Ok(())
+}
+
+const FILES_ROWS: [Row; 20] = [
+    ("<?xml version=\"1.0\"?>", SCode::Xml, ""),
+    (" \t\r\n<a/>", SCode::Xml, ""),
+    ("\u{feff}<a/>", SCode::Xml, ""),
+    ("\u{feff} \n<a/>", SCode::Xml, ""),
+    (" \u{feff}<a/>", SCode::NotJson, ""),
+    ("\u{feff}{\"messageSchema\":{\"id\":7}}", SCode::NotJson, ""),
+    ("{\"messageSchema\":", SCode::NotJson, ""),
+    ("", SCode::NotJson, ""),
+    ("{\"messageSchema\":{\"id\":7}}}", SCode::NotJson, ""),
+    ("{\"messageSchema\":{\"id\":1e999}}", SCode::NotJson, ""),
+    ("[1]", SCode::Shape, ""),
+    ("{}", SCode::Shape, ""),
+    ("null", SCode::Shape, ""),
+    ("{\"types\":{}}", SCode::Shape, ""),
+    ("{\"messageSchema\":{\"id\":7},\"x\":1}", SCode::Shape, ""),
+    ("{\"messageSchema\":7}", SCode::Shape, "/messageSchema"),
+    (
+        "{\"messageSchema\":{}}",
+        SCode::Missing,
+        "/messageSchema/id",
+    ),
+    (
+        "{\"messageSchema\":{\"content\":[]}}",
+        SCode::Missing,
+        "/messageSchema/id",
+    ),
+    (
+        "{\"sbe:messageSchema\":{\"id\":-1}}",
+        SCode::BadAttribute,
+        "/messageSchema/id",
+    ),
+    ("{\"a:b:messageSchema\":{\"id\":7}}", SCode::Shape, ""),
+];
+
+#[test]
+fn refuses_files(rt: HostRuntime) -> Result<(), Fail> {
+    expect_rows(&rt, rt.alloc(), &FILE, &FILES_ROWS)?;
+    let no_utf8 = b"{\"messageSchema\":{\"id\":7,\"package\":\"\xff\"}}";
+    expect_refused(&rt, rt.alloc(), no_utf8, SCode::NotJson, "")?;
+    expect_read(&rt, rt.alloc(), &FILE, " {\"messageSchema\":{\"id\":7}}\n")?;
+    expect_read(
+        &rt,
+        rt.alloc(),
+        &FILE,
+        "{\":messageSchema\":{\"id\":\"7\"}}",
+    )?;
+    expect_read(
+        &rt,
+        rt.alloc(),
+        &FILE,
+        "{\"messageSchema\":{\"id\":null,\"id\":7}}",
+    )
+}
+
+const SCHEMA_ROWS: [Row; 24] = [
+    (r#""content":null"#, SCode::Shape, ""),
+    (r#""content":{}"#, SCode::Shape, ""),
+    (r#""content":0,"id":null"#, SCode::Shape, ""),
+    (r#""id":null"#, SCode::BadAttribute, "/id"),
+    (r#""id":-0"#, SCode::BadAttribute, "/id"),
+    (r#""id":7.0"#, SCode::BadAttribute, "/id"),
+    (r#""id":-1"#, SCode::BadAttribute, "/id"),
+    (r#""id":4294967296"#, SCode::BadAttribute, "/id"),
+    (r#""id":"""#, SCode::BadAttribute, "/id"),
+    (r#""id":"-""#, SCode::BadAttribute, "/id"),
+    (r#""id":"+7""#, SCode::BadAttribute, "/id"),
+    (r#""id":" 7""#, SCode::BadAttribute, "/id"),
+    (r#""id":[7]"#, SCode::BadAttribute, "/id"),
+    (r#""id":true,"version":true"#, SCode::BadAttribute, "/id"),
+    (r#""version":null"#, SCode::BadAttribute, "/version"),
+    (
+        r#""package":7,"byteOrder":7"#,
+        SCode::BadAttribute,
+        "/package",
+    ),
+    (r#""byteOrder":"big""#, SCode::BadAttribute, "/byteOrder"),
+    (
+        r#""byteOrder":null,"headerType":7"#,
+        SCode::BadAttribute,
+        "/byteOrder",
+    ),
+    (
+        r#""headerType":"no name""#,
+        SCode::BadAttribute,
+        "/headerType",
+    ),
+    (
+        r#""headerType":7,"content":[7]"#,
+        SCode::BadAttribute,
+        "/headerType",
+    ),
+    (r#""content":[7]"#, SCode::Shape, "/content/0"),
+    (r#""content":[{"types":{}},{}]"#, SCode::Shape, "/content/1"),
+    (
+        r#""content":[{"types":{},"message":{}}]"#,
+        SCode::Shape,
+        "/content/0",
+    ),
+    (r#""content":[{"msg":{}}]"#, SCode::Shape, "/content/0"),
+];
+
+const SCHEMAS_READ: [&str; 7] = [
+    r#""id":"7""#,
+    r#""id":"007""#,
+    r#""id":"-0""#,
+    r#""id":4294967295"#,
+    r#""version":"4294967295""#,
+    r#""byteOrder":"bigEndian","headerType":"_h1","package":"","content":[]"#,
+    r#""description":7,"semanticVersion":null,"unknown":[{}]"#,
+];
+
+#[test]
+fn refuses_the_schema(rt: HostRuntime) -> Result<(), Fail> {
+    expect_rows(&rt, rt.alloc(), &SCHEMA, &SCHEMA_ROWS)?;
+    for text in SCHEMAS_READ {
+        expect_read(&rt, rt.alloc(), &SCHEMA, text)?;
+    }
+    Ok(())
+}
+
+const OUTER_ELEMENTS_ROWS: [Row; 12] = [
+    (r#"{"a:b:message":{}}"#, SCode::Shape, ""),
+    (r#"{"field":{}}"#, SCode::Shape, ""),
+    (r#"{"messageSchema":{}}"#, SCode::Shape, ""),
+    (r#"{"sbe:message":{}}"#, SCode::Missing, "/message/name"),
+    (r#"{":message":[]}"#, SCode::Shape, "/message"),
+    (r#"{"types":null}"#, SCode::Shape, "/types"),
+    (r#"{"types":{"content":"x"}}"#, SCode::Shape, "/types"),
+    (r#"{"message":{"name":"m"}}"#, SCode::Missing, "/message/id"),
+    (
+        r#"{"message":{"name":"m","id":1,"semanticType":7}}"#,
+        SCode::BadAttribute,
+        "/message/semanticType",
+    ),
+    (
+        r#"{"message":{"name":"m","id":1,"sinceVersion":"x"}}"#,
+        SCode::BadAttribute,
+        "/message/sinceVersion",
+    ),
+    (
+        r#"{"message":{"name":"m","id":1,"blockLength":1048577}}"#,
+        SCode::Limit,
+        "/message/blockLength",
+    ),
+    (
+        r#"{"message":{"name":"m","id":1,"content":[{"type":{}}]}}"#,
+        SCode::Shape,
+        "/message/content/0",
+    ),
+];
+
+#[test]
+fn refuses_outer_elements(rt: HostRuntime) -> Result<(), Fail> {
+    expect_rows(&rt, rt.alloc(), &OUTER, &OUTER_ELEMENTS_ROWS)?;
+    expect_read(
+        &rt,
+        rt.alloc(),
+        &OUTER,
+        r#"{":message":{"name":"m","id":1,"blockLength":1048576}}"#,
+    )
+}
+
+const TYPES_ROWS: [Row; 26] = [
+    (
+        r#"{"type":{"name":"t"}}"#,
+        SCode::Missing,
+        "/type/primitiveType",
+    ),
+    (
+        r#"{"type":{"name":"t","primitiveType":null}}"#,
+        SCode::BadAttribute,
+        "/type/primitiveType",
+    ),
+    (
+        r#"{"type":{"name":"t","primitiveType":"uint9"}}"#,
+        SCode::BadAttribute,
+        "/type/primitiveType",
+    ),
+    (
+        r#"{"type":{"name":"","primitiveType":7}}"#,
+        SCode::BadAttribute,
+        "/type/name",
+    ),
+    (
+        r#"{"type":{"name":"1t","primitiveType":7}}"#,
+        SCode::BadAttribute,
+        "/type/name",
+    ),
+    (
+        r#"{"type":{"name":"t-t","primitiveType":7}}"#,
+        SCode::BadAttribute,
+        "/type/name",
+    ),
+    (
+        r#"{"type":{"name":"t","primitiveType":"char","length":65536}}"#,
+        SCode::Limit,
+        "/type/length",
+    ),
+    (
+        r#"{"type":{"name":"t","primitiveType":"char","length":-1}}"#,
+        SCode::BadAttribute,
+        "/type/length",
+    ),
+    (
+        r#"{"type":{"name":"t","primitiveType":"char","presence":"Required"}}"#,
+        SCode::BadAttribute,
+        "/type/presence",
+    ),
+    (
+        r#"{"type":{"name":"t","primitiveType":"char","nullValue":"a"}}"#,
+        SCode::BadAttribute,
+        "/type/nullValue",
+    ),
+    (
+        r#"{"type":{"name":"t","primitiveType":"char","nullValue":18446744073709551616}}"#,
+        SCode::BadAttribute,
+        "/type/nullValue",
+    ),
+    (
+        r#"{"type":{"name":"t","primitiveType":"char","minValue":"170141183460469231731687303715884105728"}}"#,
+        SCode::BadAttribute,
+        "/type/minValue",
+    ),
+    (
+        r#"{"type":{"name":"t","primitiveType":"char","maxValue":"-170141183460469231731687303715884105729"}}"#,
+        SCode::BadAttribute,
+        "/type/maxValue",
+    ),
+    (
+        r#"{"type":{"name":"t","primitiveType":"char","characterEncoding":7}}"#,
+        SCode::BadAttribute,
+        "/type/characterEncoding",
+    ),
+    (
+        r#"{"type":{"name":"t","primitiveType":"char","valueRef":"E"}}"#,
+        SCode::BadAttribute,
+        "/type/valueRef",
+    ),
+    (
+        r#"{"type":{"name":"t","primitiveType":"char","valueRef":"E.a.b"}}"#,
+        SCode::BadAttribute,
+        "/type/valueRef",
+    ),
+    (
+        r#"{"type":{"name":"t","primitiveType":"char","valueRef":".a"}}"#,
+        SCode::BadAttribute,
+        "/type/valueRef",
+    ),
+    (
+        r#"{"type":{"name":"t","primitiveType":"char","text":1.5}}"#,
+        SCode::BadAttribute,
+        "/type/text",
+    ),
+    (
+        r#"{"type":{"name":"t","primitiveType":"char","content":[{"type":{}}]}}"#,
+        SCode::Shape,
+        "/type/content/0",
+    ),
+    (r#"{"ref":{"name":"r","type":"t"}}"#, SCode::Shape, ""),
+    (
+        r#"{"enum":{"name":"E"}}"#,
+        SCode::Missing,
+        "/enum/encodingType",
+    ),
+    (
+        r#"{"enum":{"name":"E","encodingType":"no pe"}}"#,
+        SCode::BadAttribute,
+        "/enum/encodingType",
+    ),
+    (
+        r#"{"enum":{"name":"E","encodingType":"char","content":[{"validValue":{"name":"A"}}]}}"#,
+        SCode::Missing,
+        "/enum/content/0/validValue/text",
+    ),
+    (
+        r#"{"enum":{"name":"E","encodingType":"char","content":[{"choice":{"name":"A","text":"1"}}]}}"#,
+        SCode::Shape,
+        "/enum/content/0",
+    ),
+    (
+        r#"{"set":{"name":"W","encodingType":"uint8","content":[{"choice":{"name":"A","text":null}}]}}"#,
+        SCode::BadAttribute,
+        "/set/content/0/choice/text",
+    ),
+    (
+        r#"{"set":{"name":"W","encodingType":"uint8","content":[{"choice":{"name":"A","text":0,"content":[0]}}]}}"#,
+        SCode::Shape,
+        "/set/content/0/choice/content/0",
+    ),
+];
+
+const TYPES_READ: [&str; 5] = [
+    r#"{"type":{"name":"t","primitiveType":"double","length":65535}}"#,
+    r#"{"type":{"name":"t","primitiveType":"char","nullValue":"170141183460469231731687303715884105727"}}"#,
+    r#"{"type":{"name":"t","primitiveType":"char","nullValue":"-170141183460469231731687303715884105728"}}"#,
+    r#"{"type":{"name":"t","primitiveType":"char","offset":"x","sinceVersion":"x"}}"#,
+    r#"{"enum":{"name":"E","encodingType":"char","sinceVersion":null,"content":[{"validValue":{"name":"A","text":1,"sinceVersion":[]}}]}}"#,
+];
+
+#[test]
+fn refuses_types(rt: HostRuntime) -> Result<(), Fail> {
+    expect_rows(&rt, rt.alloc(), &TYPES, &TYPES_ROWS)?;
+    for text in TYPES_READ {
+        expect_read(&rt, rt.alloc(), &TYPES, text)?;
+    }
+    Ok(())
+}
+
+const MEMBERS_ROWS: [Row; 9] = [
+    (
+        r#"{"type":{"name":"t","primitiveType":"char","offset":1048577}}"#,
+        SCode::Limit,
+        "/type/offset",
+    ),
+    (
+        r#"{"type":{"name":"t","primitiveType":"char","offset":-1,"sinceVersion":-1}}"#,
+        SCode::BadAttribute,
+        "/type/offset",
+    ),
+    (
+        r#"{"type":{"name":"t","primitiveType":"char","sinceVersion":4294967296}}"#,
+        SCode::BadAttribute,
+        "/type/sinceVersion",
+    ),
+    (r#"{"ref":{"name":"r"}}"#, SCode::Missing, "/ref/type"),
+    (
+        r#"{"ref":{"name":"r","type":"t","content":[0]}}"#,
+        SCode::Shape,
+        "/ref/content/0",
+    ),
+    (r#"{"field":{}}"#, SCode::Shape, ""),
+    (
+        r#"{"set":{"name":"W","encodingType":"uint8","offset":null}}"#,
+        SCode::BadAttribute,
+        "/set/offset",
+    ),
+    (
+        r#"{"composite":{"name":"d","offset":"x","content":[0]}}"#,
+        SCode::BadAttribute,
+        "/composite/offset",
+    ),
+    (
+        r#"{"composite":{"name":"d","content":[{"composite":{"name":"e","content":[{"enum":{"name":"E","encodingType":"char"}},{"enum":{"name":"F"}}]}}]}}"#,
+        SCode::Missing,
+        "/composite/content/0/composite/content/1/enum/encodingType",
+    ),
+];
+
+#[test]
+fn refuses_members(rt: HostRuntime) -> Result<(), Fail> {
+    expect_rows(&rt, rt.alloc(), &MEMBER, &MEMBERS_ROWS)?;
+    expect_read(
+        &rt,
+        rt.alloc(),
+        &MEMBER,
+        r#"{"type":{"name":"t","primitiveType":"char","offset":1048576}}"#,
+    )
+}
+
+const PARTS_ROWS: [Row; 13] = [
+    (r#"{"message":{}}"#, SCode::Shape, ""),
+    (r#"{"field":{"id":1}}"#, SCode::Missing, "/field/name"),
+    (
+        r#"{"field":{"name":"f","type":7}}"#,
+        SCode::Missing,
+        "/field/id",
+    ),
+    (
+        r#"{"field":{"name":"f","id":1,"type":7}}"#,
+        SCode::BadAttribute,
+        "/field/type",
+    ),
+    (
+        r#"{"field":{"name":"f","id":1,"type":"t","presence":7,"offset":7.5}}"#,
+        SCode::BadAttribute,
+        "/field/presence",
+    ),
+    (
+        r#"{"field":{"name":"f","id":1,"type":"t","offset":1048577}}"#,
+        SCode::Limit,
+        "/field/offset",
+    ),
+    (
+        r#"{"field":{"name":"f","id":1,"type":"t","valueRef":"a b.c"}}"#,
+        SCode::BadAttribute,
+        "/field/valueRef",
+    ),
+    (
+        r#"{"field":{"name":"f","id":1,"type":"t","content":[{}]}}"#,
+        SCode::Shape,
+        "/field/content/0",
+    ),
+    (
+        r#"{"data":{"name":"f","id":1,"type":"t","content":[{"data":{}}]}}"#,
+        SCode::Shape,
+        "/data/content/0",
+    ),
+    (
+        r#"{"data":{"name":"f","id":1}}"#,
+        SCode::Missing,
+        "/data/type",
+    ),
+    (
+        r#"{"group":{"name":"g","id":1,"dimensionType":null}}"#,
+        SCode::BadAttribute,
+        "/group/dimensionType",
+    ),
+    (
+        r#"{"group":{"name":"g","id":1,"blockLength":"x","content":[0]}}"#,
+        SCode::BadAttribute,
+        "/group/blockLength",
+    ),
+    (
+        r#"{"group":{"name":"g","id":1,"content":[{"group":{"name":"h","id":2,"content":[{"field":{"name":"f"}}]}}]}}"#,
+        SCode::Missing,
+        "/group/content/0/group/content/0/field/id",
+    ),
+];
+
+#[test]
+fn refuses_parts(rt: HostRuntime) -> Result<(), Fail> {
+    expect_rows(&rt, rt.alloc(), &PART, &PARTS_ROWS)
+}
