@@ -3,7 +3,7 @@ use Rattle.std.proofs.Common.{◌≡◌, ℕ, ◌<◌, Some, List, ◌++◌, len
 use Rattle.std.proofs.lemmas.List.{length-drop, take_all, drop-drop}
 use Rattle.fix_dates.specs.declared.calendar.Day.{Day}
 use Rattle.fix_dates.specs.Digits.{digits, number_in}
-use Rattle.fix_dates.specs.Days.{day_text, FitsDigits}
+use Rattle.fix_dates.specs.Days.{day_text, FitsDay}
 use Rattle.fix_dates.proofs.DigitFacts.{read_back, piece_read, first_and_rest}
 
 -- the numbers that are read in a day's text
@@ -14,7 +14,7 @@ pub record ReadsDay (text : List ℕ) (year month number : ℕ) : Type 0 where
   pub number_read : number_in (take 2 (drop 6 text)) ≡ Some number
 
 -- a day's text is read as its year, month and day
-pub day_apart : (text : List ℕ) (day : Day) → FitsDigits day → text ≡ day_text day → ReadsDay text day.year day.month day.day
+pub day_apart : (text : List ℕ) (day : Day) → FitsDay day → text ≡ day_text day → ReadsDay text day.year day.month day.day
 unfolding digits
 day_apart text day fits e = rw e (record {
   long = refl;

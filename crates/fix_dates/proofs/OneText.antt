@@ -13,7 +13,7 @@ use Rattle.fix_dates.specs.declared.month.Part.{Part}
 use Rattle.fix_dates.specs.declared.month.Part.TheVariants as part
 use Rattle.fix_dates.specs.Digits.{digits, number_in}
 use Rattle.fix_dates.specs.Calendar.{IsDay, number_of}
-use Rattle.fix_dates.specs.Days.{day_text, FitsDigits}
+use Rattle.fix_dates.specs.Days.{day_text, FitsDay}
 use Rattle.fix_dates.specs.Clocks.{clock_text, fraction_text, FitsClock, IsTime, count_of}
 use Rattle.fix_dates.specs.Stamps.{stamp_text, stamp_count}
 use Rattle.fix_dates.specs.Months.{month_text, part_text, day_part, week_part, value_of, FitsMonth, FitsPart}
@@ -32,7 +32,7 @@ same_day a b year month day =
     ∙ ap (λ d. record { year = b.year; month = b.month; day = d }) day)
 
 -- a text is that of one day
-pub one_day_of_text : (text : List ℕ) (a b : Day) → FitsDigits a → FitsDigits b → text ≡ day_text a → text ≡ day_text b → a ≡ b
+pub one_day_of_text : (text : List ℕ) (a b : Day) → FitsDay a → FitsDay b → text ≡ day_text a → text ≡ day_text b → a ≡ b
 one_day_of_text text a b first second x y =
     let p = day_apart text a first x in
     let q = day_apart text b second y in
@@ -83,7 +83,7 @@ same_stamp : (a b : Stamp) → a.day ≡ b.day → a.clock ≡ b.clock → a ≡
 same_stamp a b day clock = ap (λ d. record { day = d; clock = a.clock }) day ∙ ap (λ c. record { day = b.day; clock = c }) clock
 
 -- a text is that of one moment
-pub one_stamp_of_text : (text : List ℕ) (a b : Stamp) → FitsDigits a.day × FitsClock a.clock → FitsDigits b.day × FitsClock b.clock → text ≡ stamp_text a → text ≡ stamp_text b → a ≡ b
+pub one_stamp_of_text : (text : List ℕ) (a b : Stamp) → FitsDay a.day × FitsClock a.clock → FitsDay b.day × FitsClock b.clock → text ≡ stamp_text a → text ≡ stamp_text b → a ≡ b
 one_stamp_of_text text a b first second x y =
     let p = stamp_apart text a x in
     let q = stamp_apart text b y in
@@ -152,7 +152,7 @@ one_clock_of_count a b first second x y places e =
     fraction places
 
 -- a count in a unit is that of one moment
-pub one_stamp_of_count : (a b : Stamp) → FitsDigits a.day × FitsClock a.clock → FitsDigits b.day × FitsClock b.clock → IsDay a.day × IsTime a.clock → IsDay b.day × IsTime b.clock → a.clock.places ≡ b.clock.places → stamp_count a ≡ stamp_count b → a ≡ b
+pub one_stamp_of_count : (a b : Stamp) → FitsDay a.day × FitsClock a.clock → FitsDay b.day × FitsClock b.clock → IsDay a.day × IsTime a.clock → IsDay b.day × IsTime b.clock → a.clock.places ≡ b.clock.places → stamp_count a ≡ stamp_count b → a ≡ b
 one_stamp_of_count a b first second x y places e =
     let units = 86_400 * 10 ^ a.clock.places in
     let other : count_of b.clock < units = subst (λ k. count_of b.clock < 86_400 * 10 ^ k) (sym places) (count_below b.clock second.1 y.1) in

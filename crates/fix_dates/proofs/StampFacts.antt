@@ -10,7 +10,7 @@ use Rattle.fix_dates.specs.declared.clock.Clock.{Clock}
 use Rattle.fix_dates.specs.declared.stamp.Stamp.{Stamp}
 use Rattle.fix_dates.specs.Digits.{digits}
 use Rattle.fix_dates.specs.Calendar.{IsDay}
-use Rattle.fix_dates.specs.Days.{day_text, FitsDigits}
+use Rattle.fix_dates.specs.Days.{day_text, FitsDay}
 use Rattle.fix_dates.specs.Clocks.{clock_text, FitsClock, IsTime, count_of}
 use Rattle.fix_dates.specs.Stamps.{stamp_text}
 
@@ -79,7 +79,7 @@ moment_whole days nanos power count some e =
     ]
 
 -- the parts of a day of the calendar fit their digits
-pub day_fits : (day : Day) → IsDay day → day.year < 10000 → FitsDigits day
+pub day_fits : (day : Day) → IsDay day → day.year < 10000 → FitsDay day
 day_fits day real within =
     let month = real.month_high in
     let last = real.day_high in

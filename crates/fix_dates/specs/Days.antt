@@ -10,11 +10,11 @@ abbrev pub day_text : Day → List ℕ
 day_text day = digits 4 day.year ++ (digits 2 day.month ++ digits 2 day.day)
 
 -- each part fits its digits
-pub record FitsDigits (parts : Day) : Type 0 where
+pub record FitsDay (parts : Day) : Type 0 where
   pub year : parts.year < 10000
   pub month : parts.month < 100
   pub day : parts.day < 100
 
 -- days, which stand for their numbers
 abbrev pub days : Kind Day ℤ
-days = record { text = day_text; Fits = FitsDigits; Real = IsDay; Stands = λ day n. number_of day ≡ n }
+days = record { text = day_text; Fits = FitsDay; Real = IsDay; Stands = λ day n. number_of day ≡ n }

@@ -5,8 +5,8 @@ use Rattle.fix_dates.specs.declared.month.Month.{Month}
 use Rattle.fix_dates.specs.declared.month.Part.TheVariants.{Week}
 
 -- 2 January 1970
-abbrev pub second : Day
-second = record { year = 1970; month = 1; day = 2 }
+abbrev pub second_day : Day
+second_day = record { year = 1970; month = 1; day = 2 }
 
 -- a second and a half behind midnight, in milliseconds
 abbrev pub half_past : Clock

@@ -7,7 +7,7 @@ use Rattle.fix_dates.specs.declared.moment.Moment.{Moment}
 use Rattle.fix_dates.specs.declared.stamp.Stamp.{Stamp}
 use Rattle.fix_dates.specs.Calendar.{IsDay, number_of}
 use Rattle.fix_dates.specs.Reading.{Kind}
-use Rattle.fix_dates.specs.Days.{day_text, FitsDigits}
+use Rattle.fix_dates.specs.Days.{day_text, FitsDay}
 use Rattle.fix_dates.specs.Clocks.{clock_text, FitsClock, IsTime, InUnit, count_of}
 
 -- the eight digits of the day, a dash, and the time
@@ -26,7 +26,7 @@ IsStamp stamp = IsDay stamp.day × IsTime stamp.clock
 abbrev pub stamps_in : ℕ → Kind Stamp ℤ
 stamps_in unit = record {
   text = stamp_text;
-  Fits = λ stamp. FitsDigits stamp.day × InUnit unit stamp.clock;
+  Fits = λ stamp. FitsDay stamp.day × InUnit unit stamp.clock;
   Real = IsStamp;
   Stands = λ stamp n. stamp_count stamp ≡ n;
 }
@@ -47,7 +47,7 @@ times = record { text = clock_text; Fits = FitsClock; Real = IsTime; Stands = λ
 abbrev pub stamps : Kind Stamp Moment
 stamps = record {
   text = stamp_text;
-  Fits = λ stamp. FitsDigits stamp.day × FitsClock stamp.clock;
+  Fits = λ stamp. FitsDay stamp.day × FitsClock stamp.clock;
   Real = IsStamp;
   Stands = λ stamp. IsMoment (stamp_count stamp) stamp.clock.places;
 }

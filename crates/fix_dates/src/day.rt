@@ -1,6 +1,6 @@
 ghost use Rattle.std.specs.Prelude.{◌≡◌, ◌≢◌, ◌+◌, ◌≤◌, ◌++◌, length, IfSome, IfNone};
 ghost use Rattle.fix_dates.specs.declared.calendar.Day.{Day as AnyDay};
-ghost use Rattle.fix_dates.specs.Days.{days, day_text, FitsDigits};
+ghost use Rattle.fix_dates.specs.Days.{days, day_text, FitsDay};
 ghost use Rattle.fix_dates.specs.Reading.{Reads, Shows};
 
 use crate::calendar::{Day, day_of, number_of_day};
@@ -46,8 +46,8 @@ pub fn put_day(out: &mut Short, day: Day)
 /// The year, month and day that eight digits spell.
 pub fn day_in(text: &[u8]) -> Option<Day>
     ensures some { IfSome result (λ day. text.now ≡ day_text day) }
-    ensures fits { IfSome result FitsDigits }
-    ensures none { IfNone result ((day : AnyDay) → FitsDigits day → text.now ≢ day_text day) }
+    ensures fits { IfSome result FitsDay }
+    ensures none { IfNone result ((day : AnyDay) → FitsDay day → text.now ≢ day_text day) }
 {
     if text.len() != 8 {
         return None;

@@ -11,17 +11,24 @@ use fix_values::{ROOM, Short, V};
 /// A month of a year, and a day of it or a week of it or neither.
 #[derive(Clone, Copy, Debug, PartialEq, Eq, Drop)]
 pub struct MonthYear {
+    /// From 0 to 9999, where it has a text.
     pub year: i128,
+    /// From 1, which is January, to 12.
     pub month: i128,
+    /// A day of the month, from 1.
     pub day: Option<i128>,
+    /// A week of the month, from 1 to 5.
     pub week: Option<i128>,
 }
 
 /// What stands behind the year and the month.
 #[derive(Clone, Copy, Debug, PartialEq, Eq, Drop)]
 pub enum Part {
+    /// Nothing.
     Whole,
+    /// The two digits of a day.
     Day(u8),
+    /// `w` and the digit of a week.
     Week(u8),
 }
 

@@ -1,7 +1,7 @@
 ghost use Rattle.std.specs.Prelude.{◌≡◌, ◌≢◌, ◌+◌, ◌*◌, ◌^◌, ◌<◌, ◌≤◌, ◌++◌, length, IfSome, IfNone, ℤ, pos, ◌+ℤ◌, ◌*ℤ◌};
 ghost use Rattle.fix_dates.specs.declared.stamp.Stamp.{Stamp as AnyStamp};
 ghost use Rattle.fix_dates.specs.Clocks.{IsUnit, FitsClock};
-ghost use Rattle.fix_dates.specs.Days.{FitsDigits};
+ghost use Rattle.fix_dates.specs.Days.{FitsDay};
 ghost use Rattle.fix_dates.specs.Reading.{Reads, Shows};
 ghost use Rattle.fix_dates.specs.Stamps.{stamp_text, stamps_in, stamps, FitsIn};
 
@@ -104,9 +104,9 @@ fn nanos_since(days: i32, nanos: u64) -> i128
 /// The parts that the text of a moment spells.
 fn stamp_in(text: &[u8]) -> Option<Stamp>
     ensures some { IfSome result (λ stamp. text.now ≡ stamp_text stamp) }
-    ensures day { IfSome result (λ stamp. FitsDigits stamp.day) }
+    ensures day { IfSome result (λ stamp. FitsDay stamp.day) }
     ensures clock { IfSome result (λ stamp. FitsClock stamp.clock) }
-    ensures none { IfNone result ((stamp : AnyStamp) → FitsDigits stamp.day → FitsClock stamp.clock
+    ensures none { IfNone result ((stamp : AnyStamp) → FitsDay stamp.day → FitsClock stamp.clock
         → text.now ≢ stamp_text stamp) }
 {
     if text.len() < 9 || text[8] != b'-' {
