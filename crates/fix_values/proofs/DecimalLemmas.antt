@@ -1,11 +1,12 @@
 -- The digits of decimals: zeros in front and behind, and the digits of a fraction.
-use Rattle.std.proofs.Common.{◌≡◌, ℕ, zero, suc, ◌+◌, ◌-◌, ◌*◌, ◌/◌, ◌%◌, ◌^◌, ◌<◌, ◌≤◌, Bool, true, false, not, ◌&&◌, ◌||◌, eqb, ◌==◌, cond, if◌then◌else◌, List, [], ◌∷◌, ◌++◌, length, take, drop, get_or, refl, sym, ap, ◌∙◌, arith, subst, append_assoc, append-nil, length-append, inl, inr, ◌⊎◌, decimal, pos, ℤ, negsuc, ◌≢◌, nat_le, Result, Ok, Err, int_le, neg_ℤ, unsigned_abs, ◌<ℤ◌, FitsSigned, to_z, of_z, int_lt, nat_abs, nat_lt}
+use Rattle.std.proofs.Common.{◌≡◌, ℕ, zero, suc, ◌+◌, ◌-◌, ◌*◌, ◌/◌, ◌%◌, ◌^◌, ◌<◌, ◌≤◌, Bool, true, false, not, ◌&&◌, ◌||◌, eqb, ◌==◌, cond, if◌then◌else◌, List, [], ◌∷◌, ◌++◌, length, take, drop, get_or, refl, sym, ap, ◌∙◌, arith, subst, append_assoc, append-nil, length-append, inl, inr, ◌⊎◌, decimal, pos, ℤ, negsuc, ◌≢◌, nat_le, Result, Ok, Err, int_le, neg_ℤ, unsigned_abs, ◌<ℤ◌, FitsSigned, to_z, of_z, int_lt, ◌≤ℤ◌, ◌-ℤ◌, nat_abs, nat_lt}
 use Rattle.std.proofs.lemmas.List.{take_more}
 use Rattle.std.proofs.lemmas.Nat.{div-add-mod'}
-use Rattle.std.proofs.Math.Nat.{one-le-pow, pow-le-pow_right, mul-le-mul}
+use Rattle.std.proofs.Math.Nat.{one-le-pow, pow-le-pow_right, mul-le-mul, mod-eq_of_lt, div-le_self}
 use Rattle.std.specs.Int.{w128}
 use mir.Syntax.{Width}
 use mir.Val.{SFits}
+use lib.Signed.{quot_z}
 use Rattle.std.proofs.lemmas.Int.{ints, to_z-of_z}
 use Rattle.std.proofs.lemmas.Fmt.{decimal_by_steps_wide, decimal_digit, decimal_is_IsNumeral_wide}
 use Rattle.std.proofs.lemmas.Int.Digits.{digits_value-lt}
@@ -16,9 +17,10 @@ use Rattle.std.specs.Char.{is_ascii_digit}
 use Rattle.std.specs.Str.{all_ascii_digits}
 use Rattle.std.specs.Str.Parse.{digits_value}
 use Rattle.fix_values.specs.declared.rule.V.{V}
-use Rattle.fix_values.specs.declared.rule.V.TheVariants.{Range}
-use Rattle.fix_values.specs.Numerals.{sign, is_below_zero}
-use Rattle.fix_values.specs.Decimals.{without_leading, without_trailing, kept_before, fraction_of, digits_at, pointed, digits_counted, parts_shown, parts_text, shown_text, Parts, decimal_text, dec, shown_parts, whole_of, places, are_digits}
+use Rattle.fix_values.specs.declared.rule.V.TheVariants.{Range, Inexact}
+use Rattle.fix_values.specs.declared.rule.Dec.{Dec}
+use Rattle.fix_values.specs.Numerals.{sign, signed, is_below_zero}
+use Rattle.fix_values.specs.Decimals.{without_leading, without_trailing, kept_before, fraction_of, digits_at, pointed, digits_counted, parts_shown, parts_text, shown_text, Parts, decimal_text, dec, shown_parts, whole_of, places, are_digits, narrowed, widened, mantissa_under}
 use Rattle.fix_values.specs.Values.{Leaves}
 use Rattle.fix_values.proofs.NumeralLemmas.{both, together, false≢true, not_true, value_small, leb-true}
 
@@ -177,7 +179,7 @@ pub shown_counted : (negative : Bool) (whole places rest count : ℕ) → rest <
     count ≡ digits_counted (parts_shown negative whole places rest)
 shown_counted negative whole places rest count small h =
     let fraction : length (fraction_of places rest) ≡ length (without_trailing (without_trailing (digits_at places rest))) =
-    ap length (fraction_is places rest small ∙ sym (trailing_again (digits_at places rest))) in
+      ap length (fraction_is places rest small ∙ sym (trailing_again (digits_at places rest))) in
     h ∙ ap (λ n. length (without_leading (decimal whole)) + n) fraction
 
 pub shown_over : (parts : Parts) (count : ℕ) (answer : Result Unit V) (out : List ℕ) → count ≡ digits_counted parts → 38 < count → answer ≡ Err Range → out ≡ [] → Leaves answer out (shown_text parts)
@@ -303,3 +305,77 @@ abs_same w m fits = ap nat_abs (to_z-of_z w m fits)
 -- parts that are digits
 pub parts_digits : (whole fraction : List ℕ) → are_digits whole fraction ≡ true → (all_ascii_digits whole ≡ true) × (all_ascii_digits fraction ≡ true)
 parts_digits whole fraction h = both (all_ascii_digits whole) (all_ascii_digits fraction) (both (nat_lt 0 (length whole + length fraction)) _ h).1
+
+-- powers of ten that an i128 holds
+pub ten_small : (k : ℕ) → k ≤ 38 → 10 ^ k ≤ 10 ^ 38
+ten_small k few = pow-le-pow_right {n = 10} (omega arith) few
+
+ten_large : (k : ℕ) → 38 < k → 10 ^ 39 ≤ 10 ^ k
+ten_large k many = let far : 39 ≤ k = omega (arith, many) in pow-le-pow_right {n = 10} (omega arith) far
+
+abs_some : (n : ℤ) → ¬ (n ≡ pos 0) → 0 < unsigned_abs n
+abs_some (pos zero) other = absurd (other refl)
+abs_some (pos (suc n)) other = omega arith
+abs_some (negsuc n) other = omega arith
+
+rest_is : (a p : ℕ) → a < p → a % p ≡ a
+rest_is a p less = mod-eq_of_lt less
+
+not_zero : (n : ℕ) → 0 < n → (n == 0) ≡ false
+not_zero n some = nonzero n some
+
+-- too many places for any number but zero
+pub far_narrowed : (n : ℤ) (k : ℕ) → FitsSigned w128 n → ¬ (n ≡ pos 0) → 38 < k → Err Inexact ≡ narrowed n k
+far_narrowed n k fits other many =
+    let small = abs_bound n fits in
+    let large = ten_large k many in
+    let whole : unsigned_abs n % 10 ^ k ≡ unsigned_abs n = rest_is (unsigned_abs n) (10 ^ k) (omega (arith, small, large)) in
+    rw (whole, not_zero (unsigned_abs n) (abs_some n other))
+
+too_great : (b : Bool) (size : ℕ) → 10 ^ 39 ≤ size → FitsSigned w128 (signed b size) → ⊥
+too_great true zero large fits = absurd (omega arith)
+too_great true (suc n) large fits = let f = fits.sfits in omega (arith, f)
+too_great false size large fits = let f = fits.sfits in omega (arith, f)
+
+pub far_widened : (n : ℤ) (k : ℕ) → ¬ (n ≡ pos 0) → 38 < k → FitsSigned w128 (widened n k) → ⊥
+far_widened n k other many fits =
+    let large = ten_large k many in
+    let some = abs_some n other in
+    let product : 1 * 10 ^ 39 ≤ unsigned_abs n * 10 ^ k = mul-le-mul some large in
+    too_great (is_below_zero n) (unsigned_abs n * 10 ^ k) (omega (arith, product)) fits
+
+-- a quotient by a power of ten fits
+negated_fits : (n : ℕ) → n ≤ 2 ^ 127 → SFits w128 (neg_ℤ (pos n))
+negated_fits zero h = record { sfits = omega arith }
+negated_fits (suc n) h = record { sfits = omega (arith, h) }
+
+quotient_fits : (n : ℤ) (q : ℕ) → SFits w128 n → 0 < q → SFits w128 (quot_z n (pos q))
+quotient_fits (pos a) q fits some =
+    let f = fits.sfits in
+    record { sfits = omega (arith, f, div-le_self a q) }
+quotient_fits (negsuc a) q fits some =
+    let f = fits.sfits in
+    negated_fits (suc a / q) (omega (arith, f, div-le_self (suc a) q))
+
+pub divides : (n p : ℤ) (k : ℕ) → SFits w128 n → SFits w128 p → p ≡ pos (10 ^ k) → (0 < of_z w128 p) × SFits w128 (quot_z (to_z w128 (of_z w128 n)) (to_z w128 (of_z w128 p)))
+divides n p k fn fp ten =
+    let whole : of_z w128 p ≡ 10 ^ k = ap (of_z w128) ten in
+    (omega (arith, whole, ten_pos k),
+      rw (to_z-of_z w128 n fn, to_z-of_z w128 p fp, ten) (quotient_fits n (10 ^ k) fn (ten_pos k)))
+
+-- the shift from one exponent to another
+abs_up : (z : ℤ) → pos 0 ≤ℤ z → unsigned_abs z ≡ natural z
+abs_up (pos n) h = refl
+abs_up (negsuc n) h = absurd (omega (arith, ints, h))
+
+up_from : (a b : ℤ) → int_le b a ≡ true → pos 0 ≤ℤ (a -ℤ b)
+up_from a b h = grind (arith, ints)
+
+pub under_wide : (d : Dec) (e : ℤ) (places : ℕ) → int_le e d.exponent ≡ true → places ≡ unsigned_abs (d.exponent -ℤ e) → mantissa_under d e ≡ Ok (widened d.mantissa places)
+under_wide d e places low is = rw (low, ← abs_up (d.exponent -ℤ e) (up_from d.exponent e low), is)
+
+below_le : (a b : ℤ) → int_le b a ≡ false → int_le a b ≡ true
+below_le a b h = grind (arith, ints)
+
+pub under_narrow : (d : Dec) (e : ℤ) (places : ℕ) → int_le e d.exponent ≡ false → places ≡ unsigned_abs (e -ℤ d.exponent) → mantissa_under d e ≡ narrowed d.mantissa places
+under_narrow d e places high is = rw (high, ← abs_up (e -ℤ d.exponent) (up_from e d.exponent (below_le d.exponent e high)), is)

@@ -4,12 +4,13 @@ ghost use Rattle.std.specs.Str.{all_ascii_digits};
 ghost use Rattle.std.specs.Str.Parse.{digits_value};
 ghost use Rattle.fix_values.specs.Numerals as numerals;
 ghost use Rattle.fix_values.specs.Decimals as decimals;
-ghost use Rattle.fix_values.specs.Decimals.{decimal_of, decimal_text, digits_at, fitted, mantissa_under, parts_shown, pointed, Parts, without_leading, without_trailing};
+ghost use Rattle.fix_values.specs.Decimals.{decimal_of, decimal_text, digits_at, fitted, judged, mantissa_under, parts_shown, pointed, Parts, without_leading, without_trailing};
 ghost use Rattle.fix_values.specs.Values.{Leaves};
 
-use crate::digits::{is_digits, signed_small, small_after, split_sign};
+use crate::digits::{admitted, is_digits, signed_small, small_after, split_sign};
 use crate::{Dec, ROOM, Short, V};
 use itoa::Buffer;
+use sbe_types::Leaf;
 
 /// How many digits a decimal's text may have. Ten to this power is the greatest one that an i128
 /// holds; and a number of 64 bits has at most twenty digits, to which an exponent adds at most
@@ -210,4 +211,71 @@ fn spelled_few(negative: bool, whole: &[u8], fraction: &[u8]) -> i128
 {
     let size = small_after(small_after(0, whole), fraction);
     signed_small(negative, size)
+}
+
+/// The mantissa that the decimal has under this exponent, as one of the leaf's numbers.
+pub fn fit_decimal(dec: &Dec, mantissa: &Leaf, exponent: i32) -> Result<i128, V>
+    ensures { result ≡ fitted dec.now mantissa.now exponent }
+{
+    let Dec {
+        mantissa: number,
+        exponent: own,
+    } = *dec;
+    if own < exponent {
+        return fit_narrowed(number, exponent.abs_diff(own), mantissa);
+    }
+    fit_widened(number, own.abs_diff(exponent), mantissa)
+}
+
+fn fit_narrowed(number: i128, places: u32, leaf: &Leaf) -> Result<i128, V>
+    ensures { result ≡ judged leaf.now (decimals.narrowed number places) }
+{
+    match narrowed(number, places) {
+        Ok(number) => admitted(leaf, Some(number)),
+        Err(refusal) => Err(refusal),
+    }
+}
+
+fn fit_widened(number: i128, places: u32, leaf: &Leaf) -> Result<i128, V>
+    ensures { result ≡ judged leaf.now (Ok (decimals.widened number places)) }
+{
+    admitted(leaf, widened(number, places))
+}
+
+/// The number divided by ten to `places`, where that is whole.
+fn narrowed(number: i128, places: u32) -> Result<i128, V>
+    ensures { result ≡ decimals.narrowed number places }
+{
+    if number == 0 {
+        return Ok(0);
+    }
+    if places as usize > MOST_DIGITS {
+        return Err(V::Inexact);
+    }
+    let power = ten_to(places);
+    if number % power != 0 {
+        return Err(V::Inexact);
+    }
+    Ok(number / power)
+}
+
+/// The number times ten to `places`, if it is one of an i128.
+fn widened(number: i128, places: u32) -> Option<i128>
+    ensures { let wide = decimals.widened number places in SomeIff result (FitsSigned w128 wide) wide }
+{
+    if number == 0 {
+        return Some(0);
+    }
+    if places as usize > MOST_DIGITS {
+        return None;
+    }
+    number.checked_mul(ten_to(places))
+}
+
+/// Ten to a power that an i128 holds.
+fn ten_to(places: u32) -> i128
+    requires { places ≤ MOST_DIGITS }
+    ensures { result ≡ pos (10 ^ places) }
+{
+    10u128.pow(places) as i128
 }

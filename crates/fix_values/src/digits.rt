@@ -159,7 +159,9 @@ fn is_octets(shape: LeafShape) -> bool
 {
     match shape {
         LeafShape::Octets => true,
-        LeafShape::Number | LeafShape::RangedText | LeafShape::EncodedText | LeafShape::Numbers =>
-            false,
+        LeafShape::Number
+        | LeafShape::RangedText
+        | LeafShape::EncodedText
+        | LeafShape::Numbers => false,
     }
 }

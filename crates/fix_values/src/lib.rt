@@ -3,16 +3,19 @@
 //! doesn't fit exactly is refused. No call takes memory.
 #![tactic(auto)]
 
+mod apart;
 mod code;
 mod decimal;
 mod digits;
 mod number;
 mod rule;
 mod short;
+#[cfg(test)]
+mod tests;
 mod text;
 
-pub use decimal::{read_decimal, show_decimal};
-pub use number::show_num;
+pub use decimal::{fit_decimal, read_decimal, show_decimal};
+pub use number::{read_num, show_num};
 pub use rule::{Code, CodeList, Dec, NumRule, V};
 pub use short::{ROOM, Short};
 pub use text::{read_text, show_text};

@@ -6,11 +6,13 @@ ghost use Rattle.fix_values.specs.Codes as codes;
 ghost use Rattle.fix_values.specs.Values.{Leaves, text_of, value_of, can_show, can_read, is_asked, char_text, char_value, integer_value, whole_value};
 ghost use Rattle.fix_values.specs.Decimals.{decimal_of};
 
-use crate::code::{show_code, show_codes};
+use crate::code::{read_code, read_codes, show_code, show_codes};
+use crate::decimal::{fit_decimal, read_decimal};
+use crate::digits::{admitted, is_null, is_numeral, is_value, spelled, split_sign};
 use crate::text::SOH;
 use crate::{NumRule, Short, V};
 use itoa::Buffer;
-use sbe_types::NamedList;
+use sbe_types::{Leaf, NamedList};
 
 /// Writes the text of a number by its rule. After a refusal `out` is empty.
 pub fn show_num(rule: &NumRule, n: i128, out: &mut Short) -> Result<(), V>
@@ -25,6 +27,21 @@ pub fn show_num(rule: &NumRule, n: i128, out: &mut Short) -> Result<(), V>
         NumRule::Boolean(names) => show_boolean(names, n, out),
         NumRule::Code(codes) => show_code(codes, n, out),
         NumRule::Codes(codes) => show_codes(codes, n, out),
+    }
+}
+
+/// Reads a number by its rule, as one of the leaf's.
+pub fn read_num(rule: &NumRule, leaf: &Leaf, text: &[u8]) -> Result<i128, V>
+    requires { IsTrue (can_read rule.now) }
+    ensures { result ≡ value_of rule.now leaf.now text.now }
+{
+    match rule {
+        NumRule::Int => read_integer(leaf, text),
+        NumRule::Decimal => read_whole(leaf, text),
+        NumRule::Char => read_char(leaf, text),
+        NumRule::Boolean(names) => read_boolean(names, leaf, text),
+        NumRule::Code(codes) => read_code(codes, leaf, text),
+        NumRule::Codes(codes) => read_codes(codes, text),
     }
 }
 
@@ -78,7 +95,7 @@ fn is_listed(names: &NamedList, n: i128) -> bool
 }
 
 /// `Y` for 1 and the character `Y`, `N` for 0 and the character `N`.
-fn boolean_text(n: i128) -> Option<u8>
+pub fn boolean_text(n: i128) -> Option<u8>
     ensures { result ≡ codes.boolean_text n }
 {
     if n == 1 || n == 89 {
@@ -88,4 +105,65 @@ fn boolean_text(n: i128) -> Option<u8>
         return Some(b'N');
     }
     None
+}
+
+fn read_integer(leaf: &Leaf, text: &[u8]) -> Result<i128, V>
+    ensures { result ≡ integer_value leaf.now text.now }
+{
+    let (negative, digits) = split_sign(text);
+    if !is_numeral(digits) {
+        return Err(V::Spelling);
+    }
+    admitted(leaf, spelled(negative, digits))
+}
+
+fn read_whole(leaf: &Leaf, text: &[u8]) -> Result<i128, V>
+    ensures { result ≡ whole_value leaf.now (decimal_of text.now) }
+{
+    let dec = read_decimal(text)?;
+    fit_decimal(&dec, leaf, 0)
+}
+
+fn read_char(leaf: &Leaf, text: &[u8]) -> Result<i128, V>
+    ensures { result ≡ char_value leaf.now text.now }
+{
+    if text.len() != 1 {
+        return Err(V::Spelling);
+    }
+    let number = text[0] as i128;
+    if is_value(leaf, number) {
+        Ok(number)
+    } else {
+        Err(V::Range)
+    }
+}
+
+fn read_boolean(names: &NamedList, leaf: &Leaf, text: &[u8]) -> Result<i128, V>
+    ensures { result ≡ codes.boolean_number names.now leaf.now text.now }
+{
+    if text.len() != 1 || (text[0] != b'Y' && text[0] != b'N') {
+        return Err(V::Spelling);
+    }
+    read_truth(names, leaf, text[0])
+}
+
+fn read_truth(names: &NamedList, leaf: &Leaf, byte: u8) -> Result<i128, V>
+    ensures { result ≡ codes.truth_number names.now leaf.now byte }
+{
+    for name in names.as_slice() {
+        if is_truth(byte, boolean_text(name.number)) && !is_null(leaf, name.number) {
+            return Ok(name.number);
+        }
+    }
+    Err(V::UnknownCode)
+}
+
+/// Whether this byte stands for the truth value.
+pub fn is_truth(byte: u8, truth: Option<u8>) -> bool
+    ensures { result ≡ codes.is_truth byte truth }
+{
+    match truth {
+        Some(text) => byte == text,
+        None => false,
+    }
 }

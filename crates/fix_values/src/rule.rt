@@ -1,3 +1,7 @@
+ghost use Rattle.std.specs.Prelude.{◌≡◌};
+ghost use Rattle.fix_values.specs.Values.{can_show, can_read};
+
+use crate::apart::{are_choices, are_numbers_apart, are_short, are_texts_apart, are_truths_apart};
 use lists::{Bytes, List};
 use sbe_types::NamedList;
 use thiserror::Error;
@@ -51,6 +55,41 @@ pub enum NumRule {
     Code(CodeList),
     /// The texts of the codes of the number's bits, with a space between.
     Codes(CodeList),
+}
+
+impl NumRule {
+    /// Whether numbers can be shown by the rule: its codes have texts of 1 to 64 bytes; those of a
+    /// set have one byte each, and different bits from 0 to 63.
+    pub fn can_show(&self) -> bool
+        ensures { result ≡ can_show self.now }
+    {
+        match self {
+            NumRule::Int | NumRule::Decimal | NumRule::Char | NumRule::Boolean(_) => true,
+            NumRule::Code(codes) => are_short(codes.as_slice()),
+            NumRule::Codes(codes) => {
+                are_choices(codes.as_slice()) && are_numbers_apart(codes.as_slice())
+            }
+        }
+    }
+
+    /// Whether texts can be read by the rule: numbers can be shown by it, and no two codes or listed
+    /// values have the same text.
+    pub fn can_read(&self) -> bool
+        ensures { result ≡ can_read self.now }
+    {
+        match self {
+            NumRule::Int | NumRule::Decimal | NumRule::Char => true,
+            NumRule::Boolean(names) => are_truths_apart(names.as_slice()),
+            NumRule::Code(codes) => {
+                are_short(codes.as_slice()) && are_texts_apart(codes.as_slice())
+            }
+            NumRule::Codes(codes) => {
+                are_choices(codes.as_slice())
+                    && are_numbers_apart(codes.as_slice())
+                    && are_texts_apart(codes.as_slice())
+            }
+        }
+    }
 }
 
 /// A decimal: the mantissa times ten to the exponent.
