@@ -1,7 +1,10 @@
 pub mod Views
 pub mod Heads
 pub mod Texts
-pub mod TwoWords
+pub mod WordLists
+pub mod WordNumbers
+pub mod WordOptions
+pub mod WordLimits
 pub mod Fronts
 pub mod Fields
 pub mod Progress

@@ -1,29 +1,111 @@
 -- What words say.
-use Rattle.std.specs.Prelude.{◌≡◌, ℕ, ◌&&◌, nat_lt, Bool, not, if◌then◌else◌, List, [], ◌∷◌, codes, length, take, Option, Some, None, Result, Ok, Err, ⊤}
-use Rattle.std.specs.Str.{bytes_eq}
+use Rattle.std.specs.Prelude.{◌≡◌, ◌≤◌, ◌^◌, ℕ, Bool, true, false, ◌&&◌, ◌==◌, not, nat_lt, nat_le, if◌then◌else◌, List, [], ◌∷◌, codes, length, take, drop, find, Option, Some, None, option_map, Result, Ok, Err, ⊤}
+use Rattle.std.specs.Option.{option_and_then}
+use Rattle.std.specs.List.{list_all, list_any}
+use Rattle.std.specs.Str.{bytes_eq, all_ascii_digits}
+use Rattle.std.specs.Str.Parse.{digits_value}
 use Rattle.sbe_base.specs.declared.status.Limits.{Limits}
 use Rattle.sbe_cli.specs.declared.words.Command.{Command}
 use Rattle.sbe_cli.specs.declared.words.Command.TheVariants.{Dump}
 use Rattle.sbe_cli.specs.declared.words.WordsErr.{WordsErr}
 use Rattle.sbe_cli.specs.declared.words.WordsErr.TheVariants.{Usage, Memory}
+use Rattle.sbe_cli.specs.declared.words.forms.Form.{Form}
+use Rattle.sbe_cli.specs.declared.words.forms.Form.TheVariants as form
+use Rattle.sbe_cli.specs.declared.words.forms.TheConstants.{FORMS}
+use Rattle.sbe_cli.specs.declared.words.options.NumberRange.{NumberRange}
+use Rattle.sbe_cli.specs.declared.words.options.TheConstants.{MAX_FRAME, MAX_INPUT, FRAME_RANGE, INPUT_RANGE}
+
+-- ---- one word
 
 -- A file's name isn't empty and doesn't begin with `--`.
 abbrev pub is_file_name : List ℕ → Bool
 is_file_name word = nat_lt 0 (length word) && not (bytes_eq (take 2 word) (codes "--"))
 
-abbrev pub default_limits : Limits
-default_limits = record { frame = 65_536; input = 16_777_216 }
+-- it isn't empty, and no zero stands in front of more
+abbrev pub begins_a_number : List ℕ → Bool
+begins_a_number [] = false
+begins_a_number (digit ∷ []) = true
+begins_a_number (digit ∷ next ∷ more) = not (digit == 48)
 
-abbrev pub dump_of : List ℕ → List ℕ → Option Command
-dump_of form schema = if bytes_eq form (codes "dump") && is_file_name schema then Some (Dump schema default_limits) else None
+-- A number is decimal digits without a sign, and without a leading zero except `0` itself.
+abbrev pub is_number : List ℕ → Bool
+is_number word = begins_a_number word && all_ascii_digits word
+
+-- the number that a word writes, where it is at least the one and at most the other
+abbrev pub number_within : ℕ → ℕ → List ℕ → Option ℕ
+number_within least most word = if is_number word && nat_le least (digits_value 10 word) && nat_le (digits_value 10 word) most then Some (digits_value 10 word) else None
+
+-- ---- options: words in pairs, the option's word and its value
+
+-- all words are pairs, and each begins with one of these options
+abbrev pub are_options : List (List ℕ) → List (List ℕ) → Bool
+are_options options [] = true
+are_options options (word ∷ []) = false
+are_options options (word ∷ value ∷ more) = list_any (λ option. bytes_eq option word) options && are_options options more
+
+-- all values that pairs give an option
+abbrev pub values_of : List ℕ → List (List ℕ) → List (List ℕ)
+values_of option [] = []
+values_of option (word ∷ []) = []
+values_of option (word ∷ value ∷ more) = if bytes_eq word option then value ∷ values_of option more else values_of option more
+
+-- the number of an option with these values: its default without any, and a number of its range with one
+abbrev pub number_by : NumberRange → List (List ℕ) → Option ℕ
+number_by range [] = Some range.default
+number_by range (value ∷ []) = number_within range.least range.most value
+number_by range (value ∷ again ∷ more) = None
+
+abbrev pub number_given : List ℕ → NumberRange → List (List ℕ) → Option ℕ
+number_given option range pairs = number_by range (values_of option pairs)
+
+-- the numbers of both options
+abbrev pub limits_from : Option ℕ → Option ℕ → Option Limits
+limits_from (Some frame) (Some input) = Some (record { frame = frame; input = input })
+limits_from (Some frame) None = None
+limits_from None input = None
+
+abbrev pub limits_of : List (List ℕ) → Option Limits
+limits_of pairs = limits_from (number_given MAX_FRAME.now FRAME_RANGE pairs) (number_given MAX_INPUT.now INPUT_RANGE pairs)
+
+-- ---- forms: a command's word, names of files, and options
+
+-- what words of a form begin with, how many names of files follow, and which options
+pub record FormRow : Type 0 where
+  pub word : List ℕ
+  pub files : ℕ
+  pub options : List (List ℕ)
+
+abbrev pub row_of : Form → FormRow
+row_of form.Dump = record { word = codes "dump"; files = 1; options = MAX_FRAME.now ∷ MAX_INPUT.now ∷ [] }
+
+-- the words have the form of this row, whatever values its options have
+abbrev pub fits : FormRow → List (List ℕ) → Bool
+fits row [] = false
+fits row (word ∷ rest) =
+    bytes_eq word row.word && nat_le row.files (length rest)
+    && list_all is_file_name (take row.files rest) && are_options row.options (drop row.files rest)
+
+-- what words of each form say
 
 -- `dump S`
+abbrev pub dump_of : List (List ℕ) → Option Command
+dump_of (word ∷ schema ∷ pairs) = option_map (λ limits. Dump schema limits) (limits_of pairs)
+dump_of (word ∷ []) = None
+dump_of [] = None
+
+abbrev pub said_by : Form → List (List ℕ) → Option Command
+said_by form.Dump words = dump_of words
+
+-- The command that words say: they have one of the forms, and its options have values as they may.
 abbrev pub command_of : List (List ℕ) → Option Command
-command_of (form ∷ schema ∷ []) = dump_of form schema
-command_of _ = None
+command_of words = option_and_then (λ form. said_by form words) (find (λ form. fits (row_of form) words) FORMS)
 
 -- what was answered is this command, or that there is none, unless memory ran out
 abbrev pub Says : Result Command WordsErr → Option Command → Type 0
 Says (Ok command) said = said ≡ Some command
 Says (Err Usage) said = said ≡ None
 Says (Err Memory) said = ⊤
+
+-- the limits of a command: 64 to 16,777,216 bytes a frame, and 1 to 1,099,511,627,776 bytes in all
+abbrev pub HasLimits : Command → Type 0
+HasLimits (Dump schema limits) = (64 ≤ limits.frame) × (limits.frame ≤ 16_777_216) × (1 ≤ limits.input) × (limits.input ≤ 2 ^ 40)

@@ -15,4 +15,4 @@ mod words;
 
 pub use engine::run;
 pub use laws::{one_report, some_report};
-pub use words::{Command, Name, WordsErr, read_words};
+pub use words::{Command, FORMS, Form, Name, Row, WordsErr, read_words};

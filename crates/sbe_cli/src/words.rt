@@ -1,16 +1,17 @@
-ghost use Rattle.std.specs.Prelude.{◌≡◌, map, string_bytes};
-ghost use Rattle.sbe_cli.specs.Words.{Says, command_of, dump_of, is_file_name};
+ghost use Rattle.std.specs.Prelude.{◌≡◌, map, string_bytes, IfOk};
+ghost use Rattle.sbe_cli.specs.Words.{Says, HasLimits, command_of, dump_of, limits_of, said_by};
 
+mod forms;
+mod options;
+#[cfg(test)]
+mod tests;
+
+pub use forms::{FORMS, Form, Row};
+use options::{FRAME_RANGE, INPUT_RANGE, MAX_FRAME, MAX_INPUT, number_given};
 use sbe_base::Limits;
 use std::alloc::Global;
 use std::marker::Model;
 use thiserror::Error;
-
-/// The most bytes of a frame, where the words don't say.
-const FRAME: usize = 65_536;
-
-/// The most bytes of the input.
-const INPUT: u64 = 16_777_216;
 
 /// The name of a file: a word that isn't empty and doesn't begin with `--`.
 #[derive(Drop)]
@@ -57,40 +58,53 @@ pub enum WordsErr {
 /// # Errors
 ///
 /// `Usage` exactly where they have none of the forms; `Memory` for want of memory.
-#[tactic(auto, using(crate::proofs::TwoWords::two_words, crate::proofs::TwoWords::no_two_words))]
 pub fn read_words(alloc: Global, words: &[String]) -> Result<Command, WordsErr>
-    ensures { Says result (command_of (map (λ word. string_bytes word) words.now)) }
+    ensures says { Says result (command_of (map (λ word. string_bytes word) words.now)) }
+    ensures ranges { IfOk result (λ command. HasLimits command) }
 {
-    if words.len() != 2 {
-        return Err(WordsErr::Usage);
+    for form in FORMS {
+        if form.row().fits(words) {
+            return read_form(alloc, form, words);
+        }
     }
-    read_dump(alloc, words[0].as_str(), words[1].as_str())
+    Err(WordsErr::Usage)
 }
 
-fn read_dump(alloc: Global, form: &str, schema: &str) -> Result<Command, WordsErr>
-    ensures { Says result (dump_of form.now schema.now) }
+/// The command that words of this form say.
+fn read_form(alloc: Global, form: Form, words: &[String]) -> Result<Command, WordsErr>
+    ensures says { Says result (said_by form (map (λ word. string_bytes word) words.now)) }
+    ensures ranges { IfOk result (λ command. HasLimits command) }
 {
-    if form != "dump" || !names_file(schema) {
-        return Err(WordsErr::Usage);
+    match form {
+        Form::Dump => read_dump(alloc, words),
     }
-    let Ok(text) = String::from_str(alloc, schema) else {
-        return Err(WordsErr::Memory);
+}
+
+fn read_dump(alloc: Global, words: &[String]) -> Result<Command, WordsErr>
+    ensures says { Says result (dump_of (map (λ word. string_bytes word) words.now)) }
+    ensures ranges { IfOk result (λ command. HasLimits command) }
+{
+    let [_, schema, options @ ..] = words else {
+        return Err(WordsErr::Usage);
     };
-    let limits = Limits {
-        frame: FRAME,
-        input: INPUT,
+    let Some(limits) = read_limits(options) else {
+        return Err(WordsErr::Usage);
+    };
+    let Ok(text) = String::from_str(alloc, schema.as_str()) else {
+        return Err(WordsErr::Memory);
     };
     let schema = Name { text };
     Ok(Command::Dump { schema, limits })
 }
 
-/// Whether a word may name a file.
-fn names_file(word: &str) -> bool
-    ensures { result ≡ is_file_name word.now }
+/// The limits that options give.
+fn read_limits(options: &[String]) -> Option<Limits>
+    ensures { result ≡ limits_of (map (λ word. string_bytes word) options.now) }
 {
-    let bytes = word.as_bytes();
-    if bytes.is_empty() {
-        return false;
-    }
-    &bytes[..bytes.len().min(2)] != b"--".as_slice()
+    let frame = number_given(MAX_FRAME, &FRAME_RANGE, options)?;
+    let input = number_given(MAX_INPUT, &INPUT_RANGE, options)?;
+    Some(Limits {
+        frame: frame as usize,
+        input,
+    })
 }
