@@ -1,32 +1,65 @@
 //! `sbe`: FIX Simple Binary Encoding on the command line.
 #![tactic(auto)]
 
-use sbe_base::{DirFiles, NoMem, Status, StdSink, StdSource};
+mod pages;
+
+use pages::{Page, page_of};
+use sbe_base::{
+    DirFiles, FlushFirst, NoMem, SharedWriter, Status, StdSink, StdSource, settled, write_all_to,
+};
 use sbe_cli::run;
 use std::env;
-use std::io::{BufReader, ErrorKind};
+use std::io::{BufReader, ErrorKind, Write};
 use std::process::ExitCode;
 
+/// How many bytes are read at once, and kept for writing at most.
+const BUFFER: usize = 65_536;
+
 fn main(rt: HostRuntime) -> ExitCode {
-    ExitCode::from(run_words(&rt).code())
+    ExitCode::from(answer(&rt).code())
 }
 
-/// Runs the words behind the program's name over the file system and the standard streams.
-fn run_words(rt: &HostRuntime) -> Status {
-    let alloc = rt.alloc();
+/// Answers the words behind the program's name, over the file system and the standard streams.
+fn answer(rt: &HostRuntime) -> Status {
     let Ok(words) = words_of(rt) else {
         return Status::NoMemory;
     };
-    let Ok(input) = BufReader::new(alloc, rt.stdin()) else {
+    let Ok(output) = SharedWriter::new(rt.alloc(), BUFFER, rt.stdout()) else {
+        return Status::NoMemory;
+    };
+    let status = match page_of(words.as_slice()) {
+        Some(page) => print_page(page, &output),
+        None => run_words(rt, words.as_slice(), &output),
+    };
+    let mut last = &output;
+    settled(status, last.flush())
+}
+
+fn print_page<W: Write + Drop>(page: Page, output: &SharedWriter<W>) -> Status {
+    match write_all_to(&mut StdSink::new(output), page.text().as_bytes()) {
+        Ok(()) => Status::Done,
+        Err(_) => Status::WriteFault,
+    }
+}
+
+/// Runs the words. What is kept of the output is handed on before the program waits for input, and before each note.
+fn run_words<W: Write + Drop>(
+    rt: &HostRuntime,
+    words: &[String],
+    output: &SharedWriter<W>,
+) -> Status {
+    let alloc = rt.alloc();
+    let Ok(input) = BufReader::with_capacity(alloc, BUFFER, FlushFirst::new(rt.stdin(), output))
+    else {
         return Status::NoMemory;
     };
     run(
         alloc,
-        words.as_slice(),
+        words,
         &mut DirFiles::new(*rt),
         &mut StdSource::new(input),
-        &mut StdSink::new(rt.stdout()),
-        &mut StdSink::new(rt.stderr()),
+        &mut StdSink::new(output),
+        &mut StdSink::new(FlushFirst::new(rt.stderr(), output)),
     )
 }
 

@@ -1,9 +1,11 @@
 ghost use Rattle.sbe_base.specs.Adapters.{WrapsReader, WrapsWriter};
 
+use crate::retry::{read_retried, write_retried};
 use crate::{Failed, Sink, Source};
 use std::io::{Read, Write};
 
-/// A reader of std, with a count of its failures. It tells what the reader tells.
+/// A reader of std, with a count of its failures. It tells what the reader tells. A read that the system interrupted is
+/// made again, and is no failure.
 #[derive(Drop)]
 pub struct StdSource<R: Read + Drop> {
     inner: R,
@@ -25,7 +27,7 @@ impl<R: Read + Drop> Source for StdSource<R> {
     ghost faults = { λ source. source.faults };
 
     fn read(&mut self, buf: &mut [u8]) -> Result<usize, Failed> {
-        match self.inner.read(buf) {
+        match read_retried(&mut self.inner, buf) {
             Ok(count) => Ok(count),
             Err(_) => {
                 self.faults = self.faults.saturating_add(1);
@@ -36,7 +38,7 @@ impl<R: Read + Drop> Source for StdSource<R> {
 }
 
 /// A writer of std, with a count of its failures. It tells what the writer tells. A writer that takes nothing of a
-/// piece that isn't empty has failed.
+/// piece that isn't empty has failed. A write that the system interrupted is made again, and is no failure.
 #[derive(Drop)]
 pub struct StdSink<W: Write + Drop> {
     inner: W,
@@ -58,7 +60,7 @@ impl<W: Write + Drop> Sink for StdSink<W> {
     ghost faults = { λ sink. sink.faults };
 
     fn write(&mut self, bytes: &[u8]) -> Result<usize, Failed> {
-        match self.inner.write(bytes) {
+        match write_retried(&mut self.inner, bytes) {
             Ok(count) if count > 0 || bytes.is_empty() => Ok(count),
             _ => {
                 self.faults = self.faults.saturating_add(1);

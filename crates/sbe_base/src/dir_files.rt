@@ -2,6 +2,7 @@ ghost use Rattle.std.specs.Prelude.{◌≡◌, ◌≤◌, [], length, None, OnOk
 ghost use Rattle.sbe_base.specs.Adapters.{WrapsRuntime};
 ghost use Rattle.sbe_base.specs.Loads.{LoadsRest};
 
+use crate::retry::read_retried;
 use crate::{Files, LoadErr};
 use std::alloc::Global;
 use std::io::{ErrorKind, Read};
@@ -78,7 +79,7 @@ fn read_whole<R: Read>(reader: &mut R, limit: usize, into: &mut Vec<u8>) -> Resu
     let mut piece = [0u8; PIECE];
     while into.len() <= limit {
         let most = (limit - into.len()).min(PIECE - 1) + 1;
-        let count = match reader.read(&mut piece[..most]) {
+        let count = match read_retried(reader, &mut piece[..most]) {
             Ok(0) => return Ok(()),
             Ok(count) => count,
             Err(_) => return Err(LoadErr::Failed),

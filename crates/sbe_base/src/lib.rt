@@ -8,6 +8,8 @@ mod dir_files;
 mod files;
 mod mem_files;
 mod memory;
+mod retry;
+mod shared;
 mod status;
 mod stream;
 
@@ -17,5 +19,7 @@ pub use files::{Files, LoadErr};
 pub use lists::NoMem;
 pub use mem_files::MemFiles;
 pub use memory::{MemSink, MemSource};
+pub use retry::{read_retried, write_retried};
+pub use shared::{FlushFirst, SharedWriter, settled};
 pub use status::{Limits, Status};
 pub use stream::{Failed, Sink, Source, WriteFault, write_all_to};

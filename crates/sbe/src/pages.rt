@@ -1,0 +1,164 @@
+ghost use Rattle.std.specs.Prelude.{◌≡◌, map, string_bytes};
+ghost use Rattle.sbe.specs.Pages.{named_page, page_of};
+
+/// What `--help` prints.
+const HELP: &str = "sbe: FIX Simple Binary Encoding on the command line
+
+Usage:
+  sbe dump SCHEMA [OPTION VALUE]..
+  sbe --help | -h
+  sbe --version
+
+dump reads SBE frames from standard input, and prints each message as a line of JSON.
+SCHEMA is the file of a message schema. Its name doesn't begin with `--`.
+
+Options, each at most once, in any order behind the file:
+  --max-frame BYTES  the most bytes of a frame, its head included
+                     (64 to 16777216, default 65536)
+  --max-input BYTES  the most bytes of the input
+                     (1 to 1099511627776, default 4294967296)
+
+Answers go to standard output, each before the next frame is waited for. Why a run
+ends early is noted on standard error, as a line of JSON.
+
+Exit status:
+   0  the input was read to its end, and nothing was refused
+   1  the input was read to its end, and at least one message was refused
+   2  the words are no command
+   3  the schema was refused
+   5  the input is no row of whole frames, or a frame is longer than its limit
+   6  the schema's file could not be read
+   7  standard input could not be read
+   8  standard output or standard error could not be written
+   9  memory was wanting
+  10  the input is longer than its limit
+  11  the schema's file is absent
+
+Example:
+  sbe dump ping.json < frames.bin
+";
+
+/// What `--version` prints.
+const VERSION: &str = "sbe 0.1.0
+FIX Simple Binary Encoding 1.0
+FIX Simple Open Framing Header 1.0
+";
+
+/// A text about the program itself.
+#[derive(Clone, Copy, Debug, PartialEq, Eq)]
+pub enum Page {
+    Help,
+    Version,
+}
+
+impl Page {
+    /// The text, in whole lines.
+    pub fn text(&self) -> &'static str {
+        match self {
+            Page::Help => HELP,
+            Page::Version => VERSION,
+        }
+    }
+}
+
+/// The page that words ask for, if they are one of `--help`, `-h` and `--version` alone.
+#[tactic(auto, using(crate::proofs::OneWord::one_word, crate::proofs::OneWord::no_one_word))]
+pub fn page_of(words: &[String]) -> Option<Page>
+    ensures { result ≡ page_of (map (λ word. string_bytes word) words.now) }
+{
+    let [word] = words else {
+        return None;
+    };
+    named_page(word.as_str())
+}
+
+fn named_page(word: &str) -> Option<Page>
+    ensures { result ≡ named_page word.now }
+{
+    if word == "--help" || word == "-h" {
+        return Some(Page::Help);
+    }
+    if word == "--version" {
+        return Some(Page::Version);
+    }
+    None
+}
+
+#[cfg(test)]
+mod tests {
+    use super::*;
+    use sbe_cli::FORMS;
+    use std::alloc::Global;
+    use std::test::Fail;
+
+    fn page_at(alloc: Global, texts: &[&str]) -> Result<Option<Page>, Fail> {
+        let mut words = Vec::new(alloc);
+        for text in texts {
+            words.push(String::from_str(alloc, *text)?)?;
+        }
+        Ok(page_of(words.as_slice()))
+    }
+
+    #[test]
+    fn pages_are_asked_for_alone(rt: HostRuntime) -> Result<(), Fail> {
+        let rows: [(&[&str], Option<Page>); 11] = [
+            (&["--help"], Some(Page::Help)),
+            (&["-h"], Some(Page::Help)),
+            (&["--version"], Some(Page::Version)),
+            (&[], None),
+            (&[""], None),
+            (&["help"], None),
+            (&["-help"], None),
+            (&["--Help"], None),
+            (&["--help", "dump"], None),
+            (&["dump", "--help"], None),
+            (&["-h", "-h"], None),
+        ];
+        for (texts, page) in rows {
+            assert_eq!(rt; page_at(rt.alloc(), texts)?, page, "{texts:?}");
+        }
+        Ok(())
+    }
+
+    /// The synopsis of the help has a line for each form of a command, in their order, and then those of the pages.
+    #[test]
+    fn the_help_has_each_command(rt: HostRuntime) {
+        let mut forms = FORMS.iter();
+        let mut pages = 0u64;
+        for line in HELP.lines() {
+            let Some(rest) = line.strip_prefix("  sbe ") else {
+                continue;
+            };
+            let Some((word, _)) = rest.split_once(' ') else {
+                assert_eq!(rt; rest, "--version");
+                pages = pages.saturating_add(1);
+                continue;
+            };
+            if word == "--help" {
+                pages = pages.saturating_add(1);
+                continue;
+            }
+            match forms.next() {
+                Some(form) => assert_eq!(rt; word, form.row().word()),
+                None => assert_eq!(rt; line, "  sbe dump ping.json < frames.bin"),
+            }
+        }
+        assert!(rt; forms.next().is_none());
+        assert_eq!(rt; pages, 2);
+    }
+
+    #[test]
+    fn the_version_names_the_standards(rt: HostRuntime) {
+        for line in [
+            "sbe 0.1.0",
+            "FIX Simple Binary Encoding 1.0",
+            "FIX Simple Open Framing Header 1.0",
+        ] {
+            assert!(rt;
+                Page::Version.text().lines().any(|found| found == line),
+                "{line}"
+            );
+        }
+        assert_eq!(rt; Page::Help.text(), HELP);
+    }
+}
