@@ -10,21 +10,21 @@ use Rattle.sbe_cli.specs.Words.{is_number, limits_from, limits_of, number_by, nu
 abbrev InRange : NumberRange → ℕ → Type 0
 InRange range n = (range.least ≤ n) × (n ≤ range.most)
 
-chosen_in : (range : NumberRange) (number least most : Bool) (n : ℕ) → (least ≡ true → range.least ≤ n) → (most ≡ true → n ≤ range.most) →
+number_if_in : (range : NumberRange) (number least most : Bool) (n : ℕ) → (least ≡ true → range.least ≤ n) → (most ≡ true → n ≤ range.most) →
     IfSome (if number && least && most then Some n else None) (λ n. InRange range n)
-chosen_in range false least most n low high = tt
-chosen_in range true false most n low high = tt
-chosen_in range true true false n low high = tt
-chosen_in range true true true n low high = (low refl, high refl)
+number_if_in range false least most n low high = tt
+number_if_in range true false most n low high = tt
+number_if_in range true true false n low high = tt
+number_if_in range true true true n low high = (low refl, high refl)
 
-within : (range : NumberRange) (word : List ℕ) → IfSome (number_within range.least range.most word) (λ n. InRange range n)
-within range word =
-    chosen_in range (is_number word) (nat_le range.least (digits_value 10 word)) (nat_le (digits_value 10 word) range.most) (digits_value 10 word)
+word_within : (range : NumberRange) (word : List ℕ) → IfSome (number_within range.least range.most word) (λ n. InRange range n)
+word_within range word =
+    number_if_in range (is_number word) (nat_le range.least (digits_value 10 word)) (nat_le (digits_value 10 word) range.most) (digits_value 10 word)
     (leb-true range.least (digits_value 10 word)) (leb-true (digits_value 10 word) range.most)
 
 by_range : (range : NumberRange) (values : List (List ℕ)) → InRange range range.default → IfSome (number_by range values) (λ n. InRange range n)
 by_range range [] default = default
-by_range range (value ∷ []) default = within range value
+by_range range (value ∷ []) default = word_within range value
 by_range range (value ∷ again ∷ more) default = tt
 
 abbrev pub AreLimits : Limits → Type 0

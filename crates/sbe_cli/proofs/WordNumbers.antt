@@ -13,22 +13,22 @@ own : IsNumeralModel (λ ds. all_ascii_digits ds ≡ true) (digits_value 10)
 own = numerals_by_value _ tells_all_ascii_digits
 
 -- the tests of a number, each by itself
-abbrev chosen : Bool → Bool → Bool → Bool → ℕ → Option ℕ
-chosen begins digits least most n = if (begins && digits) && least && most then Some n else None
+abbrev number_if : Bool → Bool → Bool → Bool → ℕ → Option ℕ
+number_if begins digits least most n = if (begins && digits) && least && most then Some n else None
 
-some_chosen : (begins digits least most : Bool) (n : ℕ) → begins ≡ true → digits ≡ true → least ≡ true → most ≡ true → Some n ≡ chosen begins digits least most n
-some_chosen true true true true n a b c d = refl
-some_chosen true true true false n a b c d = cc
-some_chosen true true false most n a b c d = cc
-some_chosen true false least most n a b c d = cc
-some_chosen false digits least most n a b c d = cc
+number_if_all : (begins digits least most : Bool) (n : ℕ) → begins ≡ true → digits ≡ true → least ≡ true → most ≡ true → Some n ≡ number_if begins digits least most n
+number_if_all true true true true n a b c d = refl
+number_if_all true true true false n a b c d = cc
+number_if_all true true false most n a b c d = cc
+number_if_all true false least most n a b c d = cc
+number_if_all false digits least most n a b c d = cc
 
-no_digits : (begins digits least most : Bool) (n : ℕ) → digits ≡ false → None ≡ chosen begins digits least most n
+no_digits : (begins digits least most : Bool) (n : ℕ) → digits ≡ false → None ≡ number_if begins digits least most n
 no_digits false digits least most n h = refl
 no_digits true false least most n h = refl
 no_digits true true least most n h = cc
 
-above_most : (begins digits least most : Bool) (n : ℕ) → most ≡ false → None ≡ chosen begins digits least most n
+above_most : (begins digits least most : Bool) (n : ℕ) → most ≡ false → None ≡ number_if begins digits least most n
 above_most false digits least most n h = refl
 above_most true false least most n h = refl
 above_most true true false most n h = refl
@@ -66,7 +66,7 @@ parsed least most word n r is h sign begins low high =
     let value : n ≡ digits_value 10 word = ok.1 in
     let from : least ≤ digits_value 10 word = omega (arith, value) in
     let to : digits_value 10 word ≤ most = omega (arith, value) in
-    ap (λ m. Some m) value ∙ some_chosen _ _ _ _ (digits_value 10 word) begins ok.0.0 (le-leb _ _ from) (le-leb _ _ to)
+    ap (λ m. Some m) value ∙ number_if_all _ _ _ _ (digits_value 10 word) begins ok.0.0 (le-leb _ _ from) (le-leb _ _ to)
 
 pub not_parsed : {E : Type 0} (least most : ℕ) (word : List ℕ) (e : E) (r : Result ℕ E) → r ≡ Err e → ParsesUnsigned 64 10 word r → slice_index_or word 0 0 ≢ 43 →
     begins_a_number word ≡ true → most < 2 ^ 64 → None ≡ number_within least most word

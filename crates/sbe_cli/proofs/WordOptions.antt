@@ -14,20 +14,20 @@ number_after range (Some number) [] = Some number
 number_after range (Some number) (value ∷ more) = None
 
 -- the words begin with this pair
-pub record Begins (words : List (String Global)) (option value : List ℕ) : Type 0 where
+pub record BeginsPair (words : List (String Global)) (option value : List ℕ) : Type 0 where
   pub front : texts words ≡ option ∷ (value ∷ texts (behind_two words))
 
-pub begins : (words : List (String Global)) (word value : String Global) (text number : List ℕ) → 2 ≤ length words → word ≡ get_or words 0 word → value ≡ get_or words 1 value →
-    text ≡ string_bytes word → number ≡ string_bytes value → Begins words text number
-begins words word value text number two first second is_text is_number =
+pub pair_begins : (words : List (String Global)) (word value : String Global) (text number : List ℕ) → 2 ≤ length words → word ≡ get_or words 0 word → value ≡ get_or words 1 value →
+    text ≡ string_bytes word → number ≡ string_bytes value → BeginsPair words text number
+pair_begins words word value text number two first second is_text is_number =
     record { front = rw (is_text, is_number) (pair_front words word value two first second) }
 
-one_more : (option text number : List ℕ) (words : List (String Global)) → Begins words text number → bytes_eq text option ≡ true →
+one_more : (option text number : List ℕ) (words : List (String Global)) → BeginsPair words text number → bytes_eq text option ≡ true →
     values_of option (texts words) ≡ number ∷ values_of option (texts (behind_two words))
 one_more option text number words pair same =
     ap (λ w. values_of option w) pair.front ∙ ap (λ b. if b then number ∷ values_of option (texts (behind_two words)) else values_of option (texts (behind_two words))) same
 
-no_more : (option text number : List ℕ) (words : List (String Global)) → Begins words text number → bytes_eq text option ≡ false →
+no_more : (option text number : List ℕ) (words : List (String Global)) → BeginsPair words text number → bytes_eq text option ≡ false →
     values_of option (texts words) ≡ values_of option (texts (behind_two words))
 no_more option text number words pair other =
     ap (λ w. values_of option w) pair.front ∙ ap (λ b. if b then number ∷ values_of option (texts (behind_two words)) else values_of option (texts (behind_two words))) other
@@ -49,35 +49,35 @@ given_again : (range : NumberRange) (given : Option ℕ) (number : List ℕ) (mo
 given_again range None number more twice = cc
 given_again range (Some n) number more twice = refl
 
-at_end : (range : NumberRange) (given : Option ℕ) → Some (unwrap_or given range.default) ≡ number_after range given []
-at_end range None = refl
-at_end range (Some n) = refl
+given_at_end : (range : NumberRange) (given : Option ℕ) → Some (unwrap_or given range.default) ≡ number_after range given []
+given_at_end range None = refl
+given_at_end range (Some n) = refl
 
 -- ---- the steps of the loop
 
-pub step_refused : (range : NumberRange) (given : Option ℕ) (option text number : List ℕ) (words : List (String Global)) (all : Option ℕ) → Begins words text number → bytes_eq text option ≡ true →
+pub step_refused : (range : NumberRange) (given : Option ℕ) (option text number : List ℕ) (words : List (String Global)) (all : Option ℕ) → BeginsPair words text number → bytes_eq text option ≡ true →
     is_some given ≡ false → number_within range.least range.most number ≡ None → number_after range given (values_of option (texts words)) ≡ all → None ≡ all
 step_refused range given option text number words all pair same fresh refused so_far =
     first_refused range given number _ fresh refused ∙ sym (ap (λ v. number_after range given v) (one_more option text number words pair same)) ∙ so_far
 
-pub step_taken : (range : NumberRange) (given : Option ℕ) (option text number : List ℕ) (words : List (String Global)) (all : Option ℕ) (n : ℕ) → Begins words text number → bytes_eq text option ≡ true →
+pub step_taken : (range : NumberRange) (given : Option ℕ) (option text number : List ℕ) (words : List (String Global)) (all : Option ℕ) (n : ℕ) → BeginsPair words text number → bytes_eq text option ≡ true →
     is_some given ≡ false → number_within range.least range.most number ≡ Some n → number_after range given (values_of option (texts words)) ≡ all →
     number_after range (Some n) (values_of option (texts (behind_two words))) ≡ all
 step_taken range given option text number words all n pair same fresh taken so_far =
     first_taken range given number _ n fresh taken ∙ sym (ap (λ v. number_after range given v) (one_more option text number words pair same)) ∙ so_far
 
-pub step_again : (range : NumberRange) (given : Option ℕ) (option text number : List ℕ) (words : List (String Global)) (all : Option ℕ) → Begins words text number → bytes_eq text option ≡ true →
+pub step_again : (range : NumberRange) (given : Option ℕ) (option text number : List ℕ) (words : List (String Global)) (all : Option ℕ) → BeginsPair words text number → bytes_eq text option ≡ true →
     is_some given ≡ true → number_after range given (values_of option (texts words)) ≡ all → None ≡ all
 step_again range given option text number words all pair same twice so_far =
     given_again range given number _ twice ∙ sym (ap (λ v. number_after range given v) (one_more option text number words pair same)) ∙ so_far
 
-pub step_other : (range : NumberRange) (given : Option ℕ) (option text number : List ℕ) (words : List (String Global)) (all : Option ℕ) → Begins words text number → bytes_eq text option ≡ false →
+pub step_other : (range : NumberRange) (given : Option ℕ) (option text number : List ℕ) (words : List (String Global)) (all : Option ℕ) → BeginsPair words text number → bytes_eq text option ≡ false →
     number_after range given (values_of option (texts words)) ≡ all → number_after range given (values_of option (texts (behind_two words))) ≡ all
 step_other range given option text number words all pair other so_far =
     sym (ap (λ v. number_after range given v) (no_more option text number words pair other)) ∙ so_far
 
-pub ended : (range : NumberRange) (given : Option ℕ) (option : List ℕ) (words : List (String Global)) (all : Option ℕ) → length words < 2 →
+pub pairs_ended : (range : NumberRange) (given : Option ℕ) (option : List ℕ) (words : List (String Global)) (all : Option ℕ) → length words < 2 →
     number_after range given (values_of option (texts words)) ≡ all → Some (unwrap_or given range.default) ≡ all
-ended range given option [] all few so_far = at_end range given ∙ so_far
-ended range given option (word ∷ []) all few so_far = at_end range given ∙ so_far
-ended range given option (word ∷ value ∷ more) all few so_far = absurd (omega arith)
+pairs_ended range given option [] all few so_far = given_at_end range given ∙ so_far
+pairs_ended range given option (word ∷ []) all few so_far = given_at_end range given ∙ so_far
+pairs_ended range given option (word ∷ value ∷ more) all few so_far = absurd (omega arith)

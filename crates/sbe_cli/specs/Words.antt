@@ -55,15 +55,17 @@ number_by range [] = Some range.default
 number_by range (value ∷ []) = number_within range.least range.most value
 number_by range (value ∷ again ∷ more) = None
 
+-- the number that pairs give this option
 abbrev pub number_given : List ℕ → NumberRange → List (List ℕ) → Option ℕ
 number_given option range pairs = number_by range (values_of option pairs)
 
--- the numbers of both options
+-- limits of both numbers, where both are there
 abbrev pub limits_from : Option ℕ → Option ℕ → Option Limits
 limits_from (Some frame) (Some input) = Some (record { frame = frame; input = input })
 limits_from (Some frame) None = None
 limits_from None input = None
 
+-- the limits that pairs give a run
 abbrev pub limits_of : List (List ℕ) → Option Limits
 limits_of pairs = limits_from (number_given MAX_FRAME.now FRAME_RANGE pairs) (number_given MAX_INPUT.now INPUT_RANGE pairs)
 
@@ -75,6 +77,7 @@ pub record FormRow : Type 0 where
   pub files : ℕ
   pub options : List (List ℕ)
 
+-- the table of forms
 abbrev pub row_of : Form → FormRow
 row_of form.Dump = record { word = codes "dump"; files = 1; options = MAX_FRAME.now ∷ MAX_INPUT.now ∷ [] }
 
@@ -85,18 +88,17 @@ fits row (word ∷ rest) =
     bytes_eq word row.word && nat_le row.files (length rest)
     && list_all is_file_name (take row.files rest) && are_options row.options (drop row.files rest)
 
--- what words of each form say
-
--- `dump S`
+-- `dump S`, with the limits of its options
 abbrev pub dump_of : List (List ℕ) → Option Command
 dump_of (word ∷ schema ∷ pairs) = option_map (λ limits. Dump schema limits) (limits_of pairs)
 dump_of (word ∷ []) = None
 dump_of [] = None
 
+-- what words of this form say, if the values of their options may be so
 abbrev pub said_by : Form → List (List ℕ) → Option Command
 said_by form.Dump words = dump_of words
 
--- The command that words say: they have one of the forms, and its options have values as they may.
+-- The command that words say: that of the first form that they have, with each option at most once and a right value.
 abbrev pub command_of : List (List ℕ) → Option Command
 command_of words = option_and_then (λ form. said_by form words) (find (λ form. fits (row_of form) words) FORMS)
 
