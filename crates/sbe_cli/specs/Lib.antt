@@ -2,8 +2,15 @@ pub mod Attributes
 pub mod Words
 pub mod Small
 pub mod Line
-pub mod Stops
-pub mod Dump
 pub mod Block
+pub mod Dump
+pub mod Splits
+pub mod Replies
+pub mod Stops
 pub mod Report
+pub mod Outside
+pub mod Files
 pub mod Steps
+pub mod Runs
+pub mod Pumps
+pub mod Jobs

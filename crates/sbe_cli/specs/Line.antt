@@ -4,7 +4,7 @@ use Rattle.std.specs.Fmt.{signed_decimal}
 use Rattle.sbe_types.specs.declared.schema.Field.{Field}
 use Rattle.sbe_types.specs.declared.schema.Level.{Level, out-Level}
 use Rattle.sbe_types.specs.declared.schema.WireSchema.{WireSchema}
-use Rattle.sbe_types.specs.declared.message.Value.{Value, Num, Absent}
+use Rattle.sbe_types.specs.declared.message.Value.{Value, Num, Null, Text, Nums, Enum, Set, Comp', Const, Absent}
 use Rattle.sbe_types.specs.declared.message.Block.{out-Block}
 use Rattle.sbe_types.specs.declared.message.Msg.{Msg}
 
@@ -19,11 +19,25 @@ quoted name = codes "\"" ++ (name ++ codes "\"")
 -- a number in digits, or null
 abbrev pub value_text : Value → List ℕ
 value_text (Num n) = signed_decimal n
-value_text _ = codes "null"
+value_text Null = codes "null"
+value_text (Text bytes) = codes "null"
+value_text (Nums elements) = codes "null"
+value_text (Enum n) = codes "null"
+value_text (Set bits) = codes "null"
+value_text (Comp' n members) = codes "null"
+value_text Const = codes "null"
+value_text Absent = codes "null"
 
 abbrev pub is_absent : Value → Bool
 is_absent Absent = true
-is_absent _ = false
+is_absent (Num n) = false
+is_absent Null = false
+is_absent (Text bytes) = false
+is_absent (Nums elements) = false
+is_absent (Enum n) = false
+is_absent (Set bits) = false
+is_absent (Comp' n members) = false
+is_absent Const = false
 
 abbrev pub member_text : Field → Value → List ℕ
 member_text f v = quoted f.name ++ (codes ":" ++ value_text v)

@@ -11,7 +11,7 @@ use Rattle.sbe_types.specs.declared.kind.Presence.{Presence}
 use Rattle.sbe_types.specs.declared.kind.Presence.TheVariants.{Required, Optional}
 use Rattle.sbe_types.specs.declared.kind.LeafShape.TheVariants as shape
 use Rattle.sbe_types.specs.declared.kind.Leaf.{Leaf as LeafOf}
-use Rattle.sbe_types.specs.declared.kind.Kind.{Kind, Leaf}
+use Rattle.sbe_types.specs.declared.kind.Kind.{Kind, Leaf, Enum, Set, Const, Comp'}
 use Rattle.sbe_types.specs.declared.kind.Member.{Member}
 use Rattle.sbe_types.specs.declared.kind.Order.TheVariants.{Little}
 use Rattle.sbe_types.specs.declared.schema.Field.{Field}
@@ -157,7 +157,10 @@ fields_after earlier (item d ds) = do
 
 abbrev pub kind_width : Kind → ℕ
 kind_width (Leaf l) = prim_width l.prim
-kind_width _ = 0
+kind_width (Enum l names) = 0
+kind_width (Set p names) = 0
+kind_width (Const c) = 0
+kind_width (Comp' n members) = 0
 
 abbrev pub field_width : Field → ℕ
 field_width f = kind_width f.kind

@@ -1,183 +1,195 @@
--- What the steps of a run give.
-use Rattle.std.specs.Prelude.{◌≡◌, ◌≤◌, ◌<◌, ◌⊎◌, ℕ, nat_lt, Bool, Option, Some, None, Result, Ok, Err, List, [], length, take, ⊤}
-use Rattle.std.specs.Io.KnownBytes.{Appends, Keeps, Consumes}
-use Rattle.sbe_base.specs.Causes.{AppendsPart, Rose}
+-- What opening a pump and each step of it do.
+use Rattle.std.specs.Prelude.{◌≡◌, ◌≤◌, ◌<◌, ◌⊎◌, ◌==◌, if◌then◌else◌, ℕ, ◌+◌, ◌-◌, Option, Some, None, Result, Ok, Err, List, [], ◌∷◌, ◌++◌, length, ⊤}
 use Rattle.sbe_base.specs.declared.status.Status.{Status}
 use Rattle.sbe_base.specs.declared.status.Status.TheVariants as status
-use Rattle.sbe_types.specs.declared.schema.WireSchema.{WireSchema}
-use Rattle.sbe_base.specs.declared.status.Limits.{Limits}
+use Rattle.sbe_wire.specs.Placed.{IsPlaced}
 use Rattle.sbe_cli.specs.Block.{IsSmall}
-use Rattle.sbe_cli.specs.Report.{schema_bytes, HoldsSchema, HoldsNone, DumpReport, FileReport, Report, done_status}
+use Rattle.sbe_cli.specs.Splits.{Reading, Frames, Lines, Once, Nothing, Piece, PieceEnd, End, Splits, Begins, Holds, most_taken}
+use Rattle.sbe_cli.specs.Replies.{Written, Reply, reading_of, IsReply, none_kept, counted, written_of, Replies}
 use Rattle.sbe_cli.specs.Stops.{stop_line, stop_status}
-use Rattle.sbe_cli.specs.declared.dump.Held.{Held}
-use Rattle.sbe_cli.specs.declared.stop.Stop.{Stop}
+use Rattle.sbe_cli.specs.Report.{Judges, end_notes, end_status}
+use Rattle.sbe_cli.specs.Outside.{Streams, Desk, Wrote, Breaks, Failed, Calm, Told}
+use Rattle.sbe_cli.specs.declared.files.FileRefusal.{FileRefusal}
+use Rattle.sbe_cli.specs.declared.job.Job.{Job}
+use Rattle.sbe_cli.specs.declared.job.Job.TheVariants.{Dump}
+use Rattle.sbe_cli.specs.declared.pump.Kept.{Kept}
+use Rattle.sbe_cli.specs.declared.pump.Step.{Step}
+use Rattle.sbe_cli.specs.declared.pump.Step.TheVariants.{Went, Ended}
 use Rattle.sbe_cli.specs.declared.stop.Stop.TheVariants as stop
+use Rattle.sbe_cli.specs.declared.words.Command.{Command}
 
--- ---- a schema is loaded
+-- what a pump does, what it has done, and its last answer
+pub record PumpState : Type 0 where
+  pub job : Job
+  pub kept : Kept
+  pub ended : Option Status
 
--- what is answered says what the file of that name holds, where the files tell it
-abbrev pub LoadedFrom : Option (List ℕ → Option (List ℕ)) → List ℕ → Result WireSchema Stop → Type 0
-LoadedFrom None name r = ⊤
-LoadedFrom (Some files) name (Ok schema) = (bytes : List ℕ) × (files name ≡ Some bytes) × (length bytes ≤ schema_bytes) × HoldsSchema bytes schema
-LoadedFrom (Some files) name (Err stop.NoFile) = files name ≡ None
-LoadedFrom (Some files) name (Err stop.SchemaLong) = (bytes : List ℕ) × (files name ≡ Some bytes) × (schema_bytes < length bytes)
-LoadedFrom (Some files) name (Err stop.NotBuilt) = (bytes : List ℕ) × (files name ≡ Some bytes) × (length bytes ≤ schema_bytes) × HoldsNone bytes
-LoadedFrom (Some files) name (Err s) = ⊤
+-- a job that can be carried out
+abbrev pub IsReady : Job → Type 0
+IsReady (Dump schema limits) = IsSmall schema × IsPlaced schema
 
--- a fault only where the count rose, and no other stop than these
-abbrev pub LoadCause : ℕ → ℕ → Result WireSchema Stop → Type 0
-LoadCause before now (Ok schema) = now ≡ before
-LoadCause before now (Err stop.FileFault) = (before ≤ now) × Rose before now
-LoadCause before now (Err stop.NoFile) = now ≡ before
-LoadCause before now (Err stop.SchemaLong) = now ≡ before
-LoadCause before now (Err stop.NotBuilt) = now ≡ before
-LoadCause before now (Err stop.NoMemory) = now ≡ before
-LoadCause before now (Err stop.Usage) = ⊥
-LoadCause before now (Err (stop.ReadFault at)) = ⊥
-LoadCause before now (Err (stop.Framing f at)) = ⊥
-LoadCause before now (Err (stop.InputLimit n)) = ⊥
-LoadCause before now (Err stop.WriteFault) = ⊥
+-- ---- the start
 
--- the schema that the bytes of a file hold, or that they hold none
-abbrev pub ReadsSchema : List ℕ → Result WireSchema Stop → Type 0
-ReadsSchema bytes (Ok schema) = HoldsSchema bytes schema × IsSmall schema
-ReadsSchema bytes (Err stop.NotBuilt) = HoldsNone bytes
-ReadsSchema bytes (Err stop.NoMemory) = ⊤
-ReadsSchema bytes (Err stop.Usage) = ⊥
-ReadsSchema bytes (Err stop.FileFault) = ⊥
-ReadsSchema bytes (Err stop.NoFile) = ⊥
-ReadsSchema bytes (Err stop.SchemaLong) = ⊥
-ReadsSchema bytes (Err (stop.ReadFault at)) = ⊥
-ReadsSchema bytes (Err (stop.Framing f at)) = ⊥
-ReadsSchema bytes (Err (stop.InputLimit n)) = ⊥
-ReadsSchema bytes (Err stop.WriteFault) = ⊥
+abbrev pub opened : Job → PumpState
+opened job = record { job = job; kept = none_kept; ended = None }
 
--- ---- the input is read
+-- the files judge the command so, where they tell what they hold
+abbrev pub JudgedAs : Command → Desk → Result Job FileRefusal → Type 0
+JudgedAs command before judged = (contents : List ℕ → Option (List ℕ)) → before.files.told ≡ Some contents → Judges command contents judged
 
--- the bytes within the limit, and whether there are more; or how many bytes came before a fault
-abbrev pub Holds : ℕ → Option (List ℕ) → Option (List ℕ) → Result Held Stop → Type 0
-Holds limit None new r = ⊤
-Holds limit (Some input) new (Ok held) = (held.bytes.items ≡ take limit input) × (held.more ≡ nat_lt limit (length input))
-Holds limit (Some input) new (Err (stop.ReadFault at)) = (taken : List ℕ) × (length taken ≡ at) × Consumes (Some input) new taken
-Holds limit (Some input) new (Err s) = ⊤
+-- A file is refused, the files failed, or memory was wanting.
+pub data Declines (command : Command) (before after : Desk) (code : Status) : Type 0 where
+  refuses : (refusal : FileRefusal) → JudgedAs command before (Err refusal) → after.files ≡ before.files
+      → Told (stop_line (stop.Refused refusal)) (stop_status (stop.Refused refusal)) before.notes after.notes code → Declines command before after code
+  fails : Failed before.files after.files → Told (stop_line stop.FileFault) (stop_status stop.FileFault) before.notes after.notes code → Declines command before after code
+  wants : code ≡ status.NoMemory → after ≡ before → Declines command before after code
 
-abbrev pub ReadCause : ℕ → ℕ → Result Held Stop → Type 0
-ReadCause before now (Ok held) = now ≡ before
-ReadCause before now (Err (stop.ReadFault at)) = (before ≤ now) × Rose before now
-ReadCause before now (Err stop.NoMemory) = now ≡ before
-ReadCause before now (Err stop.Usage) = ⊥
-ReadCause before now (Err stop.FileFault) = ⊥
-ReadCause before now (Err stop.NoFile) = ⊥
-ReadCause before now (Err stop.NotBuilt) = ⊥
-ReadCause before now (Err stop.SchemaLong) = ⊥
-ReadCause before now (Err (stop.Framing f at)) = ⊥
-ReadCause before now (Err (stop.InputLimit n)) = ⊥
-ReadCause before now (Err stop.WriteFault) = ⊥
+-- The pump of the command's job, or the status that its files are declined with.
+abbrev pub Opens : Command → Desk → Desk → Result PumpState Status → Type 0
+Opens command before after (Ok pump) = JudgedAs command before (Ok pump.job) × IsReady pump.job × (pump ≡ opened pump.job) × (after ≡ before)
+Opens command before after (Err code) = Declines command before after code
 
--- ---- all items are answered
+-- ---- a step
 
--- how a command ended is part of a report: all its output is written, or a front of it
-abbrev pub AnsweredBy : List (List ℕ) → (List ℕ → Option (List ℕ)) → List ℕ → Option (List ℕ) → Option (List ℕ) → Result Bool Stop → Type 0
-AnsweredBy words files input o o' (Ok refused) = (out : List ℕ) × Report words files input out [] (done_status refused) × Appends o o' out
-AnsweredBy words files input o o' (Err stop.FileFault) = Keeps o o'
-AnsweredBy words files input o o' (Err (stop.ReadFault at)) = Keeps o o'
-AnsweredBy words files input o o' (Err stop.WriteFault) = (out notes : List ℕ) (code : Status) → Report words files input out notes code → AppendsPart o o' out
-AnsweredBy words files input o o' (Err stop.NoMemory) = (out notes : List ℕ) (code : Status) → Report words files input out notes code → AppendsPart o o' out
-AnsweredBy words files input o o' (Err s) = (out : List ℕ) × Report words files input out (stop_line s) (stop_status s) × Appends o o' out
+-- the reading of what stands behind what was done
+abbrev pub behind : Reading → Kept → Reading
+behind (Frames limits) kept = Frames (record { frame = limits.frame; input = limits.input - kept.bytes })
+behind (Lines input) kept = Lines (input - kept.bytes)
+behind Once kept = if kept.items == 0 then Once else Nothing
+behind Nothing kept = Nothing
 
-abbrev pub Answered : List (List ℕ) → Option (List ℕ → Option (List ℕ)) → Option (List ℕ) → Option (List ℕ) → Option (List ℕ) → Result Bool Stop → Type 0
-Answered words None input o o' r = ⊤
-Answered words (Some files) None o o' r = ⊤
-Answered words (Some files) (Some input) o o' r = AnsweredBy words files input o o' r
+-- how a pump reads on
+abbrev pub reading_on : PumpState → Reading
+reading_on pump = behind (reading_of pump.job) pump.kept
 
--- the same of a command's file, and of the input under a schema
-abbrev pub AnsweredFileBy : List ℕ → Limits → (List ℕ → Option (List ℕ)) → List ℕ → Option (List ℕ) → Option (List ℕ) → Result Bool Stop → Type 0
-AnsweredFileBy name limits files input o o' (Ok refused) = (out : List ℕ) × FileReport (files name) limits input out [] (done_status refused) × Appends o o' out
-AnsweredFileBy name limits files input o o' (Err stop.FileFault) = Keeps o o'
-AnsweredFileBy name limits files input o o' (Err (stop.ReadFault at)) = Keeps o o'
-AnsweredFileBy name limits files input o o' (Err stop.WriteFault) = (out notes : List ℕ) (code : Status) → FileReport (files name) limits input out notes code → AppendsPart o o' out
-AnsweredFileBy name limits files input o o' (Err stop.NoMemory) = (out notes : List ℕ) (code : Status) → FileReport (files name) limits input out notes code → AppendsPart o o' out
-AnsweredFileBy name limits files input o o' (Err s) = (out : List ℕ) × FileReport (files name) limits input out (stop_line s) (stop_status s) × Appends o o' out
+-- The next piece of the input was taken, nothing behind it, and its answer was written; the numbers count it.
+pub record TakesPiece (old new : PumpState) (before after : Streams) (input : List ℕ) : Type 0 where
+  pub piece : Piece
+  pub reply : Reply
+  pub left : List ℕ
+  pub source : after.input.told ≡ Some left
+  pub taken : Begins (reading_on old) input (piece ∷ []) left
+  pub replied : IsReply old.job old.kept piece reply
+  pub wrote : Wrote before.sinks after.sinks (written_of reply)
+  pub kept : new.kept ≡ counted old.kept piece reply.verdict
 
-abbrev pub AnsweredFile : List ℕ → Limits → Option (List ℕ → Option (List ℕ)) → Option (List ℕ) → Option (List ℕ) → Option (List ℕ) → Result Bool Stop → Type 0
-AnsweredFile name limits None input o o' r = ⊤
-AnsweredFile name limits (Some files) None o o' r = ⊤
-AnsweredFile name limits (Some files) (Some input) o o' r = AnsweredFileBy name limits files input o o' r
+-- a step that answers a piece
+pub record Goes (old new : PumpState) (before after : Streams) : Type 0 where
+  pub answers : (input : List ℕ) → before.input.told ≡ Some input → TakesPiece old new before after input
+  pub calm : Calm before after
+  pub runs : new.ended ≡ None
+  pub job : new.job ≡ old.job
+  pub more : old.kept.bytes < new.kept.bytes
+  pub within : new.kept.bytes ≤ most_taken (reading_of new.job)
 
-abbrev pub AnsweredInputBy : WireSchema → Limits → List ℕ → Option (List ℕ) → Option (List ℕ) → Result Bool Stop → Type 0
-AnsweredInputBy schema limits input o o' (Ok refused) = (out : List ℕ) × DumpReport schema limits input out [] (done_status refused) × Appends o o' out
-AnsweredInputBy schema limits input o o' (Err (stop.Framing f at)) = (out : List ℕ) × DumpReport schema limits input out (stop_line (stop.Framing f at)) (stop_status (stop.Framing f at)) × Appends o o' out
-AnsweredInputBy schema limits input o o' (Err (stop.InputLimit n)) = (out : List ℕ) × DumpReport schema limits input out (stop_line (stop.InputLimit n)) (stop_status (stop.InputLimit n)) × Appends o o' out
-AnsweredInputBy schema limits input o o' (Err (stop.ReadFault at)) = Keeps o o'
-AnsweredInputBy schema limits input o o' (Err stop.WriteFault) = (out notes : List ℕ) (code : Status) → DumpReport schema limits input out notes code → AppendsPart o o' out
-AnsweredInputBy schema limits input o o' (Err stop.NoMemory) = (out notes : List ℕ) (code : Status) → DumpReport schema limits input out notes code → AppendsPart o o' out
-AnsweredInputBy schema limits input o o' (Err stop.Usage) = ⊥
-AnsweredInputBy schema limits input o o' (Err stop.FileFault) = ⊥
-AnsweredInputBy schema limits input o o' (Err stop.NoFile) = ⊥
-AnsweredInputBy schema limits input o o' (Err stop.NotBuilt) = ⊥
-AnsweredInputBy schema limits input o o' (Err stop.SchemaLong) = ⊥
+-- ---- the end of the steps
 
-abbrev pub AnsweredInput : WireSchema → Limits → Option (List ℕ) → Option (List ℕ) → Option (List ℕ) → Result Bool Stop → Type 0
-AnsweredInput schema limits None o o' r = ⊤
-AnsweredInput schema limits (Some input) o o' r = AnsweredInputBy schema limits input o o' r
+-- The pieces end here: all that was taken behind the last one is told, or nothing is left.
+pub record Ends (pump : PumpState) (before after : Streams) (input : List ℕ) (code : Status) : Type 0 where
+  pub end : PieceEnd
+  pub split : Splits (reading_on pump) input [] end
+  pub left : end ≡ End → after.input.told ≡ Some []
+  pub output : after.sinks.output ≡ before.sinks.output
+  pub noted : Told (end_notes end pump.kept.bytes (most_taken (reading_of pump.job))) (end_status end pump.kept.refused) before.sinks.notes after.sinks.notes code
 
--- each object's count rose where its fault is told, and stayed elsewhere
-abbrev pub FilesCause : ℕ → ℕ → Result Bool Stop → Type 0
-FilesCause before now (Err stop.FileFault) = (before ≤ now) × Rose before now
-FilesCause before now (Ok x) = now ≡ before
-FilesCause before now (Err s) = now ≡ before
+-- A read failed. What was taken before is no whole piece.
+pub record Stalls (pump : PumpState) (before after : Streams) (input : List ℕ) (code : Status) : Type 0 where
+  pub held : List ℕ
+  pub left : List ℕ
+  pub source : after.input.told ≡ Some left
+  pub taken : input ≡ held ++ left
+  pub part : Holds (reading_on pump) held []
+  pub fault : Failed before.input after.input
+  pub output : after.sinks.output ≡ before.sinks.output
+  pub noted : Told (stop_line (stop.ReadFault (pump.kept.bytes + length held))) status.ReadFault before.sinks.notes after.sinks.notes code
 
-abbrev pub InputCause : ℕ → ℕ → Result Bool Stop → Type 0
-InputCause before now (Err (stop.ReadFault at)) = (before ≤ now) × Rose before now
-InputCause before now (Ok x) = now ≡ before
-InputCause before now (Err s) = now ≡ before
+-- A write of the next piece's answer failed, or memory for it was wanting. Nothing behind the piece was taken.
+pub record Fails (pump : PumpState) (after : Streams) (input : List ℕ) (IsWritten : Reply → Type 0) : Type 0 where
+  pub piece : Piece
+  pub reply : Reply
+  pub left : List ℕ
+  pub source : after.input.told ≡ Some left
+  pub taken : Begins (reading_on pump) input (piece ∷ []) left
+  pub replied : IsReply pump.job pump.kept piece reply
+  pub wrote : IsWritten reply
 
--- the bytes that came before a fault of the input
-abbrev pub Took : Option (List ℕ) → Option (List ℕ) → Result Bool Stop → Type 0
-Took None new r = ⊤
-Took (Some input) new (Err (stop.ReadFault at)) = (taken : List ℕ) × (length taken ≡ at) × Consumes (Some input) new taken
-Took (Some input) new r = ⊤
+-- How the steps end.
+pub data Halts (pump : PumpState) (before after : Streams) (input : List ℕ) (code : Status) : Type 0 where
+  ended_at : Ends pump before after input code → Halts pump before after input code
+  stalled_at : Stalls pump before after input code → Halts pump before after input code
+  failed_at : Fails pump after input (λ reply. Breaks before.sinks after.sinks (written_of reply)) → code ≡ status.WriteFault → Halts pump before after input code
+  wanting_at : Fails pump after input (λ reply. after.sinks ≡ before.sinks) → code ≡ status.NoMemory → Halts pump before after input code
 
--- the stops of a dump whose schema is there
-abbrev pub IsDumpStop : Result Bool Stop → Type 0
-IsDumpStop (Ok x) = ⊤
-IsDumpStop (Err (stop.ReadFault at)) = ⊤
-IsDumpStop (Err (stop.Framing f at)) = ⊤
-IsDumpStop (Err (stop.InputLimit n)) = ⊤
-IsDumpStop (Err stop.WriteFault) = ⊤
-IsDumpStop (Err stop.NoMemory) = ⊤
-IsDumpStop (Err stop.Usage) = ⊥
-IsDumpStop (Err stop.FileFault) = ⊥
-IsDumpStop (Err stop.NoFile) = ⊥
-IsDumpStop (Err stop.NotBuilt) = ⊥
-IsDumpStop (Err stop.SchemaLong) = ⊥
+-- the status of a run that nothing outside cut short
+abbrev pub IsReported : Status → Type 0
+IsReported status.Done = ⊤
+IsReported status.SomeRefused = ⊤
+IsReported status.Usage = ⊤
+IsReported status.SchemaRefused = ⊤
+IsReported status.MapRefused = ⊤
+IsReported status.FramingRefused = ⊤
+IsReported status.InputLimit = ⊤
+IsReported status.NoFile = ⊤
+IsReported status.FileFault = ⊥
+IsReported status.ReadFault = ⊥
+IsReported status.WriteFault = ⊥
+IsReported status.NoMemory = ⊥
 
--- ---- a stop is noted
+-- the status that a step may end with
+abbrev pub IsStepStatus : Status → Type 0
+IsStepStatus status.Done = ⊤
+IsStepStatus status.SomeRefused = ⊤
+IsStepStatus status.FramingRefused = ⊤
+IsStepStatus status.ReadFault = ⊤
+IsStepStatus status.WriteFault = ⊤
+IsStepStatus status.NoMemory = ⊤
+IsStepStatus status.InputLimit = ⊤
+IsStepStatus status.Usage = ⊥
+IsStepStatus status.SchemaRefused = ⊥
+IsStepStatus status.MapRefused = ⊥
+IsStepStatus status.FileFault = ⊥
+IsStepStatus status.NoFile = ⊥
 
--- its line is noted and its status answered; or memory was wanting; or the write failed
-pub data Told (s : Stop) (n n' : Option (List ℕ)) (before now : ℕ) (code : Status) : Type 0 where
-  noted : code ≡ stop_status s → Appends n n' (stop_line s) → now ≡ before → Told s n n' before now code
-  wanting : code ≡ status.NoMemory → Keeps n n' → now ≡ before → Told s n n' before now code
-  failed : code ≡ status.WriteFault → AppendsPart n n' (stop_line s) → before ≤ now → Rose before now → Told s n n' before now code
+-- a fault of a stream is answered only where its count rose, and no count changed where a report is answered
+pub record Causes (before after : Streams) (code : Status) : Type 0 where
+  pub calm : IsReported code → Calm before after
+  pub read : code ≡ status.ReadFault → Failed before.input after.input
+  pub write : code ≡ status.WriteFault → Failed before.sinks.output after.sinks.output ⊎ Failed before.sinks.notes after.sinks.notes
+  pub late : IsStepStatus code
 
--- ---- the run
+-- a step that ends the pump
+pub record Closes (old new : PumpState) (before after : Streams) (code : Status) : Type 0 where
+  pub halts : (input : List ℕ) → before.input.told ≡ Some input → Halts old before after input code
+  pub causes : Causes before after code
+  pub kept : new ≡ record { job = old.job; kept = old.kept; ended = Some code }
 
-abbrev pub AllCalm : ℕ → ℕ → ℕ → ℕ → ℕ → ℕ → ℕ → ℕ → Type 0
-AllCalm f f' i i' o o' n n' = (f' ≡ f) × (i' ≡ i) × (o' ≡ o) × (n' ≡ n)
+-- A piece is answered, or the pump ends; a pump that has ended answers the same again, and leaves all as it was.
+abbrev pub Steps : PumpState → PumpState → Streams → Streams → Step → Type 0
+Steps old new before after Went = (old.ended ≡ None) × Goes old new before after
+Steps old new before after (Ended code) =
+    ((old.ended ≡ Some code) × (new ≡ old) × (after ≡ before)) ⊎ ((old.ended ≡ None) × Closes old new before after code)
 
--- the input was read to its end
-abbrev pub HasRead : Status → Type 0
-HasRead code = (code ≡ status.Done) ⊎ (code ≡ status.SomeRefused)
+-- ---- many steps
 
--- what stands after a fault of the input: nothing is written, and the bytes that came are counted in its line
-abbrev pub ReadStands : Option (List ℕ → Option (List ℕ)) → Option (List ℕ) → Option (List ℕ) → Option (List ℕ) → Option (List ℕ) → Option (List ℕ) → Option (List ℕ) → Type 0
-ReadStands None left left' o o' n n' = ⊤
-ReadStands (Some files) None left' o o' n n' = ⊤
-ReadStands (Some files) (Some input) left' o o' n n' =
-    (taken : List ℕ) × Consumes (Some input) left' taken × Keeps o o' × Appends n n' (stop_line (stop.ReadFault (length taken)))
+-- These pieces of the input were taken and answered, and the numbers count them.
+pub record Progress (job : Job) (kept : Kept) (old now : Streams) (input : List ℕ) : Type 0 where
+  pub pieces : List Piece
+  pub left : List ℕ
+  pub written : Written
+  pub source : now.input.told ≡ Some left
+  pub begins : Begins (reading_of job) input pieces left
+  pub replies : Replies job none_kept pieces written kept
+  pub wrote : Wrote old.sinks now.sinks written
 
--- what stands after a fault of the files: nothing is written but its line
-abbrev pub FileStands : Option (List ℕ → Option (List ℕ)) → Option (List ℕ) → Option (List ℕ) → Option (List ℕ) → Option (List ℕ) → Option (List ℕ) → Type 0
-FileStands None left o o' n n' = ⊤
-FileStands (Some files) None o o' n n' = ⊤
-FileStands (Some files) (Some input) o o' n n' = Keeps o o' × Appends n n' (stop_line stop.FileFault)
+-- how far a job has come, and how it then ends
+pub record Course (job : Job) (old new : Streams) (input : List ℕ) (code : Status) : Type 0 where
+  pub kept : Kept
+  pub mid : Streams
+  pub progress : Progress job kept old mid input
+  pub calm : Calm old mid
+  pub halts : Halts (record { job = job; kept = kept; ended = None }) mid new progress.left code
+
+-- a job that is carried out to its end
+pub record Drains (job : Job) (old new : Streams) (code : Status) : Type 0 where
+  pub course : (input : List ℕ) → old.input.told ≡ Some input → Course job old new input code
+  pub causes : Causes old new code

@@ -1,11 +1,13 @@
--- What is noted where a run stops, and the status that it stops with.
-use Rattle.std.specs.Prelude.{ℕ, List, [], ◌++◌, codes, decimal}
+-- What is noted where a run stops before its end, and the status that it stops with.
+use Rattle.std.specs.Prelude.{ℕ, List, ◌++◌, codes, decimal}
 use Rattle.sbe_base.specs.declared.status.Status.{Status}
 use Rattle.sbe_base.specs.declared.status.Status.TheVariants as status
-use Rattle.sbe_cli.specs.declared.stop.FramingFault.{FramingFault}
-use Rattle.sbe_cli.specs.declared.stop.FramingFault.TheVariants.{LengthShort, LengthOver, Encoding, EndInside}
+use Rattle.open_framing.specs.declared.head.HeadErr.{HeadErr}
+use Rattle.open_framing.specs.declared.head.HeadErr.TheVariants.{HeadShort, LengthShort, LengthOver, Encoding}
+use Rattle.sbe_cli.specs.declared.files.FileRefusal.{FileRefusal}
+use Rattle.sbe_cli.specs.declared.files.FileRefusal.TheVariants as file
 use Rattle.sbe_cli.specs.declared.stop.Stop.{Stop}
-use Rattle.sbe_cli.specs.declared.stop.Stop.TheVariants.{Usage, FileFault, NoFile, NotBuilt, SchemaLong, ReadFault, Framing, InputLimit, WriteFault, NoMemory}
+use Rattle.sbe_cli.specs.declared.stop.Stop.TheVariants.{Usage, FileFault, Refused, ReadFault, EndInside, Head, InputLimit}
 
 abbrev pub usage_line : List ℕ
 usage_line = codes "{\"usage\":\"sbe check compat dump build fixcheck tofix tosbe selftest\"}\n"
@@ -20,33 +22,38 @@ abbrev pub fault_line : List ℕ → ℕ → ℕ → List ℕ
 fault_line name at number =
     codes "{\"framing\":\"" ++ (name ++ (codes "\",\"at\":" ++ (decimal at ++ (codes ",\"number\":" ++ (decimal number ++ codes "}\n")))))
 
-abbrev pub framing_line : FramingFault → ℕ → List ℕ
-framing_line (LengthShort n) at = fault_line (codes "LengthShort") at n
-framing_line (LengthOver n) at = fault_line (codes "LengthOver") at n
-framing_line (Encoding n) at = fault_line (codes "Encoding") at n
-framing_line (EndInside n) at = fault_line (codes "EndInside") at n
+-- the line of a head at fault; a stream of frames never ends at a head that is short
+abbrev pub head_line : HeadErr → ℕ → List ℕ
+head_line HeadShort at = fault_line (codes "HeadShort") at 0
+head_line (LengthShort n) at = fault_line (codes "LengthShort") at n
+head_line (LengthOver n) at = fault_line (codes "LengthOver") at n
+head_line (Encoding n) at = fault_line (codes "Encoding") at n
 
--- a failed write and want of memory have no line
+abbrev pub refusal_line : FileRefusal → List ℕ
+refusal_line file.Absent = codes "{\"absent\":\"schema\"}\n"
+refusal_line file.TooLong = refused_schema (codes "S06")
+refusal_line file.NotBuilt = refused_schema (codes "S00")
+
+abbrev pub refusal_status : FileRefusal → Status
+refusal_status file.Absent = status.NoFile
+refusal_status file.TooLong = status.SchemaRefused
+refusal_status file.NotBuilt = status.SchemaRefused
+
+-- the line of each stop
 abbrev pub stop_line : Stop → List ℕ
 stop_line Usage = usage_line
 stop_line FileFault = codes "{\"fault\":\"File\",\"file\":\"schema\"}\n"
-stop_line NoFile = codes "{\"absent\":\"schema\"}\n"
-stop_line NotBuilt = refused_schema (codes "S00")
-stop_line SchemaLong = refused_schema (codes "S06")
+stop_line (Refused refusal) = refusal_line refusal
 stop_line (ReadFault at) = at_line (codes "{\"fault\":\"Read\",\"at\":") at
-stop_line (Framing fault at) = framing_line fault at
+stop_line (EndInside held at) = fault_line (codes "EndInside") at held
+stop_line (Head fault at) = head_line fault at
 stop_line (InputLimit limit) = at_line (codes "{\"limit\":\"Input\",\"at\":") limit
-stop_line WriteFault = []
-stop_line NoMemory = []
 
 abbrev pub stop_status : Stop → Status
 stop_status Usage = status.Usage
 stop_status FileFault = status.FileFault
-stop_status NoFile = status.NoFile
-stop_status NotBuilt = status.SchemaRefused
-stop_status SchemaLong = status.SchemaRefused
+stop_status (Refused refusal) = refusal_status refusal
 stop_status (ReadFault at) = status.ReadFault
-stop_status (Framing fault at) = status.FramingRefused
+stop_status (EndInside held at) = status.FramingRefused
+stop_status (Head fault at) = status.FramingRefused
 stop_status (InputLimit limit) = status.InputLimit
-stop_status WriteFault = status.WriteFault
-stop_status NoMemory = status.NoMemory

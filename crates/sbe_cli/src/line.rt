@@ -45,16 +45,30 @@ fn put_value(out: &mut Vec<u8>, value: &Value) -> Result<(), NoMem>
 {
     match value {
         Value::Num(number) => put_number(out, *number),
-        _ => put(out, b"null"),
+        Value::Null
+        | Value::Text(_)
+        | Value::Nums(_)
+        | Value::Enum(_)
+        | Value::Set(_)
+        | Value::Comp(_)
+        | Value::Const
+        | Value::Absent => put(out, b"null"),
     }
 }
 
-fn has_absent(value: &Value) -> bool
+fn is_absent(value: &Value) -> bool
     ensures { result ≡ is_absent value.now }
 {
     match value {
         Value::Absent => true,
-        _ => false,
+        Value::Num(_)
+        | Value::Null
+        | Value::Text(_)
+        | Value::Nums(_)
+        | Value::Enum(_)
+        | Value::Set(_)
+        | Value::Comp(_)
+        | Value::Const => false,
     }
 }
 
@@ -77,7 +91,7 @@ fn put_next(out: &mut Vec<u8>, first: bool, field: &Field, value: &Value) -> Res
     ensures text { OnOk result (out.new.items ≡ out.old.items ++ next_text first field.now value.now) }
     ensures first { IfOk result (λ next. next ≡ still_first first value.now) }
 {
-    if has_absent(value) {
+    if is_absent(value) {
         return Ok(first);
     }
     put_comma(out, first)?;

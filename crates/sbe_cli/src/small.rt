@@ -357,6 +357,6 @@ fn width_of(field: &Field) -> u32
 {
     match &field.kind {
         Kind::Leaf(leaf) => leaf.prim.width() as u32,
-        _ => 0,
+        Kind::Enum(_, _) | Kind::Set(_, _) | Kind::Comp(_) | Kind::Const(_) => 0,
     }
 }

@@ -1,45 +1,32 @@
 ghost use Rattle.std.specs.Prelude.{◌≡◌};
 ghost use Rattle.sbe_cli.specs.Line.{Puts};
-ghost use Rattle.sbe_cli.specs.Steps.{Told};
-ghost use Rattle.sbe_cli.specs.Stops.{stop_status, stop_line, refused_schema, at_line, framing_line, fault_line};
+ghost use Rattle.sbe_cli.specs.Outside.{Told};
+ghost use Rattle.sbe_cli.specs.Stops.{stop_status, stop_line, refused_schema, at_line, head_line, fault_line};
 
+use crate::files::FileRefusal;
 use crate::line::{put, put_count};
 use lists::NoMem;
+use open_framing::HeadErr;
 use sbe_base::{Sink, Status, write_all_to};
 use std::alloc::Global;
 
-/// Why the input is no row of whole frames.
-#[derive(Clone, Copy, Debug, PartialEq, Eq)]
-pub enum FramingFault {
-    /// The length in a head is too small.
-    LengthShort(u32),
-    /// The length in a head is above the limit.
-    LengthOver(u32),
-    /// The encoding type of a head is none of the known ones.
-    Encoding(u16),
-    /// The input ends inside a frame, of which so many bytes are there.
-    EndInside(u64),
-}
-
-/// Why a run stops before all items are answered.
+/// What is noted where a run stops before its end.
 #[derive(Clone, Copy, Debug, PartialEq, Eq)]
 pub enum Stop {
+    /// The words are no command.
     Usage,
     /// The schema's file couldn't be read.
     FileFault,
-    NoFile,
-    /// The schema isn't built yet.
-    NotBuilt,
-    /// The schema's file is above its limit.
-    SchemaLong,
+    /// The schema's file isn't taken.
+    Refused(FileRefusal),
     /// The input failed behind so many bytes.
     ReadFault(u64),
-    /// The frame that begins at this byte of the input isn't whole.
-    Framing(FramingFault, u64),
+    /// So many bytes of a frame are there, which begins at the second number.
+    EndInside(u64, u64),
+    /// The head at this byte of the input is at fault.
+    Head(HeadErr, u64),
     /// The input has more bytes than this limit.
     InputLimit(u64),
-    WriteFault,
-    NoMemory,
 }
 
 impl Stop {
@@ -50,20 +37,20 @@ impl Stop {
         match self {
             Stop::Usage => Status::Usage,
             Stop::FileFault => Status::FileFault,
-            Stop::NoFile => Status::NoFile,
-            Stop::NotBuilt | Stop::SchemaLong => Status::SchemaRefused,
+            Stop::Refused(FileRefusal::Absent) => Status::NoFile,
+            Stop::Refused(FileRefusal::TooLong) | Stop::Refused(FileRefusal::NotBuilt) => {
+                Status::SchemaRefused
+            }
             Stop::ReadFault(_) => Status::ReadFault,
-            Stop::Framing(_, _) => Status::FramingRefused,
+            Stop::EndInside(_, _) | Stop::Head(_, _) => Status::FramingRefused,
             Stop::InputLimit(_) => Status::InputLimit,
-            Stop::WriteFault => Status::WriteFault,
-            Stop::NoMemory => Status::NoMemory,
         }
     }
 }
 
 /// Notes why the run stops, and answers its status.
 pub fn tell<N: Sink>(alloc: Global, stop: Stop, notes: &mut N) -> Status
-    ensures { Told stop (N.held notes.old) (N.held notes.new) (N.faults notes.old) (N.faults notes.new) result }
+    ensures { Told (stop_line stop) (stop_status stop) (record { told = N.held notes.old; faults = N.faults notes.old }) (record { told = N.held notes.new; faults = N.faults notes.new }) result }
 {
     let mut line = Vec::new(alloc);
     match put_stop(&mut line, stop) {
@@ -76,7 +63,7 @@ pub fn tell<N: Sink>(alloc: Global, stop: Stop, notes: &mut N) -> Status
     }
 }
 
-/// Appends the line that a stop is noted by. A failed write and want of memory have none.
+/// Appends the line that a stop is noted by.
 fn put_stop(out: &mut Vec<u8>, stop: Stop) -> Result<(), NoMem>
     ensures { Puts result out.old.items out.new.items (stop_line stop) }
 {
@@ -86,13 +73,13 @@ fn put_stop(out: &mut Vec<u8>, stop: Stop) -> Result<(), NoMem>
             b"{\"usage\":\"sbe check compat dump build fixcheck tofix tosbe selftest\"}\n",
         ),
         Stop::FileFault => put(out, b"{\"fault\":\"File\",\"file\":\"schema\"}\n"),
-        Stop::NoFile => put(out, b"{\"absent\":\"schema\"}\n"),
-        Stop::NotBuilt => put_refused_schema(out, b"S00"),
-        Stop::SchemaLong => put_refused_schema(out, b"S06"),
+        Stop::Refused(FileRefusal::Absent) => put(out, b"{\"absent\":\"schema\"}\n"),
+        Stop::Refused(FileRefusal::TooLong) => put_refused_schema(out, b"S06"),
+        Stop::Refused(FileRefusal::NotBuilt) => put_refused_schema(out, b"S00"),
         Stop::ReadFault(at) => put_at(out, b"{\"fault\":\"Read\",\"at\":", at),
-        Stop::Framing(fault, at) => put_framing(out, fault, at),
-        Stop::InputLimit(at) => put_at(out, b"{\"limit\":\"Input\",\"at\":", at),
-        Stop::WriteFault | Stop::NoMemory => Ok(()),
+        Stop::EndInside(held, at) => put_fault(out, b"EndInside", at, held),
+        Stop::Head(fault, at) => put_head_fault(out, fault, at),
+        Stop::InputLimit(limit) => put_at(out, b"{\"limit\":\"Input\",\"at\":", limit),
     }
 }
 
@@ -112,14 +99,14 @@ fn put_at(out: &mut Vec<u8>, front: &[u8], at: u64) -> Result<(), NoMem>
     put(out, b"}\n")
 }
 
-fn put_framing(out: &mut Vec<u8>, fault: FramingFault, at: u64) -> Result<(), NoMem>
-    ensures { Puts result out.old.items out.new.items (framing_line fault at) }
+fn put_head_fault(out: &mut Vec<u8>, fault: HeadErr, at: u64) -> Result<(), NoMem>
+    ensures { Puts result out.old.items out.new.items (head_line fault at) }
 {
     match fault {
-        FramingFault::LengthShort(length) => put_fault(out, b"LengthShort", at, length as u64),
-        FramingFault::LengthOver(length) => put_fault(out, b"LengthOver", at, length as u64),
-        FramingFault::Encoding(encoding) => put_fault(out, b"Encoding", at, encoding as u64),
-        FramingFault::EndInside(held) => put_fault(out, b"EndInside", at, held),
+        HeadErr::HeadShort => put_fault(out, b"HeadShort", at, 0),
+        HeadErr::LengthShort(length) => put_fault(out, b"LengthShort", at, length as u64),
+        HeadErr::LengthOver(length) => put_fault(out, b"LengthOver", at, length as u64),
+        HeadErr::Encoding(encoding) => put_fault(out, b"Encoding", at, encoding as u64),
     }
 }
 

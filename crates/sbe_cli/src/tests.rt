@@ -1,4 +1,7 @@
-use crate::{Command, WordsErr, read_words, run};
+mod faults;
+mod limits;
+
+use crate::run;
 use sbe_base::{MemFiles, MemSink, MemSource, Status};
 use std::alloc::Global;
 use std::process::Abort;
@@ -17,6 +20,10 @@ const PING: &[u8] = b"{\"messageSchema\":{\"package\":\"demo\",\"id\":7,\"versio
 /// A Ping whose a is 258 and whose b is null.
 const FRAME: &[u8] =
     b"\x00\x00\x00\x14\xeb\x50\x06\x00\x01\x00\x07\x00\x00\x00\x02\x01\x00\x00\x00\x80";
+
+/// The same twice.
+const TWICE: &[u8] =
+    b"\x00\x00\x00\x14\xeb\x50\x06\x00\x01\x00\x07\x00\x00\x00\x02\x01\x00\x00\x00\x80\x00\x00\x00\x14\xeb\x50\x06\x00\x01\x00\x07\x00\x00\x00\x02\x01\x00\x00\x00\x80";
 
 const LINE: &[u8] =
     b"{\"data\":{},\"fields\":{\"a\":258,\"b\":null},\"groups\":{},\"template\":\"Ping\",\"version\":0}\n";
@@ -53,6 +60,44 @@ fn sample<'a>() -> Trial<'a> {
     }
 }
 
+/// How a run ended, what it wrote, and how many bytes the input has left.
+#[derive(Drop)]
+struct Outcome {
+    status: Status,
+    output: MemSink,
+    notes: MemSink,
+    left: usize,
+}
+
+/// Runs a trial, whose output has room for so many bytes.
+fn run_trial(alloc: Global, trial: &Trial, room: usize) -> Result<Outcome, Fail> {
+    let mut words = Vec::new(alloc);
+    for word in trial.words {
+        words.push(String::from_str(alloc, *word)?)?;
+    }
+    let mut files = MemFiles::new(alloc, trial.load)?;
+    files.put("ping.json", trial.schema)?;
+    let piece = trial.piece.max(1);
+    let mut input = MemSource::new(alloc, trial.input, piece, trial.read)?;
+    let mut output = MemSink::new(alloc, room, trial.output)?;
+    let mut notes = MemSink::new(alloc, 1024, trial.notes)?;
+    let status = run(
+        alloc,
+        words.as_slice(),
+        &mut files,
+        &mut input,
+        &mut output,
+        &mut notes,
+    );
+    let left = input.left().len();
+    Ok(Outcome {
+        status,
+        output,
+        notes,
+        left,
+    })
+}
+
 /// Runs a trial, and asserts its status and what it wrote.
 fn expect(
     rt: &impl Abort,
@@ -62,27 +107,10 @@ fn expect(
     output: &[u8],
     notes: &[u8],
 ) -> Result<(), Fail> {
-    let mut words = Vec::new(alloc);
-    for word in trial.words {
-        words.push(String::from_str(alloc, *word)?)?;
-    }
-    let mut files = MemFiles::new(alloc, trial.load)?;
-    files.put("ping.json", trial.schema)?;
-    let piece = trial.piece.max(1);
-    let mut input = MemSource::new(alloc, trial.input, piece, trial.read)?;
-    let mut out = MemSink::new(alloc, 32_768, trial.output)?;
-    let mut said = MemSink::new(alloc, 1024, trial.notes)?;
-    let ended = run(
-        alloc,
-        words.as_slice(),
-        &mut files,
-        &mut input,
-        &mut out,
-        &mut said,
-    );
-    assert_eq!(rt; ended, status);
-    assert_eq!(rt; out.bytes(), output);
-    assert_eq!(rt; said.bytes(), notes);
+    let ended = run_trial(alloc, trial, 32_768)?;
+    assert_eq!(rt; ended.status, status);
+    assert_eq!(rt; ended.output.bytes(), output);
+    assert_eq!(rt; ended.notes.bytes(), notes);
     Ok(())
 }
 
@@ -226,134 +254,4 @@ fn refuses_words(rt: HostRuntime) -> Result<(), Fail> {
     };
     let absent = b"{\"absent\":\"schema\"}\n";
     expect(&rt, alloc, &trial, Status::NoFile, b"", absent)
-}
-
-#[test]
-fn tells_faults(rt: HostRuntime) -> Result<(), Fail> {
-    let alloc = rt.alloc();
-    let load = Trial {
-        load: &[1],
-        ..sample()
-    };
-    let file = b"{\"fault\":\"File\",\"file\":\"schema\"}\n";
-    expect(&rt, alloc, &load, Status::FileFault, b"", file)?;
-    let read = Trial {
-        read: &[2],
-        ..sample()
-    };
-    let at = b"{\"fault\":\"Read\",\"at\":7}\n";
-    expect(&rt, alloc, &read, Status::ReadFault, b"", at)?;
-    let output = Trial {
-        output: &[1],
-        ..sample()
-    };
-    expect(&rt, alloc, &output, Status::WriteFault, b"", b"")?;
-    let notes = Trial {
-        words: &[],
-        notes: &[1],
-        ..sample()
-    };
-    expect(&rt, alloc, &notes, Status::WriteFault, b"", b"")
-}
-
-/// Each call of each object fails in turn.
-#[test]
-fn ends_at_each_failing_call(rt: HostRuntime) -> Result<(), Fail> {
-    let alloc = rt.alloc();
-    let reads: [(u64, &[u8]); 5] = [
-        (1, b"{\"fault\":\"Read\",\"at\":0}\n"),
-        (2, b"{\"fault\":\"Read\",\"at\":6}\n"),
-        (3, b"{\"fault\":\"Read\",\"at\":12}\n"),
-        (4, b"{\"fault\":\"Read\",\"at\":18}\n"),
-        (5, b"{\"fault\":\"Read\",\"at\":20}\n"),
-    ];
-    for (call, notes) in reads {
-        let calls = [call];
-        let trial = Trial {
-            piece: 6,
-            read: &calls,
-            ..sample()
-        };
-        expect(&rt, alloc, &trial, Status::ReadFault, b"", notes)?;
-    }
-    let later = Trial {
-        load: &[2],
-        read: &[5],
-        output: &[2],
-        notes: &[1],
-        ..sample()
-    };
-    expect(&rt, alloc, &later, Status::Done, LINE, b"")
-}
-
-/// Frames of the greatest length that fill the input's limit, and a number of bytes behind them.
-fn frames_to_the_limit(alloc: Global, behind: u8) -> Result<Vec<u8>, Fail> {
-    let mut frame = vec![in alloc; 0u8; 65_536]?;
-    frame[..6].copy_from_slice(b"\x00\x01\x00\x00\xeb\x50");
-    let mut input = Vec::new(alloc);
-    for _ in 0..256u32 {
-        input.extend_from_slice(frame.as_slice())?;
-    }
-    for _ in 0..behind {
-        input.push(0)?;
-    }
-    Ok(input)
-}
-
-#[test]
-fn ends_at_the_limit_of_the_input(rt: HostRuntime) -> Result<(), Fail> {
-    let alloc = rt.alloc();
-    let mut lines = String::new(alloc);
-    for i in 0..256usize {
-        let line = format!(in alloc;
-            "{{\"refused\":\"F00\",\"item\":{i},\"offset\":null,\"path\":\"\",\"detail\":\"\"}}\n"
-        )?;
-        lines.push_str(line.as_str())?;
-    }
-    let limit = b"{\"limit\":\"Input\",\"at\":16777216}\n";
-    let rows: [(u8, Status, &[u8]); 2] = [
-        (0, Status::SomeRefused, b""),
-        (1, Status::InputLimit, limit),
-    ];
-    for (behind, status, notes) in rows {
-        let input = frames_to_the_limit(alloc, behind)?;
-        let trial = Trial {
-            input: input.as_slice(),
-            piece: 1_048_576,
-            ..sample()
-        };
-        expect(&rt, alloc, &trial, status, lines.as_bytes(), notes)?;
-    }
-    Ok(())
-}
-
-#[test]
-fn refuses_so_many_zeros(rt: HostRuntime) -> Result<(), Fail> {
-    let alloc = rt.alloc();
-    let zeros = vec![in alloc; 0u8; 16_777_216]?;
-    let trial = Trial {
-        input: zeros.as_slice(),
-        piece: 1_048_576,
-        ..sample()
-    };
-    let short = b"{\"framing\":\"LengthShort\",\"at\":0,\"number\":0}\n";
-    expect(&rt, alloc, &trial, Status::FramingRefused, b"", short)
-}
-
-#[test]
-fn reads_words(rt: HostRuntime) -> Result<(), Fail> {
-    let alloc = rt.alloc();
-    let form = String::from_str(alloc, "dump")?;
-    let name = String::from_str(alloc, "ping.json")?;
-    let words = Vec::from_array(alloc, [form, name])?;
-    match read_words(alloc, words.as_slice()) {
-        Ok(Command::Dump { schema, limits }) => {
-            assert_eq!(rt; schema.as_str(), "ping.json");
-            assert_eq!(rt; limits.frame, 65_536);
-            assert_eq!(rt; limits.input, 16_777_216);
-        }
-        Err(_) => assert!(rt; false),
-    }
-    assert!(rt; matches!(read_words(alloc, &[]), Err(WordsErr::Usage)));
-    Ok(())
 }

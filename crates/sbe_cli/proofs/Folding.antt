@@ -1,0 +1,148 @@
+-- The answers to pieces one after another: there is one fold, and it goes on piece by piece. It rests on one fact about each command alone: each piece has exactly one reply.
+use Rattle.std.proofs.Common.{◌≡◌, ℕ, ◌+◌, List, [], ◌∷◌, ◌++◌, length, map, refl, sym, ap, ◌∙◌, subst, arith, append_assoc, length-append}
+use Rattle.std.proofs.lemmas.List.{append-nil}
+use Rattle.sbe_wire.specs.Placed.{IsPlaced}
+use Rattle.open_framing.specs.Pieces.{joined}
+use Rattle.open_framing.specs.Frames.{Item}
+use Rattle.sbe_cli.specs.Splits.{Reading, Frames, Lines, Once, Nothing, Piece, Frame, Line, Whole, piece_bytes, PieceEnd, Splits}
+use Rattle.sbe_cli.specs.Replies.{Written, Reply, reading_of, IsReply, counted, none_written, written_of, then_written, Replies}
+use Rattle.sbe_cli.specs.Steps.{IsReady}
+use Rattle.sbe_cli.specs.Pumps.{reply_of}
+use Rattle.sbe_cli.specs.declared.job.Job.{Job}
+use Rattle.sbe_cli.specs.declared.job.Job.TheVariants.{Dump}
+use Rattle.sbe_cli.specs.declared.job.Verdict.{Verdict}
+use Rattle.sbe_cli.specs.declared.pump.Kept.{Kept}
+use Rattle.sbe_cli.proofs.Dumped.{is_dumped, dumped_once}
+
+-- ---- each piece has exactly one reply: one case a command
+
+-- what a job's replies need
+abbrev pub IsPlacedJob : Job → Type 0
+IsPlacedJob (Dump schema limits) = IsPlaced schema
+
+pub ready_placed : (job : Job) → IsReady job → IsPlacedJob job
+ready_placed (Dump schema limits) ready = ready.1
+
+abbrev pub Suits : Reading → Piece → Type 0
+Suits (Frames limits) (Frame item) = Unit {0}
+Suits (Frames limits) (Line line) = ⊥
+Suits (Frames limits) Whole = ⊥
+Suits (Lines input) (Frame item) = ⊥
+Suits (Lines input) (Line line) = Unit {0}
+Suits (Lines input) Whole = ⊥
+Suits Once (Frame item) = ⊥
+Suits Once (Line line) = ⊥
+Suits Once Whole = Unit {0}
+Suits Nothing piece = ⊥
+
+-- the code's answer is a reply
+pub frame_replied : (job : Job) (kept : Kept) (item : Item) → IsPlacedJob job → IsReply job kept (Frame item) (reply_of job kept item)
+frame_replied (Dump schema limits) kept item placed = (is_dumped schema placed kept.items item, refl)
+
+some_reply : (job : Job) (kept : Kept) (piece : Piece) → IsPlacedJob job → Suits (reading_of job) piece → (reply : Reply) × IsReply job kept piece reply
+some_reply (Dump schema limits) kept (Frame item) placed suits = (reply_of (Dump schema limits) kept item, frame_replied (Dump schema limits) kept item placed)
+some_reply (Dump schema limits) kept (Line line) placed suits = absurd suits
+some_reply (Dump schema limits) kept Whole placed suits = absurd suits
+
+abbrev as_reply : List ℕ → List ℕ → Verdict → Reply
+as_reply output notes verdict = record { output = output; notes = notes; verdict = verdict }
+
+pub reply_once : (job : Job) (kept : Kept) (piece : Piece) (a b : Reply) → IsPlacedJob job → IsReply job kept piece a → IsReply job kept piece b → a ≡ b
+reply_once (Dump schema limits) kept (Frame item) a b placed h k =
+    let same = dumped_once schema placed kept.items item a.output b.output a.verdict b.verdict h.0 k.0 in
+    equal_replies a b same.0 (h.1 ∙ sym k.1) same.1
+  where
+    equal_replies : (a b : Reply) → a.output ≡ b.output → a.notes ≡ b.notes → a.verdict ≡ b.verdict → a ≡ b
+    equal_replies a b h k t = ap (λ o. as_reply o a.notes a.verdict) h ∙ ap (λ n. as_reply b.output n a.verdict) k ∙ ap (λ (v : Verdict). as_reply b.output b.notes v) t
+reply_once (Dump schema limits) kept (Line line) a b placed h k = absurd h
+reply_once (Dump schema limits) kept Whole a b placed h k = absurd h
+
+-- ---- there is one fold
+
+pub replies_once : (job : Job) (kept : Kept) (pieces : List Piece) (a b : Written) (x y : Kept) → IsPlacedJob job → Replies job kept pieces a x → Replies job kept pieces b y → (a ≡ b) × (x ≡ y)
+replies_once job kept [] a b x y placed h k = (h.0 ∙ sym k.0, h.1 ∙ sym k.1)
+replies_once job kept (piece ∷ pieces) a b x y placed h k =
+    let same : h.0 ≡ k.0 = reply_once job kept piece h.0 k.0 placed h.2 k.2 in
+    let there : Replies job (counted kept piece k.0.verdict) pieces h.1 x = subst (λ (r : Reply). Replies job (counted kept piece r.verdict) pieces h.1 x) same h.3 in
+    let later = replies_once job (counted kept piece k.0.verdict) pieces h.1 k.1 x y placed there k.3 in
+    (h.4 ∙ ap (λ (r : Reply). then_written (written_of r) h.1) same ∙ ap (λ (w : Written). then_written (written_of k.0) w) later.0 ∙ sym k.4, later.1)
+
+abbrev pub AllSuit : Reading → List Piece → Type 0
+AllSuit reading [] = Unit {0}
+AllSuit reading (piece ∷ pieces) = Suits reading piece × AllSuit reading pieces
+
+pub replies_some : (job : Job) (kept : Kept) (pieces : List Piece) → IsPlacedJob job → AllSuit (reading_of job) pieces → (written : Written) × (after : Kept) × Replies job kept pieces written after
+replies_some job kept [] placed suit = (none_written, kept, (refl, refl))
+replies_some job kept (piece ∷ pieces) placed suit =
+    let here = some_reply job kept piece placed suit.0 in
+    let there = replies_some job (counted kept piece here.0.verdict) pieces placed suit.1 in
+    (then_written (written_of here.0) there.0, there.1, (here.0, there.0, here.1, there.2, refl))
+
+frames_suit : (reading : Reading) (items : List Item) → ((item : Item) → Suits reading (Frame item)) → AllSuit reading (map Frame items)
+frames_suit reading [] all = tt
+frames_suit reading (item ∷ items) all = (all item, frames_suit reading items all)
+
+lines_suit : (reading : Reading) (all : List (List ℕ)) → ((line : List ℕ) → Suits reading (Line line)) → AllSuit reading (map Line all)
+lines_suit reading [] good = tt
+lines_suit reading (line ∷ all) good = (good line, lines_suit reading all good)
+
+pub splits_suit : (reading : Reading) (stream : List ℕ) (pieces : List Piece) (end : PieceEnd) → Splits reading stream pieces end → AllSuit reading pieces
+splits_suit (Frames limits) stream pieces end h = subst (AllSuit (Frames limits)) (sym h.3) (frames_suit (Frames limits) h.0 (λ item. tt))
+splits_suit (Lines input) stream pieces end h = subst (AllSuit (Lines input)) (sym h.3) (lines_suit (Lines input) h.0 (λ line. tt))
+splits_suit Once stream pieces end h = subst (AllSuit Once) (sym h.0) (tt, tt)
+splits_suit Nothing stream pieces end h = subst (AllSuit Nothing) (sym h.0) tt
+
+-- ---- the fold goes on
+
+abbrev as_written : List ℕ → List ℕ → Written
+as_written output notes = record { output = output; notes = notes }
+
+same_written : {a b c d : List ℕ} → a ≡ b → c ≡ d → as_written a c ≡ as_written b d
+same_written {b = b} {c = c} h k = ap (λ o. as_written o c) h ∙ ap (λ n. as_written b n) k
+
+written_nil : (a : Written) → then_written a none_written ≡ a
+written_nil a = same_written (append-nil a.output) (append-nil a.notes)
+
+pub written_assoc : (a b c : Written) → then_written (then_written a b) c ≡ then_written a (then_written b c)
+written_assoc a b c = same_written (append_assoc a.output b.output c.output) (append_assoc a.notes b.notes c.notes)
+
+-- one more piece
+pub replies_more : (job : Job) (kept mid : Kept) (pieces : List Piece) (piece : Piece) (written : Written) (reply : Reply) → Replies job kept pieces written mid → IsReply job mid piece reply →
+    Replies job kept (pieces ++ piece ∷ []) (then_written written (written_of reply)) (counted mid piece reply.verdict)
+replies_more job kept mid [] piece written reply h here =
+    (reply, none_written, subst (λ (k : Kept). IsReply job k piece reply) h.1 here, (refl, ap (λ (k : Kept). counted k piece reply.verdict) h.1), ap (λ (w : Written). then_written w (written_of reply)) h.0 ∙ sym (written_nil (written_of reply)))
+replies_more job kept mid (x ∷ pieces) piece written reply h here = (
+  h.0,
+  then_written h.1 (written_of reply),
+  h.2,
+  replies_more job (counted kept x h.0.verdict) mid pieces piece h.1 reply h.3 here,
+  ap (λ (w : Written). then_written w (written_of reply)) h.4 ∙ written_assoc (written_of h.0) h.1 (written_of reply),
+)
+
+-- the answers to the first pieces are a front of those to all
+pub replies_front : (job : Job) (kept after mid : Kept) (xs ys : List Piece) (all some : Written) → IsPlacedJob job → Replies job kept (xs ++ ys) all after → Replies job kept xs some mid → (more : Written) × (all ≡ then_written some more)
+replies_front job kept after mid [] ys all some placed h k = (all, ap (λ (w : Written). then_written w all) (sym k.0))
+replies_front job kept after mid (x ∷ xs) ys all some placed h k =
+    let same : h.0 ≡ k.0 = reply_once job kept x h.0 k.0 placed h.2 k.2 in
+    let there : Replies job (counted kept x k.0.verdict) (xs ++ ys) h.1 after = subst (λ (r : Reply). Replies job (counted kept x r.verdict) (xs ++ ys) h.1 after) same h.3 in
+    let later = replies_front job (counted kept x k.0.verdict) after mid xs ys h.1 k.1 placed there k.3 in (
+      later.0,
+      h.4 ∙ ap (λ (r : Reply). then_written (written_of r) h.1) same ∙ ap (λ (w : Written). then_written (written_of k.0) w) later.1 ∙ sym (written_assoc (written_of k.0) k.1 later.0) ∙ ap (λ (w : Written). then_written w later.0) (sym k.4),
+    )
+
+-- ---- what is counted
+
+abbrev pub pieces_bytes : List Piece → List ℕ
+pieces_bytes pieces = joined piece_bytes pieces
+
+pub bytes_counted : (job : Job) (kept after : Kept) (pieces : List Piece) (written : Written) → Replies job kept pieces written after → after.bytes ≡ kept.bytes + length (pieces_bytes pieces)
+bytes_counted job kept after [] written h = ap (λ (k : Kept). k.bytes) h.1 ∙ omega arith
+bytes_counted job kept after (piece ∷ pieces) written h =
+    let later = bytes_counted job (counted kept piece h.0.verdict) after pieces h.1 h.3 in
+    omega (arith, later, length-append (piece_bytes piece) (pieces_bytes pieces))
+
+pub items_counted : (job : Job) (kept after : Kept) (pieces : List Piece) (written : Written) → Replies job kept pieces written after → after.items ≡ kept.items + length pieces
+items_counted job kept after [] written h = ap (λ (k : Kept). k.items) h.1 ∙ omega arith
+items_counted job kept after (piece ∷ pieces) written h =
+    let later = items_counted job (counted kept piece h.0.verdict) after pieces h.1 h.3 in
+    omega (arith, later)

@@ -1,0 +1,22 @@
+-- A pump isn't opened.
+use Rattle.std.proofs.Common.{◌≡◌, ℕ, Option, Err, ap, ◌∙◌}
+use Rattle.sbe_base.specs.declared.status.Status.{Status}
+use Rattle.sbe_cli.specs.Jobs.{LoadsJob}
+use Rattle.sbe_cli.specs.Outside.{Object, Desk, Told}
+use Rattle.sbe_cli.specs.Steps.{Declines, refuses}
+use Rattle.sbe_cli.specs.Stops.{stop_line, stop_status}
+use Rattle.sbe_cli.specs.declared.files.FileRefusal.{FileRefusal}
+use Rattle.sbe_cli.specs.declared.files.LoadStop.TheVariants.{Refused}
+use Rattle.sbe_cli.specs.declared.stop.Stop.TheVariants as stop
+use Rattle.sbe_cli.specs.declared.words.Command.{Command}
+
+pub declined : (command : Command) (before after : Desk) (refusal : FileRefusal) (code : Status) → LoadsJob before.files.told command (Err (Refused refusal)) → after.files ≡ before.files →
+    Told (stop_line (stop.Refused refusal)) (stop_status (stop.Refused refusal)) before.notes after.notes code → Declines command before after code
+declined command before after refusal code h same told = refuses refusal h.judges same told
+
+-- an object that tells the same and counts the same
+pub same_object : {T : Type 0} (old new : Object T) → new.told ≡ old.told → new.faults ≡ old.faults → new ≡ old
+same_object {T = T} old new told faults = ap (λ t. the_object t new.faults) told ∙ ap (λ n. the_object old.told n) faults
+  where
+    the_object : Option T → ℕ → Object T
+    the_object t n = record { told = t; faults = n }

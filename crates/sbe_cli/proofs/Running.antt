@@ -1,0 +1,119 @@
+-- How far a job has come, and how it ends.
+use Rattle.std.proofs.Common.{◌≡◌, inl, inr, ℕ, ◌≤◌, List, [], ◌∷◌, ◌++◌, Option, Some, None, refl, sym, ap, ◌∙◌, subst, arith}
+use Rattle.std.proofs.KnownBytes.{Appends-nil}
+use Rattle.sbe_base.specs.Causes.{Rose}
+use Rattle.sbe_base.proofs.Known.{appends_more}
+use Rattle.sbe_base.specs.declared.status.Status.{Status}
+use Rattle.sbe_cli.specs.Splits.{Piece, Begins, most_taken}
+use Rattle.sbe_cli.specs.Replies.{Written, IsReply, reading_of, none_kept, none_written, written_of, then_written, Replies}
+use Rattle.sbe_cli.specs.Outside.{Object, Sinks, Streams, Wrote, Failed, Calm}
+use Rattle.sbe_cli.specs.Steps.{PumpState, behind, TakesPiece, Halts, Causes, Steps, Progress, Drains, opened}
+use Rattle.sbe_cli.specs.declared.job.Job.{Job}
+use Rattle.sbe_cli.specs.declared.pump.Kept.{Kept}
+use Rattle.sbe_cli.specs.declared.pump.Step.TheVariants.{Went, Ended}
+use Rattle.sbe_cli.proofs.Folding.{replies_more, bytes_counted, items_counted}
+use Rattle.sbe_cli.proofs.Splitting.{Counts, none_some, begins_none, begins_more}
+
+-- ---- what is written in turn
+
+pub wrote_none : (s : Sinks) → Wrote s s none_written
+wrote_none s = record { output = Appends-nil s.output.told; notes = Appends-nil s.notes.told }
+
+pub wrote_more : (a b c : Sinks) (x y : Written) → Wrote a b x → Wrote b c y → Wrote a c (then_written x y)
+wrote_more a b c x y h k = record {
+  output = appends_more a.output.told b.output.told c.output.told x.output y.output h.output k.output;
+  notes = appends_more a.notes.told b.notes.told c.notes.told x.notes y.notes h.notes k.notes;
+}
+
+pub calm_none : (s : Streams) → Calm s s
+calm_none s = record { input = refl; output = refl; notes = refl }
+
+pub calm_more : (a b c : Streams) → Calm a b → Calm b c → Calm a c
+calm_more a b c h k = record { input = k.input ∙ h.input; output = k.output ∙ h.output; notes = k.notes ∙ h.notes }
+
+-- an object that failed later has failed
+pub failed_since : {T : Type 0} {a b c : Object T} → b.faults ≡ a.faults → Failed b c → Failed a c
+failed_since {c = c} same f = record { rose = subst (λ n. Rose n c.faults) same f.rose; later = subst (λ n. n ≤ c.faults) same f.later }
+
+-- ---- progress
+
+-- the numbers count what was answered
+pub counts : (job : Job) (kept : Kept) (pieces : List Piece) (written : Written) → Replies job none_kept pieces written kept → Counts kept pieces
+counts job kept pieces written h = record { items = items_counted job none_kept kept pieces written h ∙ omega arith; bytes = bytes_counted job none_kept kept pieces written h ∙ omega arith }
+
+pub progress_none : (job : Job) (old : Streams) (input : List ℕ) → old.input.told ≡ Some input → Progress job none_kept old old input
+progress_none job old input source = record { pieces = []; left = input; written = none_written; source = source; begins = begins_none (reading_of job) input; replies = (refl, refl); wrote = wrote_none old.sinks }
+
+-- how far the job is, and that nothing has failed
+pub record IsRunning (job : Job) (pump : PumpState) (old now : Streams) : Type 0 where
+  pub job_is : pump.job ≡ job
+  pub runs : pump.ended ≡ None
+  pub within : pump.kept.bytes ≤ most_taken (reading_of pump.job)
+  pub progress : (input : List ℕ) → old.input.told ≡ Some input → Progress job pump.kept old now input
+  pub calm : Calm old now
+
+module _ (job : Job) (old now new : Streams) (pump pump' : PumpState) where
+  one_more : (input : List ℕ) → pump.job ≡ job → Progress job pump.kept old now input → ((left : List ℕ) → now.input.told ≡ Some left → TakesPiece pump pump' now new left) → Progress job pump'.kept old new input
+  one_more input same h answers =
+      let a = answers h.left h.source in
+      let taken : Begins (reading_of job) input (h.pieces ++ a.piece ∷ []) a.left =
+      begins_more (reading_of job) pump.kept input h.left a.left h.pieces (a.piece ∷ []) (counts job pump.kept h.pieces h.written h.replies) h.begins (subst (λ (j : Job). Begins (behind (reading_of j) pump.kept) h.left (a.piece ∷ []) a.left) same a.taken) in
+      let here = subst (λ (j : Job). IsReply j pump.kept a.piece a.reply) same a.replied in
+      let all = replies_more job none_kept pump.kept h.pieces a.piece h.written a.reply h.replies here in
+      record {
+        pieces = h.pieces ++ a.piece ∷ [];
+        left = a.left;
+        written = then_written h.written (written_of a.reply);
+        source = a.source;
+        begins = taken;
+        replies = subst (λ (k : Kept). Replies job none_kept (h.pieces ++ a.piece ∷ []) (then_written h.written (written_of a.reply)) k) (sym a.kept) all;
+        wrote = wrote_more old.sinks now.sinks new.sinks h.written (written_of a.reply) h.wrote a.wrote;
+      }
+
+  pub runs_more : IsRunning job pump old now → Steps pump pump' now new Went → IsRunning job pump' old new
+  runs_more h step =
+      let goes = step.1 in
+      record {
+        job_is = goes.job ∙ h.job_is;
+        runs = goes.runs;
+        within = goes.within;
+        progress = λ input source. one_more input h.job_is (h.progress input source) goes.answers;
+        calm = calm_more old now new h.calm goes.calm;
+      }
+
+  -- ---- the end
+
+  later_causes : (code : Status) → Calm old now → Causes now new code → Causes old new code
+  later_causes code calm h = record {
+    calm = λ r. calm_more old now new calm (h.calm r);
+    read = λ r. failed_since calm.input (h.read r);
+    write = λ w. elim (h.write w) [ inl f ↦ inl (failed_since calm.output f) | inr f ↦ inr (failed_since calm.notes f) ];
+    late = h.late;
+  }
+
+  pub drained : (code : Status) → IsRunning job pump old now → Steps pump pump' now new (Ended code) → Drains job old new code
+  drained code h step = elim step [
+    | inl stays ↦ absurd (none_some (sym h.runs ∙ stays.0))
+    | inr closes ↦ record {
+      course = λ input source.
+          let p = h.progress input source in
+          record { kept = pump.kept; mid = now; progress = p; calm = h.calm; halts = subst (λ (s : PumpState). Halts s now new p.left code) (pump_is pump h.job_is h.runs) (closes.1.halts p.left p.source) };
+      causes = later_causes code h.calm closes.1.causes;
+    }
+  ]
+    where
+      the_pump : Kept → Job → Option Status → PumpState
+      the_pump k j o = record { job = j; kept = k; ended = o }
+
+      pump_is : (s : PumpState) → s.job ≡ job → s.ended ≡ None → s ≡ record { job = job; kept = s.kept; ended = None }
+      pump_is s j e = ap (λ (x : Job). the_pump s.kept x s.ended) j ∙ ap (λ (o : Option Status). the_pump s.kept job o) e
+
+-- a pump that was opened just now
+pub runs_new : (pump : PumpState) (old : Streams) → pump ≡ opened pump.job → IsRunning pump.job pump old old
+runs_new pump old new = record {
+  job_is = refl;
+  runs = ap (λ (s : PumpState). s.ended) new;
+  within = let none : pump.kept.bytes ≡ 0 = ap (λ (s : PumpState). s.kept.bytes) new in omega (arith, none);
+  progress = λ input source. subst (λ (k : Kept). Progress pump.job k old old input) (sym (ap (λ (s : PumpState). s.kept) new)) (progress_none pump.job old input source);
+  calm = calm_none old;
+}

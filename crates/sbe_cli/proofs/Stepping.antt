@@ -1,0 +1,225 @@
+-- One step of a pump over a stream of frames.
+use Rattle.std.proofs.Common.{◌≡◌, ℕ, ◌+◌, ◌-◌, ◌≤◌, Bool, true, false, List, [], ◌∷◌, ◌++◌, length, Option, Some, None, Result, Ok, Err, refl, sym, ap, ◌∙◌, subst, arith}
+use Rattle.std.specs.Prelude.{nat_lt}
+use Rattle.std.proofs.lemmas.List.{append-nil, take_all}
+use Rattle.std.proofs.lemmas.Bool.Decides.{nat_tests}
+use Rattle.sbe_base.specs.declared.status.Status.{Status}
+use Rattle.sbe_base.specs.declared.status.Status.TheVariants as status
+use Rattle.open_framing.specs.declared.head.Head.{Head}
+use Rattle.open_framing.specs.declared.head.HeadErr.{HeadErr}
+use Rattle.open_framing.specs.declared.head.HeadErr.TheVariants as head
+use Rattle.open_framing.specs.Heads.{head_of}
+use Rattle.open_framing.specs.Pieces.{joined}
+use Rattle.open_framing.specs.Frames.{Item, frame_of, IsFrame, first_item, Cut, CutEnd, end_by}
+use Rattle.open_framing.specs.Frames as frames
+use Rattle.open_framing.proofs.FrameLemmas.{frame_complete}
+use Rattle.frame_stream.specs.declared.held.Ended.{Ended}
+use Rattle.frame_stream.specs.declared.held.Ended.TheVariants as ended
+use Rattle.frame_stream.specs.declared.stream.Taken.{Taken}
+use Rattle.frame_stream.specs.declared.stream.Taken.TheVariants as taken
+use Rattle.frame_stream.specs.declared.stream.StreamErr.{StreamErr}
+use Rattle.frame_stream.specs.declared.stream.StreamErr.TheVariants as err
+use Rattle.frame_stream.specs.Stream.{StreamState, room, told_by, Takes, TakesFrom, TakesBy}
+use Rattle.sbe_cli.specs.Splits.{Reading, Frames, Frame, PieceEnd, End, EndInside, HeadFault, InputLimit, frames_end, Splits, Begins, Holds, most_taken}
+use Rattle.sbe_cli.specs.Replies.{Reply, reading_of, IsReply, counted, counted_by, written_of}
+use Rattle.sbe_cli.specs.Report.{end_notes, end_status}
+use Rattle.sbe_cli.specs.Stops.{stop_line}
+use Rattle.sbe_cli.specs.Outside.{Streams, Wrote, Failed, Calm, Told}
+use Rattle.sbe_cli.specs.Steps.{PumpState, IsReady, reading_on, Goes, Fails, Halts, ended_at, stalled_at}
+use Rattle.sbe_cli.specs.Pumps.{job_limits, Stands, reply_of}
+use Rattle.sbe_cli.specs.declared.job.Job.{Job}
+use Rattle.sbe_cli.specs.declared.job.Job.TheVariants.{Dump}
+use Rattle.sbe_cli.specs.declared.pump.Kept.{Kept}
+use Rattle.sbe_cli.specs.declared.stop.Stop.TheVariants as stop
+use Rattle.sbe_cli.proofs.Folding.{ready_placed, frame_replied}
+use Rattle.sbe_cli.proofs.Splitting.{some_same, none_some}
+
+-- ---- a cut that ends with nothing left
+
+-- no byte goes on, and none is left
+end_is : (found : Result Head HeadErr) (goes_on : Bool) (rest : List ℕ) → frames.End ≡ end_by found goes_on rest → (goes_on ≡ false) × (rest ≡ [])
+end_is (Ok h) true rest e = cc
+end_is (Ok h) false [] e = (refl, refl)
+end_is (Ok h) false (b ∷ rest) e = cc
+end_is (Err head.HeadShort) true rest e = cc
+end_is (Err head.HeadShort) false [] e = (refl, refl)
+end_is (Err head.HeadShort) false (b ∷ rest) e = cc
+end_is (Err (head.LengthShort n)) goes_on rest e = cc
+end_is (Err (head.LengthOver n)) goes_on rest e = cc
+end_is (Err (head.Encoding n)) goes_on rest e = cc
+
+cut_ended : (stream : List ℕ) (limit n : ℕ) → Cut stream limit n [] frames.End → stream ≡ []
+cut_ended stream limit n cut =
+    let ends = end_is (head_of cut.rest limit) (nat_lt n (length stream)) cut.rest cut.ends in
+    let within : length stream ≤ n = grind (arith, nat_tests, ends.0) in
+    sym (take_all n stream within) ∙ cut.pieces.whole ∙ ends.1
+
+-- ---- what a stream tells, in the words of a pump
+
+abbrev pub cut_end : Ended → CutEnd
+cut_end ended.End = frames.End
+cut_end (ended.Inside n) = frames.EndInside n
+cut_end (ended.Head e) = frames.HeadFault e
+cut_end ended.Over = frames.InputLimit
+
+abbrev pub piece_end : Ended → PieceEnd
+piece_end ended.End = End
+piece_end (ended.Inside n) = EndInside n
+piece_end (ended.Head e) = HeadFault e
+piece_end ended.Over = InputLimit
+
+same_end : (e : Ended) → piece_end e ≡ frames_end (cut_end e)
+same_end ended.End = refl
+same_end (ended.Inside n) = refl
+same_end (ended.Head e) = refl
+same_end ended.Over = refl
+
+cut_told : (stream left : List ℕ) (old new : StreamState) (e : Ended) → TakesBy stream old new left (told_by e) → Cut stream old.frame (room old) [] (cut_end e)
+cut_told stream left old new ended.End h = h.0
+cut_told stream left old new (ended.Inside n) h = h.0
+cut_told stream left old new (ended.Head e) h = h.0
+cut_told stream left old new ended.Over h = h.0
+
+-- a stream that held nothing takes from what the source had left
+took : (old new : StreamState) (a b : Option (List ℕ)) (result : Result Taken StreamErr) (input : List ℕ) → old.held ≡ [] → TakesFrom old new a b result → a ≡ Some input → (left : List ℕ) × (b ≡ Some left) × TakesBy input old new left result
+took old new None b result input none h e = absurd (none_some e)
+took old new (Some x) None result input none h e = absurd h
+took old new (Some x) (Some y) result input none h e =
+    (y, refl, subst (λ s. TakesBy s old new y result) (ap (λ s. s ++ x) none ∙ some_same e) h)
+
+-- ---- a step
+
+module _ (job : Job) (kept : Kept) where
+  abbrev pub pump : PumpState
+  pump = record { job = job; kept = kept; ended = None }
+
+  abbrev on : Reading
+  on = Frames (record { frame = (job_limits job).frame; input = (job_limits job).input - kept.bytes })
+
+  module _ (st st' : StreamState) (stands : Stands job st kept) where
+    room_left : room st ≡ (job_limits job).input - kept.bytes
+    room_left = omega (arith, stands.room)
+
+    module _ (before after : Streams) (code : Status) where
+      -- ---- the end
+
+      split : (input left : List ℕ) (e : Ended) → TakesBy input st st' left (told_by e) → Splits on input [] (piece_end e)
+      split input left e h = (
+        [],
+        cut_end e,
+        subst (λ n. Cut input (job_limits job).frame n [] (cut_end e)) room_left (subst (λ n. Cut input n (room st) [] (cut_end e)) stands.frame (cut_told input left st st' e h)),
+        refl,
+        same_end e,
+      )
+
+      nothing_left : (input left : List ℕ) (e : Ended) → Takes st st' before.input.told after.input.told (told_by e) → after.input.told ≡ Some left → TakesBy input st st' left (told_by e) → piece_end e ≡ End → after.input.told ≡ Some []
+      nothing_left input left ended.End takes source h is =
+          let none : input ≡ [] = cut_ended input st.frame (room st) h.0 in
+          let same : input ≡ left = h.1 ∙ ap (λ x. x ++ left) takes.held in
+          source ∙ ap Some (sym same ∙ none)
+      nothing_left input left (ended.Inside n) takes source h is = cc
+      nothing_left input left (ended.Head e) takes source h is = cc
+      nothing_left input left ended.Over takes source h is = cc
+
+      -- ---- the parts of an end
+
+      reads_on : reading_on pump ≡ on
+      reads_on = by job
+        where
+          by : (j : Job) → reading_on (record { job = j; kept = kept; ended = None }) ≡ Frames (record { frame = (job_limits j).frame; input = (job_limits j).input - kept.bytes })
+          by (Dump schema limits) = refl
+
+      most : most_taken (reading_of job) ≡ (job_limits job).input
+      most = by job
+        where
+          by : (j : Job) → most_taken (reading_of j) ≡ (job_limits j).input
+          by (Dump schema limits) = refl
+
+      pub ends : (e : Ended) (input : List ℕ) → Takes st st' before.input.told after.input.told (told_by e) → after.sinks.output ≡ before.sinks.output →
+          Told (end_notes (piece_end e) kept.bytes (job_limits job).input) (end_status (piece_end e) kept.refused) before.sinks.notes after.sinks.notes code →
+          before.input.told ≡ Some input → Halts pump before after input code
+      ends e input takes same told source =
+          let h = took st st' before.input.told after.input.told (told_by e) input stands.held takes.from source in
+          ended_at (record {
+            end = piece_end e;
+            split = subst (λ r. Splits r input [] (piece_end e)) (sym reads_on) (split input h.0 e h.2);
+            left = nothing_left input h.0 e takes h.1 h.2;
+            output = same;
+            noted = subst (λ n. Told (end_notes (piece_end e) kept.bytes n) (end_status (piece_end e) kept.refused) before.sinks.notes after.sinks.notes code) (sym most) told;
+          })
+
+      -- ---- a fault of the input
+
+      no_frame : (limit : ℕ) (bytes : List ℕ) → first_item limit bytes ≡ None → (x : Item) (more : List ℕ) → IsFrame limit x → bytes ≡ frame_of x ++ more → ⊥
+      no_frame limit bytes none x more is e = none_some (sym none ∙ ap (first_item limit) e ∙ frame_complete limit x more is)
+
+      part_held : (held : List ℕ) → first_item (job_limits job).frame held ≡ None → Holds on held []
+      part_held held none = ([], held, record { whole = refl; each = tt; longest = no_frame (job_limits job).frame held none }, refl)
+
+      pub stalls_at : (input : List ℕ) → Takes st st' before.input.told after.input.told (Err err.ReadFault) → first_item st'.frame st'.held ≡ None → Failed before.input after.input → after.sinks.output ≡ before.sinks.output →
+          Told (stop_line (stop.ReadFault st'.taken)) status.ReadFault before.sinks.notes after.sinks.notes code → before.input.told ≡ Some input → Halts pump before after input code
+      stalls_at input takes none fault same told source =
+          let h = took st st' before.input.told after.input.told (Err err.ReadFault) input stands.held takes.from source in
+          let at : st'.taken ≡ kept.bytes + length st'.held = omega (arith, stands.room, stands.input, takes.falls, takes.input, takes.within) in
+          stalled_at (record {
+            held = st'.held;
+            left = h.0;
+            source = h.1;
+            taken = h.2;
+            part = subst (λ r. Holds r st'.held []) (sym reads_on) (part_held st'.held (subst (λ n. first_item n st'.held ≡ None) (takes.frame ∙ stands.frame) none));
+            fault = fault;
+            output = same;
+            noted = subst (λ n. Told (stop_line (stop.ReadFault n)) status.ReadFault before.sinks.notes after.sinks.notes code) at told;
+          })
+
+      -- ---- a frame
+
+      module _ (h : Head) (takes : Takes st st' before.input.told after.input.told (Ok (taken.Frame h))) (size : h.length ≡ length st'.body + 6) where
+        abbrev item : Item
+        item = record { encoding = h.encoding; body = st'.body }
+
+        fell : room st ≡ length st'.body + 6 + room st'
+        fell = takes.falls
+
+        pub fits : kept.bytes + h.length ≤ (job_limits job).input
+        fits = omega (arith, stands.room, fell, size)
+
+        frame_size : length (frame_of item) ≡ h.length
+        frame_size = omega (arith, size)
+
+        begins : (input left : List ℕ) → TakesBy input st st' left (Ok (taken.Frame h)) → Begins on input (Frame item ∷ []) left
+        begins input left by_frame =
+            let is : IsFrame (job_limits job).frame item = subst (λ n. IsFrame n item) stands.frame (subst (IsFrame st.frame) by_frame.4 by_frame.1) in
+            let whole : input ≡ frame_of item ++ left = by_frame.3 ∙ ap (λ i. frame_of i ++ left) by_frame.4 in
+            let one : joined frame_of (item ∷ []) ≡ frame_of item = append-nil (frame_of item) in (
+              item ∷ [],
+              record { whole = whole ∙ ap (λ x. x ++ left) (sym one); each = (is, tt) },
+              omega (arith, ap length one, frame_size, fits),
+              refl,
+            )
+
+        begins_on : (input left : List ℕ) → TakesBy input st st' left (Ok (taken.Frame h)) → Begins (reading_on pump) input (Frame item ∷ []) left
+        begins_on input left by_frame = subst (λ r. Begins r input (Frame item ∷ []) left) (sym reads_on) (begins input left by_frame)
+
+        module _ (ready : IsReady job) where
+          replied : IsReply job kept (Frame item) (reply_of job kept item)
+          replied = frame_replied job kept item (ready_placed job ready)
+
+          pub fails : (input : List ℕ) (IsWritten : Reply → Type 0) → IsWritten (reply_of job kept item) → before.input.told ≡ Some input → Fails pump after input IsWritten
+          fails input IsWritten wrote source =
+              let f = took st st' before.input.told after.input.told (Ok (taken.Frame h)) input stands.held takes.from source in
+              record { piece = Frame item; reply = reply_of job kept item; left = f.0; source = f.1; taken = begins_on input f.0 f.2; replied = replied; wrote = wrote }
+
+          pub goes : (now : PumpState) → Wrote before.sinks after.sinks (written_of (reply_of job kept item)) → Calm before after → now ≡ record { job = job; kept = counted_by kept h.length (reply_of job kept item).verdict; ended = None } → Goes pump now before after
+          goes now wrote calm is =
+              let counts : counted_by kept h.length (reply_of job kept item).verdict ≡ counted kept (Frame item) (reply_of job kept item).verdict = ap (λ n. counted_by kept n (reply_of job kept item).verdict) (sym frame_size) in
+              subst (λ (s : PumpState). Goes pump s before after) (sym is) (record {
+                answers = λ input source.
+                    let f = took st st' before.input.told after.input.told (Ok (taken.Frame h)) input stands.held takes.from source in
+                    record { piece = Frame item; reply = reply_of job kept item; left = f.0; source = f.1; taken = begins_on input f.0 f.2; replied = replied; wrote = wrote; kept = counts };
+                calm = calm;
+                runs = refl;
+                job = refl;
+                more = omega (arith, size);
+                within = omega (arith, fits, most);
+              })

@@ -1,0 +1,26 @@
+-- What loading the files of a command answers.
+use Rattle.std.specs.Prelude.{◌≡◌, ℕ, List, Option, Some, Result, Ok, Err, ⊤}
+use Rattle.sbe_cli.specs.Report.{Judges}
+use Rattle.sbe_cli.specs.Steps.{IsReady}
+use Rattle.sbe_cli.specs.Pumps.{IsBounded, job_limits}
+use Rattle.sbe_cli.specs.declared.files.LoadStop.{LoadStop}
+use Rattle.sbe_cli.specs.declared.files.LoadStop.TheVariants.{Refused, Fault, NoMemory}
+use Rattle.sbe_cli.specs.declared.job.Job.{Job}
+use Rattle.sbe_cli.specs.declared.words.Command.{Command}
+
+-- what the files are judged as, unless they failed or memory was wanting
+abbrev pub JudgesAs : (List ℕ → Option (List ℕ)) → Command → Result Job LoadStop → Type 0
+JudgesAs contents command (Ok job) = Judges command contents (Ok job)
+JudgesAs contents command (Err (Refused refusal)) = Judges command contents (Err refusal)
+JudgesAs contents command (Err Fault) = ⊤
+JudgesAs contents command (Err NoMemory) = ⊤
+
+-- a job that can be carried out, within the bounds of its limits
+abbrev pub IsSound : Result Job LoadStop → Type 0
+IsSound (Ok job) = IsReady job × IsBounded (job_limits job)
+IsSound (Err stop) = ⊤
+
+-- the same where the files tell what they hold
+pub record LoadsJob (told : Option (List ℕ → Option (List ℕ))) (command : Command) (result : Result Job LoadStop) : Type 0 where
+  pub judges : (contents : List ℕ → Option (List ℕ)) → told ≡ Some contents → JudgesAs contents command result
+  pub sound : IsSound result

@@ -1,0 +1,74 @@
+-- What each command answers to each piece of its input, and what it has done so far.
+use Rattle.std.specs.Prelude.{◌≡◌, ℕ, ◌+◌, List, [], ◌∷◌, ◌++◌, length}
+use Rattle.sbe_cli.specs.Dump.{IsDumped}
+use Rattle.sbe_cli.specs.Splits.{Reading, Frames, Piece, Frame, Line, Whole, piece_bytes}
+use Rattle.sbe_cli.specs.declared.job.Job.{Job}
+use Rattle.sbe_cli.specs.declared.job.Job.TheVariants.{Dump}
+use Rattle.sbe_cli.specs.declared.job.Verdict.{Verdict}
+use Rattle.sbe_cli.specs.declared.job.Verdict.TheVariants.{Answered, Refused, Translated}
+use Rattle.sbe_cli.specs.declared.pump.Kept.{Kept}
+
+-- what goes to the output and what goes to the notes
+pub record Written : Type 0 where
+  pub output : List ℕ
+  pub notes : List ℕ
+
+-- what one piece is answered, and what became of it
+pub record Reply : Type 0 where
+  pub output : List ℕ
+  pub notes : List ℕ
+  pub verdict : Verdict
+
+-- how a command reads its input
+abbrev pub reading_of : Job → Reading
+reading_of (Dump schema limits) = Frames limits
+
+-- The answer to one piece: one case a command.
+abbrev pub IsReply : Job → Kept → Piece → Reply → Type 0
+IsReply (Dump schema limits) kept (Frame item) reply = IsDumped schema kept.items item reply.output reply.verdict × (reply.notes ≡ [])
+IsReply (Dump schema limits) kept (Line line) reply = ⊥
+IsReply (Dump schema limits) kept Whole reply = ⊥
+
+-- ---- what was done so far
+
+abbrev pub none_kept : Kept
+none_kept = record { items = 0; refused = 0; translated = 0; bytes = 0 }
+
+abbrev pub refusals : Verdict → ℕ
+refusals Answered = 0
+refusals Refused = 1
+refusals Translated = 0
+
+abbrev pub translations : Verdict → ℕ
+translations Answered = 0
+translations Refused = 0
+translations Translated = 1
+
+-- the numbers after one more piece of so many bytes
+abbrev pub counted_by : Kept → ℕ → Verdict → Kept
+counted_by kept bytes verdict = record {
+  items = kept.items + 1;
+  refused = kept.refused + refusals verdict;
+  translated = kept.translated + translations verdict;
+  bytes = kept.bytes + bytes;
+}
+
+abbrev pub counted : Kept → Piece → Verdict → Kept
+counted kept piece verdict = counted_by kept (length (piece_bytes piece)) verdict
+
+abbrev pub none_written : Written
+none_written = record { output = []; notes = [] }
+
+abbrev pub written_of : Reply → Written
+written_of reply = record { output = reply.output; notes = reply.notes }
+
+-- one and then the other
+abbrev pub then_written : Written → Written → Written
+then_written first more = record { output = first.output ++ more.output; notes = first.notes ++ more.notes }
+
+-- The answers to pieces one after another, and the numbers behind them.
+abbrev pub Replies : Job → Kept → List Piece → Written → Kept → Type 0
+Replies job kept [] written after = (written ≡ none_written) × (after ≡ kept)
+Replies job kept (piece ∷ pieces) written after =
+    (reply : Reply) × (more : Written) × IsReply job kept piece reply × Replies job (counted kept piece reply.verdict) pieces more after
+    × (written ≡ then_written (written_of reply) more)

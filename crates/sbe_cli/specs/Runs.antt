@@ -1,0 +1,152 @@
+-- What a run promises about the outside before and after it.
+use Rattle.std.specs.Prelude.{◌≡◌, ◌⊎◌, ℕ, Bool, false, true, Option, Some, None, Ok, List, [], ◌∷◌, ◌++◌, length}
+use Rattle.std.specs.Io.KnownBytes.{Consumes, Appends}
+use Rattle.sbe_base.specs.Causes.{AppendsPart}
+use Rattle.sbe_base.specs.declared.status.Status.{Status}
+use Rattle.sbe_base.specs.declared.status.Status.TheVariants as status
+use Rattle.sbe_cli.specs.Words.{command_of}
+use Rattle.sbe_cli.specs.Splits.{Piece, Begins, Holds}
+use Rattle.sbe_cli.specs.Replies.{Written, Reply, reading_of, IsReply, none_kept, written_of, Replies}
+use Rattle.sbe_cli.specs.Report.{Outcome, Judges, Report}
+use Rattle.sbe_cli.specs.Stops.{stop_line}
+use Rattle.sbe_cli.specs.Outside.{Desk, Sinks, Streams, Outside, Wrote, Breaks, Failed, Calm}
+use Rattle.sbe_cli.specs.Steps.{IsReady, JudgedAs, Declines, Drains, IsReported, IsStepStatus}
+use Rattle.sbe_cli.specs.declared.job.Job.{Job}
+use Rattle.sbe_cli.specs.declared.pump.Kept.{Kept}
+use Rattle.sbe_cli.specs.declared.stop.Stop.TheVariants as stop
+use Rattle.sbe_cli.specs.declared.words.Command.{Command}
+use Rattle.sbe_cli.specs.declared.words.Command.TheVariants.{Dump}
+
+-- the files and the notes
+abbrev pub desk : Outside → Desk
+desk outside = record { files = outside.files; notes = outside.streams.sinks.notes }
+
+-- the files and the input tell what they hold
+pub record Known (old : Outside) (contents : List ℕ → Option (List ℕ)) (input : List ℕ) : Type 0 where
+  pub files : old.files.told ≡ Some contents
+  pub source : old.streams.input.told ≡ Some input
+
+-- the words are a command, its files are accepted, and this is its job
+abbrev pub IsJob : List (List ℕ) → (List ℕ → Option (List ℕ)) → Job → Type 0
+IsJob words contents job = (command : Command) × (command_of words ≡ Some command) × Judges command contents (Ok job)
+
+abbrev pub written_in : Outcome → Written
+written_in outcome = record { output = outcome.output; notes = outcome.notes }
+
+-- Output, notes and status are those of the report.
+abbrev pub Reports : List (List ℕ) → Outside → Outside → Status → Type 0
+Reports words old new code =
+    (contents : List ℕ → Option (List ℕ)) (input : List ℕ) → Known old contents input →
+    (outcome : Outcome) × Report words contents input outcome × (code ≡ outcome.status) × Wrote old.streams.sinks new.streams.sinks (written_in outcome)
+
+-- ---- what stands after a fault
+
+-- All whole pieces of these bytes, which the source gave, are answered.
+pub record AllAnswered (words : List (List ℕ)) (contents : List ℕ → Option (List ℕ)) (taken : List ℕ) (written : Written) : Type 0 where
+  pub job : Job
+  pub is_job : IsJob words contents job
+  pub pieces : List Piece
+  pub whole : Holds (reading_of job) taken pieces
+  pub kept : Kept
+  pub replies : Replies job none_kept pieces written kept
+
+-- the line of an input that failed behind so many bytes
+abbrev pub read_line : List ℕ → List ℕ
+read_line taken = stop_line (stop.ReadFault (length taken))
+
+-- The source gave some bytes and failed. All whole pieces of them are answered, and the fault's line is noted.
+abbrev pub StandsAtRead : List (List ℕ) → Outside → Outside → (List ℕ → Option (List ℕ)) → Type 0
+StandsAtRead words old new contents =
+    (taken : List ℕ) × (written : Written) × Consumes old.streams.input.told new.streams.input.told taken × AllAnswered words contents taken written
+    × Wrote old.streams.sinks new.streams.sinks (record { output = written.output; notes = written.notes ++ read_line taken })
+
+-- A write of the answer to the last of these pieces failed. The others' answers are written, and nothing behind it was taken.
+pub record AtReply (words : List (List ℕ)) (contents : List ℕ → Option (List ℕ)) (input : List ℕ) (old new : Streams) : Type 0 where
+  pub job : Job
+  pub is_job : IsJob words contents job
+  pub pieces : List Piece
+  pub last : Piece
+  pub left : List ℕ
+  pub source : new.input.told ≡ Some left
+  pub begins : Begins (reading_of job) input (pieces ++ last ∷ []) left
+  pub kept : Kept
+  pub written : Written
+  pub replies : Replies job none_kept pieces written kept
+  pub reply : Reply
+  pub replied : IsReply job kept last reply
+  pub mid : Sinks
+  pub whole : Wrote old.sinks mid written
+  pub part : Breaks mid new.sinks (written_of reply)
+
+-- Where a write failed: at an answer; at the last line of the report, behind all answers; at the line of a fault of the input, or of the files.
+pub data StandsAtWrite (words : List (List ℕ)) (old new : Outside) (contents : List ℕ → Option (List ℕ)) (input : List ℕ) : Type 0 where
+  at_reply : AtReply words contents input old.streams new.streams → StandsAtWrite words old new contents input
+  at_end : (outcome : Outcome) → Report words contents input outcome → Appends old.streams.sinks.output.told new.streams.sinks.output.told outcome.output
+      → AppendsPart old.streams.sinks.notes.told new.streams.sinks.notes.told outcome.notes → StandsAtWrite words old new contents input
+  at_read : (taken : List ℕ) (written : Written) → Consumes old.streams.input.told new.streams.input.told taken → AllAnswered words contents taken written
+      → Appends old.streams.sinks.output.told new.streams.sinks.output.told written.output
+      → AppendsPart old.streams.sinks.notes.told new.streams.sinks.notes.told (written.notes ++ read_line taken) → StandsAtWrite words old new contents input
+  at_file : new.streams.input ≡ old.streams.input → new.streams.sinks.output ≡ old.streams.sinks.output
+      → AppendsPart old.streams.sinks.notes.told new.streams.sinks.notes.told (stop_line stop.FileFault) → StandsAtWrite words old new contents input
+
+-- The files failed: nothing was read or written but the fault's line.
+pub record StandsAtFile (old new : Streams) : Type 0 where
+  pub input : new.input ≡ old.input
+  pub wrote : Wrote old.sinks new.sinks (record { output = []; notes = stop_line stop.FileFault })
+
+-- ---- fronts
+
+-- A line that tells a fault of the files, or of the input behind the bytes that it gave. That object failed.
+abbrev pub IsFaultLine : Outside → Outside → List ℕ → Type 0
+IsFaultLine old new line =
+    (Failed old.files new.files × (line ≡ stop_line stop.FileFault))
+    ⊎ (Failed old.streams.input new.streams.input × ((taken : List ℕ) × Consumes old.streams.input.told new.streams.input.told taken × (line ≡ read_line taken)))
+
+-- notes grew by a front of these, or by a front of them and a front of such a line
+abbrev pub NotesPart : Outside → Outside → List ℕ → Type 0
+NotesPart old new notes =
+    AppendsPart old.streams.sinks.notes.told new.streams.sinks.notes.told notes
+    ⊎ ((front : List ℕ) × (back : List ℕ) × (line : List ℕ) × (notes ≡ front ++ back) × IsFaultLine old new line
+    × AppendsPart old.streams.sinks.notes.told new.streams.sinks.notes.told (front ++ line))
+
+-- Output and notes grew by fronts of the report's.
+abbrev pub Fronts : List (List ℕ) → Outside → Outside → Type 0
+Fronts words old new =
+    (contents : List ℕ → Option (List ℕ)) (input : List ℕ) (outcome : Outcome) → Known old contents input → Report words contents input outcome →
+    AppendsPart old.streams.sinks.output.told new.streams.sinks.output.told outcome.output × NotesPart old new outcome.notes
+
+-- ---- the run
+
+-- whether a command takes anything of the input
+abbrev pub reads_input : Option Command → Bool
+reads_input None = false
+reads_input (Some (Dump name limits)) = true
+
+-- the input was read to its end
+abbrev pub HasRead : Status → Type 0
+HasRead code = (code ≡ status.Done) ⊎ (code ≡ status.SomeRefused)
+
+-- What the words, and the outside before and after, say of the status.
+pub record Runs (words : List (List ℕ)) (old new : Outside) (code : Status) : Type 0 where
+  -- nothing outside cut the run short: all is as in the report, no call failed, and nothing is left where all was answered
+  pub report : IsReported code → Reports words old new code
+  pub calm : IsReported code → (new.files.faults ≡ old.files.faults) × Calm old.streams new.streams
+  pub read : HasRead code → (input : List ℕ) → old.streams.input.told ≡ Some input → new.streams.input.told ≡ Some []
+  -- a fault is answered only where that object failed
+  pub file_fault : code ≡ status.FileFault → Failed old.files new.files
+  pub read_fault : code ≡ status.ReadFault → Failed old.streams.input new.streams.input
+  pub write_fault : code ≡ status.WriteFault → Failed old.streams.sinks.output new.streams.sinks.output ⊎ Failed old.streams.sinks.notes new.streams.sinks.notes
+  -- what stands then
+  pub file_stands : code ≡ status.FileFault → StandsAtFile old.streams new.streams
+  pub read_stands : code ≡ status.ReadFault → (contents : List ℕ → Option (List ℕ)) (input : List ℕ) → Known old contents input → StandsAtRead words old new contents
+  pub write_stands : code ≡ status.WriteFault → (contents : List ℕ → Option (List ℕ)) (input : List ℕ) → Known old contents input → StandsAtWrite words old new contents input
+  pub fronts : Fronts words old new
+  -- the source is as it was where the words are no command that reads it, or the run ended before its items
+  pub untouched : reads_input (command_of words) ≡ false → new.streams.input ≡ old.streams.input
+  pub unread : (IsStepStatus code → ⊥) → new.streams.input ≡ old.streams.input
+
+-- What a command promises of the outside before and after it: its pump isn't opened, or it is, and drains.
+abbrev pub CarriesOut : Command → Outside → Outside → Status → Type 0
+CarriesOut command old new code =
+    (Declines command (desk old) (desk new) code × (new.streams.input ≡ old.streams.input) × (new.streams.sinks.output ≡ old.streams.sinks.output))
+    ⊎ ((job : Job) × JudgedAs command (desk old) (Ok job) × IsReady job × (new.files ≡ old.files) × Drains job old.streams new.streams code)
