@@ -1,12 +1,11 @@
 -- The steps of a refusal, and its pointer.
-use Rattle.std.proofs.Common.{◌≡◌, ℕ, suc, ◌+◌, ◌<◌, ◌≤◌, List, [], ◌∷◌, ◌++◌, length, take, get_or, refl, sym, ap, ◌∙◌, arith, append_assoc, append-nil}
+use Rattle.std.proofs.Common.{◌≡◌, ℕ, ◌+◌, ◌<◌, List, [], ◌∷◌, ◌++◌, length, take, get_or, sym, ap, ◌∙◌, append_assoc, append-nil}
 use Rattle.std.proofs.lemmas.List.{take_more}
-use Rattle.std.specs.Prelude.{codes, decimal, Result, Ok, Err, Option, Some, None, slice_get}
+use Rattle.std.specs.Prelude.{codes, Err}
 use Rattle.json_elements.specs.declared.refusal.Step.{Step}
-use Rattle.json_elements.specs.declared.refusal.Step.TheVariants.{Name, Item}
 use Rattle.json_elements.specs.declared.refusal.ElementErr.{ElementErr}
 use Rattle.json_elements.specs.declared.refusal.ElementErr.TheVariants.{Refused, Memory}
-use Rattle.json_elements.specs.Reading.{Reading, Refusal, refusal, Gives, GivesAs, GoesOut, inside, at_child, step_text, pointer}
+use Rattle.json_elements.specs.Reading.{Reading, Refusal, refusal, Gives, GoesOut, inside, step_text, pointer}
 
 pub further : (steps : List Step) (step : Step) → pointer (steps ++ step ∷ []) ≡ codes "/" ++ (step_text step ++ pointer steps)
 further [] step = sym (ap (λ (t : List ℕ). codes "/" ++ t) (append-nil (step_text step)))

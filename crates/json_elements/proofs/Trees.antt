@@ -1,6 +1,6 @@
 -- Elements inside elements of the same kind.
-use Rattle.std.proofs.Common.{◌≡◌, ℕ, ◌+◌, ◌<◌, ◌≤◌, Some, None, List, [], ◌∷◌, refl, sym, ap, ◌∙◌, arith, max}
-use Rattle.std.specs.Prelude.{Option, Result, Ok, Err, codes}
+use Rattle.std.proofs.Common.{◌≡◌, ℕ, ◌+◌, ◌<◌, ◌≤◌, Some, None, List, ◌∷◌, refl, ap, ◌∙◌, arith, max}
+use Rattle.std.specs.Prelude.{Ok, codes}
 use Rattle.std.specs.Ordering.{nat_cmp, match_ordering}
 use Rattle.std.specs.Cmp.Lexicographic.{slice_cmp}
 use Rattle.std.specs.declared.cmp.Ordering.{Ordering}

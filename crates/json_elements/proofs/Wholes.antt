@@ -1,8 +1,8 @@
 -- The number that a text of digits is, as std's `parse` reads it.
-use Rattle.std.proofs.Common.{◌≡◌, ℕ, ◌+◌, ◌<◌, ◌≤◌, Bool, true, false, cond, List, [], ◌∷◌, length, drop, refl, sym, ap, ◌∙◌, subst, arith, rules}
-use Rattle.std.specs.Prelude.{◌&&◌, ◌==◌, nat_lt, slice_index, ℤ, pos, negsuc, Result, Ok, Err, if◌then◌else◌, ◌^◌}
+use Rattle.std.proofs.Common.{◌≡◌, ℕ, ◌<◌, Bool, true, false, cond, List, length, drop, refl, sym, ap, ◌∙◌, subst, arith}
+use Rattle.std.specs.Prelude.{◌&&◌, ◌==◌, nat_lt, slice_index, ℤ, pos, negsuc, Ok, if◌then◌else◌, ◌^◌}
 use Rattle.std.specs.Str.{all_ascii_digits}
-use Rattle.std.specs.Str.Parse.{AllDigits, IsNumeral, without_leading_sign, signed_digits_value, digits_value}
+use Rattle.std.specs.Str.Parse.{IsNumeral, without_leading_sign, signed_digits_value, digits_value}
 use Rattle.std.specs.Int.RustNames.{FitsSigned}
 use Rattle.std.proofs.lemmas.Str.Parse.{IsNumeralModel, numerals_by_value, tells_all_ascii_digits}
 use Rattle.std.proofs.lemmas.Bool.Decides.{nat_tests}
@@ -11,7 +11,7 @@ use mir.Val.{to_z, of_z}
 use mir.Syntax.{w128}
 use Rattle.json_elements.specs.declared.refusal.Cause.TheVariants.{BadAttribute}
 use Rattle.json_elements.specs.Reading.{Reading, refuse}
-use Rattle.json_elements.specs.Forms.{digits_part, is_whole_text, fits_i128, whole_text}
+use Rattle.json_elements.specs.Forms.{digits_part, fits_i128, whole_text}
 
 own : IsNumeralModel (λ ds. all_ascii_digits ds ≡ true) (digits_value 10)
 own = numerals_by_value _ tells_all_ascii_digits

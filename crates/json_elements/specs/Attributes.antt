@@ -1,5 +1,5 @@
 -- Attributes: each is there or not, and of its form or not.
-use Rattle.std.specs.Prelude.{ℕ, List, Option, Some, None, Result, Ok, Err}
+use Rattle.std.specs.Prelude.{ℕ, List, Option, Some, None, Ok, Err}
 use Rattle.serde_json.specs.Data.{Data}
 use Rattle.serde_json.specs.Find.{get}
 use Rattle.json_elements.specs.declared.refusal.Cause.TheVariants.{Missing}

@@ -1,6 +1,6 @@
 -- Elements: an element is an object of one key, its name, whose value is an object of attributes with
 -- the child elements in `content`.
-use Rattle.std.specs.Prelude.{ℕ, suc, ◌+◌, nat_le, nat_lt, nat_eq, Bool, if◌then◌else◌, List, [], ◌∷◌, codes, length, Option, Some, None, Result, Ok, Err}
+use Rattle.std.specs.Prelude.{ℕ, suc, ◌+◌, nat_le, nat_lt, nat_eq, Bool, if◌then◌else◌, List, [], ◌∷◌, codes, length, Option, Some, None, Ok}
 use Rattle.std.specs.Ordering.{nat_cmp, match_ordering}
 use Rattle.std.specs.Cmp.Lexicographic.{slice_cmp}
 use Rattle.std.specs.List.{after_first, position_or_len}

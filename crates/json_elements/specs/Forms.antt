@@ -1,5 +1,5 @@
 -- The forms that an attribute's value may have.
-use Rattle.std.specs.Prelude.{ℕ, ◌-◌, ◌^◌, ◌&&◌, ◌==◌, nat_le, nat_lt, Bool, if◌then◌else◌, List, length, drop, slice_index, Result, Ok, Err, ℤ, pos, negsuc}
+use Rattle.std.specs.Prelude.{ℕ, ◌^◌, ◌&&◌, ◌==◌, nat_le, nat_lt, Bool, if◌then◌else◌, List, length, drop, slice_index, Ok, ℤ, pos, negsuc}
 use Rattle.std.specs.Str.{all_ascii_digits}
 use Rattle.std.specs.Fmt.{signed_decimal}
 use Rattle.std.specs.Str.Parse.{signed_digits_value}

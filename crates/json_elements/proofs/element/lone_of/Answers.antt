@@ -1,6 +1,5 @@
 use Rattle.std.proofs.Common.{◌≡◌, Some, ℕ, List, ap, sym, ◌∙◌, arith}
-use Rattle.std.specs.Prelude.{string_bytes, Option}
-use Rattle.serde_json.specs.Data.{Data}
+use Rattle.std.specs.Prelude.{string_bytes}
 use Rattle.serde_json.specs.View.{view}
 use Rattle.json_elements.specs.Elements.{local_name}
 use Rattle.json_elements.proofs.Lone.{is_lone}
