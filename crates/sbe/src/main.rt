@@ -12,8 +12,12 @@ use std::env;
 use std::io::{BufReader, ErrorKind, Write};
 use std::process::ExitCode;
 
-/// How many bytes are read at once, and kept for writing at most.
-const BUFFER: usize = 65_536;
+/// How many bytes of input are read at once, where so many are there. Each such read hands on what is kept of the
+/// output, so the fewer there are the fewer writes are cut short.
+const READ_AT_ONCE: usize = 1_048_576;
+
+/// How many bytes of output are kept at most.
+const KEPT_AT_MOST: usize = 65_536;
 
 fn main(rt: HostRuntime) -> ExitCode {
     ExitCode::from(answer(&rt).code())
@@ -24,7 +28,7 @@ fn answer(rt: &HostRuntime) -> Status {
     let Ok(words) = words_of(rt) else {
         return Status::NoMemory;
     };
-    let Ok(output) = SharedWriter::new(rt.alloc(), BUFFER, rt.stdout()) else {
+    let Ok(output) = SharedWriter::new(rt.alloc(), KEPT_AT_MOST, rt.stdout()) else {
         return Status::NoMemory;
     };
     let status = match page_of(words.as_slice()) {
@@ -49,8 +53,11 @@ fn run_words<W: Write + Drop>(
     output: &SharedWriter<W>,
 ) -> Status {
     let alloc = rt.alloc();
-    let Ok(input) = BufReader::with_capacity(alloc, BUFFER, FlushFirst::new(rt.stdin(), output))
-    else {
+    let Ok(input) = BufReader::with_capacity(
+        alloc,
+        READ_AT_ONCE,
+        FlushFirst::new(rt.stdin(), output),
+    ) else {
         return Status::NoMemory;
     };
     run(
