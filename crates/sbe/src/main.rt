@@ -14,7 +14,7 @@ use std::process::ExitCode;
 
 /// How many bytes of input are read at once, where so many are there. Each such read hands on what is kept of the
 /// output, so the fewer there are the fewer writes are cut short.
-const READ_AT_ONCE: usize = 1_048_576;
+const READ_AT_ONCE: usize = 262_144;
 
 /// How many bytes of output are kept at most.
 const KEPT_AT_MOST: usize = 65_536;
