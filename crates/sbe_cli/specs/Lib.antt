@@ -8,6 +8,7 @@ pub mod Splits
 pub mod Replies
 pub mod Stops
 pub mod Report
+pub mod Rows
 pub mod Outside
 pub mod Files
 pub mod Steps

@@ -30,6 +30,22 @@ pub record Desk : Type 0 where
   pub files : Object (List ℕ → Option (List ℕ))
   pub notes : Object (List ℕ)
 
+-- the same from their parts
+abbrev pub object_of : {T : Type 0} → Option T → ℕ → Object T
+object_of told faults = record { told = told; faults = faults }
+
+abbrev pub sinks_of : Object (List ℕ) → Object (List ℕ) → Sinks
+sinks_of output notes = record { output = output; notes = notes }
+
+abbrev pub streams_of : Object (List ℕ) → Object (List ℕ) → Object (List ℕ) → Streams
+streams_of input output notes = record { input = input; sinks = sinks_of output notes }
+
+abbrev pub outside_of : Object (List ℕ → Option (List ℕ)) → Streams → Outside
+outside_of files streams = record { files = files; streams = streams }
+
+abbrev pub desk_of : Object (List ℕ → Option (List ℕ)) → Object (List ℕ) → Desk
+desk_of files notes = record { files = files; notes = notes }
+
 -- output and notes grew by this
 pub record Wrote (old new : Sinks) (written : Written) : Type 0 where
   pub output : Appends old.output.told new.output.told written.output

@@ -1,4 +1,5 @@
 ghost use Rattle.std.specs.Prelude.{◌≡◌, map, string_bytes};
+ghost use Rattle.sbe_cli.specs.Outside.{object_of, streams_of, outside_of};
 ghost use Rattle.sbe_cli.specs.Words.{HasLimits};
 ghost use Rattle.sbe_cli.specs.Runs.{Runs, CarriesOut};
 ghost use Rattle.sbe_cli.specs.Steps.{Drains, opened};
@@ -19,20 +20,10 @@ pub fn run<F: Files, I: Source, O: Sink, N: Sink>(
     notes: &mut N,
 ) -> Status
     ensures { Runs (map (λ word. string_bytes word) words.now)
-        (record {
-          files = record { told = F.contents files.old; faults = F.faults files.old };
-          streams = record {
-            input = record { told = I.left input.old; faults = I.faults input.old };
-            sinks = record { output = record { told = O.held output.old; faults = O.faults output.old }; notes = record { told = N.held notes.old; faults = N.faults notes.old } };
-          };
-        })
-        (record {
-          files = record { told = F.contents files.new; faults = F.faults files.new };
-          streams = record {
-            input = record { told = I.left input.new; faults = I.faults input.new };
-            sinks = record { output = record { told = O.held output.new; faults = O.faults output.new }; notes = record { told = N.held notes.new; faults = N.faults notes.new } };
-          };
-        })
+        (outside_of (object_of (F.contents files.old) (F.faults files.old))
+        (streams_of (object_of (I.left input.old) (I.faults input.old)) (object_of (O.held output.old) (O.faults output.old)) (object_of (N.held notes.old) (N.faults notes.old))))
+        (outside_of (object_of (F.contents files.new) (F.faults files.new))
+        (streams_of (object_of (I.left input.new) (I.faults input.new)) (object_of (O.held output.new) (O.faults output.new)) (object_of (N.held notes.new) (N.faults notes.new))))
         result }
 {
     match read_words(alloc, words) {
@@ -53,20 +44,10 @@ fn carry_out<F: Files, I: Source, O: Sink, N: Sink>(
 ) -> Status
     requires { HasLimits command }
     ensures { CarriesOut command
-        (record {
-          files = record { told = F.contents files.old; faults = F.faults files.old };
-          streams = record {
-            input = record { told = I.left input.old; faults = I.faults input.old };
-            sinks = record { output = record { told = O.held output.old; faults = O.faults output.old }; notes = record { told = N.held notes.old; faults = N.faults notes.old } };
-          };
-        })
-        (record {
-          files = record { told = F.contents files.new; faults = F.faults files.new };
-          streams = record {
-            input = record { told = I.left input.new; faults = I.faults input.new };
-            sinks = record { output = record { told = O.held output.new; faults = O.faults output.new }; notes = record { told = N.held notes.new; faults = N.faults notes.new } };
-          };
-        })
+        (outside_of (object_of (F.contents files.old) (F.faults files.old))
+        (streams_of (object_of (I.left input.old) (I.faults input.old)) (object_of (O.held output.old) (O.faults output.old)) (object_of (N.held notes.old) (N.faults notes.old))))
+        (outside_of (object_of (F.contents files.new) (F.faults files.new))
+        (streams_of (object_of (I.left input.new) (I.faults input.new)) (object_of (O.held output.new) (O.faults output.new)) (object_of (N.held notes.new) (N.faults notes.new))))
         result }
 {
     match Pump::open(alloc, command, files, notes) {
@@ -84,14 +65,8 @@ fn drain<I: Source, O: Sink, N: Sink>(
 ) -> Status
     requires { pump.old ≡ opened pump.old.job }
     ensures { Drains pump.old.job
-        (record {
-          input = record { told = I.left input.old; faults = I.faults input.old };
-          sinks = record { output = record { told = O.held output.old; faults = O.faults output.old }; notes = record { told = N.held notes.old; faults = N.faults notes.old } };
-        })
-        (record {
-          input = record { told = I.left input.new; faults = I.faults input.new };
-          sinks = record { output = record { told = O.held output.new; faults = O.faults output.new }; notes = record { told = N.held notes.new; faults = N.faults notes.new } };
-        })
+        (streams_of (object_of (I.left input.old) (I.faults input.old)) (object_of (O.held output.old) (O.faults output.old)) (object_of (N.held notes.old) (N.faults notes.old)))
+        (streams_of (object_of (I.left input.new) (I.faults input.new)) (object_of (O.held output.new) (O.faults output.new)) (object_of (N.held notes.new) (N.faults notes.new)))
         result }
 {
     'steps: loop {

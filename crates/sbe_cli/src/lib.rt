@@ -10,6 +10,7 @@ mod job;
 mod laws;
 mod line;
 mod pump;
+pub mod rows;
 mod small;
 mod stop;
 #[cfg(test)]

@@ -1,4 +1,5 @@
 ghost use Rattle.std.specs.Prelude.{◌≡◌, ◌+◌, ◌-◌, ◌<◌, ◌≤◌, ◌^◌, []};
+ghost use Rattle.sbe_cli.specs.Outside.{object_of, sinks_of, streams_of, desk_of};
 ghost use Rattle.sbe_cli.specs.Words.{HasLimits};
 ghost use Rattle.sbe_cli.specs.Replies.{counted_by};
 ghost use Rattle.sbe_cli.specs.Report.{done_status};
@@ -78,8 +79,8 @@ impl Pump {
     ) -> Result<Pump, Status>
         requires { HasLimits command }
         ensures { Opens command
-            (record { files = record { told = F.contents files.old; faults = F.faults files.old }; notes = record { told = N.held notes.old; faults = N.faults notes.old } })
-            (record { files = record { told = F.contents files.new; faults = F.faults files.new }; notes = record { told = N.held notes.new; faults = N.faults notes.new } })
+            (desk_of (object_of (F.contents files.old) (F.faults files.old)) (object_of (N.held notes.old) (N.faults notes.old)))
+            (desk_of (object_of (F.contents files.new) (F.faults files.new)) (object_of (N.held notes.new) (N.faults notes.new)))
             result }
     {
         match load_job(alloc, command, files) {
@@ -99,14 +100,8 @@ impl Pump {
         notes: &mut N,
     ) -> Step
         ensures { Steps self.old self.new
-            (record {
-              input = record { told = I.left input.old; faults = I.faults input.old };
-              sinks = record { output = record { told = O.held output.old; faults = O.faults output.old }; notes = record { told = N.held notes.old; faults = N.faults notes.old } };
-            })
-            (record {
-              input = record { told = I.left input.new; faults = I.faults input.new };
-              sinks = record { output = record { told = O.held output.new; faults = O.faults output.new }; notes = record { told = N.held notes.new; faults = N.faults notes.new } };
-            })
+            (streams_of (object_of (I.left input.old) (I.faults input.old)) (object_of (O.held output.old) (O.faults output.old)) (object_of (N.held notes.old) (N.faults notes.old)))
+            (streams_of (object_of (I.left input.new) (I.faults input.new)) (object_of (O.held output.new) (O.faults output.new)) (object_of (N.held notes.new) (N.faults notes.new)))
             result }
     {
         if let Some(status) = self.ended {
@@ -198,8 +193,8 @@ fn write_draft<O: Sink, N: Sink>(
     notes: &mut N,
 ) -> Result<(), WriteFault>
     ensures { Writes (drafted draft.now)
-        (record { output = record { told = O.held output.old; faults = O.faults output.old }; notes = record { told = N.held notes.old; faults = N.faults notes.old } })
-        (record { output = record { told = O.held output.new; faults = O.faults output.new }; notes = record { told = N.held notes.new; faults = N.faults notes.new } })
+        (sinks_of (object_of (O.held output.old) (O.faults output.old)) (object_of (N.held notes.old) (N.faults notes.old)))
+        (sinks_of (object_of (O.held output.new) (O.faults output.new)) (object_of (N.held notes.new) (N.faults notes.new)))
         result }
 {
     match write_all_to(output, draft.output.as_slice()) {
@@ -246,7 +241,7 @@ fn end(ended: &mut Option<Status>, status: Status) -> Step
 
 /// Ends a pump with a stop that is noted.
 fn end_with<N: Sink>(alloc: Global, ended: &mut Option<Status>, stop: Stop, notes: &mut N) -> Step
-    ensures { TellsEnd stop (record { told = N.held notes.old; faults = N.faults notes.old }) (record { told = N.held notes.new; faults = N.faults notes.new }) result ended.new }
+    ensures { TellsEnd stop (object_of (N.held notes.old) (N.faults notes.old)) (object_of (N.held notes.new) (N.faults notes.new)) result ended.new }
 {
     let status = tell(alloc, stop, notes);
     end(ended, status)

@@ -1,6 +1,6 @@
 ghost use Rattle.std.specs.Prelude.{◌≡◌};
 ghost use Rattle.sbe_cli.specs.Line.{Puts};
-ghost use Rattle.sbe_cli.specs.Outside.{Told};
+ghost use Rattle.sbe_cli.specs.Outside.{Told, object_of};
 ghost use Rattle.sbe_cli.specs.Stops.{stop_status, stop_line, refused_schema, at_line, head_line, fault_line};
 
 use crate::files::FileRefusal;
@@ -50,7 +50,7 @@ impl Stop {
 
 /// Notes why the run stops, and answers its status.
 pub fn tell<N: Sink>(alloc: Global, stop: Stop, notes: &mut N) -> Status
-    ensures { Told (stop_line stop) (stop_status stop) (record { told = N.held notes.old; faults = N.faults notes.old }) (record { told = N.held notes.new; faults = N.faults notes.new }) result }
+    ensures { Told (stop_line stop) (stop_status stop) (object_of (N.held notes.old) (N.faults notes.old)) (object_of (N.held notes.new) (N.faults notes.new)) result }
 {
     let mut line = Vec::new(alloc);
     match put_stop(&mut line, stop) {

@@ -1,0 +1,6 @@
+use Rattle.std.proofs.Common.{refl, Err}
+use Rattle.sbe_cli.specs.declared.files.FileRefusal.TheVariants.{Absent}
+use Rattle.sbe_cli.proofs.rows.no_file.Goals as goal
+
+pub returns : goal.returns
+returns c = λ input. (Err Absent, refl, refl)
