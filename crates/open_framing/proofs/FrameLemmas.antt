@@ -5,9 +5,9 @@ use Rattle.std.specs.Prelude.{nat_lt, nat_le, if◌then◌else◌}
 use Rattle.std.proofs.lemmas.Bool.{leb-true, le-leb}
 use Rattle.std.proofs.lemmas.Bool.Decides.{nat_tests}
 use Rattle.std.proofs.lemmas.List.{drop-take, drop-drop}
-use Rattle.digits.specs.Digits.{IsBytes, digits_high_first}
-use Rattle.digits.proofs.Bytes.{IsBytes-take, IsBytes-drop, IsBytes-back}
-use Rattle.digits.proofs.HighFirst.{number-digits-fit, digits-number, number-lt}
+use Rattle.byte_digits.specs.Digits.{IsBytes, digits_high_first}
+use Rattle.byte_digits.proofs.Bytes.{IsBytes-take, IsBytes-drop, IsBytes-back}
+use Rattle.byte_digits.proofs.HighFirst.{number-digits-fit, digits-number, number-lt}
 use Rattle.open_framing.specs.Pieces.{joined}
 use Rattle.open_framing.specs.declared.head.TheConstants.{HEAD_BYTES}
 use Rattle.open_framing.specs.declared.head.Head.{Head}

@@ -4,7 +4,7 @@ use Rattle.open_framing.specs.declared.head.TheConstants.{HEAD_BYTES}
 use Rattle.open_framing.specs.declared.head.Head.{Head}
 use Rattle.open_framing.specs.declared.head.HeadErr.{HeadErr}
 use Rattle.open_framing.specs.declared.head.HeadErr.TheVariants.{HeadShort, LengthShort, LengthOver, Encoding}
-use Rattle.digits.specs.Digits.{digits_high_first}
+use Rattle.byte_digits.specs.Digits.{digits_high_first}
 use Rattle.open_framing.specs.Heads.{head_of, is_encoding}
 use Rattle.open_framing.specs.Pieces.{Pieces, pieces_in, rest_of}
 

@@ -1,8 +1,8 @@
 -- The head of a frame. From SOFH 1.0, Framing header. Own profile: the byte order, that the length counts the head too, and
 -- the three encoding types.
 use Rattle.std.specs.Prelude.{ℕ, nat_lt, ◌==◌, Bool, ◌||◌, if◌then◌else◌, Result, Ok, Err, List, length, take, drop}
-pub use Rattle.digits.specs.Digits.{IsBytes}
-use Rattle.digits.specs.Digits.{number_high_first}
+pub use Rattle.byte_digits.specs.Digits.{IsBytes}
+use Rattle.byte_digits.specs.Digits.{number_high_first}
 use Rattle.open_framing.specs.declared.head.TheConstants.{HEAD_BYTES, SBE_BIG, SBE_LITTLE, TAG_VALUE}
 use Rattle.open_framing.specs.declared.head.Head.{Head}
 use Rattle.open_framing.specs.declared.head.HeadErr.{HeadErr}

@@ -1,5 +1,5 @@
 ghost use Rattle.std.specs.Prelude.{◌≡◌, ◌++◌, ℕ};
-ghost use Rattle.digits.specs.Digits.{digits_high_first};
+ghost use Rattle.byte_digits.specs.Digits.{digits_high_first};
 ghost use Rattle.open_framing.specs.Heads.{head_of, judged};
 
 use byteorder::{BigEndian, ByteOrder};

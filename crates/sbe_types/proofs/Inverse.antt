@@ -3,9 +3,9 @@ use Rattle.std.proofs.Common.{◌≡◌, ℕ, ◌-◌, ◌*◌, ◌^◌, ◌<◌
 use Rattle.std.specs.Prelude.{if◌then◌else◌}
 use Rattle.std.proofs.lemmas.Int.{ints}
 use Rattle.std.proofs.lemmas.Bool.Decides.{nat_tests}
-use Rattle.digits.specs.Digits.{IsBytes}
-use Rattle.digits.proofs.HighFirst as high
-use Rattle.digits.proofs.LowFirst as low
+use Rattle.byte_digits.specs.Digits.{IsBytes}
+use Rattle.byte_digits.proofs.HighFirst as high
+use Rattle.byte_digits.proofs.LowFirst as low
 use Rattle.sbe_types.specs.declared.kind.Order.{Order}
 use Rattle.sbe_types.specs.declared.kind.Order.TheVariants.{Little, Big}
 use Rattle.sbe_types.specs.declared.kind.Primitive.{Primitive}

@@ -5,10 +5,10 @@ use Rattle.std.proofs.lemmas.Int.{ints}
 use Rattle.std.proofs.lemmas.Bool.Decides.{nat_tests}
 use Rattle.std.specs.Int.{cast_signed, w8, w16, w32, w64}
 use Rattle.byteorder.specs.Endian.{big_number, little_number}
-use Rattle.digits.specs.Digits.{IsBytes}
-use Rattle.digits.proofs.HighFirst as high
-use Rattle.digits.proofs.LowFirst as low
-use Rattle.digits.proofs.Words.{big_number-is, little_number-is}
+use Rattle.byte_digits.specs.Digits.{IsBytes}
+use Rattle.byte_digits.proofs.HighFirst as high
+use Rattle.byte_digits.proofs.LowFirst as low
+use Rattle.byte_digits.proofs.Words.{big_number-is, little_number-is}
 use Rattle.sbe_types.specs.declared.kind.Order.{Order}
 use Rattle.sbe_types.specs.declared.kind.Order.TheVariants.{Little, Big}
 use Rattle.sbe_types.specs.declared.kind.Primitive.{Primitive}

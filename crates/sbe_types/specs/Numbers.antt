@@ -1,7 +1,7 @@
 -- Numbers and their bytes. From SBE 1.0, Field encoding.
 use Rattle.std.specs.Prelude.{ℕ, suc, ◌-◌, ◌*◌, ◌^◌, nat_le, nat_lt, Bool, true, false, if◌then◌else◌, List, ℤ, pos, negsuc, ◌-ℤ◌, slice_index, Option, Some, None}
 use Rattle.std.specs.Int.{cast_signed, w8, w16, w32, w64}
-use Rattle.digits.specs.Digits.{number_high_first, number_low_first, digits_high_first, digits_low_first}
+use Rattle.byte_digits.specs.Digits.{number_high_first, number_low_first, digits_high_first, digits_low_first}
 use Rattle.sbe_types.specs.declared.kind.Order.{Order}
 use Rattle.sbe_types.specs.declared.kind.Order.TheVariants.{Little, Big}
 use Rattle.sbe_types.specs.declared.kind.Primitive.{Primitive}

@@ -1,7 +1,7 @@
 //! Laws of the definitions, as functions without a body.
 
 ghost use Rattle.std.specs.Prelude.{◌≡◌, ◌↔◌, ℕ, ℤ, Bool, List, Some, length};
-ghost use Rattle.digits.specs.Digits.{IsBytes};
+ghost use Rattle.byte_digits.specs.Digits.{IsBytes};
 ghost use Rattle.sbe_types.specs.declared.kind.Order.{Order};
 ghost use Rattle.sbe_types.specs.declared.kind.Primitive.{Primitive};
 ghost use Rattle.sbe_types.specs.declared.kind.Kind.{Kind};

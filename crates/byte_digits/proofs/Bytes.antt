@@ -1,6 +1,6 @@
 -- Parts of bytes are bytes.
 use Rattle.std.proofs.Common.{ℕ, zero, suc, List, [], ◌∷◌, ◌++◌, take, drop, arith, take-append-drop}
-use Rattle.digits.specs.Digits.{IsBytes}
+use Rattle.byte_digits.specs.Digits.{IsBytes}
 
 pub IsBytes-tail : (b : ℕ) (bytes : List ℕ) → IsBytes (b ∷ bytes) → IsBytes bytes
 IsBytes-tail b bytes h i = h (suc i)

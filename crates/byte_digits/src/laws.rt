@@ -1,7 +1,7 @@
 //! Laws of the definitions, as functions without a body.
 
 ghost use Rattle.std.specs.Prelude.{◌≡◌, ◌+◌, ◌*◌, ◌/◌, ◌%◌, ◌^◌, ◌<◌, ◌++◌, ◌∷◌, [], ℕ, List, length, reverse};
-ghost use Rattle.digits.specs.Digits.{IsBytes, number_high_first, number_low_first, digits_high_first, digits_low_first};
+ghost use Rattle.byte_digits.specs.Digits.{IsBytes, number_high_first, number_low_first, digits_high_first, digits_low_first};
 
 /// The number of the `k` lowest digits of `n` is `n` modulo 256 to the power `k`.
 pub fn number_of_digits()

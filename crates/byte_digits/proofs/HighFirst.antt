@@ -3,8 +3,8 @@ use Rattle.std.proofs.Common.{◌≡◌, ℕ, zero, suc, ◌+◌, ◌*◌, ◌/�
 use Rattle.std.proofs.Math.Nat.{add-mul, add_assoc, div-div-eq-div-mul, mod-eq_of_lt, mod-lt, mul_assoc, mul_comm, one-le-pow, pow-suc}
 use Rattle.std.proofs.Math.Arith.{mod-mul}
 use Rattle.std.proofs.lemmas.Nat.{mul-add-lt, div-mul-add, mod-mul-add, pow-add}
-use Rattle.digits.specs.Digits.{IsBytes, number_high_first, digits_high_first}
-use Rattle.digits.proofs.Bytes.{IsBytes-tail}
+use Rattle.byte_digits.specs.Digits.{IsBytes, number_high_first, digits_high_first}
+use Rattle.byte_digits.proofs.Bytes.{IsBytes-tail}
 
 pub length-digits : (k n : ℕ) → length (digits_high_first k n) ≡ k
 length-digits zero n = refl

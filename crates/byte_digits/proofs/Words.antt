@@ -4,7 +4,7 @@ use Rattle.std.specs.Int.{bytes_high_first, bytes_low_first, byte_at}
 use Rattle.std.proofs.Math.Nat.{div-one, div-div-eq-div-mul, pow-suc}
 use Rattle.byteorder.specs.Numbers.{big_from-cons, little_from-cons}
 use Rattle.byteorder.specs.Endian.{big_from, little_from, big_number, little_number}
-use Rattle.digits.specs.Digits.{number_high_first, number_low_first, digits_high_first, digits_low_first}
+use Rattle.byte_digits.specs.Digits.{number_high_first, number_low_first, digits_high_first, digits_low_first}
 
 big_all : (bytes : List ℕ) → big_from 0 (length bytes) bytes ≡ number_high_first bytes
 big_all [] = refl

@@ -1,5 +1,5 @@
-use Rattle.digits.proofs.LowFirst as low
-use Rattle.digits.proofs.laws.orders_are_mirrored.Goals as goal
+use Rattle.byte_digits.proofs.LowFirst as low
+use Rattle.byte_digits.proofs.laws.orders_are_mirrored.Goals as goal
 
 pub returns-clause-number : goal.returns-clause-number
 returns-clause-number c = low.number-mirrored

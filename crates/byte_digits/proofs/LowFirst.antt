@@ -5,9 +5,9 @@ use Rattle.std.proofs.Math.Arith.{mod-mul}
 use Rattle.std.proofs.lemmas.Nat.{div-mul-add, mod-mul-add}
 use Rattle.std.proofs.lemmas.List.{reverse-append}
 use Rattle.std.proofs.lemmas.Grind.{reverse_onto}
-use Rattle.digits.specs.Digits.{IsBytes, number_high_first, number_low_first, digits_high_first, digits_low_first}
-use Rattle.digits.proofs.Bytes.{IsBytes-tail}
-use Rattle.digits.proofs.HighFirst as high
+use Rattle.byte_digits.specs.Digits.{IsBytes, number_high_first, number_low_first, digits_high_first, digits_low_first}
+use Rattle.byte_digits.proofs.Bytes.{IsBytes-tail}
+use Rattle.byte_digits.proofs.HighFirst as high
 
 pub length-digits : (k n : ℕ) → length (digits_low_first k n) ≡ k
 length-digits zero n = refl

@@ -1,7 +1,7 @@
 use Rattle.std.proofs.Common.{length, refl}
-use Rattle.digits.proofs.HighFirst as high
-use Rattle.digits.proofs.LowFirst as low
-use Rattle.digits.proofs.laws.digits_of_number.Goals as goal
+use Rattle.byte_digits.proofs.HighFirst as high
+use Rattle.byte_digits.proofs.LowFirst as low
+use Rattle.byte_digits.proofs.laws.digits_of_number.Goals as goal
 
 pub returns-clause-high : goal.returns-clause-high
 returns-clause-high c = λ bytes. high.digits-number (length bytes) bytes refl
