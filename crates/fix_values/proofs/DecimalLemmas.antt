@@ -179,7 +179,7 @@ pub shown_counted : (negative : Bool) (whole places rest count : ℕ) → rest <
     count ≡ digits_counted (parts_shown negative whole places rest)
 shown_counted negative whole places rest count small h =
     let fraction : length (fraction_of places rest) ≡ length (without_trailing (without_trailing (digits_at places rest))) =
-      ap length (fraction_is places rest small ∙ sym (trailing_again (digits_at places rest))) in
+    ap length (fraction_is places rest small ∙ sym (trailing_again (digits_at places rest))) in
     h ∙ ap (λ n. length (without_leading (decimal whole)) + n) fraction
 
 pub shown_over : (parts : Parts) (count : ℕ) (answer : Result Unit V) (out : List ℕ) → count ≡ digits_counted parts → 38 < count → answer ≡ Err Range → out ≡ [] → Leaves answer out (shown_text parts)
@@ -359,9 +359,10 @@ quotient_fits (negsuc a) q fits some =
 
 pub divides : (n p : ℤ) (k : ℕ) → SFits w128 n → SFits w128 p → p ≡ pos (10 ^ k) → (0 < of_z w128 p) × SFits w128 (quot_z (to_z w128 (of_z w128 n)) (to_z w128 (of_z w128 p)))
 divides n p k fn fp ten =
-    let whole : of_z w128 p ≡ 10 ^ k = ap (of_z w128) ten in
-    (omega (arith, whole, ten_pos k),
-      rw (to_z-of_z w128 n fn, to_z-of_z w128 p fp, ten) (quotient_fits n (10 ^ k) fn (ten_pos k)))
+    let whole : of_z w128 p ≡ 10 ^ k = ap (of_z w128) ten in (
+      omega (arith, whole, ten_pos k),
+      rw (to_z-of_z w128 n fn, to_z-of_z w128 p fp, ten) (quotient_fits n (10 ^ k) fn (ten_pos k)),
+    )
 
 -- the shift from one exponent to another
 abs_up : (z : ℤ) → pos 0 ≤ℤ z → unsigned_abs z ≡ natural z

@@ -146,7 +146,7 @@ pub spelled_is : (text : List ℕ) → AreBytes text → goes_on false unmarked 
 spelled_is text h =
     let cs : AreBytes (characters text) = every_small true text h in
     let new : fresh unmarked (characters text) ≡ is_distinct (characters text) =
-      fresh_is unmarked (characters text) refl cs ∙ (ap (λ l. is_distinct (characters text) && l) (none_marked (characters text) cs) ∙ and_true (is_distinct (characters text))) in
+    fresh_is unmarked (characters text) refl cs ∙ (ap (λ l. is_distinct (characters text) && l) (none_marked (characters text) cs) ∙ and_true (is_distinct (characters text))) in
     goes_on_is false unmarked text
     ∙ (ap (λ f. ends false text && (list_all (λ b. b == 32) (every_other false text) && f)) new
     ∙ ap (λ e. e && (list_all (λ b. b == 32) (every_other false text) && is_distinct (characters text))) (ends_is text).0)
@@ -219,7 +219,7 @@ all_coded : (codes : List Code) (cs : List ℕ) → AreBytes cs → list_all is_
 all_coded codes [] h choices = refl
 all_coded codes (c ∷ cs) h choices =
     let here : is_marked (with_marks unmarked codes) c ≡ has_code codes c =
-      coded_is unmarked codes c choices h.0 ∙ (ap (λ m. has_code codes c || m) (get_or-replicate 256 c false false h.0) ∙ or_false (has_code codes c)) in
+    coded_is unmarked codes c choices h.0 ∙ (ap (λ m. has_code codes c || m) (get_or-replicate 256 c false false h.0) ∙ or_false (has_code codes c)) in
     ap (λ b. b && list_all (is_marked (with_marks unmarked codes)) cs) here ∙ ap (λ l. has_code codes c && l) (all_coded codes cs h.1 choices)
 
 -- what was read of a set's text is its number
@@ -230,14 +230,14 @@ pub set_unknown : (codes : List Code) (text : List ℕ) (spelled all : Bool) (co
     coded ≡ with_marks unmarked codes → all ≡ are_marked true coded text → all ≡ false → Err UnknownCode ≡ set_number codes text
 set_unknown codes text spelled all coded h choices is right marks each missing =
     let known : list_all (has_code codes) (characters text) ≡ false =
-      sym (all_coded codes (characters text) (every_small true text h) choices) ∙ (ap (λ t. are_marked true t text) (sym marks) ∙ (sym each ∙ missing)) in
+    sym (all_coded codes (characters text) (every_small true text h) choices) ∙ (ap (λ t. are_marked true t text) (sym marks) ∙ (sym each ∙ missing)) in
     rw (← spelled_is text h, ← is, right, known)
 
 pub set_read : (codes : List Code) (text : List ℕ) (spelled all : Bool) (named coded : List Bool) (n : ℕ) → AreBytes text → list_all is_choice codes ≡ true → spelled ≡ goes_on false unmarked text → spelled ≡ true →
     named ≡ marks_of false unmarked text → coded ≡ with_marks unmarked codes → all ≡ are_marked true coded text → all ≡ true → n ≡ bits_of (marked_codes named codes) → Ok (pos n) ≡ set_number codes text
 set_read codes text spelled all named coded n h choices is right chars marks each there sum =
     let known : list_all (has_code codes) (characters text) ≡ true =
-      sym (all_coded codes (characters text) (every_small true text h) choices) ∙ (ap (λ t. are_marked true t text) (sym marks) ∙ (sym each ∙ there)) in
+    sym (all_coded codes (characters text) (every_small true text h) choices) ∙ (ap (λ t. are_marked true t text) (sym marks) ∙ (sym each ∙ there)) in
     let bits : n ≡ bits_of (filter (is_named (characters text)) codes) =
-      sum ∙ (ap (λ t. bits_of (marked_codes t codes)) chars ∙ ap bits_of (named_codes codes text h choices)) in
+    sum ∙ (ap (λ t. bits_of (marked_codes t codes)) chars ∙ ap bits_of (named_codes codes text h choices)) in
     rw (← spelled_is text h, ← is, right, known, bits)

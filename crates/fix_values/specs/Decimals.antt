@@ -126,18 +126,18 @@ pub record SpellsDecimal (text : List ℕ) (parts : Parts) : Type 0 where
 abbrev pub number_of_parts : Parts → Dec
 number_of_parts parts = record {
   mantissa = signed parts.negative (digits_value 10 (parts.whole ++ parts.fraction));
-  exponent = neg_ℤ (pos (length parts.fraction))
+  exponent = neg_ℤ (pos (length parts.fraction));
 }
 
 -- the reduced decimal of a whole part without leading zeros and a fraction without trailing zeros
 abbrev pub reduced : Bool → List ℕ → List ℕ → Dec
 reduced negative whole [] = record {
   mantissa = signed negative (digits_value 10 (without_trailing whole));
-  exponent = pos (length whole - length (without_trailing whole))
+  exponent = pos (length whole - length (without_trailing whole));
 }
 reduced negative whole (f ∷ fs) = record {
   mantissa = signed negative (digits_value 10 (whole ++ f ∷ fs));
-  exponent = neg_ℤ (pos (length (f ∷ fs)))
+  exponent = neg_ℤ (pos (length (f ∷ fs)));
 }
 
 -- the decimal that a text spells, in the reduced form

@@ -159,9 +159,7 @@ fn is_octets(shape: LeafShape) -> bool
 {
     match shape {
         LeafShape::Octets => true,
-        LeafShape::Number
-        | LeafShape::RangedText
-        | LeafShape::EncodedText
-        | LeafShape::Numbers => false,
+        LeafShape::Number | LeafShape::RangedText | LeafShape::EncodedText | LeafShape::Numbers =>
+            false,
     }
 }

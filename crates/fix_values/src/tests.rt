@@ -171,7 +171,11 @@ fn reads_whole_decimals(rt: HostRuntime) {
         ),
     ];
     for (leaf, text, want) in rows {
-        assert_eq!(rt; read_num(&NumRule::Decimal, &leaf, text), want, "at {text:?}");
+        assert_eq!(rt;
+            read_num(&NumRule::Decimal, &leaf, text),
+            want,
+            "at {text:?}"
+        );
     }
 }
 
@@ -257,12 +261,10 @@ fn shows_and_reads_booleans_over_uint8(rt: HostRuntime) -> Result<(), NoMem> {
 #[test]
 fn shows_and_reads_codes(rt: HostRuntime) -> Result<(), NoMem> {
     let long: &'static [u8] = b"abcdefghijklmnopqrstuvwxyzabcdefghijklmnopqrstuvwxyzABCDEFGHIJKL";
-    let rule = NumRule::Code(codes(rt.alloc(), &[
-        (49, b"1"),
-        (50, b"SELL"),
-        (51, long),
-        (52, b"a\x01b"),
-    ])?);
+    let rule = NumRule::Code(codes(
+        rt.alloc(),
+        &[(49, b"1"), (50, b"SELL"), (51, long), (52, b"a\x01b")],
+    )?);
     assert!(rt; rule.can_show());
     assert!(rt; rule.can_read());
     let shown: [(i128, Shown); 5] = [
@@ -294,13 +296,10 @@ fn shows_and_reads_codes(rt: HostRuntime) -> Result<(), NoMem> {
 
 #[test]
 fn shows_and_reads_sets(rt: HostRuntime) -> Result<(), NoMem> {
-    let rule = NumRule::Codes(codes(rt.alloc(), &[
-        (3, b"D"),
-        (0, b"A"),
-        (63, b"Z"),
-        (7, b" "),
-        (8, b"\x01"),
-    ])?);
+    let rule = NumRule::Codes(codes(
+        rt.alloc(),
+        &[(3, b"D"), (0, b"A"), (63, b"Z"), (7, b" "), (8, b"\x01")],
+    )?);
     assert!(rt; rule.can_show());
     assert!(rt; rule.can_read());
     let shown: [(u64, Shown); 8] = [
@@ -406,7 +405,11 @@ fn shows_decimals(rt: HostRuntime) {
         (nines, -18, Ok(b"99999999999999999999.999999999999999999")),
         (nines, 1, Err(V::Range)),
         (-nines - 1, 0, Err(V::Range)),
-        (-nines - 1, -1, Ok(b"-10000000000000000000000000000000000000")),
+        (
+            -nines - 1,
+            -1,
+            Ok(b"-10000000000000000000000000000000000000"),
+        ),
         (
             123456789012345678901234567890123456780,
             -1,
@@ -418,11 +421,7 @@ fn shows_decimals(rt: HostRuntime) {
             18,
             Ok(b"18446744073709551615000000000000000000"),
         ),
-        (
-            -9223372036854775808,
-            -18,
-            Ok(b"-9.223372036854775808"),
-        ),
+        (-9223372036854775808, -18, Ok(b"-9.223372036854775808")),
         (i128::MIN, 18, Err(V::Range)),
     ];
     let mut out = Short::new();
@@ -495,7 +494,13 @@ fn fits_decimals(rt: HostRuntime) {
         (2, 38, any, 0, Err(V::Range)),
         (i128::MIN, 0, any, 0, Ok(i128::MIN)),
         (-100000000000000000000000000000000000000, 0, any, 38, Ok(-1)),
-        (-100000000000000000000000000000000000000, 0, any, 39, Err(V::Inexact)),
+        (
+            -100000000000000000000000000000000000000,
+            0,
+            any,
+            39,
+            Err(V::Inexact),
+        ),
         (255, 0, optional(0, 255, 255), 0, Err(V::Range)),
     ];
     for (mantissa, own, leaf, exponent, want) in rows {
@@ -503,7 +508,11 @@ fn fits_decimals(rt: HostRuntime) {
             mantissa,
             exponent: own,
         };
-        assert_eq!(rt; fit_decimal(&dec, &leaf, exponent), want, "at {mantissa} {own}");
+        assert_eq!(rt;
+            fit_decimal(&dec, &leaf, exponent),
+            want,
+            "at {mantissa} {own}"
+        );
     }
 }
 

@@ -62,7 +62,10 @@ fn is_text_byte(leaf: &Leaf, byte: u8) -> bool
     ensures { result ≡ shows.is_text_byte leaf.now byte }
 {
     let Leaf {
-        shape, low, high, ..
+        shape,
+        low,
+        high,
+        ..
     } = *leaf;
     let number = byte as i128;
     byte != 0 && (!is_ranged(shape) || low <= number && number <= high)
@@ -73,9 +76,7 @@ fn is_ranged(shape: LeafShape) -> bool
 {
     match shape {
         LeafShape::RangedText => true,
-        LeafShape::Number
-        | LeafShape::EncodedText
-        | LeafShape::Octets
-        | LeafShape::Numbers => false,
+        LeafShape::Number | LeafShape::EncodedText | LeafShape::Octets | LeafShape::Numbers =>
+            false,
     }
 }

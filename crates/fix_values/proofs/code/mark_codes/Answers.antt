@@ -14,5 +14,5 @@ loop-code-preserved c =
       choices = (all_on is_choice _ x rest on c.loop-code.invariant.choices).1;
       small = omega (arith, c.named_bit.ensures.small, c.loop-code.invariant.small);
       sum = rw c.named_bit.ensures.sum (bits_on c.loop-code.n _ _ (marked_codes c.args.named.now (x ∷ [])) (marked_codes c.args.named.now rest) chosen c.loop-code.invariant.sum);
-      marks = ap (λ b. with_marks (slice_set c.loop-code.coded b true) rest) (sym (first_is x.text _ c.at.ensures)) ∙ (sym (ap (with_marks c.loop-code.coded) on) ∙ c.loop-code.invariant.marks)
+      marks = ap (λ b. with_marks (slice_set c.loop-code.coded b true) rest) (sym (first_is x.text _ c.at.ensures)) ∙ (sym (ap (with_marks c.loop-code.coded) on) ∙ c.loop-code.invariant.marks);
     }

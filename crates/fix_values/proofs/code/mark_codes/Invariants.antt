@@ -9,5 +9,5 @@ invariant-loop-code l = record {
   choices : IsTrue (list_all is_choice (drop l.code-index l.codes));
   small : l.n ≤ l.code-index * 2 ^ 63;
   sum : l.n + bits_of (marked_codes l.named (drop l.code-index l.codes)) ≡ bits_of (marked_codes l.named l.codes);
-  marks : with_marks l.coded (drop l.code-index l.codes) ≡ with_marks l.fn.coded l.codes
+  marks : with_marks l.coded (drop l.code-index l.codes) ≡ with_marks l.fn.coded l.codes;
 }

@@ -14,7 +14,7 @@ loop-code-init c =
       room = omega (arith, most, ap length c.requires.empty);
       small = omega arith;
       sum = omega arith;
-      text = ap (λ out. with_codes out (codes_in c.args.codes.now c.args.bits)) c.requires.empty
+      text = ap (λ out. with_codes out (codes_in c.args.codes.now c.args.bits)) c.requires.empty;
     }
 
 pub loop-code-preserved : goal.loop-code-preserved
@@ -30,5 +30,5 @@ loop-code-preserved c =
       room = room_on _ _ ROOM _ a b chosen c.loop-code.invariant.room c.put_choice.ensures.room;
       small = omega (arith, c.put_choice.ensures.small, c.loop-code.invariant.small);
       sum = rw c.put_choice.ensures.sum (bits_on c.loop-code.shown _ _ a b chosen c.loop-code.invariant.sum);
-      text = rw c.put_choice.ensures.text (text_on c.loop-code.out _ a b chosen ∙ c.loop-code.invariant.text)
+      text = rw c.put_choice.ensures.text (text_on c.loop-code.out _ a b chosen ∙ c.loop-code.invariant.text);
     }

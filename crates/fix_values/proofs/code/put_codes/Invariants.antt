@@ -11,5 +11,5 @@ invariant-loop-code l = record {
   room : length l.out + 2 * length (codes_in (drop l.code-index l.codes) l.bits) ≤ ROOM;
   small : l.shown ≤ l.code-index * 2 ^ 63;
   sum : l.shown + bits_of (codes_in (drop l.code-index l.codes) l.bits) ≡ bits_of (codes_in l.codes l.bits);
-  text : with_codes l.out (codes_in (drop l.code-index l.codes) l.bits) ≡ with_codes [] (codes_in l.codes l.bits)
+  text : with_codes l.out (codes_in (drop l.code-index l.codes) l.bits) ≡ with_codes [] (codes_in l.codes l.bits);
 }

@@ -7,5 +7,5 @@ abbrev pub invariant-loop-code : goal.invariant-loop-code
 invariant-loop-code l = record {
   empty : l.out ≡ [];
   short : IsTrue (list_all has_short_text (drop l.code-index l.codes));
-  same : code_text (drop l.code-index l.codes) l.n ≡ code_text l.codes l.n
+  same : code_text (drop l.code-index l.codes) l.n ≡ code_text l.codes l.n;
 }

@@ -11,7 +11,7 @@ loop-rest-preserved c =
       small = rest_small (c.loop-rest.left - 1) c.loop-rest.rest c.pow-power.result c.pow-power.ensures;
       room = omega (arith, some, c.loop-rest.invariant.room, simp length-append at (ap length c.push.ensures));
       counted = omega (arith, more, c.loop-rest.invariant.counted);
-      text = fraction_text c.loop-rest.out c.push.new.self c.loop-rest.left c.loop-rest.rest c.pow-power.result c.loop-rest-test.true c.loop-rest.invariant.small c.pow-power.ensures c.push.ensures ∙ c.loop-rest.invariant.text
+      text = fraction_text c.loop-rest.out c.push.new.self c.loop-rest.left c.loop-rest.rest c.pow-power.result c.loop-rest-test.true c.loop-rest.invariant.small c.pow-power.ensures c.push.ensures ∙ c.loop-rest.invariant.text;
     }
 
 pub returns-clause-text : goal.returns-clause-text

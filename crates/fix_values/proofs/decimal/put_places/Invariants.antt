@@ -12,5 +12,5 @@ invariant-loop-rest l = record {
   small : l.rest < 10 ^ l.left;
   room : length l.out + l.left ≤ ROOM;
   counted : l.count + length (fraction_of l.left l.rest) ≡ length (fraction_of l.fn.places l.fn.rest);
-  text : l.out ++ fraction_of l.left l.rest ≡ l.fn.out ++ fraction_of l.fn.places l.fn.rest
+  text : l.out ++ fraction_of l.left l.rest ≡ l.fn.out ++ fraction_of l.fn.places l.fn.rest;
 }

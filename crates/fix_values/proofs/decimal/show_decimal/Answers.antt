@@ -26,5 +26,5 @@ returns-in-None c =
     let above : int_le (pos 0) c.args.exponent ≡ true = grind (arith, ints) in
     let ten = c.pow.ensures ∙ ap (λ k. 10 ^ k) (cast_is w32 c.args.exponent c.ranges.exponent above) in
     let same = text_over c.args.mantissa c.args.exponent c.unsigned_abs-size.result c.pow.result c.ranges.mantissa (grind (arith, ints)) (grind (arith, ints)) above
-      (c.unsigned_abs-size.ensures.value ∙ abs_same w128 c.args.mantissa c.ranges.mantissa) ten c.in-None.ensures in
+    (c.unsigned_abs-size.ensures.value ∙ abs_same w128 c.args.mantissa c.ranges.mantissa) ten c.in-None.ensures in
     subst (Leaves (Err Range) c.clear.new.self) (sym same) (refl, c.clear.ensures)

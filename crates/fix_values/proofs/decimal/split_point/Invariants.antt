@@ -5,5 +5,5 @@ use Rattle.fix_values.proofs.decimal.split_point.Given as goal
 abbrev pub invariant-loop-i : goal.invariant-loop-i
 invariant-loop-i l = record {
   whole : take l.i l.digits ++ before_point (drop l.i l.digits) ≡ before_point l.digits;
-  fraction : behind_point (drop l.i l.digits) ≡ behind_point l.digits
+  fraction : behind_point (drop l.i l.digits) ≡ behind_point l.digits;
 }

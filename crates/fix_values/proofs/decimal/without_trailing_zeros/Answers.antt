@@ -7,7 +7,7 @@ use Rattle.fix_values.proofs.decimal.without_trailing_zeros.Goals as goal
 pub loop-end-preserved : goal.loop-end-preserved
 loop-end-preserved c = record {
   within = omega arith;
-  same = zero_dropped c.args.digits.now c.loop-end.end c.loop-end-test.true c.loop-end.invariant.within c.if-digits-end-eq48.true ∙ c.loop-end.invariant.same
+  same = zero_dropped c.args.digits.now c.loop-end.end c.loop-end-test.true c.loop-end.invariant.within c.if-digits-end-eq48.true ∙ c.loop-end.invariant.same;
 }
 
 pub returns : goal.returns

@@ -8,5 +8,5 @@ decreases-loop-end l = l.end
 abbrev pub invariant-loop-end : goal.invariant-loop-end
 invariant-loop-end l = record {
   within : l.end ≤ length l.digits;
-  same : without_trailing (take l.end l.digits) ≡ without_trailing l.digits
+  same : without_trailing (take l.end l.digits) ≡ without_trailing l.digits;
 }

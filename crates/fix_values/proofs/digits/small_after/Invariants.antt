@@ -6,5 +6,5 @@ use Rattle.fix_values.proofs.digits.small_after.Given as goal
 abbrev pub invariant-loop-digit : goal.invariant-loop-digit
 invariant-loop-digit l = record {
   digits : IsTrue (all_ascii_digits (drop l.digit-index l.digits));
-  same : digits_value_after 10 l.so_far (drop l.digit-index l.digits) ≡ digits_value_after 10 l.fn.number l.digits
+  same : digits_value_after 10 l.so_far (drop l.digit-index l.digits) ≡ digits_value_after 10 l.fn.number l.digits;
 }
