@@ -6,8 +6,8 @@ use std::test::Fail;
 #[test]
 fn keeps_the_limit_of_a_frame(rt: HostRuntime) -> Result<(), Fail> {
     let alloc = rt.alloc();
-    let mut frame = vec![in alloc; 0u8; 16_777_216]?;
-    frame[..6].copy_from_slice(b"\x01\x00\x00\x00\xeb\x50");
+    let mut frame = Vec::from_slice(alloc, b"\x01\x00\x00\x00\xeb\x50")?;
+    frame.resize(16_777_216, 0)?;
     let trial = Trial {
         input: frame.as_slice(),
         piece: 1_048_576,
