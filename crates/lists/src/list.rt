@@ -76,6 +76,13 @@ impl<T> List<T> {
     {
         self.items.as_slice()
     }
+
+    /// Its items, as a vector.
+    pub fn into_vec(self) -> Vec<T>
+        ensures { result.items ≡ self }
+    {
+        self.items
+    }
 }
 
 impl<T: Drop> List<T> {

@@ -4,3 +4,4 @@ pub mod Places
 pub mod Shows
 pub mod AtPlaces
 pub mod Wire
+pub mod InForm

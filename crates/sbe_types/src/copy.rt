@@ -49,6 +49,21 @@ impl Kind {
     }
 }
 
+impl Member {
+    /// An equal member.
+    pub fn copy(&self, alloc: Global) -> Result<Member, NoMem>
+        ensures { IfOk result (λ it. it ≡ self.now) }
+    {
+        let name = copied_text(alloc, &self.name)?;
+        let kind = self.kind.copy(alloc)?;
+        Ok(Member {
+            name,
+            offset: self.offset,
+            kind,
+        })
+    }
+}
+
 #[cycle(kind)]
 fn copied_members(alloc: Global, members: &List<Member>) -> Result<List<Member>, NoMem>
     ensures { IfOk result (λ it. it ≡ members.now) }

@@ -5,6 +5,7 @@
 mod copy;
 mod kind;
 pub mod laws;
+mod limits;
 mod message;
 mod number;
 mod path;
@@ -14,6 +15,10 @@ mod tree;
 pub use kind::{
     ConstValue, Kind, Leaf, LeafShape, Member, MemberList, Named, NamedList, Order, Presence, Prim,
     Primitive,
+};
+pub use limits::{
+    LENGTH_LIMIT, MEMBER_LIMIT, MESSAGE_LIMIT, NAME_LIMIT, PART_LIMIT, PLACE_LIMIT, TYPE_LIMIT,
+    VALUE_LIMIT,
 };
 pub use lists::{Bytes, List, NoMem, Text};
 pub use message::{
