@@ -5,6 +5,7 @@ use Rattle.serde_json.specs.Find.{get}
 use Rattle.json_elements.specs.declared.refusal.Cause.TheVariants.{Missing}
 use Rattle.json_elements.specs.Reading.{Reading, refuse, inside}
 
+-- An attribute that must be there, read by its form.
 abbrev pub needed_in : {A : Type 0} → (Data → Reading A) → Option Data → Reading A
 needed_in form None = refuse Missing
 needed_in form (Some d) = form d
@@ -13,6 +14,7 @@ needed_in form (Some d) = form d
 abbrev pub needed : {A : Type 0} → (Data → Reading A) → List ℕ → Data → Reading A
 needed form key d = inside key (needed_in form (get key d))
 
+-- An attribute that has a default, read by its form.
 abbrev pub default_in : {A : Type 0} → A → (Data → Reading A) → Option Data → Reading A
 default_in otherwise form None = Ok otherwise
 default_in otherwise form (Some d) = form d
@@ -21,6 +23,7 @@ default_in otherwise form (Some d) = form d
 abbrev pub with_default : {A : Type 0} → A → (Data → Reading A) → List ℕ → Data → Reading A
 with_default otherwise form key d = inside key (default_in otherwise form (get key d))
 
+-- What was read is there.
 abbrev pub given : {A : Type 0} → Reading A → Reading (Option A)
 given (Ok x) = Ok (Some x)
 given (Err e) = Err e

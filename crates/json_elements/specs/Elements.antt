@@ -11,6 +11,7 @@ use Rattle.json_elements.specs.Reading.{Reading, ◌>>=◌, refuse, at_child}
 
 -- ---- the shape of an element
 
+-- The byte that ends a prefix.
 abbrev pub is_colon : ℕ → Bool
 is_colon c = nat_eq c 58
 
@@ -23,6 +24,7 @@ abbrev pub lone : Data → Option (List ℕ × Data)
 lone (object (member key d no_members)) = Some (local_name key, d)
 lone _ = None
 
+-- An element with its name, which there must be.
 abbrev pub named_in : {A : Type 0} → (List ℕ → Data → Reading A) → Option (List ℕ × Data) → Reading A
 named_in by None = refuse Shape
 named_in by (Some p) = by p.0 p.1
@@ -31,6 +33,7 @@ named_in by (Some p) = by p.0 p.1
 abbrev pub named : {A : Type 0} → (List ℕ → Data → Reading A) → Data → Reading A
 named by d = named_in by (lone d)
 
+-- The children, of which a missing `content` has none.
 abbrev pub content_in : Option Data → Reading Items
 content_in None = Ok no_items
 content_in (Some (array ds)) = Ok ds
@@ -41,6 +44,7 @@ abbrev pub content : Data → Reading Items
 content (object ms) = content_in (get_member (codes "content") ms)
 content _ = refuse Shape
 
+-- How many children there are.
 abbrev pub items_count : Items → ℕ
 items_count no_items = 0
 items_count (item d ds) = suc (items_count ds)
@@ -75,14 +79,17 @@ abbrev mutual
   branches by (object ms) = branches_among by ms
   branches by _ = Ok []
 
+  -- The branches below the `content` of an object.
   pub branches_among : {A : Type 0} → (List ℕ → Data → Reading (List A) → Reading A) → Members → Reading (List A)
   branches_among by no_members = Ok []
   branches_among by (member key d ms) = match_ordering (slice_cmp nat_cmp (codes "content") key) (branches_among by ms) (branches_listed by d) (branches_among by ms)
 
+  -- The branches of a `content` that is a list.
   pub branches_listed : {A : Type 0} → (List ℕ → Data → Reading (List A) → Reading A) → Data → Reading (List A)
   branches_listed by (array ds) = branches_from by 0 ds
   branches_listed by _ = Ok []
 
+  -- The branches from position i on.
   pub branches_from : {A : Type 0} → (List ℕ → Data → Reading (List A) → Reading A) → ℕ → Items → Reading (List A)
   branches_from by i no_items = Ok []
   branches_from by i (item d ds) = do

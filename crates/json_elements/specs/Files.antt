@@ -7,6 +7,7 @@ use Rattle.json_elements.specs.declared.refusal.Cause.TheVariants.{Xml, NotJson,
 use Rattle.json_elements.specs.declared.file.TheConstants.{FILE_LIMIT}
 use Rattle.json_elements.specs.Reading.{Reading, refuse}
 
+-- Space, tab, line feed or carriage return.
 abbrev pub is_blank : ℕ → Bool
 is_blank c = (c == 32) || (c == 9) || (c == 10) || (c == 13)
 
@@ -27,6 +28,7 @@ is_xml bytes = is_tag (if has_mark bytes then drop 3 bytes else bytes)
 abbrev pub json_value : List ℕ → Option Data
 json_value bytes = if is_utf8 bytes then read bytes else None
 
+-- The JSON value of a file, which there must be.
 abbrev pub found_value : Option Data → Reading Data
 found_value None = refuse NotJson
 found_value (Some d) = Ok d

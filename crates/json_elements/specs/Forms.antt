@@ -13,6 +13,7 @@ use Rattle.json_elements.specs.Reading.{Reading, ◌>>=◌, refuse}
 abbrev pub digits_part : List ℕ → List ℕ
 digits_part s = if slice_index s 0 == 45 then drop 1 s else s
 
+-- A text of digits, behind a minus sign or none.
 abbrev pub is_whole_text : List ℕ → Bool
 is_whole_text s = nat_lt 0 (length (digits_part s)) && all_ascii_digits (digits_part s)
 
@@ -31,6 +32,7 @@ whole_num (unsigned n) = Ok (pos n)
 whole_num (negative z) = Ok z
 whole_num (float x) = refuse BadAttribute
 
+-- A whole number: a JSON integer, or a text of digits that fits 128 bits.
 abbrev pub whole : Data → Reading ℤ
 whole (number n) = whole_num n
 whole (string s) = whole_text s

@@ -11,6 +11,7 @@ pub record Refusal : Type 0 where
   pub cause : Cause
   pub path : List ℕ
 
+-- What is read, or its first refusal.
 abbrev pub Reading : Type 0 → Type 0
 Reading X = Result X Refusal
 
@@ -20,6 +21,7 @@ abbrev pub ◌>>=◌ : {A B : Type 0} → Reading A → (A → Reading B) → Re
 (Ok x) >>= f = f x
 (Err e) >>= f = Err e
 
+-- A refusal with its cause and place.
 abbrev pub refusal : Cause → List ℕ → Refusal
 refusal cause path = record { cause = cause; path = path }
 
@@ -62,5 +64,6 @@ GivesAs seen (Ok x) read = read ≡ Ok (seen x)
 GivesAs seen (Err Memory) read = ⊤
 GivesAs seen (Err (Refused cause steps)) read = read ≡ Err (refusal cause (pointer steps))
 
+-- What was answered is this reading, unless memory was wanting.
 abbrev pub Gives : {X : Type 0} → Result X ElementErr → Reading X → Type 0
 Gives = GivesAs (λ x. x)

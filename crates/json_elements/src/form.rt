@@ -17,6 +17,7 @@ pub trait Form {
     /// What is read of a value.
     ghost form: { Data → Reading Self.Out };
 
+    /// Reads a value. A refusal has no steps yet: it is of the value itself.
     fn read(alloc: Global, value: &Value) -> Result<Self::Out, ElementErr>
         ensures { Gives result (form (view value.now)) };
 }

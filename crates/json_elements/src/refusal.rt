@@ -4,21 +4,28 @@ ghost use Rattle.json_elements.specs.Reading.{Reading, Gives, GoesOut, refuse, i
 use itoa::Buffer;
 use lists::{List, NoMem, Text};
 use std::alloc::Global;
+use thiserror::Error;
 
 /// Why a file of elements is refused.
-#[derive(Clone, Copy, Debug, PartialEq, Eq)]
+#[derive(Clone, Copy, Debug, PartialEq, Eq, Error)]
 pub enum Cause {
     /// It begins as XML does.
+    #[error("begins as XML does")]
     Xml,
     /// It is no JSON value.
+    #[error("no JSON value")]
     NotJson,
     /// It isn't an element that may stand at its place.
+    #[error("no element of this place")]
     Shape,
     /// An attribute that must be there is missing.
+    #[error("a missing attribute")]
     Missing,
     /// An attribute isn't of its form.
+    #[error("an attribute of another form")]
     BadAttribute,
     /// It breaks a limit.
+    #[error("over a limit")]
     Limit,
 }
 
@@ -31,9 +38,11 @@ pub enum Step {
 
 /// Why nothing was read: a refusal, with the steps to its place from the innermost outwards, or
 /// want of memory.
-#[derive(Debug, Drop)]
+#[derive(Debug, Drop, Error)]
 pub enum ElementErr {
+    #[error("{0}")]
     Refused(Cause, List<Step>),
+    #[error("out of memory")]
     Memory,
 }
 

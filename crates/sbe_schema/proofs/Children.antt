@@ -1,9 +1,9 @@
 -- Lemmas of elements inside others of their kind, at composites and groups.
 use Rattle.std.proofs.Common.{◌≡◌, ℕ, List, Some, None}
-use Rattle.std.specs.Prelude.{Option, Ok}
+use Rattle.std.specs.Prelude.{Ok}
 use Rattle.serde_json.specs.Data.{Data, Items}
 use Rattle.json_elements.specs.declared.refusal.Cause.TheVariants.{Shape}
-use Rattle.json_elements.specs.Reading.{Reading, refuse}
+use Rattle.json_elements.specs.Reading.{refuse}
 use Rattle.json_elements.specs.Elements.{lone, content, each, tree, branches}
 use Rattle.json_elements.proofs.Trees.{By}
 use Rattle.json_elements.proofs.Trees as trees

@@ -1,1 +1,4 @@
 pub mod Children
+pub mod InForm
+pub mod TypesInForm
+pub mod SchemaInForm

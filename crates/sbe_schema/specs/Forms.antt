@@ -1,6 +1,6 @@
 -- The forms of a schema's attributes, and the names of its elements.
-use Rattle.std.specs.Prelude.{ℕ, ◌&&◌, ◌||◌, ◌==◌, nat_le, nat_lt, nat_eq, Bool, if◌then◌else◌, List, codes, length, slice_index, Result, Ok, Err}
-use Rattle.std.specs.List.{list_all, before_first, after_first, position_or_len}
+use Rattle.std.specs.Prelude.{ℕ, ◌&&◌, nat_le, nat_lt, nat_eq, Bool, if◌then◌else◌, List, codes, length, Ok}
+use Rattle.std.specs.List.{before_first, after_first, position_or_len}
 use Rattle.std.specs.Str.{bytes_eq}
 use Rattle.serde_json.specs.Data.{Data}
 use Rattle.json_elements.specs.declared.refusal.Cause.TheVariants.{BadAttribute, Limit}
@@ -14,25 +14,18 @@ use Rattle.sbe_types.specs.declared.kind.Primitive.TheVariants.{Char, I8, I16, I
 use Rattle.sbe_types.specs.declared.tree.PrimitiveType.{PrimitiveType}
 use Rattle.sbe_types.specs.declared.tree.PrimitiveType.TheVariants.{Integral, Float, Double}
 use Rattle.sbe_types.specs.declared.tree.ValueRef.{ValueRef}
-use Rattle.sbe_schema.specs.declared.form.TheConstants.{NAME_LIMIT, LENGTH_LIMIT, PLACE_LIMIT}
+pub use Rattle.sbe_types.specs.InForm.{is_letter, is_name_byte, is_name}
+use Rattle.sbe_types.specs.declared.limits.TheConstants.{NAME_LIMIT, LENGTH_LIMIT, PLACE_LIMIT}
 use Rattle.sbe_schema.specs.declared.element_name.ElementName.{ElementName}
 use Rattle.sbe_schema.specs.declared.element_name.ElementName.TheVariants as element
 
 -- ---- names
 
-abbrev pub is_letter : ℕ → Bool
-is_letter c = (nat_le 65 c && nat_le c 90) || (nat_le 97 c && nat_le c 122) || (c == 95)
-
-abbrev pub is_name_byte : ℕ → Bool
-is_name_byte c = is_letter c || (nat_le 48 c && nat_le c 57)
-
--- a letter or `_`, then letters, digits and `_`
-abbrev pub is_name : List ℕ → Bool
-is_name s = nat_lt 0 (length s) && is_letter (slice_index s 0) && list_all is_name_byte s
-
+-- Within the limit of a name.
 abbrev pub is_short : List ℕ → Bool
 is_short s = nat_le (length s) NAME_LIMIT
 
+-- A text as a name.
 abbrev pub name_in : List ℕ → Reading (List ℕ)
 name_in s = if is_name s then (if is_short s then Ok s else refuse Limit) else refuse BadAttribute
 
@@ -42,15 +35,18 @@ a_name d = do
   s ← text d
   name_in s
 
+-- The byte between the two names of a valueRef.
 abbrev pub is_dot : ℕ → Bool
 is_dot c = nat_eq c 46
 
+-- The two names of a valueRef.
 abbrev pub both_names : List ℕ → List ℕ → Reading ValueRef
 both_names enum_name value_name =
     if is_name enum_name && is_name value_name
     then (if is_short enum_name && is_short value_name then Ok (record { enum_name = enum_name; value_name = value_name }) else refuse Limit)
     else refuse BadAttribute
 
+-- A text as a valueRef.
 abbrev pub value_ref_in : List ℕ → Reading ValueRef
 value_ref_in s =
     if nat_lt (position_or_len is_dot s) (length s) then both_names (before_first is_dot s) (after_first is_dot s)
@@ -64,6 +60,7 @@ a_value_ref d = do
 
 -- ---- words
 
+-- A text as the name of a primitive type, float and double included.
 abbrev pub primitive_in : List ℕ → Reading PrimitiveType
 primitive_in s =
     if bytes_eq s (codes "char") then Ok (Integral Char)
@@ -79,11 +76,13 @@ primitive_in s =
     else if bytes_eq s (codes "double") then Ok Double
     else refuse BadAttribute
 
+-- The attribute primitiveType.
 abbrev pub a_primitive : Data → Reading PrimitiveType
 a_primitive d = do
   s ← text d
   primitive_in s
 
+-- A text as a presence.
 abbrev pub presence_in : List ℕ → Reading Presence
 presence_in s =
     if bytes_eq s (codes "required") then Ok Required
@@ -91,17 +90,20 @@ presence_in s =
     else if bytes_eq s (codes "constant") then Ok Constant
     else refuse BadAttribute
 
+-- The attribute presence.
 abbrev pub a_presence : Data → Reading Presence
 a_presence d = do
   s ← text d
   presence_in s
 
+-- A text as a byte order.
 abbrev pub byte_order_in : List ℕ → Reading Order
 byte_order_in s =
     if bytes_eq s (codes "littleEndian") then Ok Little
     else if bytes_eq s (codes "bigEndian") then Ok Big
     else refuse BadAttribute
 
+-- The attribute byteOrder.
 abbrev pub a_byte_order : Data → Reading Order
 a_byte_order d = do
   s ← text d

@@ -1,5 +1,5 @@
 -- The elements of messages (SBE 1.0, "Message schema: message"), judged in the same order as types.
-use Rattle.std.specs.Prelude.{ℕ, List, [], codes, Result, Ok, Err}
+use Rattle.std.specs.Prelude.{ℕ, List, [], codes, Ok}
 use Rattle.serde_json.specs.Data.{Data}
 use Rattle.json_elements.specs.declared.refusal.Cause.TheVariants.{Shape}
 use Rattle.json_elements.specs.Reading.{Reading, ◌>>=◌, refuse, inside}
@@ -14,11 +14,12 @@ use Rattle.sbe_types.specs.declared.tree.PartItem.{PartItem}
 use Rattle.sbe_types.specs.declared.tree.PartItem as part
 use Rattle.sbe_schema.specs.declared.element_name.ElementName.{ElementName}
 use Rattle.sbe_schema.specs.declared.element_name.ElementName.TheVariants as element
-use Rattle.sbe_schema.specs.declared.message.TheConstants.{PART_LIMIT}
+use Rattle.sbe_types.specs.declared.limits.TheConstants.{PART_LIMIT}
 use Rattle.sbe_schema.specs.Forms.{a_name, a_value_ref, a_presence, a_place, element_of}
 
 -- ---- field: name, id, type, sinceVersion (0); presence, offset and valueRef may be missing; no children
 
+-- A field.
 abbrev pub field_from : Data → Reading FieldEl
 field_from d = do
   children ← content d
@@ -34,6 +35,7 @@ field_from d = do
 
 -- ---- data: name, id, type, sinceVersion (0); no children
 
+-- A data.
 abbrev pub data_from : Data → Reading DataEl
 data_from d = do
   children ← content d
@@ -74,14 +76,17 @@ part_child element.Group d read = inside (codes "group") (group_from d read) >>=
 part_child element.Data d read = inside (codes "data") (data_from d) >>= (λ x. Ok (part.Data x))
 part_child _ d read = refuse Shape
 
+-- A part of a level by its name, with what is read of its own parts.
 abbrev pub by_part : List ℕ → Data → Reading (List PartItem) → Reading PartItem
 by_part name = part_child (element_of name)
 
+-- A part of a level, with all that is inside it.
 abbrev pub part_of : Data → Reading PartItem
 part_of = tree by_part
 
 -- ---- message: name, id, semanticType (empty), sinceVersion (0); blockLength may be missing; field, group, data
 
+-- A message with its parts.
 abbrev pub message_from : Data → Reading MessageEl
 message_from d = do
   children ← content d

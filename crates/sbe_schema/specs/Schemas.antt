@@ -1,5 +1,5 @@
 -- A schema file and its outer elements.
-use Rattle.std.specs.Prelude.{◌≡◌, ℕ, suc, ◌+◌, ◌-◌, List, [], ◌∷◌, codes, length, Option, Some, None, Result, Ok, Err, ⊤}
+use Rattle.std.specs.Prelude.{◌≡◌, ℕ, ◌+◌, ◌-◌, List, [], ◌∷◌, codes, length, Option, Some, None, Result, Ok, Err, ⊤}
 use Rattle.serde_json.specs.Data.{Data, Items, no_items, item}
 use Rattle.json_elements.specs.declared.refusal.Cause.TheVariants.{Shape}
 use Rattle.json_elements.specs.Reading.{Reading, ◌>>=◌, refuse, refusal, inside, at_child}
@@ -17,7 +17,7 @@ use Rattle.sbe_types.specs.declared.tree.SchemaItem.TheVariants as part
 use Rattle.sbe_schema.specs.declared.element_name.ElementName.{ElementName}
 use Rattle.sbe_schema.specs.declared.element_name.ElementName.TheVariants as element
 use Rattle.sbe_schema.specs.declared.types.Standing.TheVariants.{Declared}
-use Rattle.sbe_schema.specs.declared.schema.TheConstants.{TYPE_LIMIT, MESSAGE_LIMIT}
+use Rattle.sbe_types.specs.declared.limits.TheConstants.{TYPE_LIMIT, MESSAGE_LIMIT}
 use Rattle.sbe_schema.specs.declared.schema_err.SchemaErr.{SchemaErr}
 use Rattle.sbe_schema.specs.declared.schema_err.SchemaErr.TheVariants.{Refused, Memory}
 use Rattle.sbe_schema.specs.Forms.{a_name, a_byte_order, element_of}
@@ -26,6 +26,7 @@ use Rattle.sbe_schema.specs.Messages.{message_from}
 
 -- ---- types: no attributes; type, composite, enum, set
 
+-- A child of types by its name.
 abbrev pub types_child : ElementName → Data → Reading TypesItem
 types_child element.Type d = inside (codes "type") (type_from Declared d) >>= (λ x. Ok (declared_type.Type x))
 types_child element.Composite d = inside (codes "composite") (composite_from Declared d (branches by_member d)) >>= (λ x. Ok (declared_type.Composite x))
@@ -33,6 +34,7 @@ types_child element.Enum d = inside (codes "enum") (enum_from Declared d) >>= (�
 types_child element.Set d = inside (codes "set") (set_from Declared d) >>= (λ x. Ok (declared_type.Set x))
 types_child _ d = refuse Shape
 
+-- A declared type with its name.
 abbrev pub declared : Data → Reading TypesItem
 declared = named (λ name. types_child (element_of name))
 
@@ -53,6 +55,7 @@ schema_child room element.Types d = inside (codes "types") (types_from room d) >
 schema_child room element.Message d = inside (codes "message") (message_from d) >>= (λ x. Ok (part.Message x))
 schema_child room _ d = refuse Shape
 
+-- A child of messageSchema, where so many more types may be declared.
 abbrev pub outer_part : ℕ → Data → Reading SchemaItem
 outer_part room = named (λ name. schema_child room (element_of name))
 
@@ -69,10 +72,12 @@ outer_parts room i (item d ds) = do
   others ← outer_parts (room - declares first) (i + 1) ds
   Ok (first ∷ others)
 
+-- 1 for a message, and 0 for every other element.
 abbrev pub one_if_message : ElementName → ℕ
 one_if_message element.Message = 1
 one_if_message _ = 0
 
+-- The same for an element, if it is one.
 abbrev pub message_count_in : Option (List ℕ × Data) → ℕ
 message_count_in None = 0
 message_count_in (Some p) = one_if_message (element_of p.0)
@@ -82,6 +87,7 @@ abbrev pub message_count : Items → ℕ
 message_count no_items = 0
 message_count (item d ds) = message_count_in (lone d) + message_count ds
 
+-- A messageSchema with its children.
 abbrev pub schema_from : Data → Reading Schema
 schema_from d = do
   children ← content d
@@ -96,6 +102,7 @@ schema_from d = do
 
 -- ---- the file
 
+-- The root of a schema file, which is a messageSchema.
 abbrev pub root : ElementName → Data → Reading Schema
 root element.MessageSchema d = inside (codes "messageSchema") (schema_from d)
 root _ d = refuse Shape

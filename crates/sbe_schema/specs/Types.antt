@@ -1,6 +1,6 @@
 -- The elements that declare types (SBE 1.0, "Message schema: types"). Each is judged in this order: its
 -- shape, its attributes in the order of the table, how many children it has, and its children.
-use Rattle.std.specs.Prelude.{ℕ, List, codes, Option, None, Result, Ok, Err}
+use Rattle.std.specs.Prelude.{ℕ, List, codes, Option, None, Ok}
 use Rattle.serde_json.specs.Data.{Data}
 use Rattle.json_elements.specs.declared.refusal.Cause.TheVariants.{Shape}
 use Rattle.json_elements.specs.Reading.{Reading, ◌>>=◌, refuse, inside}
@@ -20,7 +20,7 @@ use Rattle.sbe_schema.specs.declared.element_name.ElementName.{ElementName}
 use Rattle.sbe_schema.specs.declared.element_name.ElementName.TheVariants as element
 use Rattle.sbe_schema.specs.declared.types.Standing.{Standing}
 use Rattle.sbe_schema.specs.declared.types.Standing.TheVariants.{Declared, Member}
-use Rattle.sbe_schema.specs.declared.types.TheConstants.{MEMBER_LIMIT, VALUE_LIMIT}
+use Rattle.sbe_types.specs.declared.limits.TheConstants.{MEMBER_LIMIT, VALUE_LIMIT}
 use Rattle.sbe_schema.specs.Forms.{a_name, a_value_ref, a_primitive, a_presence, a_length, a_place, element_of}
 
 -- ---- what a member of a composite has besides
@@ -38,6 +38,7 @@ since_from Member d = with_default 0 id_number (codes "sinceVersion") d
 -- ---- type: name, primitiveType, length (1); presence, nullValue, minValue, maxValue,
 -- characterEncoding, valueRef and text may be missing; no children
 
+-- A type, declared or a member of a composite.
 abbrev pub type_from : Standing → Data → Reading TypeEl
 type_from standing d = do
   children ← content d
@@ -71,6 +72,7 @@ type_from standing d = do
 
 -- ---- ref: name, type; no children
 
+-- A ref.
 abbrev pub ref_from : Data → Reading RefEl
 ref_from d = do
   children ← content d
@@ -92,13 +94,16 @@ valid_value_from d = do
   _ ← no_children children
   Ok (record { name = name; text = its_text })
 
+-- A child of an enum, which is a validValue.
 abbrev pub enum_child : ElementName → Data → Reading ValidValueEl
 enum_child element.ValidValue d = inside (codes "validValue") (valid_value_from d)
 enum_child _ d = refuse Shape
 
+-- A validValue with its name.
 abbrev pub valid_value : Data → Reading ValidValueEl
 valid_value = named (λ name. enum_child (element_of name))
 
+-- An enum, declared or a member of a composite.
 abbrev pub enum_from : Standing → Data → Reading EnumEl
 enum_from standing d = do
   children ← content d
@@ -121,13 +126,16 @@ choice_from d = do
   _ ← no_children children
   Ok (record { name = name; text = its_text })
 
+-- A child of a set, which is a choice.
 abbrev pub set_child : ElementName → Data → Reading ChoiceEl
 set_child element.Choice d = inside (codes "choice") (choice_from d)
 set_child _ d = refuse Shape
 
+-- A choice with its name.
 abbrev pub choice : Data → Reading ChoiceEl
 choice = named (λ name. set_child (element_of name))
 
+-- A set, declared or a member of a composite.
 abbrev pub set_from : Standing → Data → Reading SetEl
 set_from standing d = do
   children ← content d
@@ -160,8 +168,10 @@ composite_child element.Composite d read = inside (codes "composite") (composite
 composite_child element.Ref d read = inside (codes "ref") (ref_from d) >>= (λ x. Ok (member.Ref x))
 composite_child _ d read = refuse Shape
 
+-- A member of a composite by its name, with what is read of its own members.
 abbrev pub by_member : List ℕ → Data → Reading (List MemberItem) → Reading MemberItem
 by_member name = composite_child (element_of name)
 
+-- A member of a composite, with all that is inside it.
 abbrev pub member_of : Data → Reading MemberItem
 member_of = tree by_member

@@ -6,18 +6,11 @@ ghost use Rattle.sbe_schema.specs.Forms.{is_letter, is_name_byte, is_name, is_sh
 
 use json_elements::{Cause, ElementErr, Form, read_limited, refuse, str_of};
 use lists::{List, Text};
-use sbe_types::{Order, Presence, Prim, PrimitiveType, ValueRef};
+use sbe_types::{
+    LENGTH_LIMIT, NAME_LIMIT, Order, PLACE_LIMIT, Presence, Prim, PrimitiveType, ValueRef,
+};
 use serde_json::Value;
 use std::alloc::Global;
-
-/// The most bytes that a name may have.
-pub const NAME_LIMIT: usize = 64;
-
-/// The most primitives that a type may have.
-pub const LENGTH_LIMIT: u32 = 65_535;
-
-/// The greatest offset and the greatest length of a block.
-pub const PLACE_LIMIT: u32 = 1_048_576;
 
 /// A name: a letter or `_`, then letters, digits and `_`, at most 64 bytes.
 pub enum Name {}

@@ -13,12 +13,9 @@ use json_elements::{
     needed, optional, refuse, refuse_children, with_default,
 };
 use lists::{List, Text};
-use sbe_types::{DataEl, FieldEl, GroupEl, MessageEl, PartItem};
+use sbe_types::{DataEl, FieldEl, GroupEl, MessageEl, PART_LIMIT, PartItem};
 use serde_json::Value;
 use std::alloc::Global;
-
-/// The most fields, groups and data of a message or of a group's entries, together.
-pub const PART_LIMIT: usize = 256;
 
 pub fn read_message(alloc: Global, element: &Value) -> Result<MessageEl, ElementErr>
     ensures { Gives result (message_from (view element.now)) }

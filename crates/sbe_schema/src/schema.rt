@@ -1,9 +1,10 @@
-ghost use Rattle.std.specs.Prelude.{◌≡◌, ◌≤◌, codes, length};
+ghost use Rattle.std.specs.Prelude.{◌≡◌, IfOk, ◌≤◌, codes, length};
 ghost use Rattle.serde_json.specs.View.{view, items_view};
 ghost use Rattle.json_elements.specs.Reading.{Gives, at_child};
 ghost use Rattle.json_elements.specs.Attributes.{with_default};
 ghost use Rattle.json_elements.specs.Elements.{lone, named, at_most, each};
-ghost use Rattle.sbe_schema.specs.declared.schema.TheConstants.{TYPE_LIMIT, MESSAGE_LIMIT};
+ghost use Rattle.sbe_types.specs.InForm.{IsInForm};
+ghost use Rattle.sbe_types.specs.declared.limits.TheConstants.{TYPE_LIMIT, MESSAGE_LIMIT};
 ghost use Rattle.sbe_schema.specs.Forms.{a_name, element_of};
 ghost use Rattle.sbe_schema.specs.Schemas.{types_child, declared, types_from, schema_child, outer_part, declares, outer_parts, message_count_in, message_count, schema_from, root, schema_of, Answers};
 
@@ -17,20 +18,16 @@ use json_elements::{
     needed, path_of, read_value, refuse, with_default,
 };
 use lists::{List, Text};
-use sbe_types::{Order, Schema, SchemaItem, TypesEl, TypesItem};
+use sbe_types::{MESSAGE_LIMIT, Order, Schema, SchemaItem, TYPE_LIMIT, TypesEl, TypesItem};
 use serde_json::Value;
 use std::alloc::Global;
 
-/// The most types that a schema declares.
-pub const TYPE_LIMIT: usize = 1024;
-
-/// The most messages of a schema.
-pub const MESSAGE_LIMIT: usize = 512;
-
 /// The tree of a schema file, or the first refusal with its place, as a JSON pointer. What a file
 /// may hold is told in docs/profile.md under "Schema files".
+#[tactic(auto, using(crate::proofs::SchemaInForm::file_yields))]
 pub fn read_schema(alloc: Global, bytes: &[u8]) -> Result<Schema, SchemaErr>
-    ensures { Answers result (schema_of bytes.now) }
+    ensures reads { Answers result (schema_of bytes.now) }
+    ensures form { IfOk result (λ schema. IsInForm schema) }
 {
     match read_file(alloc, bytes) {
         Ok(schema) => Ok(schema),

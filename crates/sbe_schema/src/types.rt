@@ -11,15 +11,12 @@ use json_elements::{
     limit_children, lone_of, needed, optional, refuse, refuse_children, with_default,
 };
 use lists::List;
-use sbe_types::{ChoiceEl, CompositeEl, EnumEl, MemberItem, RefEl, SetEl, TypeEl, ValidValueEl};
+use sbe_types::{
+    ChoiceEl, CompositeEl, EnumEl, MEMBER_LIMIT, MemberItem, RefEl, SetEl, TypeEl, VALUE_LIMIT,
+    ValidValueEl,
+};
 use serde_json::Value;
 use std::alloc::Global;
-
-/// The most members of a composite.
-pub const MEMBER_LIMIT: usize = 256;
-
-/// The most valid values of an enum.
-pub const VALUE_LIMIT: usize = 1024;
 
 /// Where a type stands.
 #[derive(Clone, Copy, Debug, PartialEq, Eq)]

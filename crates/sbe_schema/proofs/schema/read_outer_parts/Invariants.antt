@@ -1,7 +1,7 @@
 use Rattle.std.proofs.Common.{◌≡◌, drop}
 use Rattle.serde_json.specs.View.{items_view}
 use Rattle.json_elements.proofs.Children.{with_front}
-use Rattle.sbe_schema.specs.declared.schema.TheConstants.{TYPE_LIMIT}
+use Rattle.sbe_types.specs.declared.limits.TheConstants.{TYPE_LIMIT}
 use Rattle.sbe_schema.specs.Schemas.{outer_parts}
 use Rattle.sbe_schema.proofs.schema.read_outer_parts.Given as goal
 

@@ -1,4 +1,4 @@
-use Rattle.std.proofs.Common.{◌≡◌, Some, arith, sym, subst, ◌∙◌}
+use Rattle.std.proofs.Common.{arith, sym, subst, ◌∙◌}
 use Rattle.serde_json.specs.View.{view, items_view}
 use Rattle.json_elements.specs.Reading.{Gives}
 use Rattle.json_elements.specs.Elements.{branches}
