@@ -1,5 +1,5 @@
 -- Lists of codes, one item further on.
-use Rattle.std.proofs.Common.{◌≡◌, ℕ, suc, ◌+◌, ◌*◌, ◌<◌, ◌≤◌, Bool, true, false, ◌&&◌, List, [], ◌∷◌, ◌++◌, length, drop, get_or, refl, sym, ap, ◌∙◌, arith, subst, length-append, inl, inr, ◌⊎◌, map, cond, ℤ, pos, negsuc, int_le, eqb, ◌==◌, IsTrue, append-nil, append_assoc, slice_get, slice_index, Some, not, ◌||◌}
+use Rattle.std.proofs.Common.{◌≡◌, ℕ, suc, ◌+◌, ◌*◌, ◌<◌, ◌≤◌, Bool, true, false, ◌&&◌, List, [], ◌∷◌, ◌++◌, length, drop, get_or, refl, sym, ap, ◌∙◌, arith, subst, length-append, inl, inr, map, cond, ℤ, pos, negsuc, int_le, eqb, ◌==◌, append-nil, append_assoc, slice_get, slice_index, Some, not, ◌||◌}
 use Rattle.std.proofs.Math.Seq.{drop-cons}
 use Rattle.std.proofs.lemmas.List.Sums.{sum_by-append}
 use Rattle.std.proofs.lemmas.List.Elements.{filter-append}

@@ -1,5 +1,5 @@
 -- The digits of decimals: zeros in front and behind, and the digits of a fraction.
-use Rattle.std.proofs.Common.{◌≡◌, ℕ, zero, suc, ◌+◌, ◌-◌, ◌*◌, ◌/◌, ◌%◌, ◌^◌, ◌<◌, ◌≤◌, Bool, true, false, not, ◌&&◌, ◌||◌, eqb, ◌==◌, cond, if◌then◌else◌, List, [], ◌∷◌, ◌++◌, length, take, drop, get_or, refl, sym, ap, ◌∙◌, arith, subst, append_assoc, append-nil, length-append, inl, inr, ◌⊎◌, decimal, pos, ℤ, negsuc, ◌≢◌, nat_le, Result, Ok, Err, int_le, neg_ℤ, unsigned_abs, ◌<ℤ◌, FitsSigned, to_z, of_z, int_lt, ◌≤ℤ◌, ◌-ℤ◌, nat_abs, nat_lt}
+use Rattle.std.proofs.Common.{◌≡◌, ℕ, zero, suc, ◌+◌, ◌-◌, ◌*◌, ◌/◌, ◌%◌, ◌^◌, ◌<◌, ◌≤◌, Bool, true, false, eqb, ◌==◌, cond, List, [], ◌∷◌, ◌++◌, length, take, get_or, refl, sym, ap, ◌∙◌, arith, subst, append_assoc, inl, inr, decimal, pos, ℤ, negsuc, ◌≢◌, nat_le, Result, Ok, Err, int_le, neg_ℤ, unsigned_abs, ◌<ℤ◌, FitsSigned, to_z, of_z, int_lt, ◌≤ℤ◌, ◌-ℤ◌, nat_abs, nat_lt}
 use Rattle.std.proofs.lemmas.List.{take_more}
 use Rattle.std.proofs.lemmas.Nat.{div-add-mod'}
 use Rattle.std.proofs.Math.Nat.{one-le-pow, pow-le-pow_right, mul-le-mul, mod-eq_of_lt, div-le_self}
@@ -15,14 +15,13 @@ use Rattle.std.proofs.lemmas.Bool.{eqb-true, cases_lt}
 use Rattle.std.proofs.lemmas.Bool.Decides.{nat_tests, Decides-eqb}
 use Rattle.std.specs.Char.{is_ascii_digit}
 use Rattle.std.specs.Str.{all_ascii_digits}
-use Rattle.std.specs.Str.Parse.{digits_value}
 use Rattle.fix_values.specs.declared.rule.V.{V}
 use Rattle.fix_values.specs.declared.rule.V.TheVariants.{Range, Inexact}
 use Rattle.fix_values.specs.declared.rule.Dec.{Dec}
 use Rattle.fix_values.specs.Numerals.{sign, signed, is_below_zero}
 use Rattle.fix_values.specs.Decimals.{without_leading, without_trailing, kept_before, fraction_of, digits_at, pointed, digits_counted, parts_shown, parts_text, shown_text, Parts, decimal_text, dec, shown_parts, whole_of, places, are_digits, narrowed, widened, mantissa_under}
 use Rattle.fix_values.specs.Values.{Leaves}
-use Rattle.fix_values.proofs.NumeralLemmas.{both, together, false≢true, not_true, value_small, leb-true}
+use Rattle.fix_values.proofs.NumeralLemmas.{both, together, false≢true, not_true, leb-true}
 
 -- one digit more at the end
 kept_snoc : (x d : ℕ) (xs : List ℕ) → kept_before x (xs ++ d ∷ []) ≡ x ∷ (xs ++ d ∷ [])
@@ -380,3 +379,16 @@ below_le a b h = grind (arith, ints)
 
 pub under_narrow : (d : Dec) (e : ℤ) (places : ℕ) → int_le e d.exponent ≡ false → places ≡ unsigned_abs (e -ℤ d.exponent) → mantissa_under d e ≡ narrowed d.mantissa places
 under_narrow d e places high is = rw (high, ← abs_up (e -ℤ d.exponent) (up_from e d.exponent (below_le d.exponent e high)), is)
+
+-- a decimal whose exponent is shown has a whole part of at most fifty-seven digits
+whole_small_by : (m e : ℤ) → FitsSigned w128 m → natural e ≤ 18 → whole_of (dec m e) < 10 ^ 64
+whole_small_by m e fits few =
+    let size = size_bound (unsigned_abs m) (natural e) (abs_bound m fits) few in
+    omega (arith, size, div-le_self (unsigned_abs m * 10 ^ natural e) (10 ^ natural (neg_ℤ e)))
+
+few_zeros : (e : ℤ) → int_le e (pos 18) ≡ true → natural e ≤ 18
+few_zeros (pos k) h = leb-true k 18 h
+few_zeros (negsuc k) h = omega arith
+
+pub whole_small : (m e : ℤ) → FitsSigned w128 m → int_le e (pos 18) ≡ true → whole_of (dec m e) < 10 ^ 64
+whole_small m e fits high = whole_small_by m e fits (few_zeros e high)

@@ -1,11 +1,10 @@
 -- Numbers that an i128 doesn't hold are no leaf's.
-use Rattle.std.proofs.Common.{◌≡◌, ℕ, ◌^◌, Bool, true, false, ◌&&◌, not, ℤ, pos, negsuc, int_le, Option, Some, None, Ok, Err, FitsSigned, refl, sym, ap, ◌∙◌, arith}
+use Rattle.std.proofs.Common.{◌≡◌, true, false, ℤ, int_le, Option, Some, None, Ok, Err, FitsSigned, ap, arith}
 use Rattle.std.specs.Int.{w128}
 use Rattle.std.specs.Option.{SomeIff, option_map_or}
 use Rattle.std.proofs.lemmas.Int.{ints}
 use Rattle.std.proofs.lemmas.Bool.Decides.{nat_tests}
 use Rattle.sbe_types.specs.declared.kind.Leaf.{Leaf as LeafOf}
-use Rattle.sbe_types.specs.Shown.{admits}
 use Rattle.fix_values.specs.declared.rule.V.TheVariants.{Range}
 use Rattle.fix_values.specs.Numerals.{is_value}
 use Rattle.fix_values.specs.Decimals.{judged}

@@ -3,3 +3,10 @@ mod LeafLemmas
 mod CodeLemmas
 mod TableLemmas
 mod DecimalLemmas
+mod ReadBack
+mod Fractions
+mod DecimalsBack
+mod Reduced
+mod SetsBack
+mod WholeBack
+mod Spelled

@@ -1,5 +1,5 @@
 -- The tables of marks tell what they are kept for: which characters a set's text has, and which have a code.
-use Rattle.std.proofs.Common.{◌≡◌, ℕ, zero, suc, ◌+◌, ◌<◌, ◌≤◌, ◌%◌, Bool, true, false, not, ◌&&◌, ◌||◌, eqb, ◌==◌, List, [], ◌∷◌, ◌++◌, length, get_or, set, replicate, cond, refl, sym, ap, ◌∙◌, arith, subst, length-set, inl, inr, ◌⊎◌, pos, slice_index, Ok, Err}
+use Rattle.std.proofs.Common.{◌≡◌, ℕ, zero, suc, ◌<◌, ◌≤◌, ◌%◌, Bool, true, false, not, ◌&&◌, ◌||◌, eqb, ◌==◌, List, [], ◌∷◌, length, get_or, replicate, cond, refl, sym, ap, ◌∙◌, arith, subst, length-set, inl, inr, pos, slice_index, Ok, Err}
 use Rattle.std.proofs.lemmas.Bool.{eqb-true, cases_lt}
 use Rattle.std.proofs.lemmas.Bool.Decides.{nat_tests, Decides-eqb}
 use Rattle.std.proofs.lemmas.List.{get_or-set_same, get_or-set_other, get_or-replicate}
@@ -156,7 +156,7 @@ bytes_small [] h = tt
 bytes_small (b ∷ bs) h = (h 0, bytes_small bs (λ i. h (suc i)))
 
 -- one character beside the characters of a text
-byte_named : (text cs : List ℕ) → length text ≡ 1 → list_any (λ c. bytes_eq text (c ∷ [])) cs ≡ is_among (slice_index text 0) cs
+pub byte_named : (text cs : List ℕ) → length text ≡ 1 → list_any (λ c. bytes_eq text (c ∷ [])) cs ≡ is_among (slice_index text 0) cs
 byte_named [] cs h = absurd (omega arith)
 byte_named (b ∷ x ∷ xs) cs h = absurd (omega arith)
 byte_named (b ∷ []) [] h = refl

@@ -1,5 +1,5 @@
 -- The texts of listed values: codes, sets of codes and Booleans.
-use Rattle.std.specs.Prelude.{◌≡◌, ◌≢◌, ◌<◌, ◌≤◌, ℕ, suc, zero, ◌+◌, ◌*◌, ◌/◌, ◌%◌, ◌^◌, Bool, true, false, not, ◌&&◌, ◌||◌, ◌==◌, nat_eq, nat_lt, int_le, nat_le, if◌then◌else◌, List, [], ◌∷◌, ◌++◌, length, map, codes, ℤ, pos, bytes_eq, find, filter, sum_by, All, AllPairs, Option, Some, None, Result, Ok, Err}
+use Rattle.std.specs.Prelude.{ℕ, ◌/◌, ◌%◌, ◌^◌, Bool, true, false, not, ◌&&◌, ◌||◌, ◌==◌, nat_eq, nat_lt, int_le, nat_le, if◌then◌else◌, List, [], ◌∷◌, length, map, codes, ℤ, pos, bytes_eq, find, filter, sum_by, Option, Some, None, Result, Ok, Err}
 use Rattle.std.specs.List.{list_any, list_all, join_with_byte}
 use Rattle.std.specs.Ordering.{int_eq}
 use Rattle.sbe_types.specs.declared.kind.Leaf.{Leaf as LeafOf}
@@ -24,6 +24,7 @@ found_text (Some code) = if has_soh code.text then Err Soh else Ok code.text
 abbrev pub code_text : List Code → ℤ → Result (List ℕ) V
 code_text codes n = found_text (find (λ code. int_eq code.number n) codes)
 
+-- The number of a code that was found.
 abbrev pub found_number : Option Code → Result ℤ V
 found_number None = Err UnknownCode
 found_number (Some code) = Ok code.number
@@ -105,6 +106,7 @@ set_number codes text =
 abbrev pub boolean_text : ℤ → Option ℕ
 boolean_text n = if int_eq n (pos 1) || int_eq n (pos 89) then Some 89 else (if int_eq n (pos 0) || int_eq n (pos 78) then Some 78 else None)
 
+-- The text of a truth value that was found.
 abbrev pub truth_text : Option ℕ → Result (List ℕ) V
 truth_text None = Err UnknownCode
 truth_text (Some b) = Ok (b ∷ [])
@@ -118,6 +120,7 @@ abbrev pub is_truth : ℕ → Option ℕ → Bool
 is_truth b None = false
 is_truth b (Some t) = b == t
 
+-- The number of a listed value that was found.
 abbrev pub named_number : Option Named → Result ℤ V
 named_number None = Err UnknownCode
 named_number (Some name) = Ok name.number
@@ -145,12 +148,15 @@ abbrev pub is_apart : {X : Type 0} → (X → X → Bool) → List X → Bool
 is_apart same [] = true
 is_apart same (x ∷ xs) = not (list_any (same x) xs) && is_apart same xs
 
+-- Two codes have one number.
 abbrev pub same_number : Code → Code → Bool
 same_number a b = int_eq a.number b.number
 
+-- Two codes have one text.
 abbrev pub same_text : Code → Code → Bool
 same_text a b = bytes_eq a.text b.text
 
+-- Two truth values are the same one.
 abbrev pub is_same_truth : Option ℕ → Option ℕ → Bool
 is_same_truth None b = false
 is_same_truth (Some t) b = is_truth t b

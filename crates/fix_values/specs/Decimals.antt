@@ -1,5 +1,5 @@
 -- The texts of decimals, and when two decimals are the same fraction.
-use Rattle.std.specs.Prelude.{◌≡◌, ◌≢◌, ◌⊎◌, ◌≤◌, ℕ, zero, suc, ◌+◌, ◌-◌, ◌*◌, ◌/◌, ◌%◌, ◌^◌, Bool, true, false, ◌&&◌, ◌==◌, nat_lt, nat_le, if◌then◌else◌, List, [], ◌∷◌, ◌++◌, length, codes, decimal, ℤ, pos, negsuc, ◌-ℤ◌, neg_ℤ, unsigned_abs, int_le, Result, Ok, Err}
+use Rattle.std.specs.Prelude.{◌≡◌, ◌≢◌, ◌⊎◌, ℕ, zero, suc, ◌+◌, ◌-◌, ◌*◌, ◌/◌, ◌%◌, ◌^◌, Bool, true, ◌&&◌, ◌==◌, nat_lt, nat_le, if◌then◌else◌, List, [], ◌∷◌, ◌++◌, length, codes, decimal, ℤ, pos, ◌-ℤ◌, neg_ℤ, unsigned_abs, int_le, Result, Ok, Err}
 use Rattle.std.specs.Str.{all_ascii_digits}
 use Rattle.std.specs.Str.Parse.{digits_value}
 use Rattle.sbe_types.specs.declared.kind.Leaf.{Leaf as LeafOf}
@@ -75,6 +75,7 @@ digits_counted parts = length (without_leading parts.whole) + length (without_tr
 abbrev pub whole_of : Dec → ℕ
 whole_of d = unsigned_abs d.mantissa * 10 ^ zeros d / 10 ^ places d
 
+-- What is left of the size behind the point, in units of the last place.
 abbrev pub rest_of : Dec → ℕ
 rest_of d = unsigned_abs d.mantissa * 10 ^ zeros d % 10 ^ places d
 
@@ -106,10 +107,12 @@ abbrev pub before_point : List ℕ → List ℕ
 before_point [] = []
 before_point (b ∷ bs) = if b == 46 then [] else b ∷ before_point bs
 
+-- The bytes behind the first point.
 abbrev pub behind_point : List ℕ → List ℕ
 behind_point [] = []
 behind_point (b ∷ bs) = if b == 46 then bs else behind_point bs
 
+-- The parts of a text, cut at the sign and the point.
 abbrev pub parts_of : List ℕ → Parts
 parts_of text = record { negative = is_negative text; whole = before_point (unsigned text); fraction = behind_point (unsigned text) }
 

@@ -1,5 +1,5 @@
 -- What the code keeps on the way: a set's text as it grows, and tables of 256 marks, one for each byte.
-use Rattle.std.specs.Prelude.{◌≡◌, ℕ, Bool, true, false, not, ◌&&◌, ◌==◌, List, [], ◌∷◌, ◌++◌, filter, slice_index, slice_index_or, slice_set}
+use Rattle.std.specs.Prelude.{ℕ, Bool, true, false, not, ◌&&◌, ◌==◌, List, [], ◌∷◌, ◌++◌, filter, slice_index, slice_index_or, slice_set}
 use Rattle.std.specs.List.{list_all}
 use Rattle.fix_values.specs.declared.rule.Code.{Code}
 use Rattle.fix_values.specs.Codes.{every_other}
@@ -22,6 +22,7 @@ with_codes text (code ∷ codes) = with_codes (with_code text code) codes
 abbrev pub is_marked : List Bool → ℕ → Bool
 is_marked marks b = slice_index_or marks b false
 
+-- The marks with that of a byte set.
 abbrev pub marked : List Bool → ℕ → List Bool
 marked marks b = slice_set marks b true
 

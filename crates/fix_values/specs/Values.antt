@@ -1,5 +1,5 @@
 -- The text of one value by its rule, and the value of one text.
-use Rattle.std.specs.Prelude.{◌≡◌, ◌≤◌, ℕ, Bool, true, false, ◌&&◌, ◌==◌, nat_le, nat_lt, int_le, if◌then◌else◌, List, [], ◌∷◌, ◌++◌, length, ℤ, pos, Option, Some, None, Result, Ok, Err}
+use Rattle.std.specs.Prelude.{◌≡◌, ℕ, Bool, true, ◌&&◌, ◌==◌, nat_le, int_le, if◌then◌else◌, List, [], ◌∷◌, length, ℤ, pos, Option, Some, None, Result, Ok, Err}
 use Rattle.std.specs.Fmt.{signed_decimal}
 use Rattle.std.specs.List.{list_all}
 use Rattle.sbe_types.specs.declared.kind.Leaf.{Leaf as LeafOf}
@@ -11,7 +11,7 @@ use Rattle.fix_values.specs.declared.rule.Dec.{Dec}
 use Rattle.fix_values.specs.declared.rule.NumRule.{NumRule}
 use Rattle.fix_values.specs.declared.rule.NumRule.TheVariants as rule
 use Rattle.fix_values.specs.declared.text.TheConstants.{SOH}
-use Rattle.fix_values.specs.Numerals.{integer_of, is_value}
+use Rattle.fix_values.specs.Numerals.{integer_of}
 use Rattle.fix_values.specs.Decimals.{decimal_of, fitted, judged}
 use Rattle.fix_values.specs.Codes.{has_soh, code_text, code_number, set_text, set_number, boolean_shown, boolean_number, has_short_text, is_choice, is_apart, same_number, same_text, same_truth}
 
@@ -33,6 +33,7 @@ abbrev pub spelled_number : Option ℤ → Result ℤ V
 spelled_number None = Err Spelling
 spelled_number (Some n) = Ok n
 
+-- The number that a text spells, where the leaf admits it.
 abbrev pub integer_value : LeafOf → List ℕ → Result ℤ V
 integer_value leaf text = judged leaf (spelled_number (integer_of text))
 
@@ -41,6 +42,7 @@ abbrev pub whole_value : LeafOf → Result Dec V → Result ℤ V
 whole_value leaf (Ok d) = fitted d leaf (pos 0)
 whole_value leaf (Err v) = Err v
 
+-- The character that a text is, where the leaf admits it.
 abbrev pub char_value : LeafOf → List ℕ → Result ℤ V
 char_value leaf [] = Err Spelling
 char_value leaf (b ∷ []) = judged leaf (Ok (pos b))

@@ -20,7 +20,13 @@ pub const MOST_DIGITS: usize = 38;
 /// The greatest exponent that is shown. Its negative is the least one.
 pub const MOST_EXPONENT: i32 = 18;
 
-/// Writes the text of a decimal. After a refusal `out` is empty.
+/// Writes the text of a decimal: a minus sign, the whole part without leading zeros, and a point and
+/// the digits behind it down to the last that isn't zero.
+///
+/// # Errors
+///
+/// `Range` where the exponent is below -18 or above 18, or the text would have more than
+/// [`MOST_DIGITS`] digits and so couldn't be read back. Then `out` is empty.
 pub fn show_decimal(mantissa: i128, exponent: i32, out: &mut Short) -> Result<(), V>
     ensures { Leaves result out.new (decimal_text (decimals.dec mantissa exponent)) }
 {
@@ -124,6 +130,12 @@ fn put_places(rest: u128, places: u32, out: &mut Short) -> usize
 }
 
 /// Reads a decimal. Its mantissa isn't a multiple of ten, and zero has the exponent 0.
+///
+/// # Errors
+///
+/// `Spelling` unless the text is an optional minus sign and digits with at most one point, at least
+/// one digit; `Range` where it has more than [`MOST_DIGITS`] digits, without the leading zeros of the
+/// whole part and the trailing zeros of the fraction.
 pub fn read_decimal(text: &[u8]) -> Result<Dec, V>
     ensures { result ≡ decimal_of text.now }
 {
@@ -214,6 +226,11 @@ fn spelled_few(negative: bool, whole: &[u8], fraction: &[u8]) -> i128
 }
 
 /// The mantissa that the decimal has under this exponent, as one of the leaf's numbers.
+///
+/// # Errors
+///
+/// `Inexact` where the decimal isn't whole under the exponent, `Range` where the mantissa isn't the
+/// leaf's or is its null.
 pub fn fit_decimal(dec: &Dec, mantissa: &Leaf, exponent: i32) -> Result<i128, V>
     ensures { result ≡ fitted dec.now mantissa.now exponent }
 {

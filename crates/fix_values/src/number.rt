@@ -14,7 +14,13 @@ use crate::{NumRule, Short, V};
 use itoa::Buffer;
 use sbe_types::{Leaf, NamedList};
 
-/// Writes the text of a number by its rule. After a refusal `out` is empty.
+/// Writes the text of a number by its rule. It needs a rule by which numbers can be shown
+/// ([`NumRule::can_show`]); for a character a number from 0 to 255, for a set one of 64 bits.
+///
+/// # Errors
+///
+/// `UnknownCode` where the number or a bit has no code, `Empty` for a set without a bit, `Soh` where
+/// the text of a code has SOH in it, `Spelling` for the character SOH. After a refusal `out` is empty.
 pub fn show_num(rule: &NumRule, n: i128, out: &mut Short) -> Result<(), V>
     requires rule { IsTrue (can_show rule.now) }
     requires asked { IsTrue (is_asked rule.now n) }
@@ -30,7 +36,14 @@ pub fn show_num(rule: &NumRule, n: i128, out: &mut Short) -> Result<(), V>
     }
 }
 
-/// Reads a number by its rule, as one of the leaf's.
+/// Reads a number by its rule, as one of the leaf's. It needs a rule by which texts can be read
+/// ([`NumRule::can_read`]). For a set the leaf isn't looked at.
+///
+/// # Errors
+///
+/// `Spelling` where the text isn't spelled as the rule says, `Inexact` where a decimal isn't whole,
+/// `Range` where the number isn't the leaf's or is its null, `UnknownCode` where nothing listed but
+/// the null has this text. The first of these that holds.
 pub fn read_num(rule: &NumRule, leaf: &Leaf, text: &[u8]) -> Result<i128, V>
     requires { IsTrue (can_read rule.now) }
     ensures { result ≡ value_of rule.now leaf.now text.now }

@@ -10,7 +10,11 @@ use sbe_types::{Leaf, LeafShape};
 /// The byte that ends a field of a tag-value text.
 pub const SOH: u8 = 1;
 
-/// Judges a text that is to be written: it isn't empty and has no SOH.
+/// Judges a text that is to be written.
+///
+/// # Errors
+///
+/// `Empty` where there is no byte, `Soh` where SOH is among them.
 pub fn show_text(bytes: &[u8]) -> Result<(), V>
     ensures { result ≡ text_shown bytes.now }
 {
@@ -24,6 +28,10 @@ pub fn show_text(bytes: &[u8]) -> Result<(), V>
 }
 
 /// Judges a text that was read for a char array.
+///
+/// # Errors
+///
+/// `Range` where it is longer than the array, `Spelling` where a byte isn't allowed in it.
 pub fn read_text(leaf: &Leaf, bytes: &[u8]) -> Result<(), V>
     ensures { result ≡ text_read leaf.now bytes.now }
 {

@@ -1,4 +1,4 @@
-use Rattle.std.proofs.Common.{◌≡◌, ◌∙◌, ap, sym, [], ◌∷◌, ◌++◌, ◌+◌, ◌*◌, ◌≤◌, arith, rules, drop, length, refl, slice_set, true}
+use Rattle.std.proofs.Common.{◌∙◌, ap, sym, [], ◌∷◌, ◌+◌, arith, drop, slice_set, true}
 use Rattle.fix_values.specs.Codes.{is_choice}
 use Rattle.fix_values.specs.Tables.{marked_codes, is_marked_code, with_marks}
 use Rattle.fix_values.proofs.CodeLemmas.{item_on, filter_on, all_on, bits_on, first_is}

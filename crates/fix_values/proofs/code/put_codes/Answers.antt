@@ -1,7 +1,6 @@
-use Rattle.std.proofs.Common.{◌≡◌, ◌∙◌, ap, sym, subst, [], ◌∷◌, ◌++◌, ◌+◌, ◌*◌, ◌≤◌, arith, rules, drop, length, refl}
-use Rattle.std.specs.List.{filter}
+use Rattle.std.proofs.Common.{◌∙◌, ap, [], ◌∷◌, ◌+◌, arith, drop, length}
 use Rattle.fix_values.specs.declared.short.TheConstants.{ROOM}
-use Rattle.fix_values.specs.Codes.{codes_in, bits_of, has_bit, is_choice}
+use Rattle.fix_values.specs.Codes.{codes_in, has_bit, is_choice}
 use Rattle.fix_values.specs.Tables.{with_codes}
 use Rattle.fix_values.proofs.CodeLemmas.{item_on, filter_on, all_on, bits_on, text_on, room_on, few}
 use Rattle.fix_values.proofs.code.put_codes.Goals as goal

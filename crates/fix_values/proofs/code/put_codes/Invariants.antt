@@ -1,4 +1,4 @@
-use Rattle.std.proofs.Common.{◌≡◌, ◌≤◌, ◌+◌, ◌*◌, ◌^◌, ◌<◌, [], length, drop, IsTrue}
+use Rattle.std.proofs.Common.{◌≡◌, ◌≤◌, ◌+◌, ◌*◌, ◌^◌, [], length, drop, IsTrue}
 use Rattle.std.specs.List.{list_all}
 use Rattle.fix_values.specs.declared.short.TheConstants.{ROOM}
 use Rattle.fix_values.specs.Codes.{bits_of, codes_in, is_choice}

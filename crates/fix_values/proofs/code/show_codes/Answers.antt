@@ -1,4 +1,4 @@
-use Rattle.std.proofs.Common.{◌≡◌, ◌∙◌, subst, rules, arith}
+use Rattle.std.proofs.Common.{subst}
 use Rattle.std.specs.Int.{w128}
 use Rattle.sbe_types.specs.Numbers.{natural}
 use Rattle.fix_values.specs.Values.{Leaves}

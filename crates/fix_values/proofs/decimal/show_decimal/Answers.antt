@@ -1,4 +1,4 @@
-use Rattle.std.proofs.Common.{arith, rules, ◌∙◌, subst, ◌<◌, sym, refl, Err, ap, ◌^◌, ◌≡◌, true, int_le, pos}
+use Rattle.std.proofs.Common.{arith, ◌∙◌, subst, sym, refl, Err, ap, ◌^◌, ◌≡◌, true, int_le, pos}
 use Rattle.fix_values.proofs.NumeralLemmas.{cast_is}
 use Rattle.fix_values.specs.declared.rule.V.TheVariants.{Range}
 use Rattle.fix_values.specs.Values.{Leaves}

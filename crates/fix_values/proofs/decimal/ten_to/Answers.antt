@@ -1,4 +1,4 @@
-use Rattle.std.proofs.Common.{◌∙◌, ap, arith, pos, ◌^◌}
+use Rattle.std.proofs.Common.{◌∙◌, ap, arith, pos}
 use Rattle.fix_values.proofs.NumeralLemmas.{widen_is}
 use Rattle.fix_values.proofs.DecimalLemmas.{ten_small}
 use Rattle.fix_values.proofs.decimal.ten_to.Goals as goal

@@ -1,5 +1,4 @@
-use Rattle.std.proofs.Common.{◌∙◌, arith, take, refl, ap, sym}
-use Rattle.fix_values.specs.Decimals.{without_trailing}
+use Rattle.std.proofs.Common.{◌∙◌, arith}
 use Rattle.fix_values.proofs.DecimalLemmas.{zero_dropped, digit_kept, none_kept}
 use Rattle.fix_values.proofs.decimal.without_trailing_zeros.Goals.{then-loop-end-test+else-digits-end-eq48, else-loop-end-test}
 use Rattle.fix_values.proofs.decimal.without_trailing_zeros.Goals as goal

@@ -1,4 +1,4 @@
-use Rattle.std.proofs.Common.{arith, rules}
+use Rattle.std.proofs.Common.{arith}
 use Rattle.fix_values.proofs.NumeralLemmas.{next_ge}
 use Rattle.fix_values.proofs.digits.small_after.Goals as goal
 

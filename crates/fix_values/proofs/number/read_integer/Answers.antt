@@ -1,4 +1,4 @@
-use Rattle.std.proofs.Common.{◌≡◌, ap, sym, ◌∙◌, rules, arith}
+use Rattle.std.proofs.Common.{ap, sym, ◌∙◌, rules}
 use Rattle.fix_values.specs.Values.{spelled_number}
 use Rattle.fix_values.specs.Decimals.{judged}
 use Rattle.fix_values.proofs.NumeralLemmas.{integer_is}

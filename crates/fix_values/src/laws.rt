@@ -1,0 +1,97 @@
+//! Laws of the definitions, as functions without a body: what is shown reads back, a fraction has one
+//! reduced form and one mantissa under an exponent, and the rows compute.
+
+ghost use Rattle.std.specs.Prelude.{◌≡◌, ◌<◌, ◌≤◌, ◌^◌, ℕ, ℤ, pos, negsuc, true, false, List, [], ◌∷◌, ◌++◌, Ok, Err, Some, None, codes, int_le, unsigned_abs, FitsSigned};
+ghost use Rattle.std.specs.Int.{w128};
+ghost use Rattle.std.specs.Str.Parse.{digits_value};
+ghost use Rattle.sbe_types.specs.declared.kind.Leaf.{Leaf};
+ghost use Rattle.sbe_types.specs.declared.kind.Named.{Named};
+ghost use Rattle.sbe_types.specs.Shown.{is_null};
+ghost use Rattle.fix_values.specs.declared.rule.Code.{Code};
+ghost use Rattle.fix_values.specs.declared.rule.Dec.{Dec};
+ghost use Rattle.fix_values.specs.declared.rule.NumRule.TheVariants as rule;
+ghost use Rattle.fix_values.specs.declared.rule.V.TheVariants.{Spelling, Range, Inexact};
+ghost use Rattle.fix_values.specs.Numerals.{SpellsInteger, integer_of, is_value};
+ghost use Rattle.fix_values.specs.Decimals.{SameFraction, IsReduced, SpellsDecimal, dec, decimal_of, decimal_text, mantissa_under, number_of_parts, parts_of};
+ghost use Rattle.fix_values.specs.Values.{can_read, is_asked, text_of, value_of};
+
+/// The number of a text is the one that it spells: an optional minus sign, and digits.
+pub fn integers_are_spelled()
+    ensures read { (text : List ℕ) (n : ℤ) → integer_of text ≡ Some n → SpellsInteger text n }
+    ensures only { (text : List ℕ) (n : ℤ) → SpellsInteger text n → integer_of text ≡ Some n }
+{}
+
+/// A whole number that was shown reads back as itself, where it is one of the leaf's.
+pub fn integers_read_back()
+    ensures { (leaf : Leaf) (n : ℤ) (text : List ℕ) → FitsSigned w128 n → is_value leaf n ≡ true
+        → text_of rule.Int n ≡ Ok text → value_of rule.Int leaf text ≡ Ok n }
+{}
+
+/// A character that was shown reads back as itself, where it is one of the leaf's.
+pub fn characters_read_back()
+    ensures { (leaf : Leaf) (n : ℤ) (text : List ℕ) → is_asked rule.Char n ≡ true → is_value leaf n ≡ true
+        → text_of rule.Char n ≡ Ok text → value_of rule.Char leaf text ≡ Ok n }
+{}
+
+/// A truth value that was shown reads back as the listed number, unless that is the leaf's null.
+pub fn booleans_read_back()
+    ensures { (names : List Named) (leaf : Leaf) (n : ℤ) (text : List ℕ)
+        → can_read (rule.Boolean names) ≡ true → is_null leaf n ≡ false
+        → text_of (rule.Boolean names) n ≡ Ok text → value_of (rule.Boolean names) leaf text ≡ Ok n }
+{}
+
+/// A code that was shown reads back as its number, unless that is the leaf's null.
+pub fn codes_read_back()
+    ensures { (list : List Code) (leaf : Leaf) (n : ℤ) (text : List ℕ)
+        → can_read (rule.Code list) ≡ true → is_null leaf n ≡ false
+        → text_of (rule.Code list) n ≡ Ok text → value_of (rule.Code list) leaf text ≡ Ok n }
+{}
+
+/// The mantissa under an exponent is that of the same fraction, and there is one exactly where such a
+/// fraction is.
+pub fn mantissas_are_of_the_same_fraction()
+    ensures same { (d : Dec) (exponent n : ℤ) → mantissa_under d exponent ≡ Ok n → SameFraction (dec n exponent) d }
+    ensures only { (d : Dec) (exponent n : ℤ) → SameFraction (dec n exponent) d → mantissa_under d exponent ≡ Ok n }
+{}
+
+/// A decimal that was shown reads back as the same fraction.
+pub fn decimals_read_back()
+    ensures { (mantissa exponent : ℤ) (text : List ℕ) → FitsSigned w128 mantissa
+        → decimal_text (dec mantissa exponent) ≡ Ok text
+        → (d : Dec) × (decimal_of text ≡ Ok d) × SameFraction d (dec mantissa exponent) }
+{}
+
+/// What is read of a text is in the form whose mantissa isn't a multiple of ten, and zero has the
+/// exponent 0.
+pub fn read_decimals_are_reduced()
+    ensures { (text : List ℕ) (d : Dec) → decimal_of text ≡ Ok d → IsReduced d }
+{}
+
+/// Two decimals with one text are the same fraction: different fractions have different texts.
+pub fn different_fractions_have_different_texts()
+    ensures { (m e n f : ℤ) (text : List ℕ) → FitsSigned w128 m → FitsSigned w128 n
+        → decimal_text (dec m e) ≡ Ok text → decimal_text (dec n f) ≡ Ok text
+        → SameFraction (dec m e) (dec n f) }
+{}
+
+/// A whole number that was shown as a decimal reads back as itself, where it is one of the leaf's and
+/// has at most thirty-eight digits.
+pub fn whole_decimals_read_back()
+    ensures { (leaf : Leaf) (n : ℤ) (text : List ℕ) → unsigned_abs n < 10 ^ 38 → is_value leaf n ≡ true
+        → text_of rule.Decimal n ≡ Ok text → value_of rule.Decimal leaf text ≡ Ok n }
+{}
+
+/// A set that was shown reads back as the same bits.
+pub fn sets_read_back()
+    ensures { (list : List Code) (leaf : Leaf) (n : ℕ) (text : List ℕ) → can_read (rule.Codes list) ≡ true
+        → text_of (rule.Codes list) (pos n) ≡ Ok text → value_of (rule.Codes list) leaf text ≡ Ok (pos n) }
+{}
+
+/// A text that is read as a decimal spells it: an optional minus sign, and digits with at most one
+/// point; and the decimal is the fraction of all its digits over as many tens as stand behind the point.
+pub fn decimals_are_spelled()
+    ensures parts { (text : List ℕ) (d : Dec) → decimal_of text ≡ Ok d → SpellsDecimal text (parts_of text) }
+    ensures number { (text : List ℕ) (d : Dec) → decimal_of text ≡ Ok d
+        → 0 < digits_value 10 ((parts_of text).whole ++ (parts_of text).fraction)
+        → SameFraction d (number_of_parts (parts_of text)) }
+{}
