@@ -1,0 +1,13 @@
+pub mod Judging
+pub mod Ranges
+pub mod Names
+pub mod Kinds
+pub mod Chains
+pub mod Facts
+pub mod TypeRules
+pub mod CompositeRules
+pub mod Counters
+pub mod PartRules
+pub mod Resolved
+pub mod Checked
+pub mod Rows
