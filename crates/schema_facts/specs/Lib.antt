@@ -1,0 +1,9 @@
+pub mod Levels
+pub mod Measured
+pub mod Entries
+pub mod Counted
+pub mod Ends
+pub mod CheckedLevels
+pub mod InOrder
+pub mod IsChecked
+pub mod KindRows
