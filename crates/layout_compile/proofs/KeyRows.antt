@@ -1,0 +1,204 @@
+-- The keys of names in one run of bytes.
+use Rattle.std.proofs.Common.{◌≡◌, ◌≤◌, ◌<◌, ◌+◌, ◌-◌, ℕ, zero, suc, List, [], ◌∷◌, ◌++◌, length, take, drop, get_or, Option, Some, None, refl, sym, ap, ◌∙◌, subst, arith, append_assoc, length-append}
+use Rattle.std.specs.Prelude.{slice_get, map, flat_map, codes}
+use Rattle.std.specs.Option.{option_map}
+use Rattle.std.proofs.lemmas.List.{append-nil}
+use Rattle.std.proofs.lemmas.Option.{slice_get-map, slice_get_read}
+use Rattle.sbe_types.specs.declared.schema.Field.{Field}
+use Rattle.sbe_types.specs.declared.schema.Level.{Level, out-Level}
+use Rattle.sbe_types.specs.declared.schema.WireSchema.{WireSchema}
+use Rattle.schema_facts.specs.Levels.{Node, level_at, fields_at, fields_in}
+use Rattle.layout_compile.specs.declared.rows.KeyRow.{KeyRow}
+use Rattle.layout_compile.specs.declared.rows.KeyTable.{KeyTable}
+use Rattle.layout_compile.specs.declared.rows.LevelRow.{LevelRow}
+use Rattle.layout_compile.specs.Keys.{key_text, names_of, names_in, names_at, rows_from, KeysAre}
+use Rattle.layout_compile.specs.Paths.{NamedPart, level_parts, field_part, group_part, data_part}
+use Rattle.layout_compile.specs.Rowed.{RowFor}
+use Rattle.layout_compile.proofs.DataParts.{get_front}
+
+-- ---- the table as it grows
+
+take_at : {X : Type 0} (xs : List X) (i : ℕ) (x : X) → slice_get xs i ≡ Some x → take (i + 1) xs ≡ take i xs ++ x ∷ []
+take_at [] i x at = cc
+take_at (y ∷ xs) zero x at = let here : y ≡ x = cc in ap (λ z. z ∷ []) here
+take_at (y ∷ xs) (suc i) x at =
+    let next : suc i + 1 ≡ suc (i + 1) = omega arith in
+    ap (λ m. take m (y ∷ xs)) next ∙ ap (λ l. y ∷ l) (take_at xs i x at)
+
+bytes_snoc : (names : List (List ℕ)) (name : List ℕ) → flat_map key_text (names ++ name ∷ []) ≡ flat_map key_text names ++ key_text name
+bytes_snoc [] name = append-nil (key_text name)
+bytes_snoc (n ∷ names) name = ap (λ l. key_text n ++ l) (bytes_snoc names name) ∙ sym (append_assoc (key_text n) (flat_map key_text names) (key_text name))
+
+rows_snoc : (k : ℕ) (names : List (List ℕ)) (name : List ℕ) (row : KeyRow) → row.start ≡ k + length (flat_map key_text names) → row.end ≡ row.start + length (key_text name) →
+    rows_from k (names ++ name ∷ []) ≡ rows_from k names ++ row ∷ []
+rows_snoc k [] name row starts ends =
+    let start : k ≡ row.start = omega (arith, starts) in
+    let end : k + length (key_text name) ≡ row.end = omega (arith, starts, ends) in
+    ap (λ n. (record { start = n; end = k + length (key_text name) }) ∷ []) start ∙ ap (λ n. (record { start = row.start; end = n }) ∷ []) end
+rows_snoc k (n ∷ names) name row starts ends =
+    let all : length (flat_map key_text (n ∷ names)) ≡ length (key_text n) + length (flat_map key_text names) = length-append (key_text n) (flat_map key_text names) in
+    ap (λ l. (record { start = k; end = k + length (key_text n) }) ∷ l) (rows_snoc (k + length (key_text n)) names name row (omega (arith, starts, all)) ends)
+
+-- the table of the first i names
+pub record KeysSo (names : List (List ℕ)) (i : ℕ) (bytes : List ℕ) (rows : List KeyRow) : Type 0 where
+  pub bytes_are : bytes ≡ flat_map key_text (take i names)
+  pub rows_are : rows ≡ rows_from 0 (take i names)
+
+pub keys_more : (names : List (List ℕ)) (i : ℕ) (bytes more : List ℕ) (rows next : List KeyRow) (row : KeyRow) (name : List ℕ) → slice_get names i ≡ Some name → KeysSo names i bytes rows →
+    more ≡ bytes ++ key_text name → row.start ≡ length bytes → row.end ≡ length more → next ≡ rows ++ row ∷ [] → KeysSo names (i + 1) more next
+keys_more names i bytes more rows next row name at so grown starts ends pushed =
+    let before = take i names in
+    let one = take_at names i name at in
+    let start : row.start ≡ 0 + length (flat_map key_text before) = omega (arith, starts, ap length so.bytes_are) in
+    let end : row.end ≡ row.start + length (key_text name) = omega (arith, starts, ends, ap length grown, length-append bytes (key_text name)) in
+    record {
+      bytes_are = grown ∙ ap (λ l. l ++ key_text name) so.bytes_are ∙ sym (ap (flat_map key_text) one ∙ bytes_snoc before name);
+      rows_are = pushed ∙ ap (λ l. l ++ row ∷ []) so.rows_are ∙ sym (ap (rows_from 0) one ∙ rows_snoc 0 before name row start end);
+    }
+
+all_taken : {X : Type 0} (k : ℕ) (xs : List X) → length xs ≤ k → take k xs ≡ xs
+all_taken zero [] h = refl
+all_taken zero (x ∷ xs) h = absurd (omega arith)
+all_taken (suc k) [] h = refl
+all_taken (suc k) (x ∷ xs) h = ap (λ l. x ∷ l) (all_taken k xs (omega arith))
+
+pub keys_done : (names : List (List ℕ)) (i : ℕ) (table : KeyTable) → KeysSo names i table.bytes.items table.rows.items → length names ≤ i → KeysAre names table
+keys_done names i table so past =
+    let whole = all_taken i names past in
+    record {
+      bytes = so.bytes_are ∙ ap (flat_map key_text) whole;
+      rows = so.rows_are ∙ ap (rows_from 0) whole;
+    }
+
+pub name_at : (level : Level) (i : ℕ) (name : List ℕ) → option_map (λ (p : NamedPart). p.name) (slice_get (level_parts level) i) ≡ Some name → slice_get (names_of level) i ≡ Some name
+name_at level i name h = slice_get-map (λ (p : NamedPart). p.name) (level_parts level) i ∙ h
+
+long_map : {X Y : Type 0} (f : X → Y) (xs : List X) → length (map f xs) ≡ length xs
+long_map f [] = refl
+long_map f (x ∷ xs) = ap suc (long_map f xs)
+
+pub names_many : (level : Level) → length (names_of level) ≡ length (level_parts level)
+names_many level = long_map (λ (p : NamedPart). p.name) (level_parts level)
+
+pub parts_many : (level : Level) → length (level_parts level) ≡ length (out-Level level).fields + length (out-Level level).groups + length (out-Level level).parts
+parts_many level =
+    let a = map field_part (out-Level level).fields in
+    let b = map group_part (out-Level level).groups in
+    let c = map data_part (out-Level level).parts in
+    omega (arith, length-append a (b ++ c), length-append b c, long_map field_part (out-Level level).fields, long_map group_part (out-Level level).groups, long_map data_part (out-Level level).parts)
+
+-- ---- what the table tells
+
+drop_all : (a b : List ℕ) (k : ℕ) → length a ≡ k → drop k (a ++ b) ≡ b
+drop_all [] b k h = ap (λ n. drop n b) (sym h)
+drop_all (x ∷ a) b zero h = absurd (omega arith)
+drop_all (x ∷ a) b (suc k) h = drop_all a b k (omega arith)
+
+take_all : (a b : List ℕ) (k : ℕ) → length a ≡ k → take k (a ++ b) ≡ a
+take_all [] b k h = ap (λ n. take n b) (sym h)
+take_all (x ∷ a) b zero h = absurd (omega arith)
+take_all (x ∷ a) b (suc k) h = ap (λ l. x ∷ l) (take_all a b k (omega arith))
+
+-- a row and the key that it tells
+pub record KeyHere (names : List (List ℕ)) (i : ℕ) (bytes : List ℕ) (row : KeyRow) : Type 0 where
+  pub name : List ℕ
+  pub there : slice_get names i ≡ Some name
+  pub ordered : row.start ≤ row.end
+  pub within : row.end ≤ length bytes
+  pub key : take (row.end - row.start) (drop row.start bytes) ≡ key_text name
+
+key_here : (k : ℕ) (front : List ℕ) (names : List (List ℕ)) (i : ℕ) (row : KeyRow) → length front ≡ k → slice_get (rows_from k names) i ≡ Some row → KeyHere names i (front ++ flat_map key_text names) row
+key_here k front [] i row long at = cc
+key_here k front (name ∷ names) zero row long at =
+    let here : record { start = k; end = k + length (key_text name) } ≡ row = cc in
+    let start : k ≡ row.start = ap (λ (r : KeyRow). r.start) here in
+    let end : k + length (key_text name) ≡ row.end = ap (λ (r : KeyRow). r.end) here in
+    let rest = flat_map key_text names in
+    let all = front ++ (key_text name ++ rest) in
+    let many : length all ≡ length front + (length (key_text name) + length rest) = omega (arith, length-append front (key_text name ++ rest), length-append (key_text name) rest) in
+    let wide : length (key_text name) ≡ row.end - row.start = omega (arith, start, end) in
+    record {
+      name = name;
+      there = refl;
+      ordered = omega (arith, start, end);
+      within = omega (arith, start, end, many, long);
+      key = ap (take (row.end - row.start)) (drop_all front (key_text name ++ rest) row.start (omega (arith, long, start))) ∙ take_all (key_text name) rest (row.end - row.start) wide;
+    }
+key_here k front (name ∷ names) (suc i) row long at =
+    let next = front ++ key_text name in
+    let behind : length next ≡ k + length (key_text name) = omega (arith, length-append front (key_text name), long) in
+    let rest = key_here (k + length (key_text name)) next names i row behind at in
+    let same : next ++ flat_map key_text names ≡ front ++ (key_text name ++ flat_map key_text names) = append_assoc front (key_text name) (flat_map key_text names) in
+    record {
+      name = rest.name;
+      there = rest.there;
+      ordered = rest.ordered;
+      within = subst (λ l. row.end ≤ length l) same rest.within;
+      key = ap (λ l. take (row.end - row.start) (drop row.start l)) (sym same) ∙ rest.key;
+    }
+
+rows_many : (k : ℕ) (names : List (List ℕ)) → length (rows_from k names) ≡ length names
+rows_many k [] = refl
+rows_many k (name ∷ names) = ap suc (rows_many (k + length (key_text name)) names)
+
+names_told : (schema : WireSchema) (n : ℕ) (row : LevelRow) (is : RowFor schema n row) → names_at schema n ≡ names_of is.0.level
+names_told schema n row is = ap (λ (o : Option Node). names_in (option_map (λ (x : Node). x.level) o)) is.1
+
+pub key_within : (schema : WireSchema) (n i : ℕ) (row : LevelRow) → RowFor schema n row → i < length (names_at schema n) → i < length row.keys.rows.items
+key_within schema n i row is h = omega (arith, h, ap length (names_told schema n row is), ap length is.2.keys.rows, rows_many 0 (names_of is.0.level))
+
+pub key_told : (schema : WireSchema) (n i : ℕ) (row : LevelRow) (key : KeyRow) → RowFor schema n row → i < length (names_at schema n) → key ≡ get_or row.keys.rows.items i key →
+    KeyHere (names_at schema n) i row.keys.bytes.items key
+key_told schema n i row key is h at =
+    let there : slice_get (rows_from 0 (names_of is.0.level)) i ≡ Some key =
+    ap (λ l. slice_get l i) (sym is.2.keys.rows) ∙ slice_get_read row.keys.rows.items _ i key refl (key_within schema n i row is h) at in
+    subst (λ names. KeyHere names i row.keys.bytes.items key) (sym (names_told schema n row is))
+    (subst (λ bytes. KeyHere (names_of is.0.level) i bytes key) (sym is.2.keys.bytes) (key_here 0 [] (names_of is.0.level) i key refl there))
+
+-- the key of a field has its name between the quotes
+field_at : (level : Level) (i : ℕ) → i < length (out-Level level).fields → slice_get (names_of level) i ≡ option_map (λ (f : Field). f.name) (slice_get (out-Level level).fields i)
+field_at level i h =
+    let a = map field_part (out-Level level).fields in
+    let rest = map group_part (out-Level level).groups ++ map data_part (out-Level level).parts in
+    let front : slice_get (level_parts level) i ≡ slice_get a i = get_front a rest i (omega (arith, h, long_map field_part (out-Level level).fields)) in
+    slice_get-map (λ (p : NamedPart). p.name) (level_parts level) i ∙ ap (option_map (λ (p : NamedPart). p.name)) (front ∙ slice_get-map field_part (out-Level level).fields i) ∙ twice (slice_get (out-Level level).fields i)
+  where
+    twice : (o : Option Field) → option_map (λ (p : NamedPart). p.name) (option_map field_part o) ≡ option_map (λ (f : Field). f.name) o
+    twice None = refl
+    twice (Some f) = refl
+
+pub field_key : (schema : WireSchema) (n i : ℕ) → i < length (fields_at schema n) → slice_get (names_at schema n) i ≡ option_map (λ (f : Field). f.name) (slice_get (fields_at schema n) i)
+field_key schema n i h = in_level (level_at schema n) h
+  where
+    in_level : (o : Option Level) → i < length (fields_in o) → slice_get (names_in o) i ≡ option_map (λ (f : Field). f.name) (slice_get (fields_in o) i)
+    in_level None h = absurd (omega arith)
+    in_level (Some level) h = field_at level i h
+
+pub field_part_of : (schema : WireSchema) (n i : ℕ) → i < length (fields_at schema n) → i < length (names_at schema n)
+field_part_of schema n i h = in_level (level_at schema n) h
+  where
+    in_level : (o : Option Level) → i < length (fields_in o) → i < length (names_in o)
+    in_level None h = absurd (omega arith)
+    in_level (Some level) h = omega (arith, h, names_many level, parts_many level)
+
+-- a key without its quotes and colon
+unquoted : (name : List ℕ) → take (length (key_text name) - 2 - 1) (drop 1 (key_text name)) ≡ name
+unquoted name =
+    let long : length (key_text name) ≡ 1 + (length name + 2) = omega (arith, length-append name (codes "\":")) in
+    take_all name (codes "\":") (length (key_text name) - 2 - 1) (omega (arith, long))
+
+pub key_long : (name : List ℕ) → length (key_text name) ≡ length name + 3
+key_long name =
+    let long : length (key_text name) ≡ 1 + (length name + 2) = omega (arith, length-append name (codes "\":")) in
+    omega (arith, long)
+
+pub field_named : (schema : WireSchema) (n i : ℕ) (key : List ℕ) → i < length (fields_at schema n) → option_map key_text (slice_get (names_at schema n) i) ≡ Some key →
+    option_map (λ (f : Field). f.name) (slice_get (fields_at schema n) i) ≡ Some (take (length key - 2 - 1) (drop 1 key))
+field_named schema n i key h is = inner (slice_get (names_at schema n) i) (field_key schema n i h) is
+  where
+    inner : (o : Option (List ℕ)) → o ≡ option_map (λ (f : Field). f.name) (slice_get (fields_at schema n) i) → option_map key_text o ≡ Some key →
+        option_map (λ (f : Field). f.name) (slice_get (fields_at schema n) i) ≡ Some (take (length key - 2 - 1) (drop 1 key))
+    inner None same is = cc
+    inner (Some name) same is =
+        let here : key_text name ≡ key = cc in
+        sym same ∙ ap Some (sym (unquoted name)) ∙ ap (λ (k : List ℕ). Some (take (length k - 2 - 1) (drop 1 k))) here

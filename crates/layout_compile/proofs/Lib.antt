@@ -1,0 +1,17 @@
+pub mod Widths
+pub mod Nodes
+pub mod Counters
+pub mod Grows
+pub mod Told
+pub mod Finds
+pub mod Least
+pub mod Counts
+pub mod Ids
+pub mod DataParts
+pub mod GroupWalk
+pub mod LeastRows
+pub mod WriteSteps
+pub mod PathParts
+pub mod PathSteps
+pub mod KeyRows
+pub mod Computing

@@ -1,0 +1,26 @@
+use Rattle.std.proofs.Common.{◌<◌, ap, refl, length, arith}
+use Rattle.schema_facts.specs.Levels.{groups_at}
+use Rattle.layout_compile.proofs.GroupWalk.{groups_begin, groups_go, group_within}
+use Rattle.layout_compile.proofs.LeastRows.{least_more}
+use Rattle.layout_compile.proofs.layout.Layout.groups_least.Goals as goal
+
+pub loop-init : goal.loop-init
+loop-init c = record {
+  walk = groups_begin c.args.self.now c.args.level c.requires;
+  least = refl;
+  small = omega arith;
+}
+
+pub row-row-requires : goal.row-row-requires
+row-row-requires c =
+    let within : c.loop.counter < length (groups_at c.args.self.now c.args.level) = omega (arith, ap (λ p. p.0) c.few_parts-count.ensures.are) in
+    group_within c.args.self.now c.args.level c.loop.counter c.loop.child c.loop.invariant.walk within
+
+pub loop-preserved : goal.loop-preserved
+loop-preserved c =
+    let within : c.loop.counter < length (groups_at c.args.self.now c.args.level) = omega (arith, ap (λ p. p.0) c.few_parts-count.ensures.are) in
+    record {
+      walk = groups_go c.args.self.now c.args.level c.loop.counter c.loop.child c.row-row.result.now c.loop.invariant.walk within c.row-row.ensures;
+      least = least_more c.args.self.now c.args.level c.loop.counter c.loop.child c.args.version c.loop.least _ c.row-row.result.now c.loop.invariant.walk within c.row-row.ensures c.loop.invariant.least (omega (arith, c.dim_least.ensures));
+      small = omega arith;
+    }

@@ -1,0 +1,42 @@
+-- Tables as they grow: a level's row, and then those of its groups.
+use Rattle.std.specs.Prelude.{◌≡◌, ℕ, suc, ◌+◌, List, [], ◌∷◌, ◌++◌, length, map, flat_map, None, ⊤}
+use Rattle.sbe_types.specs.declared.schema.Level.{Level, out-Level}
+use Rattle.sbe_wire.specs.Versions.{floor}
+use Rattle.layout_compile.specs.declared.rows.LevelRow.{LevelRow}
+use Rattle.layout_compile.specs.declared.tables.Around.{Around}
+use Rattle.schema_facts.specs.Levels.{Node, nodes, nodes_of}
+use Rattle.layout_compile.specs.Keys.{names_of, KeysAre}
+use Rattle.layout_compile.specs.Rowed.{RowIs, FieldsAre, newest_of, part_row}
+
+-- the rows of some levels, of which the first is number k
+abbrev pub RowsAre : ℕ → List LevelRow → List Node → Type 0
+RowsAre k [] [] = ⊤
+RowsAre k [] (n ∷ ns) = ⊥
+RowsAre k (r ∷ rs) [] = ⊥
+RowsAre k (r ∷ rs) (n ∷ ns) = RowIs k r n × RowsAre (suc k) rs ns
+
+-- the rows of those levels were added
+pub record Grown (old new : List LevelRow) (ns : List Node) : Type 0 where
+  pub rows : List LevelRow
+  pub is : new ≡ old ++ rows
+  pub are : RowsAre (length old) rows ns
+
+-- the row of level n, with what stands around it
+pub record LevelIs (around : Around) (n : ℕ) (level : Level) (row : LevelRow) : Type 0 where
+  pub template : row.template ≡ around.template
+  pub since : row.since ≡ (out-Level level).since
+  pub block : row.block ≡ (out-Level level).block_length
+  pub dim : row.dim ≡ around.dim
+  pub fields : FieldsAre 0 (out-Level level).fields row.fields.items
+  pub newest_is : row.newest ≡ newest_of (out-Level level).fields
+  pub floor_is : row.floor ≡ floor row.newest (out-Level level).fields
+  pub groups : row.groups ≡ length (out-Level level).groups
+  pub parts : row.parts.items ≡ map part_row (out-Level level).parts
+  pub keys : KeysAre (names_of level) row.keys
+  pub end : row.end ≡ n + length (nodes around.template None level)
+
+-- a level's row was added, and those of its groups
+pub record Pushed (around : Around) (old new : List LevelRow) (level : Level) : Type 0 where
+  pub row : LevelRow
+  pub this : LevelIs around (length old) level row
+  pub below : Grown (old ++ row ∷ []) new (flat_map (nodes_of around.template) (out-Level level).groups)

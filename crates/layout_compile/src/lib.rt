@@ -1,0 +1,25 @@
+//! Layouts: the places, widths and floors of a schema in flat tables.
+#![tactic(auto)]
+
+mod below;
+mod entries;
+mod heads;
+mod keys;
+mod kinds;
+pub mod laws;
+mod layout;
+mod numbers;
+mod parts;
+mod paths;
+mod rows;
+mod tables;
+mod templates;
+pub mod worked;
+
+pub use heads::number_at;
+pub use kinds::{member_place, width_of};
+pub use layout::Layout;
+pub use rows::{
+    DimRow, FieldRow, HeaderRow, KeyRow, KeyTable, LevelRow, PartPlace, PartRow, SpotRow,
+};
+pub use tables::compile_schema;

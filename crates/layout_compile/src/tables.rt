@@ -1,0 +1,315 @@
+// The tables are made level by level, as the tree of the schema stands.
+ghost use Rattle.std.specs.Prelude.{◌≡◌, ℕ, ◌++◌, ◌∷◌, [], length, map, flat_map, None, Some, IfSome, IfOk, OnOk};
+ghost use Rattle.std.specs.Option.{option_map};
+ghost use Rattle.sbe_types.specs.declared.schema.Level.{out-Level};
+ghost use Rattle.sbe_wire.specs.Named.{spot_named, spot_of as spot_in};
+ghost use Rattle.schema_facts.specs.Levels.{nodes, nodes_of, nodes_from};
+ghost use Rattle.sbe_types.specs.declared.kind.Kind.{Comp};
+ghost use Rattle.sbe_types.specs.Places.{is_const};
+ghost use Rattle.schema_facts.specs.Measured.{AreNarrowFields, IsNarrow, EndsWithin, HasCounter, IsDimension, IsHeader, IsMeasured, AreMeasured};
+ghost use Rattle.layout_compile.specs.Rowed.{as_spot, DimIs, FieldIs, FieldsAre, HeaderIs, SpotIs, newest_of, part_row, roots_from, rows_floor};
+ghost use Rattle.layout_compile.specs.Grown.{Grown, LevelIs, Pushed};
+ghost use Rattle.layout_compile.specs.Parts.{HasFewParts};
+
+use crate::keys::keys_of;
+use crate::kinds::{begin_of, end_behind, end_of};
+use crate::layout::{Layout, of_tables};
+use crate::numbers::{firsts_of, places_of};
+use crate::rows::{DimRow, FieldRow, HeaderRow, LevelRow, PartRow, SpotRow, Tables};
+use crate::templates::ids_of;
+use sbe_types::{DataField, Field, Group, Kind, Level, List, Member, NoMem, WireSchema};
+use std::alloc::Global;
+
+/// The layout of a schema that is in order.
+pub fn compile_schema(alloc: Global, schema: &WireSchema) -> Result<Layout, NoMem>
+    requires measured { IsMeasured schema.now }
+    requires few { HasFewParts schema.now }
+    ensures { IfOk result (λ layout. layout ≡ schema.now) }
+{
+    let copy = schema.copy(alloc)?;
+    let header = header_row(&copy.header.members);
+    let mut levels = Vec::new(alloc);
+    let roots = push_roots(alloc, &mut levels, copy.messages.as_slice())?;
+    let ids = ids_of(alloc, copy.messages.as_slice())?;
+    let firsts = firsts_of(alloc, levels.as_slice())?;
+    let places = places_of(alloc, levels.as_slice())?;
+    let tables = Tables {
+        header,
+        levels,
+        roots,
+        ids,
+        firsts,
+        places,
+    };
+    Ok(of_tables(copy, tables))
+}
+
+/// The row of the header.
+fn header_row(members: &List<Member>) -> HeaderRow
+    requires { IsHeader members.now }
+    ensures { HeaderIs result members.now }
+{
+    HeaderRow {
+        width: end_of(members),
+        block: counter_of(members, b"blockLength"),
+        template: counter_of(members, b"templateId"),
+        schema: counter_of(members, b"schemaId"),
+        version: counter_of(members, b"version"),
+    }
+}
+
+/// The row of a dimension.
+fn dim_row(dim: &List<Member>) -> DimRow
+    requires { IsDimension dim.now }
+    ensures { DimIs result dim.now }
+{
+    DimRow {
+        width: end_of(dim),
+        block: counter_of(dim, b"blockLength"),
+        count: counter_of(dim, b"numInGroup"),
+    }
+}
+
+/// The number of that name, which the members have.
+#[tactic(auto, using(crate::proofs::Counters::counter_is, crate::proofs::Counters::counter_there))]
+fn counter_of(members: &List<Member>, name: &[u8]) -> SpotRow
+    requires narrow { IsNarrow (Comp members.now) }
+    requires has { HasCounter members.now name.now }
+    ensures { SpotIs members.now name.now result }
+{
+    match spot_of(members, name) {
+        Some(spot) => spot,
+        None => unreachable!(),
+    }
+}
+
+/// The number of that name, if the members have it.
+fn spot_of(members: &List<Member>, name: &[u8]) -> Option<SpotRow>
+    requires { IsNarrow (Comp members.now) }
+    ensures { option_map as_spot result ≡ spot_named 0 name.now members.now }
+{
+    let mut end = 0;
+    for member in members.as_slice() {
+        if member.name.as_slice() == name {
+            return number_at(begin_of(end, member.offset), &member.kind);
+        }
+        end = end_behind(end, member.offset, &member.kind);
+    }
+    None
+}
+
+fn number_at(place: u32, kind: &Kind) -> Option<SpotRow>
+    ensures { option_map as_spot result ≡ spot_in place kind.now }
+{
+    match kind {
+        Kind::Leaf(leaf) => Some(SpotRow { place, leaf: *leaf }),
+        _ => None,
+    }
+}
+
+/// The rows of a level's fields.
+fn field_rows(alloc: Global, fields: &[Field]) -> Result<Vec<FieldRow>, NoMem>
+    requires { AreNarrowFields 0 fields.now }
+    ensures { IfOk result (λ rows. FieldsAre 0 fields.now rows.items) }
+{
+    let mut rows = Vec::new(alloc);
+    let mut end = 0;
+    for field in fields {
+        let row = field_row(end, field);
+        end = row.end;
+        rows.push(row)?;
+    }
+    Ok(rows)
+}
+
+fn field_row(end: u32, field: &Field) -> FieldRow
+    requires narrow { IsNarrow field.now.kind }
+    requires within { EndsWithin end field.now.offset field.now.kind }
+    ensures { FieldIs end field.now result }
+{
+    FieldRow {
+        since: field.since,
+        place: begin_of(end, field.offset),
+        end: end_behind(end, field.offset, &field.kind),
+        is_constant: is_constant(&field.kind),
+    }
+}
+
+/// Whether the kind is a constant, which takes no bytes.
+fn is_constant(kind: &Kind) -> bool
+    ensures { result ≡ is_const kind.now }
+{
+    match kind {
+        Kind::Const(_) => true,
+        _ => false,
+    }
+}
+
+/// The greatest version from which on a field stands.
+fn newest_of(fields: &[Field]) -> u32
+    ensures { result ≡ newest_of fields.now }
+{
+    let mut newest = 0u32;
+    for field in fields {
+        newest = newest.max(field.since);
+    }
+    newest
+}
+
+/// The floor by the rows: the end of the last field that is alive and no constant.
+pub(crate) fn floor_of(version: u32, fields: &[FieldRow]) -> u32
+    ensures { result ≡ rows_floor version 0 fields.now }
+{
+    let mut floor = 0;
+    for row in fields {
+        if row.since <= version && !row.is_constant {
+            floor = row.end;
+        }
+    }
+    floor
+}
+
+/// The rows of a level's data parts.
+fn part_rows(alloc: Global, parts: &[DataField]) -> Result<Vec<PartRow>, NoMem>
+    ensures { IfOk result (λ rows. rows.items ≡ map part_row parts.now) }
+{
+    let mut rows = Vec::new(alloc);
+    for part in parts {
+        rows.push(PartRow {
+            since: part.since,
+            length: part.length,
+        })?;
+    }
+    Ok(rows)
+}
+
+/// How many levels there are, this one and those of its groups; none where a number can't say it.
+#[cycle(count)]
+fn count_level(level: &Level) -> Option<usize>
+    ensures { IfSome result (λ n. (t : ℕ) → n ≡ length (nodes t None level.now)) }
+{
+    let Some(below) = count_below(level.groups.as_slice()) else {
+        return None;
+    };
+    if below == usize::MAX {
+        return None;
+    }
+    Some(below + 1)
+}
+
+#[cycle(count)]
+fn count_below(groups: &[Group]) -> Option<usize>
+    ensures { IfSome result (λ n. (t : ℕ) → n ≡ length (flat_map (nodes_of t) groups.now)) }
+{
+    let mut many = 0usize;
+    for group in groups {
+        let Some(below) = count_level(&group.level) else {
+            return None;
+        };
+        if below > usize::MAX - many {
+            return None;
+        }
+        many += below;
+    }
+    Some(many)
+}
+
+/// What stands around a level: its message, and the dimension before its entries.
+#[derive(Clone, Copy)]
+struct Around {
+    template: usize,
+    dim: Option<DimRow>,
+}
+
+/// The row of level `n`.
+#[tactic(auto, using(crate::proofs::Grows::floor_row))]
+fn level_row(alloc: Global, around: Around, n: usize, level: &Level) -> Result<LevelRow, NoMem>
+    requires { AreNarrowFields 0 (out-Level level.now).fields }
+    ensures { IfOk result (λ row. LevelIs around n level.now row) }
+{
+    let fields = field_rows(alloc, level.fields.as_slice())?;
+    let parts = part_rows(alloc, level.parts.as_slice())?;
+    let keys = keys_of(alloc, level)?;
+    let Some(many) = count_level(level) else {
+        return Err(NoMem);
+    };
+    if many > usize::MAX - n {
+        return Err(NoMem);
+    }
+    let newest = newest_of(level.fields.as_slice());
+    let floor = floor_of(newest, fields.as_slice());
+    Ok(LevelRow {
+        template: around.template,
+        since: level.since,
+        block: level.block_length,
+        newest,
+        floor,
+        groups: level.groups.len(),
+        end: n + many,
+        dim: around.dim,
+        fields,
+        parts,
+        keys,
+    })
+}
+
+/// Adds the row of a level, and then those of its groups.
+#[cycle(push)]
+fn push_level(
+    alloc: Global,
+    levels: &mut Vec<LevelRow>,
+    around: Around,
+    level: &Level,
+) -> Result<(), NoMem>
+    requires fields { AreNarrowFields 0 (out-Level level.now).fields }
+    requires below { AreMeasured (flat_map (nodes_of around.template) (out-Level level.now).groups) }
+    ensures { OnOk result (Pushed around levels.old.items levels.new.items level.now) }
+{
+    let row = level_row(alloc, around, levels.len(), level)?;
+    levels.push(row)?;
+    push_below(alloc, levels, around.template, level.groups.as_slice())?;
+    Ok(())
+}
+
+/// Adds the rows of groups, one after another.
+#[cycle(push)]
+fn push_below(
+    alloc: Global,
+    levels: &mut Vec<LevelRow>,
+    template: usize,
+    groups: &[Group],
+) -> Result<(), NoMem>
+    requires { AreMeasured (flat_map (nodes_of template) groups.now) }
+    ensures { OnOk result (Grown levels.old.items levels.new.items (flat_map (nodes_of template) groups.now)) }
+{
+    for group in groups {
+        let around = Around {
+            template,
+            dim: Some(dim_row(&group.dim)),
+        };
+        push_level(alloc, levels, around, &group.level)?;
+    }
+    Ok(())
+}
+
+/// Adds the rows of all messages, and answers the numbers of their roots.
+fn push_roots(
+    alloc: Global,
+    levels: &mut Vec<LevelRow>,
+    messages: &[Level],
+) -> Result<Vec<usize>, NoMem>
+    requires { AreMeasured (nodes_from 0 messages.now) }
+    ensures rows { OnOk result (Grown levels.old.items levels.new.items (nodes_from 0 messages.now)) }
+    ensures roots { IfOk result (λ roots. roots.items ≡ roots_from (length levels.old.items) 0 messages.now) }
+{
+    let mut roots = Vec::new(alloc);
+    for (template, level) in messages.iter().enumerate() {
+        roots.push(levels.len())?;
+        let around = Around {
+            template,
+            dim: None,
+        };
+        push_level(alloc, levels, around, level)?;
+    }
+    Ok(roots)
+}
