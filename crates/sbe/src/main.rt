@@ -17,7 +17,7 @@ use std::process::ExitCode;
 const READ_AT_ONCE: usize = 262_144;
 
 /// How many bytes of output are kept at most.
-const KEPT_AT_MOST: usize = 65_536;
+const KEPT_AT_MOST: usize = 131_072;
 
 fn main(rt: HostRuntime) -> ExitCode {
     ExitCode::from(answer(&rt).code())

@@ -37,6 +37,7 @@ Answers (Err NotBuilt) shown = shown ≡ None
 abbrev pub IsOneNumber : LeafOf → Type 0
 IsOneNumber l = (l.shape ≡ shape.Number) × (l.length ≡ 1)
 
+-- A kind that is one number.
 abbrev pub IsNumber : Kind → Type 0
 IsNumber (Leaf l) = IsOneNumber l
 IsNumber (Enum l names) = ⊥
@@ -65,6 +66,7 @@ abbrev pub leaf_shown : Order → LeafOf → ℕ → List ℕ → Option Value
 leaf_shown order l place b =
     if nat_le (place + prim_width l.prim) (length b) then shown_number l (number_of order l.prim (take (prim_width l.prim) (drop place b))) else None
 
+-- The value that the bytes at a place show.
 abbrev pub number_shown : Order → Kind → ℕ → List ℕ → Option Value
 number_shown order (Leaf l) place b = leaf_shown order l place b
 number_shown order (Enum l names) place b = None
@@ -72,10 +74,12 @@ number_shown order (Set p names) place b = None
 number_shown order (Const c) place b = None
 number_shown order (Comp' n members) place b = None
 
+-- The value of a field, absent where it is not alive.
 abbrev pub field_shown : Order → ℕ → ℕ → Field → List ℕ → Option Value
 field_shown order version e f b =
     if is_alive version f.since then number_shown order f.kind (begin_of e f.offset) b else Some value.Absent
 
+-- The values of the fields of a block, where each is shown.
 abbrev pub fields_shown : Order → ℕ → ℕ → List Field → List ℕ → Option (List Value)
 fields_shown order version e [] b = Some []
 fields_shown order version e (f ∷ fs) b = do
@@ -83,6 +87,7 @@ fields_shown order version e (f ∷ fs) b = do
   vs ← fields_shown order version (end_past e f.offset f.kind) fs b
   Some (v ∷ vs)
 
+-- A message that has fields alone.
 abbrev pub message_with : ℕ → ℕ → List Value → Msg
 message_with template version values = record { template = template; version = version; block = record { fields = values; groups = []; parts = [] } }
 
@@ -94,9 +99,11 @@ block_shown schema version fields k b = do
   _ ← guard (not (is_known schema version && nat_lt k (length b)))
   Some values
 
+-- A number of the header at the front of a body.
 abbrev pub header_number : WireSchema → List ℕ → List ℕ → ℕ
 header_number schema name body = number_named schema.order schema.header.members name (take (members_end 0 schema.header.members) body)
 
+-- The message that lies in a body, where its schema is small.
 abbrev pub small_message : WireSchema → List ℕ → Option Msg
 small_message schema body = do
   _ ← guard (nat_le (members_end 0 schema.header.members) (length body))

@@ -17,6 +17,7 @@ IsDumped schema number item line verdict =
     ((m : Msg) × (item.encoding ≡ SBE_LITTLE) × Lays schema m item.body × (line ≡ line_of schema m ++ codes "\n") × (verdict ≡ Answered))
     ⊎ (((m : Msg) → item.encoding ≡ SBE_LITTLE → Lays schema m item.body → ⊥) × (line ≡ refused_line number) × (verdict ≡ Refused))
 
+-- The message, where one was read.
 abbrev pub message_read : Result Msg Fault → Option Msg
 message_read (Ok m) = Some m
 message_read (Err f) = None
@@ -30,6 +31,7 @@ abbrev pub dumped_line : WireSchema → ℕ → Option Msg → List ℕ
 dumped_line schema number None = refused_line number
 dumped_line schema number (Some m) = line_of schema m ++ codes "\n"
 
+-- An item without a message is refused.
 abbrev pub dumped_verdict : Option Msg → Verdict
 dumped_verdict None = Refused
 dumped_verdict (Some m) = Answered

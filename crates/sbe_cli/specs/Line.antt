@@ -28,6 +28,7 @@ value_text (Comp' n members) = codes "null"
 value_text Const = codes "null"
 value_text Absent = codes "null"
 
+-- The value is of a field that is not there at the version.
 abbrev pub is_absent : Value → Bool
 is_absent Absent = true
 is_absent (Num n) = false
@@ -39,9 +40,11 @@ is_absent (Set bits) = false
 is_absent (Comp' n members) = false
 is_absent Const = false
 
+-- A name, a colon and the value.
 abbrev pub member_text : Field → Value → List ℕ
 member_text f v = quoted f.name ++ (codes ":" ++ value_text v)
 
+-- What stands between two members.
 abbrev pub comma : Bool → List ℕ
 comma first = if first then [] else codes ","
 
@@ -49,19 +52,23 @@ comma first = if first then [] else codes ","
 abbrev pub next_text : Bool → Field → Value → List ℕ
 next_text first f v = if is_absent v then [] else comma first ++ member_text f v
 
+-- No member stands yet, this one not either.
 abbrev pub still_first : Bool → Value → Bool
 still_first first v = if is_absent v then first else false
 
+-- The members of the fields that are there, in order.
 abbrev pub fields_text : Bool → List Field → List Value → List ℕ
 fields_text first (f ∷ fs) (v ∷ vs) = next_text first f v ++ fields_text (still_first first v) fs vs
 fields_text first _ _ = []
 
+-- The line of a message of this level.
 abbrev pub level_line : Level → Msg → List ℕ
 level_line level m =
     codes "{\"data\":{},\"fields\":{" ++ (fields_text true (out-Level level).fields (out-Block m.block).fields
     ++ (codes "},\"groups\":{},\"template\":" ++ (quoted (out-Level level).name
     ++ (codes ",\"version\":" ++ (decimal m.version ++ codes "}")))))
 
+-- The same, where the template is there.
 abbrev pub line_at : Option Level → Msg → List ℕ
 line_at None m = []
 line_at (Some level) m = level_line level m

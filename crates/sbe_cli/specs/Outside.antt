@@ -21,6 +21,7 @@ pub record Streams : Type 0 where
   pub input : Object (List ℕ)
   pub sinks : Sinks
 
+-- The files, and the streams.
 pub record Outside : Type 0 where
   pub files : Object (List ℕ → Option (List ℕ))
   pub streams : Streams
@@ -34,15 +35,19 @@ pub record Desk : Type 0 where
 abbrev pub object_of : {T : Type 0} → Option T → ℕ → Object T
 object_of told faults = record { told = told; faults = faults }
 
+-- Output and notes together.
 abbrev pub sinks_of : Object (List ℕ) → Object (List ℕ) → Sinks
 sinks_of output notes = record { output = output; notes = notes }
 
+-- Input, output and notes together.
 abbrev pub streams_of : Object (List ℕ) → Object (List ℕ) → Object (List ℕ) → Streams
 streams_of input output notes = record { input = input; sinks = sinks_of output notes }
 
+-- All objects together.
 abbrev pub outside_of : Object (List ℕ → Option (List ℕ)) → Streams → Outside
 outside_of files streams = record { files = files; streams = streams }
 
+-- The files and the notes together.
 abbrev pub desk_of : Object (List ℕ → Option (List ℕ)) → Object (List ℕ) → Desk
 desk_of files notes = record { files = files; notes = notes }
 

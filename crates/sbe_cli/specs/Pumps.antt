@@ -21,6 +21,7 @@ use Rattle.sbe_cli.specs.declared.pump.Kept.{Kept}
 use Rattle.sbe_cli.specs.declared.pump.Step.{Step}
 use Rattle.sbe_cli.specs.declared.pump.Step.TheVariants.{Ended}
 
+-- The limits of a job.
 abbrev pub job_limits : Job → Limits
 job_limits (Dump schema limits) = limits
 
@@ -41,6 +42,7 @@ pub record Stands (job : Job) (stream : StreamState) (kept : Kept) : Type 0 wher
   pub refused : kept.refused ≤ kept.items
   pub translated : kept.translated ≤ kept.items
 
+-- What holds of a pump at every moment.
 pub record IsPump (job : Job) (stream : StreamState) (kept : Kept) (ended : Option Status) : Type 0 where
   pub ready : IsReady job
   pub bounded : IsBounded (job_limits job)

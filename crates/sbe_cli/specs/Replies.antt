@@ -31,14 +31,17 @@ IsReply (Dump schema limits) kept Whole reply = ⊥
 
 -- ---- what was done so far
 
+-- The numbers before the first item.
 abbrev pub none_kept : Kept
 none_kept = record { items = 0; refused = 0; translated = 0; bytes = 0 }
 
+-- How many refusals a verdict counts.
 abbrev pub refusals : Verdict → ℕ
 refusals Answered = 0
 refusals Refused = 1
 refusals Translated = 0
 
+-- How many translations a verdict counts.
 abbrev pub translations : Verdict → ℕ
 translations Answered = 0
 translations Refused = 0
@@ -53,12 +56,15 @@ counted_by kept bytes verdict = record {
   bytes = kept.bytes + bytes;
 }
 
+-- The numbers after one more piece.
 abbrev pub counted : Kept → Piece → Verdict → Kept
 counted kept piece verdict = counted_by kept (length (piece_bytes piece)) verdict
 
+-- Nothing is written.
 abbrev pub none_written : Written
 none_written = record { output = []; notes = [] }
 
+-- What a reply writes.
 abbrev pub written_of : Reply → Written
 written_of reply = record { output = reply.output; notes = reply.notes }
 

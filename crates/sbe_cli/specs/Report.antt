@@ -30,6 +30,7 @@ pub record Outcome : Type 0 where
 abbrev pub HoldsSchema : List ℕ → WireSchema → Type 0
 HoldsSchema bytes schema = IsUtf8 bytes × (small_schema bytes ≡ Some schema)
 
+-- The bytes hold no schema of the small form.
 abbrev pub HoldsNone : List ℕ → Type 0
 HoldsNone bytes = IsUtf8 bytes → small_schema bytes ≡ None
 
@@ -51,6 +52,7 @@ Judges (Dump name limits) contents (Err refusal) = JudgesFile (contents name) (E
 
 -- ---- the end
 
+-- The status where all was answered and so many items were refused.
 abbrev pub done_status : ℕ → Status
 done_status refused = if nat_lt 0 refused then status.SomeRefused else status.Done
 
@@ -90,10 +92,12 @@ JobReport job input outcome =
 abbrev pub only_noted : List ℕ → Status → Outcome
 only_noted line code = record { output = []; notes = line; status = code }
 
+-- The report of a job, or of the first refusal of its files.
 abbrev pub JudgedReport : Result Job FileRefusal → List ℕ → Outcome → Type 0
 JudgedReport (Ok job) input outcome = JobReport job input outcome
 JudgedReport (Err refusal) input outcome = outcome ≡ only_noted (refusal_line refusal) (refusal_status refusal)
 
+-- The report of a command, or of words that are none.
 abbrev pub CommandReport : Option Command → (List ℕ → Option (List ℕ)) → List ℕ → Outcome → Type 0
 CommandReport None contents input outcome = outcome ≡ only_noted usage_line status.Usage
 CommandReport (Some command) contents input outcome = (judged : Result Job FileRefusal) × Judges command contents judged × JudgedReport judged input outcome

@@ -30,6 +30,7 @@ pub record Known (old : Outside) (contents : List ℕ → Option (List ℕ)) (in
 abbrev pub IsJob : List (List ℕ) → (List ℕ → Option (List ℕ)) → Job → Type 0
 IsJob words contents job = (command : Command) × (command_of words ≡ Some command) × Judges command contents (Ok job)
 
+-- What an outcome writes.
 abbrev pub written_in : Outcome → Written
 written_in outcome = record { output = outcome.output; notes = outcome.notes }
 

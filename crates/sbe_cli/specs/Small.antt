@@ -26,6 +26,7 @@ there key d = if is_some (get key d) then 1 else 0
 
 -- ---- one number
 
+-- One number of a primitive, with its presence, null and range.
 abbrev pub number_leaf : Primitive → Presence → ℤ → ℤ → ℤ → LeafOf
 number_leaf prim presence unset low high =
     record { prim = prim; length = 1; shape = shape.Number; presence = presence; null = unset; low = low; high = high }
@@ -79,6 +80,7 @@ header_types items = do
   version ← get_item 3 items
   header_type (codes "version") version
 
+-- The composite `messageHeader` with exactly the recommended members.
 abbrev pub header : Data → Option (Unit {0})
 header d = do
   composite ← element (codes "composite") d
@@ -97,9 +99,11 @@ types d = do
   composite ← get_item 0 items
   header composite
 
+-- A uint16 member of the header.
 abbrev pub header_member : List ℕ → Member
 header_member name = record { name = name; offset = None; kind = Leaf (default_leaf U16 Required) }
 
+-- The recommended header: blockLength, templateId, schemaId and version, each uint16.
 abbrev pub small_header : Header
 small_header = record {
   members = header_member (codes "blockLength") ∷ header_member (codes "templateId") ∷ header_member (codes "schemaId") ∷ header_member (codes "version") ∷ [];
@@ -107,6 +111,7 @@ small_header = record {
 
 -- ---- the fields
 
+-- The integer type of this name.
 abbrev pub prim_named : List ℕ → Option Primitive
 prim_named name =
     if bytes_eq name (codes "int8") then Some I8
@@ -119,6 +124,7 @@ prim_named name =
     else if bytes_eq name (codes "uint64") then Some U64
     else None
 
+-- The presence of this name: required or optional.
 abbrev pub presence_named : List ℕ → Option Presence
 presence_named name =
     if bytes_eq name (codes "required") then Some Required
@@ -130,9 +136,11 @@ abbrev pub presence_in : Option Data → Option Presence
 presence_in None = Some Required
 presence_in (Some d) = option_and_then presence_named (as_str d)
 
+-- The attribute `presence`, which may be missing.
 abbrev pub presence_at : Data → Option Presence
 presence_at d = presence_in (get (codes "presence") d)
 
+-- A field of the small form.
 abbrev pub field : Data → Option Field
 field d = do
   attributes ← element (codes "field") d
@@ -144,6 +152,7 @@ field d = do
   _ ← guard (size attributes == 3 + there (codes "presence") attributes)
   Some (record { name = name; id = id; since = 0; offset = None; kind = Leaf (default_leaf prim presence) })
 
+-- A field has this name.
 abbrev pub has_name : List ℕ → List Field → Bool
 has_name name [] = false
 has_name name (f ∷ fs) = if bytes_eq f.name name then true else has_name name fs
@@ -155,6 +164,7 @@ fields_after earlier (item d ds) = do
   f ← field d
   if has_name f.name earlier then None else fields_after (earlier ++ f ∷ []) ds
 
+-- The bytes of a number.
 abbrev pub kind_width : Kind → ℕ
 kind_width (Leaf l) = prim_width l.prim
 kind_width (Enum l names) = 0
@@ -162,15 +172,18 @@ kind_width (Set p names) = 0
 kind_width (Const c) = 0
 kind_width (Comp' n members) = 0
 
+-- The bytes of a field.
 abbrev pub field_width : Field → ℕ
 field_width f = kind_width f.kind
 
 -- ---- the message and the schema
 
+-- The root of a message that has fields alone.
 abbrev pub small_level : List ℕ → ℕ → List Field → Level
 small_level name id fields =
     roll-Level (record { name = name; id = id; semantic = []; since = 0; block_length = sum_by field_width fields; fields = fields; groups = []; parts = [] })
 
+-- A message of the small form.
 abbrev pub message : Data → Option Level
 message d = do
   attributes ← element (codes "message") d
@@ -197,6 +210,7 @@ abbrev pub packages_in : Option Data → Option ℕ
 packages_in None = Some 0
 packages_in (Some d) = option_and_then (λ _. Some 1) (as_str d)
 
+-- The schema of a file of the small form.
 abbrev pub schema_of : Data → Option WireSchema
 schema_of d = do
   schema ← element (codes "messageSchema") d

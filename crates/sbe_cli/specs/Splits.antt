@@ -36,12 +36,14 @@ pub data PieceEnd : Type 0 where
   LineOver : PieceEnd
   InputLimit : PieceEnd
 
+-- The end of frames as an end of pieces.
 abbrev pub frames_end : CutEnd → PieceEnd
 frames_end frames.End = End
 frames_end (frames.EndInside n) = EndInside n
 frames_end (frames.HeadFault fault) = HeadFault fault
 frames_end frames.InputLimit = InputLimit
 
+-- The end of lines as an end of pieces.
 abbrev pub lines_end : LineEnd → PieceEnd
 lines_end lines.End = End
 lines_end lines.LineOver = LineOver

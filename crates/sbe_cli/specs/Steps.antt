@@ -30,6 +30,7 @@ IsReady (Dump schema limits) = IsSmall schema × IsPlaced schema
 
 -- ---- the start
 
+-- A pump that has done nothing yet.
 abbrev pub opened : Job → PumpState
 opened job = record { job = job; kept = none_kept; ended = None }
 

@@ -9,15 +9,19 @@ use Rattle.sbe_cli.specs.declared.files.FileRefusal.TheVariants as file
 use Rattle.sbe_cli.specs.declared.stop.Stop.{Stop}
 use Rattle.sbe_cli.specs.declared.stop.Stop.TheVariants.{Usage, FileFault, Refused, ReadFault, EndInside, Head, InputLimit}
 
+-- The line where the words are no command.
 abbrev pub usage_line : List ℕ
 usage_line = codes "{\"usage\":\"sbe check compat dump build fixcheck tofix tosbe selftest\"}\n"
 
+-- The line of a schema that is refused with this code.
 abbrev pub refused_schema : List ℕ → List ℕ
 refused_schema code = codes "{\"file\":\"schema\",\"refused\":\"" ++ (code ++ codes "\",\"path\":\"\"}\n")
 
+-- A line that ends with a number.
 abbrev pub at_line : List ℕ → ℕ → List ℕ
 at_line front at = front ++ (decimal at ++ codes "}\n")
 
+-- The line of a fault of the framing: its name, its place and its number.
 abbrev pub fault_line : List ℕ → ℕ → ℕ → List ℕ
 fault_line name at number =
     codes "{\"framing\":\"" ++ (name ++ (codes "\",\"at\":" ++ (decimal at ++ (codes ",\"number\":" ++ (decimal number ++ codes "}\n")))))
@@ -29,11 +33,13 @@ head_line (LengthShort n) at = fault_line (codes "LengthShort") at n
 head_line (LengthOver n) at = fault_line (codes "LengthOver") at n
 head_line (Encoding n) at = fault_line (codes "Encoding") at n
 
+-- The line of a file that is refused.
 abbrev pub refusal_line : FileRefusal → List ℕ
 refusal_line file.Absent = codes "{\"absent\":\"schema\"}\n"
 refusal_line file.TooLong = refused_schema (codes "S06")
 refusal_line file.NotBuilt = refused_schema (codes "S00")
 
+-- The status where a file is refused.
 abbrev pub refusal_status : FileRefusal → Status
 refusal_status file.Absent = status.NoFile
 refusal_status file.TooLong = status.SchemaRefused
@@ -49,6 +55,7 @@ stop_line (EndInside held at) = fault_line (codes "EndInside") at held
 stop_line (Head fault at) = head_line fault at
 stop_line (InputLimit limit) = at_line (codes "{\"limit\":\"Input\",\"at\":") limit
 
+-- The status of each stop.
 abbrev pub stop_status : Stop → Status
 stop_status Usage = status.Usage
 stop_status FileFault = status.FileFault
