@@ -1,0 +1,12 @@
+# Completion of `sbe` for bash.
+_sbe() {
+    local word=${COMP_WORDS[COMP_CWORD]} before=${COMP_WORDS[COMP_CWORD - 1]}
+    if [ "$COMP_CWORD" -eq 1 ]; then
+        COMPREPLY=($(compgen -W "dump --help --version" -- "$word"))
+    elif [ "$COMP_CWORD" -eq 2 ]; then
+        COMPREPLY=($(compgen -f -- "$word"))
+    elif [ "${COMP_WORDS[1]}" = dump ] && [ $((COMP_CWORD % 2)) -eq 1 ]; then
+        COMPREPLY=($(compgen -W "--max-frame --max-input" -- "$word"))
+    fi
+}
+complete -o filenames -F _sbe sbe
