@@ -1,3 +1,5 @@
 pub mod NumberLemmas
 pub mod Inverse
 pub mod PlaceLemmas
+pub mod TextLemmas
+pub mod BadLemmas

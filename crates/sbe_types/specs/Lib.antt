@@ -5,3 +5,5 @@ pub mod Shows
 pub mod AtPlaces
 pub mod Wire
 pub mod InForm
+pub mod LeafBad
+pub mod LeafRows

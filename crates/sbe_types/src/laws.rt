@@ -1,13 +1,17 @@
 //! Laws of the definitions, as functions without a body.
 
-ghost use Rattle.std.specs.Prelude.{◌≡◌, ◌↔◌, ℕ, ℤ, Bool, List, Some, length};
+ghost use Rattle.std.specs.Prelude.{◌≡◌, ◌↔◌, ℕ, ℤ, Bool, List, Some, None, length};
 ghost use Rattle.byte_digits.specs.Digits.{IsBytes};
 ghost use Rattle.sbe_types.specs.declared.kind.Order.{Order};
 ghost use Rattle.sbe_types.specs.declared.kind.Primitive.{Primitive};
-ghost use Rattle.sbe_types.specs.declared.kind.Kind.{Kind};
+ghost use Rattle.sbe_types.specs.declared.kind.Kind.{Kind, Leaf};
+ghost use Rattle.sbe_types.specs.declared.kind.Leaf.{Leaf as LeafOf};
 ghost use Rattle.sbe_types.specs.declared.kind.Member.{Member};
 ghost use Rattle.sbe_types.specs.declared.message.Value.{Value};
 ghost use Rattle.sbe_types.specs.AtPlaces.{members_of, ShowsMembers};
+ghost use Rattle.sbe_types.specs.LeafBad.{leaf_bad};
+ghost use Rattle.sbe_types.specs.LeafRows.{four, two, ended_bytes, broken_bytes, broken_fault, large_bytes, large_fault};
+ghost use Rattle.sbe_types.specs.declared.kind.Order.TheVariants.{Little};
 ghost use Rattle.sbe_types.specs.Places.{width, members_end};
 ghost use Rattle.sbe_types.specs.Shows.{Shows};
 ghost use Rattle.sbe_types.specs.Numbers.{number_of, bytes_of, prim_width};
@@ -29,4 +33,17 @@ pub fn members_show_at_their_places()
     ensures shown { (order : Order) (known : Bool) (kind : Kind) (members : List Member) (v : Value) (b : List ℕ)
         → members_of kind ≡ Some members → Shows order known kind v b ↔ ShowsMembers order known members v b }
     ensures width { (kind : Kind) (members : List Member) → members_of kind ≡ Some members → width kind ≡ members_end 0 members }
+{}
+
+/// As many bytes as a leaf takes have no fault exactly where they show a value of it.
+pub fn no_fault_shows_a_value()
+    ensures { (order : Order) (known : Bool) (leaf : LeafOf) (b : List ℕ) → length b ≡ width (Leaf leaf)
+        → (leaf_bad order leaf b ≡ None) ↔ ((v : Value) × Shows order known (Leaf leaf) v b) }
+{}
+
+/// On worked rows: what stands behind a text's end is no fault, a byte outside its range is, and so is a number outside its.
+pub fn faults_of_worked_leaves()
+    ensures ended { leaf_bad Little four ended_bytes ≡ None }
+    ensures broken { leaf_bad Little four broken_bytes ≡ broken_fault }
+    ensures large { leaf_bad Little two large_bytes ≡ large_fault }
 {}

@@ -5,6 +5,7 @@
 mod copy;
 mod kind;
 pub mod laws;
+mod leaf;
 mod limits;
 mod message;
 mod number;
@@ -16,6 +17,7 @@ pub use kind::{
     ConstValue, Kind, Leaf, LeafShape, Member, MemberList, Named, NamedList, Order, Presence, Prim,
     Primitive,
 };
+pub use leaf::{LeafCause, LeafFault, leaf_judge, leaf_reads};
 pub use limits::{
     LENGTH_LIMIT, MEMBER_LIMIT, MESSAGE_LIMIT, NAME_LIMIT, PART_LIMIT, PLACE_LIMIT, TYPE_LIMIT,
     VALUE_LIMIT,

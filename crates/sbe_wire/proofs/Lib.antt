@@ -1,7 +1,6 @@
 pub mod Computing
 pub mod Combine
 pub mod Judging
-pub mod TextLemmas
 pub mod Values
 pub mod Blocks
 pub mod Tails

@@ -28,7 +28,7 @@ use Rattle.sbe_wire.specs.Agree.{Judges}
 use Rattle.sbe_wire.specs.Placed.{BeginsBehind, IsPlacedKind, IsPlacedRow}
 use Rattle.sbe_wire.proofs.Combine.{empty_is, ok_is, err_is, bind_ok, bind_err, later_ok, later_err, inside_ok, inside_err}
 use Rattle.sbe_wire.proofs.Judging.{never, found_is, missed_is, rejudged, made_by, MadeBy, moved, beside, Beside, BesideFault}
-use Rattle.sbe_wire.proofs.TextLemmas.{splits, passes, stops, fronts, Stops}
+use Rattle.sbe_types.proofs.TextLemmas.{splits, passes, stops, fronts, Stops}
 
 -- ---- a number
 
