@@ -28,16 +28,17 @@ use Rattle.schema_facts.proofs.KindMade.{members_made}
 
 -- ---- a counter
 
-small_is : (prim : Primitive) → is_counter_primitive prim ≡ true → IsSmall prim
-small_is U8 h = tt
-small_is U16 h = tt
-small_is U32 h = tt
-small_is U64 h = cc
-small_is Char h = cc
-small_is I8 h = cc
-small_is I16 h = cc
-small_is I32 h = cc
-small_is I64 h = cc
+-- the primitive of a counter has at most four bytes
+pub small_primitive : (prim : Primitive) → is_counter_primitive prim ≡ true → IsSmall prim
+small_primitive U8 h = tt
+small_primitive U16 h = tt
+small_primitive U32 h = tt
+small_primitive U64 h = cc
+small_primitive Char h = cc
+small_primitive I8 h = cc
+small_primitive I16 h = cc
+small_primitive I32 h = cc
+small_primitive I64 h = cc
 
 -- a kind that is a counter
 record CounterOf (kind : Kind) : Type 0 where
@@ -49,7 +50,7 @@ record CounterOf (kind : Kind) : Type 0 where
 counter_of : (kind : Kind) → is_counter (leaf_in kind) ≡ true → CounterOf kind
 counter_of (Leaf l) h =
     let parts = both_true (is_counter_primitive l.prim) (l.length == 1) h in
-    record { leaf = l; is = refl; small = small_is l.prim parts.0; single = eqb-true l.length 1 parts.1 }
+    record { leaf = l; is = refl; small = small_primitive l.prim parts.0; single = eqb-true l.length 1 parts.1 }
 counter_of (Enum l names) h = cc
 counter_of (Set p names) h = cc
 counter_of (Const c) h = cc
@@ -136,7 +137,7 @@ length_of (Leaf l) (Some b) offset made h =
     record {
       leaf = record { null = made.null; low = made.low; high = made.high; range = made.range; least = omega arith; most = made.most; shape = made.shape; presence = made.presence };
       single = single;
-      small = small_is l.prim counter.0;
+      small = small_primitive l.prim counter.0;
     }
 length_of (Enum l names) body offset made h = cc
 length_of (Set p names) body offset made h = cc

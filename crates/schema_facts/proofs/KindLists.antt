@@ -1,13 +1,15 @@
 -- A composite over the list of its members: its width, leaves and height are told by the list, and what is so of its row is
 -- so of the list.
-use Rattle.std.proofs.Common.{◌≡◌, ℕ, suc, ◌+◌, ◌≤◌, max, List, [], ◌∷◌, map, refl, ap, sym, subst, ◌∙◌}
+use Rattle.std.proofs.Common.{◌≡◌, ℕ, suc, ◌+◌, ◌≤◌, max, List, [], ◌∷◌, length, map, refl, ap, sym, subst, ◌∙◌, arith}
 use Rattle.std.specs.Prelude.{◌≢◌, ⊤, AllPairs}
 use Rattle.std.specs.List.{AllByRecursion}
+use Rattle.std.proofs.lemmas.List.{length-map}
 use mathlib.Core.Former.{Count}
 use Rattle.sbe_types.specs.InForm.{IsName}
 use Rattle.sbe_types.specs.Places.{width, end_past, row_end, members_end}
 use Rattle.sbe_types.specs.declared.kind.Kind.{Kind, Leaf, Enum, Set, Const, Comp, Comp', Row_of-Member, end_of-Member, more_of-Member, items-the_row-Member, items_hidden-the_row-Member-0}
 use Rattle.sbe_types.specs.declared.kind.Member.{Member}
+use Rattle.sbe_types.specs.declared.limits.TheConstants.{MEMBER_LIMIT}
 use Rattle.sbe_wire.specs.Placed.{BeginsBehind, IsPlacedKind, IsPlacedRow}
 use Rattle.schema_facts.specs.Measured.{EndsWithin, IsNarrow, IsNarrowRow}
 use Rattle.schema_facts.specs.InOrder.{leaves, leaves_in, height, height_of, names_in, IsKindFrom, AreKindsFrom}
@@ -136,6 +138,7 @@ KindsList least ms = AllByRecursion (λ (m : Member). IsKindFrom least m.kind) m
 
 -- members of which each part is in order
 pub record MadeOf (least : ℕ) (ms : List Member) : Type 0 where
+  pub few : length ms ≤ MEMBER_LIMIT
   pub names : AllByRecursion IsName (names_of ms)
   pub differ : AllPairs (λ a b. a ≢ b) (names_of ms)
   pub kinds : KindsList least ms
@@ -156,7 +159,9 @@ pub comp_made : (least : ℕ) (ms : List Member) → MadeOf least ms → IsKindF
 comp_made least ms h =
     let row = row_in (Comp ms) in
     let same = ap names_of (sym (items_hidden-the_row-Member-0 ms)) ∙ names_row row.0 row.1 in
+    let long : length (names_of ms) ≡ length ms = length-map ms (λ (m : Member). m.name) in
     record {
+      few = omega (arith, h.few, long, ap length same);
       names = subst (AllByRecursion IsName) same h.names;
       names_differ = subst (AllPairs (λ a b. a ≢ b)) same h.differ;
       kinds = kinds_row least row.0 row.1 (subst (KindsList least) (sym (items_hidden-the_row-Member-0 ms)) h.kinds);
@@ -166,7 +171,9 @@ pub made_members : (least : ℕ) (ms : List Member) → IsKindFrom least (Comp m
 made_members least ms h =
     let row = row_in (Comp ms) in
     let same = sym (names_row row.0 row.1) ∙ ap names_of (items_hidden-the_row-Member-0 ms) in
+    let long : length (names_of ms) ≡ length ms = length-map ms (λ (m : Member). m.name) in
     record {
+      few = omega (arith, h.few, long, ap length same);
       names = subst (AllByRecursion IsName) same h.names;
       differ = subst (AllPairs (λ a b. a ≢ b)) same h.names_differ;
       kinds = subst (KindsList least) (items_hidden-the_row-Member-0 ms) (kinds_list least row.0 row.1 h.kinds);

@@ -1,13 +1,14 @@
 -- Each part of an accepted kind is in order.
-use Rattle.std.proofs.Common.{◌≡◌, ℕ, zero, suc, ◌+◌, Bool, true, false, min, List, [], Option, Some, None, refl, subst, arith}
+use Rattle.std.proofs.Common.{◌≡◌, ◌≤◌, ℕ, zero, suc, ◌+◌, Bool, true, false, min, List, [], ◌∷◌, length, ap, Option, Some, None, refl, subst, arith}
 use Rattle.std.specs.Prelude.{◌||◌, Ok, option_map}
 use Rattle.std.specs.List.{AllByRecursion}
 use Rattle.std.specs.Str.{bytes_eq}
 use Rattle.std.proofs.lemmas.Slice.Eq.{bytes_eq-Decides}
-use Rattle.sbe_types.specs.InForm.{IsName, IsMemberInForm, AreMembersInForm}
+use Rattle.sbe_types.specs.InForm.{IsName, IsMemberInForm, AreMembersInForm, count_members}
 use Rattle.sbe_types.specs.declared.kind.Primitive.TheVariants.{U8}
 use Rattle.sbe_types.specs.declared.kind.Kind.{Kind}
 use Rattle.sbe_types.specs.declared.kind.Member.{Member}
+use Rattle.sbe_types.specs.declared.limits.TheConstants.{MEMBER_LIMIT}
 use Rattle.sbe_types.specs.declared.tree.FieldEl.{FieldEl}
 use Rattle.sbe_types.specs.declared.tree.MemberItem.{MemberItem, Row_of-MemberItem, end_of-MemberItem, more_of-MemberItem}
 use Rattle.sbe_types.specs.declared.tree.MemberItem as part
@@ -48,12 +49,22 @@ record MadeBehind (earlier : List (List ℕ)) (ms : List Member) : Type 0 where
   once : is_twice bytes_eq bytes_eq-Decides earlier (names_of ms) ≡ false
   kinds : KindsList 0 ms
 
-made_of : (ms : List Member) → MadeBehind [] ms → MadeOf 0 ms
-made_of ms h = record { names = h.names; differ = all_apart bytes_eq bytes_eq-Decides [] (names_of ms) h.once; kinds = h.kinds }
+made_of : (ms : List Member) → length ms ≤ MEMBER_LIMIT → MadeBehind [] ms → MadeOf 0 ms
+made_of ms few h = record { few = few; names = h.names; differ = all_apart bytes_eq bytes_eq-Decides [] (names_of ms) h.once; kinds = h.kinds }
 
 module _ (types : List TypesItem) (accepted : AreAccepted types) where
   abbrev at : ℕ → Inside
   at around = record { types = types; around = around }
+
+  -- ---- how many members there are
+
+  row_many : (kinds : List ℕ → Kind) (n : _) (row : Row_of-MemberItem n) → length (row_members types kinds row) ≡ count_members row
+  row_many kinds n end_of-MemberItem = refl
+  row_many kinds n (more_of-MemberItem m rest) = ap suc (row_many kinds _ rest)
+
+  members_many : (kinds : List ℕ → Kind) (ms : List MemberItem) → length (members_of types kinds ms) ≡ length ms
+  members_many kinds [] = refl
+  members_many kinds (m ∷ ms) = ap suc (members_many kinds ms)
 
   module _ (kinds : List ℕ → Kind) (known : (name : List ℕ) → IsKindFrom 0 (kinds name)) where
     mutual
@@ -78,14 +89,14 @@ module _ (types : List TypesItem) (accepted : AreAccepted types) where
       member_made around before (part.Ref r) form h = known r.type_name
       member_made around before (part.Composite' name offset since n row) form h =
           let passed = inside_passed (at around) before (part.Composite' name offset since n row) h in
-          comp_made 0 (row_members types kinds row) (made_of (row_members types kinds row) (row_made (min (around + 1) 5) no_member passed.after _ row form.3 passed.members))
+          comp_made 0 (row_members types kinds row) (made_of (row_members types kinds row) (omega (arith, form.2, row_many kinds _ row)) (row_made (min (around + 1) 5) no_member passed.after _ row form.3 passed.members))
 
     pub composite_made : (name : List ℕ) (c : CompositeEl) → declared_as types name ≡ Some (item.Composite c) → MadeOf 0 (members_of types kinds c.children)
     composite_made name c declared =
         let good = declared_good types accepted name (item.Composite c) declared in
         let passed = composite_passed types c good.judged in
         subst (MadeOf 0) (composite_row_kind types kinds c)
-        (made_of (row_members types kinds (row_of c).1) (row_made 1 no_member passed.after _ (row_of c).1 (composite_row_form c good.form.members) passed.members))
+        (made_of (row_members types kinds (row_of c).1) (omega (arith, good.form.count, members_many kinds c.children, ap length (composite_row_kind types kinds c))) (row_made 1 no_member passed.after _ (row_of c).1 (composite_row_form c good.form.members) passed.members))
 
     -- what a declared type stands for
     item_made : (own : Use) (name : List ℕ) (t : TypesItem) → declared_as types name ≡ Some t → IsKindFrom 0 (item_kind types kinds own t)
@@ -133,7 +144,7 @@ module _ (types : List TypesItem) (accepted : AreAccepted types) where
       (λ t found. item_made (kind_named types) named_made (use_of f) f.type_name t found)
 
   none_made : MadeOf 0 []
-  none_made = record { names = tt; differ = λ i j d below within. absurd (omega arith); kinds = tt }
+  none_made = record { few = omega arith; names = tt; differ = λ i j d below within. absurd (omega arith); kinds = tt }
 
   declared_made : (name : List ℕ) (t : TypesItem) → declared_as types name ≡ Some t → MadeOf 0 (found_members types (Some t))
   declared_made name (item.Type t) found = none_made

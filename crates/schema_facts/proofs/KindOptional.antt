@@ -76,7 +76,7 @@ narrow_first m h = optional_is IsNarrow (λ l h. h) m.kind h
 first_made : (least : ℕ) (ms : List Member) → MadeOf least ms → MadeOf least (first_optional ms)
 first_made least [] h = h
 first_made least (m ∷ ms) h =
-    record { names = h.names; differ = h.differ; kinds = (optional_is (IsKindFrom least) (λ l h. leaf_with Optional least l refl h) m.kind h.kinds.0, h.kinds.1) }
+    record { few = h.few; names = h.names; differ = h.differ; kinds = (optional_is (IsKindFrom least) (λ l h. leaf_with Optional least l refl h) m.kind h.kinds.0, h.kinds.1) }
 
 -- ---- a composite by the presence of its field
 

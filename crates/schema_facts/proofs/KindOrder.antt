@@ -195,7 +195,7 @@ mutual
   full_parts (Enum l names) h full = h
   full_parts (Set p names) h full = h
   full_parts (Const c) h full = h
-  full_parts (Comp' n row) h full = record { names = h.names; names_differ = h.names_differ; kinds = full_row _ row h.kinds full }
+  full_parts (Comp' n row) h full = record { few = h.few; names = h.names; names_differ = h.names_differ; kinds = full_row _ row h.kinds full }
 
   full_row : (n : _) (row : Row_of-Member n) → AreKindsFrom 0 row → IsFullRow row → AreKindsFrom 1 row
   full_row n end_of-Member h full = tt

@@ -31,7 +31,7 @@ use Rattle.schema_rules.specs.Names.{integral, declared_as, plain_named, type_na
 use Rattle.schema_rules.specs.PartRules.{PartsBefore, no_part, with_part}
 use Rattle.schema_rules.specs.Resolved.{length_in, list_data}
 use Rattle.schema_facts.specs.CheckedLevels.{IsLength, HasLengths}
-use Rattle.schema_facts.proofs.LevelCounters.{small_primitive}
+use Rattle.schema_facts.proofs.KindCounters.{small_primitive}
 use Rattle.schema_facts.proofs.LevelSteps.{EachKept, PartKept, all_true, not_false}
 use Rattle.schema_facts.proofs.LevelWalk.{Base, Head, Passed, within_of, scope_of, level_of}
 

@@ -32,7 +32,7 @@ use Rattle.schema_facts.specs.InOrder.{AreAccepted}
 use Rattle.schema_facts.proofs.KindPlaces.{Fits, begins_behind}
 use Rattle.schema_facts.proofs.KindFits.{field_fits}
 use Rattle.schema_facts.proofs.LevelBlocks.{block_of_level}
-use Rattle.schema_facts.proofs.LevelCounters.{dimension_is}
+use Rattle.schema_facts.proofs.KindCounters.{dimension_is}
 use Rattle.schema_facts.proofs.LevelForms.{HasPlacedFields}
 use Rattle.schema_facts.proofs.LevelSteps.{EachKept, PartKept, not_false}
 use Rattle.schema_facts.proofs.LevelWalk.{Base, Head, Passed, DimKept, within_of, scope_of, told_of, level_of, all_joined}

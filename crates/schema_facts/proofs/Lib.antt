@@ -22,7 +22,6 @@ pub mod LevelSinces
 pub mod LevelNames
 pub mod LevelBlocks
 pub mod LevelNesting
-pub mod LevelCounters
 pub mod LevelPlaces
 pub mod LevelLengths
 pub mod LevelKinds

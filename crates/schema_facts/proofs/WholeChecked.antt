@@ -19,7 +19,7 @@ use Rattle.schema_facts.proofs.LevelForms.{HasPlacedFields, all_of_message, leve
 use Rattle.schema_facts.proofs.LevelSinces.{sinces_kept}
 use Rattle.schema_facts.proofs.LevelNames.{names_kept}
 use Rattle.schema_facts.proofs.LevelBlocks.{count_kept}
-use Rattle.schema_facts.proofs.LevelCounters.{header_is}
+use Rattle.schema_facts.proofs.KindCounters.{header_is}
 use Rattle.schema_facts.proofs.LevelPlaces.{accepted, block_kept, placed_kept, measured_kept}
 use Rattle.schema_facts.proofs.LevelLengths.{lengths_kept}
 use Rattle.schema_facts.proofs.LevelKinds.{kinds_kept, dim_exact}

@@ -2,7 +2,7 @@
 -- SBE 1.0, "Field encoding"; the limits are own profile.
 use Rattle.std.specs.Prelude.{◌≡◌, ◌≢◌, ℕ, suc, ◌+◌, ◌*◌, ◌≤◌, ◌<◌, max, int_le, true, false, List, [], ◌∷◌, map, length, ⊤, ℤ, pos, negsuc, AllPairs, Ok}
 use Rattle.std.specs.List.{AllByRecursion}
-use Rattle.sbe_types.specs.declared.limits.TheConstants.{LENGTH_LIMIT, PLACE_LIMIT, VALUE_LIMIT}
+use Rattle.sbe_types.specs.declared.limits.TheConstants.{LENGTH_LIMIT, PLACE_LIMIT, MEMBER_LIMIT, VALUE_LIMIT}
 use Rattle.sbe_types.specs.declared.kind.Primitive.{Primitive}
 use Rattle.sbe_types.specs.declared.kind.Primitive.TheVariants.{Char, U8}
 use Rattle.sbe_types.specs.declared.kind.LeafShape.{LeafShape}
@@ -101,8 +101,10 @@ abbrev pub names_in : {n : _} → Row_of-Member n → List (List ℕ)
 names_in end_of-Member = []
 names_in (more_of-Member name offset kind rest) = name ∷ names_in rest
 
--- The names of a composite's members have their form, no two are the same, and the members' kinds are in order.
+-- A composite has no more members than the limit, their names have their form, no two are the same, and the members' kinds are
+-- in order.
 pub record IsCompositeOf (all : List (List ℕ)) (AreKinds : Type 0) : Type 0 where
+  pub few : length all ≤ MEMBER_LIMIT
   pub names : AllByRecursion IsName all
   pub names_differ : AllPairs (λ a b. a ≢ b) all
   pub kinds : AreKinds
