@@ -1,0 +1,6 @@
+use Rattle.std.proofs.Common.{◌≡◌, drop, nat_eq}
+use Rattle.std.specs.List.{list_any}
+use Rattle.schema_check.proofs.messages.is_id_among.Given as goal
+
+abbrev pub invariant-loop-other : goal.invariant-loop-other
+invariant-loop-other l = list_any (nat_eq l.id) (drop l.other-index l.ids) ≡ list_any (nat_eq l.id) l.ids

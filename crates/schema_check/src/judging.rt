@@ -1,0 +1,78 @@
+ghost use Rattle.std.specs.Prelude.{◌≡◌, codes};
+ghost use Rattle.schema_rules.specs.Judging.{Gives, first_of, behind};
+ghost use Rattle.schema_rules.specs.Checked.{header_rules, judged};
+
+use crate::counters::{holds, is_header, members_named};
+use crate::declarations::Declarations;
+use crate::declared::judge_types;
+use crate::messages::judge_messages;
+use crate::refusals::{behind, refuse};
+use crate::value_lists::names_fraction;
+use sbe_types::MessageEl;
+use schema_rules::{CCode, CheckErr, LevelScope};
+use std::alloc::Global;
+
+/// Judges a whole schema: the declared types, the header type and the messages, in this order.
+pub fn judge(
+    alloc: Global,
+    known: &Declarations,
+    header_type: &[u8],
+    id: u32,
+    version: u32,
+    messages: &[MessageEl],
+) -> Result<(), CheckErr>
+    ensures { Gives result (judged (record { types = known.now; header_type = header_type.now; id = id; version = version }) messages.now) }
+{
+    judge_types(alloc, known)?;
+    judge_header_named(alloc, known, header_type, id, version)?;
+    let level = LevelScope {
+        version,
+        around: 0,
+        since: 0,
+    };
+    let header = members_named(known.types(), header_type);
+    judge_messages(alloc, known, header, level, messages)
+}
+
+fn judge_header_named(
+    alloc: Global,
+    known: &Declarations,
+    header_type: &[u8],
+    id: u32,
+    version: u32,
+) -> Result<(), CheckErr>
+    ensures { Gives result (behind (codes "types/") header_type.now (first_of (header_rules (record { types = known.now; header_type = header_type.now; id = id; version = version })))) }
+{
+    match judge_header(alloc, known, header_type, id, version) {
+        Ok(()) => Ok(()),
+        Err(e) => Err(behind(alloc, "types/", header_type, e)),
+    }
+}
+
+fn judge_header(
+    alloc: Global,
+    known: &Declarations,
+    header_type: &[u8],
+    id: u32,
+    version: u32,
+) -> Result<(), CheckErr>
+    ensures { Gives result (first_of (header_rules (record { types = known.now; header_type = header_type.now; id = id; version = version }))) }
+{
+    let types = known.types();
+    if types.named(header_type).is_none() {
+        return refuse(alloc, CCode::UnknownType);
+    }
+    if names_fraction(types, header_type) {
+        return refuse(alloc, CCode::Float);
+    }
+    let members = members_named(types, header_type);
+    if !is_header(types, members) {
+        return refuse(alloc, CCode::BadHeader);
+    }
+    if !holds(types, members, "schemaId".as_bytes(), id)
+        || !holds(types, members, "version".as_bytes(), version)
+    {
+        return refuse(alloc, CCode::Width);
+    }
+    Ok(())
+}

@@ -1,0 +1,35 @@
+ghost use Rattle.std.specs.Prelude.{◌≡◌, ◌++◌, Err, IfOk};
+ghost use Rattle.schema_rules.specs.Judging.{Judged, Gives, refuse, behind};
+
+use lists::{List, NoMem, Text};
+use schema_rules::{CCode, CheckErr};
+use std::alloc::Global;
+
+/// A refusal here.
+pub fn refuse<T>(alloc: Global, code: CCode) -> Result<T, CheckErr>
+    ensures { Gives result (refuse code) }
+{
+    Err(CheckErr::Refused(code, List::new(alloc)))
+}
+
+/// Why the element of that name isn't accepted, seen from in front of it.
+pub fn behind(alloc: Global, front: &str, name: &[u8], err: CheckErr) -> CheckErr
+    ensures { (told : Judged (Unit {0})) → Gives {X = Unit {0}} (Err err) told → Gives {X = Unit {0}} (Err result) (behind front.now name.now told) }
+{
+    match err {
+        CheckErr::Memory => CheckErr::Memory,
+        CheckErr::Refused(code, path) => match path_of(alloc, front, name, path.as_slice()) {
+            Ok(path) => CheckErr::Refused(code, path),
+            Err(_) => CheckErr::Memory,
+        },
+    }
+}
+
+fn path_of(alloc: Global, front: &str, name: &[u8], path: &[u8]) -> Result<Text, NoMem>
+    ensures { IfOk result (λ text. text ≡ front.now ++ name.now ++ path.now) }
+{
+    let mut text = List::from_slice(alloc, front.as_bytes())?;
+    text.extend(name)?;
+    text.extend(path)?;
+    Ok(text)
+}
