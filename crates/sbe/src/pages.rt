@@ -5,14 +5,16 @@ ghost use Rattle.sbe.specs.Pages.{named_page, page_of};
 const HELP: &str = "sbe: FIX Simple Binary Encoding on the command line
 
 Usage:
+  sbe check SCHEMA
   sbe dump SCHEMA [OPTION VALUE]..
   sbe --help | -h
   sbe --version
 
+check judges a message schema, and prints a line of JSON for each of its messages.
 dump reads SBE frames from standard input, and prints each message as a line of JSON.
 SCHEMA is the file of a message schema. Its name doesn't begin with `--`.
 
-Options, each at most once, in any order behind the file:
+Options of dump, each at most once, in any order behind the file:
   --max-frame BYTES  the most bytes of a frame, its head included
                      (64 to 16777216, default 65536)
   --max-input BYTES  the most bytes of the input
@@ -22,7 +24,7 @@ Answers go to standard output, each before the next frame is waited for. Why a r
 ends early is noted on standard error, as a line of JSON.
 
 Exit status:
-   0  the input was read to its end, and nothing was refused
+   0  the schema is in order; the input was read to its end, and nothing was refused
    1  the input was read to its end, and at least one message was refused
    2  the words are no command
    3  the schema was refused
@@ -34,7 +36,8 @@ Exit status:
   10  the input is longer than its limit
   11  the schema's file is absent
 
-Example:
+Examples:
+  sbe check feed.json
   sbe dump ping.json < frames.bin
 ";
 
@@ -91,6 +94,8 @@ mod tests {
     use std::alloc::Global;
     use std::test::Fail;
 
+    const EXAMPLES: [&str; 2] = ["  sbe check feed.json", "  sbe dump ping.json < frames.bin"];
+
     fn page_at(alloc: Global, texts: &[&str]) -> Result<Option<Page>, Fail> {
         let mut words = Vec::new(alloc);
         for text in texts {
@@ -140,7 +145,7 @@ mod tests {
             }
             match forms.next() {
                 Some(form) => assert_eq!(rt; word, form.row().word()),
-                None => assert_eq!(rt; line, "  sbe dump ping.json < frames.bin"),
+                None => assert!(rt; EXAMPLES.iter().any(|example| *example == line), "{line}"),
             }
         }
         assert!(rt; forms.next().is_none());

@@ -5,17 +5,16 @@ use Rattle.sbe_base.proofs.Known.{appends_more}
 use Rattle.sbe_base.specs.Causes.{AppendsPart}
 use Rattle.sbe_base.specs.declared.status.Status.{Status}
 use Rattle.sbe_base.specs.declared.status.Status.TheVariants as status
-use Rattle.sbe_cli.specs.Words.{command_of}
-use Rattle.sbe_cli.specs.Splits.{PieceEnd, End, EndInside, HeadFault, LineOver, InputLimit}
-use Rattle.sbe_cli.specs.Replies.{Written, Reply, written_of, then_written}
+use Rattle.sbe_cli.specs.Words.{command_of, reads_input}
+use Rattle.sbe_cli.specs.Splits.{is_read, PieceEnd, End, EndInside, HeadFault, LineOver, InputLimit}
+use Rattle.sbe_cli.specs.Replies.{Written, Reply, reading_of, written_of, then_written}
 use Rattle.sbe_cli.specs.Report.{Outcome, end_status, JobReport, JudgedReport, CommandReport, Report}
 use Rattle.sbe_cli.specs.Outside.{Sinks, Outside, Wrote, Breaks, Told, noted, wanting, failed}
-use Rattle.sbe_cli.specs.Steps.{IsReady, JudgedAs, IsReported, Ends, Stalls, Fails, ended_at, stalled_at, failed_at, wanting_at, Course, Drains}
-use Rattle.sbe_cli.specs.Runs.{desk, Known, IsJob, written_in, read_line, AllAnswered, StandsAtRead, StandsAtWrite, at_reply, at_end, at_read, NotesPart, Fronts, reads_input, HasRead, Runs}
+use Rattle.sbe_cli.specs.Steps.{IsReady, IsReadAs, JudgedAs, IsReported, Ends, Stalls, Fails, ended_at, stalled_at, failed_at, wanting_at, Course, Drains}
+use Rattle.sbe_cli.specs.Runs.{desk, Known, IsJob, written_in, read_line, AllAnswered, StandsAtRead, StandsAtWrite, at_reply, at_end, at_read, NotesPart, Fronts, HasRead, Runs}
 use Rattle.sbe_cli.specs.declared.files.FileRefusal.{FileRefusal}
 use Rattle.sbe_cli.specs.declared.job.Job.{Job}
 use Rattle.sbe_cli.specs.declared.words.Command.{Command}
-use Rattle.sbe_cli.specs.declared.words.Command.TheVariants.{Dump}
 use Rattle.sbe_cli.proofs.Folding.{IsPlacedJob, ready_placed}
 use Rattle.sbe_cli.proofs.Reporting.{judged_once, one_report}
 use Rattle.sbe_cli.proofs.Running.{failed_since}
@@ -44,15 +43,15 @@ end_no_read (HeadFault f) refused e = cc
 end_no_read LineOver refused e = cc
 end_no_read InputLimit refused e = cc
 
--- a command whose job is carried out reads its input
-reads : (command : Command) → reads_input (Some command) ≡ false → ⊥
-reads (Dump name limits) e = cc
-
 -- ---- a run of a job
 
-module _ (words : List (List ℕ)) (old new : Outside) (command : Command) (is_command : command_of words ≡ Some command) (job : Job) (judged : JudgedAs command (desk old) (Ok job)) (ready : IsReady job) where
+module _ (words : List (List ℕ)) (old new : Outside) (command : Command) (is_command : command_of words ≡ Some command) (job : Job) (judged : JudgedAs command (desk old) (Ok job)) (ready : IsReady job) (as_command : IsReadAs command job) where
   placed : IsPlacedJob job
   placed = ready_placed job ready
+
+  -- the job takes something of the input exactly where the words say so
+  reads : reads_input (command_of words) ≡ is_read (reading_of job)
+  reads = ap reads_input is_command ∙ sym as_command
 
   is_job : (contents : List ℕ → Option (List ℕ)) (input : List ℕ) → Known old contents input → IsJob words contents job
   is_job contents input known = (command, is_command, judged contents known.files)
@@ -67,7 +66,7 @@ module _ (words : List (List ℕ)) (old new : Outside) (command : Command) (is_c
 
   module _ (code : Status) (drains : Drains job old.streams new.streams code) where
     touched_by : Touched words old new code
-    touched_by = record { untouched = λ e. absurd (reads command (ap reads_input (sym is_command) ∙ e)); unread = λ e. absurd (e drains.causes.late) }
+    touched_by = record { untouched = λ none. drains.unread (sym reads ∙ none); unread = λ e. absurd (e drains.causes.late) }
 
     -- ---- the fronts
 
@@ -239,11 +238,11 @@ module _ (words : List (List ℕ)) (old new : Outside) (command : Command) (is_c
     fronts contents input outcome known report = fronts_of contents input known outcome report
 
     -- nothing is left where all was answered
-    read_all : IsReported code → HasRead code → (input : List ℕ) → old.streams.input.told ≡ Some input → new.streams.input.told ≡ Some []
-    read_all r h input source =
+    read_all : IsReported code → reads_input (command_of words) ≡ true → HasRead code → (input : List ℕ) → old.streams.input.told ≡ Some input → new.streams.input.told ≡ Some []
+    read_all r takes h input source =
         let course = drains.course input source in
         elim course.halts [
-          | ended_at e ↦ e.left (end_read e.end course.kept.refused code (reported_told _ _ course.mid.sinks.notes new.streams.sinks.notes code e.noted r).0 h)
+          | ended_at e ↦ e.left (sym reads ∙ takes) (end_read e.end course.kept.refused code (reported_told _ _ course.mid.sinks.notes new.streams.sinks.notes code e.noted r).0 h)
           | stalled_at s ↦ absurd (no_fault code status.ReadFault r (λ x. x) (reported_told _ _ course.mid.sinks.notes new.streams.sinks.notes code s.noted r).0)
           | failed_at f c ↦ absurd (no_fault code status.WriteFault r (λ x. x) c)
           | wanting_at f c ↦ absurd (no_fault code status.NoMemory r (λ x. x) c)

@@ -1,11 +1,11 @@
--- The step that ends a pump: its status, and the counts of faults.
-use Rattle.std.proofs.Common.{◌≡◌, ◌⊎◌, inl, inr, ℕ, ◌+◌, Bool, true, false, cond, List, [], length, Option, Some, None, Ok, Err, refl, sym, ap, ◌∙◌, subst}
+-- What a step answers: its status, and the counts of faults.
+use Rattle.std.proofs.Common.{◌≡◌, ◌⊎◌, inl, inr, ℕ, ◌+◌, ◌<◌, Bool, true, false, cond, List, [], ◌∷◌, length, Option, Some, None, Ok, Err, refl, sym, ap, ◌∙◌, subst, arith}
 use Rattle.std.specs.Prelude.{nat_lt}
 use Rattle.std.specs.Io.KnownBytes.{Appends}
 use Rattle.std.proofs.KnownBytes.{Appends-nil}
+use Rattle.sbe_base.specs.declared.status.Limits.{Limits}
 use Rattle.sbe_base.specs.declared.status.Status.{Status}
 use Rattle.sbe_base.specs.declared.status.Status.TheVariants as status
-use Rattle.sbe_base.specs.declared.stream.WriteFault.{WriteFault}
 use Rattle.open_framing.specs.declared.head.Head.{Head}
 use Rattle.open_framing.specs.Frames.{first_item}
 use Rattle.frame_stream.specs.declared.held.Ended.{Ended}
@@ -13,22 +13,27 @@ use Rattle.frame_stream.specs.declared.held.Ended.TheVariants as ended
 use Rattle.frame_stream.specs.declared.stream.Taken.TheVariants as taken
 use Rattle.frame_stream.specs.declared.stream.StreamErr.TheVariants as err
 use Rattle.frame_stream.specs.Stream.{StreamState, told_by, Takes, TakeCause}
-use Rattle.sbe_cli.specs.Splits.{End}
+use Rattle.sbe_cli.specs.Splits.{Once, Whole, End, Splits, Begins}
 use Rattle.sbe_cli.specs.Replies.{Written, Reply, counted_by, written_of}
 use Rattle.sbe_cli.specs.Report.{end_notes, end_status, done_status}
 use Rattle.sbe_cli.specs.Stops.{stop_line, stop_status}
 use Rattle.sbe_cli.specs.Outside.{Sinks, Streams, Wrote, Breaks, at_output, at_notes, Failed, Told, noted, wanting, failed}
-use Rattle.sbe_cli.specs.Steps.{PumpState, IsReady, IsStepStatus, Goes, Halts, failed_at, wanting_at, Causes, Steps}
-use Rattle.sbe_cli.specs.Pumps.{job_limits, Stands, reply_of, drafted, Drafts, Writes, EndsAs, TellsEnd}
-use Rattle.sbe_cli.specs.declared.job.Draft.{Draft}
+use Rattle.sbe_cli.specs.Steps.{PumpState, IsReadyFrame, behind, IsStepStatus, Goes, Fails, Halts, ended_at, failed_at, wanting_at, Causes, Closes, Steps}
+use Rattle.sbe_cli.specs.Drafts.{Delivers}
+use Rattle.sbe_cli.specs.Pumps.{Stands, StandsOnce, CanCount, reply_of, whole_reply, running, once_pump, Answers, EndsAs}
 use Rattle.sbe_cli.specs.declared.job.Job.{Job}
+use Rattle.sbe_cli.specs.declared.job.FrameJob.{FrameJob}
+use Rattle.sbe_cli.specs.declared.job.OnceJob.{OnceJob}
 use Rattle.sbe_cli.specs.declared.job.Verdict.{Verdict}
 use Rattle.sbe_cli.specs.declared.pump.Kept.{Kept}
 use Rattle.sbe_cli.specs.declared.pump.Step.{Step}
 use Rattle.sbe_cli.specs.declared.pump.Step.TheVariants.{Went}
+use Rattle.sbe_cli.specs.declared.pump.Tally.{Tally}
 use Rattle.sbe_cli.specs.declared.stop.Stop.{Stop}
 use Rattle.sbe_cli.specs.declared.stop.Stop.TheVariants as stop
-use Rattle.sbe_cli.proofs.Stepping.{piece_end, pump, ends, stalls_at, fails, goes}
+use Rattle.sbe_cli.proofs.Folding.{whole_replied}
+use Rattle.sbe_cli.proofs.Splitting.{once_none, once_one}
+use Rattle.sbe_cli.proofs.Stepping.{refused_one, translated_one, piece_end, pump, ends, stalls_at, fails, goes}
 
 -- ---- the statuses of the ends
 
@@ -87,92 +92,142 @@ module _ (before after : Streams) where
     | failed c p f ↦ write_causes code c (inr f)
   ]
 
--- ---- the step
+-- ---- the step of a job that answers frames
 
-module _ (job : Job) (kept : Kept) (before after : Streams) (old : PumpState) (is : old ≡ pump job kept) where
-  went : (new : PumpState) → Goes (pump job kept) new before after → Steps old new before after Went
-  went new h = subst (λ (s : PumpState). Steps s new before after Went) (sym is) (refl, h)
+module _ (job : FrameJob) (limits : Limits) (kept : Kept) (before after : Streams) where
+  closed : (code : Status) → ((input : List ℕ) → before.input.told ≡ Some input → Halts (pump job limits kept) before after input code) → Causes before after code → Answers (pump job limits kept) before after (Err code)
+  closed code halts causes = record { halts = halts; causes = causes; kept = refl; unread = λ none. cc }
 
-  closed : (code : Status) (result : Step) (now : Option Status) → EndsAs result now code → ((input : List ℕ) → before.input.told ≡ Some input → Halts (pump job kept) before after input code) → Causes before after code →
-      Steps old (record { job = job; kept = kept; ended = now }) before after result
-  closed code result now step halts causes =
-      subst (λ (s : PumpState). Steps s (record { job = job; kept = kept; ended = now }) before after result) (sym is)
-      (subst (λ (r : Step). Steps (pump job kept) (record { job = job; kept = kept; ended = now }) before after r) (sym step.0)
-      (inr (refl, record { halts = halts; causes = causes; kept = ap (λ (o : Option Status). the_state o) step.1 })))
-    where
-      the_state : Option Status → PumpState
-      the_state o = record { job = job; kept = kept; ended = o }
-
-  module _ (st st' : StreamState) (stands : Stands job st kept) where
+  module _ (st st' : StreamState) (stands : Stands limits st kept) where
     -- an end that needs no note
-    pub closed_end : (result : Step) (now : Option Status) (code : Status) → Takes st st' before.input.told after.input.told (Ok taken.End) → after.input.faults ≡ before.input.faults → after.sinks ≡ before.sinks →
-        code ≡ done_status kept.refused → EndsAs result now code → Steps old (record { job = job; kept = kept; ended = now }) before after result
-    closed_end result now code takes input sinks done step =
+    pub closed_end : (code : Status) → Takes st st' before.input.told after.input.told (Ok taken.End) → after.input.faults ≡ before.input.faults → after.sinks ≡ before.sinks →
+        code ≡ done_status kept.refused → Answers (pump job limits kept) before after (Err code)
+    closed_end code takes input sinks done =
         let output = ap (λ s. s.output) sinks in
         let told : Told [] (end_status End kept.refused) before.sinks.notes after.sinks.notes code =
         noted done (wrote_none before.sinks after.sinks sinks) (ap (λ s. s.notes.faults) sinks) in
-        closed code result now step (λ i source. ends job kept st st' stands before after code ended.End i takes output told source)
+        closed code (λ i source. ends job limits kept st st' stands before after code ended.End i takes output told source)
         (end_causes before after code [] (end_status End kept.refused) (end_is ended.End kept.refused) input output told)
 
     -- an end that is noted
-    pub closed_with : (e : Ended) (s : Stop) (result : Step) (now : Option Status) → Takes st st' before.input.told after.input.told (told_by e) → after.input.faults ≡ before.input.faults → after.sinks.output ≡ before.sinks.output →
-        stop_line s ≡ end_notes (piece_end e) kept.bytes (job_limits job).input → stop_status s ≡ end_status (piece_end e) kept.refused →
-        TellsEnd s before.sinks.notes after.sinks.notes result now → Steps old (record { job = job; kept = kept; ended = now }) before after result
-    closed_with e s result now takes input output line last told =
-        let heard : Told (end_notes (piece_end e) kept.bytes (job_limits job).input) (end_status (piece_end e) kept.refused) before.sinks.notes after.sinks.notes told.0 =
-        subst (λ (c : Status). Told (end_notes (piece_end e) kept.bytes (job_limits job).input) c before.sinks.notes after.sinks.notes told.0) last (subst (λ l. Told l (stop_status s) before.sinks.notes after.sinks.notes told.0) line told.1) in
-        closed told.0 result now told.2 (λ i source. ends job kept st st' stands before after told.0 e i takes output heard source)
-        (end_causes before after told.0 (end_notes (piece_end e) kept.bytes (job_limits job).input) (end_status (piece_end e) kept.refused) (end_is e kept.refused) input output heard)
+    pub closed_with : (e : Ended) (s : Stop) (code : Status) → Takes st st' before.input.told after.input.told (told_by e) → after.input.faults ≡ before.input.faults → after.sinks.output ≡ before.sinks.output →
+        stop_line s ≡ end_notes (piece_end e) kept.bytes limits.input → stop_status s ≡ end_status (piece_end e) kept.refused →
+        Told (stop_line s) (stop_status s) before.sinks.notes after.sinks.notes code → Answers (pump job limits kept) before after (Err code)
+    closed_with e s code takes input output line last told =
+        let heard : Told (end_notes (piece_end e) kept.bytes limits.input) (end_status (piece_end e) kept.refused) before.sinks.notes after.sinks.notes code =
+        subst (λ (c : Status). Told (end_notes (piece_end e) kept.bytes limits.input) c before.sinks.notes after.sinks.notes code) last (subst (λ l. Told l (stop_status s) before.sinks.notes after.sinks.notes code) line told) in
+        closed code (λ i source. ends job limits kept st st' stands before after code e i takes output heard source)
+        (end_causes before after code (end_notes (piece_end e) kept.bytes limits.input) (end_status (piece_end e) kept.refused) (end_is e kept.refused) input output heard)
 
     -- a read that failed
-    pub closed_read : (result : Step) (now : Option Status) → Takes st st' before.input.told after.input.told (Err err.ReadFault) → first_item st'.frame st'.held ≡ None →
+    pub closed_read : (code : Status) → Takes st st' before.input.told after.input.told (Err err.ReadFault) → first_item st'.frame st'.held ≡ None →
         TakeCause before.input.faults after.input.faults (Err err.ReadFault) → after.sinks.output ≡ before.sinks.output →
-        TellsEnd (stop.ReadFault st'.taken) before.sinks.notes after.sinks.notes result now → Steps old (record { job = job; kept = kept; ended = now }) before after result
-    closed_read result now takes none cause output told =
+        Told (stop_line (stop.ReadFault st'.taken)) status.ReadFault before.sinks.notes after.sinks.notes code → Answers (pump job limits kept) before after (Err code)
+    closed_read code takes none cause output told =
         let fault : Failed before.input after.input = record { rose = cause.1; later = cause.0 } in
-        closed told.0 result now told.2 (λ i source. stalls_at job kept st st' stands before after told.0 i takes none fault output told.1 source)
-        (read_causes before after told.0 (stop_line (stop.ReadFault st'.taken)) fault told.1)
+        closed code (λ i source. stalls_at job limits kept st st' stands before after code i takes none fault output told source)
+        (read_causes before after code (stop_line (stop.ReadFault st'.taken)) fault told)
 
-    module _ (h : Head) (takes : Takes st st' before.input.told after.input.told (Ok (taken.Frame h))) (size : h.length ≡ length st'.body + 6) (ready : IsReady job) (draft : Draft) where
+    module _ (h : Head) (takes : Takes st st' before.input.told after.input.told (Ok (taken.Frame h))) (size : h.length ≡ length st'.body + 6) (ready : IsReadyFrame job) where
       abbrev reply : Reply
       reply = reply_of job kept (record { encoding = h.encoding; body = st'.body })
 
-      drafted_is : (verdict : Verdict) → Drafts reply draft (Ok verdict) → drafted draft ≡ written_of reply
-      drafted_is verdict d = ap (λ o. as_written o draft.notes.items) d.0 ∙ ap (λ n. as_written reply.output n) d.1
-        where
-          as_written : List ℕ → List ℕ → Written
-          as_written output notes = record { output = output; notes = notes }
+      -- a frame whose answer is written
+      pub went : (verdict : Verdict) → Delivers reply before.sinks after.sinks (Ok verdict) → after.input.faults ≡ before.input.faults → Answers (pump job limits kept) before after (Ok (record { bytes = h.length; verdict = verdict }))
+      went verdict wrote input =
+          subst (λ (v : Verdict). Answers (pump job limits kept) before after (Ok (record { bytes = h.length; verdict = v }))) (sym wrote.1)
+          (goes job limits kept st st' stands before after status.Done h takes size ready wrote.0.0 (record { input = input; output = wrote.0.1; notes = wrote.0.2 }))
 
-      -- a frame that is answered
-      pub went_on : (verdict : Verdict) (now : Kept) (last : Option Status) → last ≡ None → Drafts reply draft (Ok verdict) → Writes (drafted draft) before.sinks after.sinks (Ok tt) →
-          after.input.faults ≡ before.input.faults → now ≡ counted_by kept h.length verdict → Steps old (record { job = job; kept = now; ended = last }) before after Went
-      went_on verdict now last none d wrote input counts =
-          went (the_pump now last)
-          (goes job kept st st' stands before after status.Done h takes size ready (the_pump now last)
-          (subst (λ (w : Written). Wrote before.sinks after.sinks w) (drafted_is verdict d) wrote.0)
-          (record { input = input; output = wrote.1; notes = wrote.2 })
-          (ap (λ (o : Option Status). the_pump now o) none ∙ ap (λ (k : Kept). pump job k) counts ∙ ap (λ (v : Verdict). pump job (counted_by kept h.length v)) d.2))
-        where
-          the_pump : Kept → Option Status → PumpState
-          the_pump k o = record { job = job; kept = k; ended = o }
+      -- a frame whose answer is written in part, or finds no memory
+      pub stopped : (code : Status) → Delivers reply before.sinks after.sinks (Err code) → Answers (pump job limits kept) before after (Err code)
+      stopped code d = elim d [
+        | inl b ↦ closed code (λ i source. failed_at (fails job limits kept st st' stands before after code h takes size ready i (λ r. Breaks before.sinks after.sinks (written_of r)) b.1 source) b.0)
+            (break_causes before after code (written_of reply) b.0 b.1)
+        | inr w ↦ closed code (λ i source. wanting_at (fails job limits kept st st' stands before after code h takes size ready i (λ r. after.sinks ≡ before.sinks) w.1 source) w.0)
+            (want_causes before after code w.0)
+      ]
 
-      -- a frame whose answer is written in part
-      pub broken : (verdict : Verdict) (e : WriteFault) (result : Step) (now : Option Status) → Drafts reply draft (Ok verdict) → Writes (drafted draft) before.sinks after.sinks (Err e) →
-          EndsAs result now status.WriteFault → Steps old (record { job = job; kept = kept; ended = now }) before after result
-      broken verdict e result now d wrote step =
-          let breaks : Breaks before.sinks after.sinks (written_of reply) = subst (λ (w : Written). Breaks before.sinks after.sinks w) (drafted_is verdict d) wrote in
-          closed status.WriteFault result now step (λ i source. failed_at (fails job kept st st' stands before after status.WriteFault h takes size ready i (λ r. Breaks before.sinks after.sinks (written_of r)) breaks source) refl)
-          (break_causes before after status.WriteFault (written_of reply) refl breaks)
+-- ---- the steps of a job over its files
 
-      -- a frame whose answer finds no memory
-      pub wanted : (result : Step) (now : Option Status) → after.sinks ≡ before.sinks → EndsAs result now status.NoMemory → Steps old (record { job = job; kept = kept; ended = now }) before after result
-      wanted result now same step =
-          closed status.NoMemory result now step (λ i source. wanting_at (fails job kept st st' stands before after status.NoMemory h takes size ready i (λ r. after.sinks ≡ before.sinks) same source) refl)
-          (want_causes before after status.NoMemory refl)
+module _ (job : OnceJob) (kept : Kept) (stands : StandsOnce kept) (before after : Streams) (same : after.input ≡ before.input) where
+  abbrev pub whole : PumpState
+  whole = once_pump job kept
 
--- a pump that hasn't ended
-pub is_running : (job : Job) (kept : Kept) (last : Option Status) (now : PumpState) → ◌≡◌ {A = PumpState} (record { job = job; kept = kept; ended = last }) now → last ≡ None → now ≡ pump job kept
-is_running job kept last now view none = sym view ∙ ap (λ (o : Option Status). the_state o) none
-  where
-    the_state : Option Status → PumpState
-    the_state o = record { job = job; kept = kept; ended = o }
+  closed_once : (code : Status) → ((input : List ℕ) → before.input.told ≡ Some input → Halts whole before after input code) → Causes before after code → Answers whole before after (Err code)
+  closed_once code halts causes = record { halts = halts; causes = causes; kept = refl; unread = λ none. same }
+
+  source_so : (input : List ℕ) → before.input.told ≡ Some input → after.input.told ≡ Some input
+  source_so input source = ap (λ o. o.told) same ∙ source
+
+  -- the job was done before
+  pub done_once : (code : Status) → 0 < kept.items → after.sinks ≡ before.sinks → code ≡ done_status kept.refused → Answers whole before after (Err code)
+  done_once code some sinks done =
+      let output = ap (λ s. s.output) sinks in
+      let one : kept.items ≡ 1 = omega (arith, stands.items, some) in
+      let told : Told [] (end_status End kept.refused) before.sinks.notes after.sinks.notes code =
+      noted done (wrote_none before.sinks after.sinks sinks) (ap (λ s. s.notes.faults) sinks) in
+      let none : (input : List ℕ) → Splits (behind Once kept) input [] End = λ input. subst (λ r. Splits r input [] End) (sym (once_one kept one)) (refl, refl) in
+      closed_once code (λ input source. ended_at (record { end = End; split = none input; left = λ read. cc; output = output; noted = told }))
+      (end_causes before after code [] (end_status End kept.refused) (end_is ended.End kept.refused) (ap (λ o. o.faults) same) output told)
+
+  -- the job is done now
+  module _ (none : kept.items ≡ 0) where
+    begins_whole : (input : List ℕ) → Begins (behind Once kept) input (Whole ∷ []) input
+    begins_whole input = subst (λ r. Begins r input (Whole ∷ []) input) (sym (once_none kept none)) (inr refl, refl)
+
+    pub went_once : (verdict : Verdict) → Delivers (whole_reply job) before.sinks after.sinks (Ok verdict) → Answers whole before after (Ok (record { bytes = 0; verdict = verdict }))
+    went_once verdict wrote = record {
+      answers = λ input source. record {
+        piece = Whole;
+        reply = whole_reply job;
+        left = input;
+        source = source_so input source;
+        taken = begins_whole input;
+        replied = whole_replied job;
+        wrote = wrote.0.0;
+        kept = ap (λ (v : Verdict). counted_by kept 0 v) wrote.1;
+      };
+      calm = record { input = ap (λ o. o.faults) same; output = wrote.0.1; notes = wrote.0.2 };
+      runs = refl;
+      job = refl;
+      more = omega arith;
+      within = omega (arith, none);
+      bytes_more = λ read. cc;
+      bytes_within = omega (arith, stands.bytes);
+      unread = λ x. same;
+    }
+
+    fails_once : (input : List ℕ) (IsWritten : Reply → Type 0) → IsWritten (whole_reply job) → before.input.told ≡ Some input → Fails whole after input IsWritten
+    fails_once input IsWritten wrote source = record {
+      piece = Whole;
+      reply = whole_reply job;
+      left = input;
+      source = source_so input source;
+      taken = begins_whole input;
+      replied = whole_replied job;
+      wrote = wrote;
+    }
+
+    pub stopped_once : (code : Status) → Delivers (whole_reply job) before.sinks after.sinks (Err code) → Answers whole before after (Err code)
+    stopped_once code d = elim d [
+      | inl b ↦ closed_once code (λ i source. failed_at (fails_once i (λ r. Breaks before.sinks after.sinks (written_of r)) b.1 source) b.0) (break_causes before after code (written_of (whole_reply job)) b.0 b.1)
+      | inr w ↦ closed_once code (λ i source. wanting_at (fails_once i (λ r. after.sinks ≡ before.sinks) w.1 source) w.0) (want_causes before after code w.0)
+    ]
+
+-- what stands behind the one job
+module _ (kept : Kept) (stands : StandsOnce kept) (none : kept.items ≡ 0) (verdict : Verdict) where
+  pub once_stands : StandsOnce (counted_by kept 0 verdict)
+  once_stands = record {
+    items = omega (arith, none);
+    refused = omega (arith, stands.refused, refused_one verdict);
+    translated = omega (arith, stands.translated, translated_one verdict);
+    bytes = omega (arith, stands.bytes);
+  }
+
+  pub once_countable : CanCount kept (record { bytes = 0; verdict = verdict })
+  once_countable = record {
+    items = omega (arith, none);
+    refused = omega (arith, none, stands.refused);
+    translated = omega (arith, none, stands.translated);
+    bytes = omega (arith, stands.bytes);
+  }

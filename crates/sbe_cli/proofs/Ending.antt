@@ -50,7 +50,7 @@ module _ (words : List (List ℕ)) (old new : Outside) where
       noted_early code r unread files told = elim told [
         | noted c a k ↦ subst (λ (s : Status). Runs words old new s) (sym c)
             (runs_reported words old new last r (λ contents bytes known. (only_noted line last, is contents bytes known, refl, record { output = no_output output; notes = a }))
-            (ap (λ o. o.faults) files, record { input = ap (λ o. o.faults) input; output = ap (λ o. o.faults) output; notes = k }) (λ h. absurd (unread h)) (touched last))
+            (ap (λ o. o.faults) files, record { input = ap (λ o. o.faults) input; output = ap (λ o. o.faults) output; notes = k }) (λ takes h. absurd (unread h)) (touched last))
         | wanting c s ↦ subst (λ (x : Status). Runs words old new x) (sym c) (wanted_early output s)
         | failed c p f ↦ subst (λ (s : Status). Runs words old new s) (sym c)
             (runs_write words old new (inr f) (λ contents bytes known. at_end (only_noted line last) (is contents bytes known) (no_output output) p) (line_fronts p) (touched status.WriteFault))
@@ -97,7 +97,7 @@ module _ (words : List (List ℕ)) (old new : Outside) where
 pub runs_command : (words : List (List ℕ)) (old new : Outside) (command : Command) (code : Status) → command_of words ≡ Some command → CarriesOut command old new code → Runs words old new code
 runs_command words old new command code is h = elim h [
   | inl d ↦ declined_early words old new d.1 command is code d.2 d.0
-  | inr d ↦ carried words old new command is d.0 d.1 d.2 code d.3 d.4
+  | inr d ↦ carried words old new command is d.0 d.1 d.2 d.5 code d.3 d.4
 ]
 
 -- a pump that was opened, and ran
@@ -105,7 +105,7 @@ pub opened_and_drained : (command : Command) (old mid new : Outside) (pump : Pum
     mid.streams.sinks.output ≡ old.streams.sinks.output → new.files ≡ mid.files → Drains pump.job mid.streams new.streams code → CarriesOut command old new code
 opened_and_drained command old mid new pump code opens input output files drains =
     let same : mid.streams ≡ old.streams = same_streams mid.streams old.streams input output (ap (λ (d : Desk). d.notes) opens.3) in
-    inr (pump.job, opens.0, opens.1, files ∙ ap (λ (d : Desk). d.files) opens.3, subst (λ (s : Streams). Drains pump.job s new.streams code) same drains)
+    inr (pump.job, opens.0, opens.1, files ∙ ap (λ (d : Desk). d.files) opens.3, subst (λ (s : Streams). Drains pump.job s new.streams code) same drains, opens.4)
   where
     streams_of : Object (List ℕ) → Object (List ℕ) → Object (List ℕ) → Streams
     streams_of i o n = record { input = i; sinks = record { output = o; notes = n } }

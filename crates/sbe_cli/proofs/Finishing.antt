@@ -1,18 +1,18 @@
 -- What a run promises, by the ways in which it ends.
-use Rattle.std.proofs.Common.{◌≡◌, ◌⊎◌, inl, inr, ℕ, false, List, [], Option, Some, refl, sym, subst}
+use Rattle.std.proofs.Common.{◌≡◌, ◌⊎◌, inl, inr, ℕ, true, false, List, [], Option, Some, refl, sym, subst}
 use Rattle.std.specs.Io.KnownBytes.{Appends}
 use Rattle.std.proofs.KnownBytes.{Appends-nil}
 use Rattle.sbe_base.specs.Causes.{AppendsPart}
 use Rattle.sbe_base.specs.declared.status.Status.{Status}
 use Rattle.sbe_base.specs.declared.status.Status.TheVariants as status
-use Rattle.sbe_cli.specs.Words.{command_of}
+use Rattle.sbe_cli.specs.Words.{command_of, reads_input}
 use Rattle.sbe_cli.specs.Report.{Outcome}
 use Rattle.sbe_cli.specs.Stops.{refusal_status}
 use Rattle.sbe_cli.specs.Outside.{Object, Outside, Wrote, Failed, Calm}
 use Rattle.sbe_cli.specs.Steps.{IsStepStatus, IsReported}
-use Rattle.sbe_cli.specs.Runs.{Known, written_in, Reports, StandsAtRead, StandsAtWrite, StandsAtFile, NotesPart, Fronts, reads_input, HasRead, Runs}
+use Rattle.sbe_cli.specs.Runs.{Known, written_in, Reports, StandsAtRead, StandsAtWrite, StandsAtFile, NotesPart, Fronts, HasRead, Runs}
 use Rattle.sbe_cli.specs.declared.files.FileRefusal.{FileRefusal}
-use Rattle.sbe_cli.specs.declared.files.FileRefusal.TheVariants.{Absent, TooLong, NotBuilt}
+use Rattle.sbe_cli.specs.declared.files.FileRefusal.TheVariants.{Absent, TooLong, NotBuilt, Unread, Broken}
 use Rattle.sbe_cli.proofs.Reporting.{one_report}
 use Rattle.sbe_cli.proofs.Standing.{whole_part}
 
@@ -39,7 +39,7 @@ module _ (words : List (List ℕ)) (old new : Outside) where
       (whole_part old.streams.sinks.output.told new.streams.sinks.output.told outcome.output wrote.output, inl (whole_part old.streams.sinks.notes.told new.streams.sinks.notes.told outcome.notes wrote.notes))
 
   pub runs_reported : (code : Status) → IsReported code → Reports words old new code → (new.files.faults ≡ old.files.faults) × Calm old.streams new.streams →
-      (HasRead code → (input : List ℕ) → old.streams.input.told ≡ Some input → new.streams.input.told ≡ Some []) → Touched code → Runs words old new code
+      (reads_input (command_of words) ≡ true → HasRead code → (input : List ℕ) → old.streams.input.told ≡ Some input → new.streams.input.told ≡ Some []) → Touched code → Runs words old new code
   runs_reported code r reports calm read touched = record {
     report = λ x. reports;
     calm = λ x. calm;
@@ -59,7 +59,7 @@ module _ (words : List (List ℕ)) (old new : Outside) where
   runs_file failed_so stands fronts touched = record {
     report = λ x. absurd x;
     calm = λ x. absurd x;
-    read = λ h. elim h [ inl e ↦ cc | inr e ↦ cc ];
+    read = λ takes h. elim h [ inl e ↦ cc | inr e ↦ cc ];
     file_fault = λ e. failed_so;
     read_fault = λ e. cc;
     write_fault = λ e. cc;
@@ -76,7 +76,7 @@ module _ (words : List (List ℕ)) (old new : Outside) where
   runs_read failed_so stands fronts touched = record {
     report = λ x. absurd x;
     calm = λ x. absurd x;
-    read = λ h. elim h [ inl e ↦ cc | inr e ↦ cc ];
+    read = λ takes h. elim h [ inl e ↦ cc | inr e ↦ cc ];
     file_fault = λ e. cc;
     read_fault = λ e. failed_so;
     write_fault = λ e. cc;
@@ -93,7 +93,7 @@ module _ (words : List (List ℕ)) (old new : Outside) where
   runs_write failed_so stands fronts touched = record {
     report = λ x. absurd x;
     calm = λ x. absurd x;
-    read = λ h. elim h [ inl e ↦ cc | inr e ↦ cc ];
+    read = λ takes h. elim h [ inl e ↦ cc | inr e ↦ cc ];
     file_fault = λ e. cc;
     read_fault = λ e. cc;
     write_fault = λ e. failed_so;
@@ -109,7 +109,7 @@ module _ (words : List (List ℕ)) (old new : Outside) where
   runs_wanting fronts touched = record {
     report = λ x. absurd x;
     calm = λ x. absurd x;
-    read = λ h. elim h [ inl e ↦ cc | inr e ↦ cc ];
+    read = λ takes h. elim h [ inl e ↦ cc | inr e ↦ cc ];
     file_fault = λ e. cc;
     read_fault = λ e. cc;
     write_fault = λ e. cc;
@@ -128,6 +128,8 @@ pub refused_apart : (refusal : FileRefusal) → (IsStepStatus (refusal_status re
 refused_apart Absent = (λ x. x, tt, λ h. elim h [ inl e ↦ cc | inr e ↦ cc ])
 refused_apart TooLong = (λ x. x, tt, λ h. elim h [ inl e ↦ cc | inr e ↦ cc ])
 refused_apart NotBuilt = (λ x. x, tt, λ h. elim h [ inl e ↦ cc | inr e ↦ cc ])
+refused_apart (Unread cause path) = (λ x. x, tt, λ h. elim h [ inl e ↦ cc | inr e ↦ cc ])
+refused_apart (Broken rule path) = (λ x. x, tt, λ h. elim h [ inl e ↦ cc | inr e ↦ cc ])
 
 -- nothing went to the output
 pub nothing_out : (old new : Outside) (outcome : Outcome) → new.streams.sinks.output ≡ old.streams.sinks.output → AppendsPart old.streams.sinks.output.told new.streams.sinks.output.told outcome.output

@@ -5,23 +5,36 @@ use Rattle.sbe_wire.specs.Placed.{IsPlaced}
 use Rattle.open_framing.specs.Pieces.{joined}
 use Rattle.open_framing.specs.Frames.{Item}
 use Rattle.sbe_cli.specs.Splits.{Reading, Frames, Lines, Once, Nothing, Piece, Frame, Line, Whole, piece_bytes, PieceEnd, Splits}
-use Rattle.sbe_cli.specs.Replies.{Written, Reply, reading_of, IsReply, counted, none_written, written_of, then_written, Replies}
-use Rattle.sbe_cli.specs.Steps.{IsReady}
-use Rattle.sbe_cli.specs.Pumps.{reply_of}
+use Rattle.sbe_cli.specs.Replies.{Written, Reply, reading_of, IsFrameReply, IsWholeReply, IsReply, counted, none_written, written_of, then_written, Replies}
+use Rattle.sbe_cli.specs.Steps.{IsReadyFrame, IsReady}
+use Rattle.sbe_cli.specs.Pumps.{reply_of, whole_reply}
 use Rattle.sbe_cli.specs.declared.job.Job.{Job}
-use Rattle.sbe_cli.specs.declared.job.Job.TheVariants.{Dump}
+use Rattle.sbe_cli.specs.declared.job.Job.TheVariants as jobs
+use Rattle.sbe_cli.specs.declared.job.FrameJob.{FrameJob}
+use Rattle.sbe_cli.specs.declared.job.FrameJob.TheVariants.{Dump}
+use Rattle.sbe_cli.specs.declared.job.OnceJob.{OnceJob}
+use Rattle.sbe_cli.specs.declared.job.OnceJob.TheVariants.{Check}
 use Rattle.sbe_cli.specs.declared.job.Verdict.{Verdict}
 use Rattle.sbe_cli.specs.declared.pump.Kept.{Kept}
 use Rattle.sbe_cli.proofs.Dumped.{is_dumped, dumped_once}
 
--- ---- each piece has exactly one reply: one case a command
+-- ---- each piece has exactly one reply: one case a command, in what names a command's job
+
+-- what the replies to frames need
+abbrev pub IsPlacedFrame : FrameJob → Type 0
+IsPlacedFrame (Dump schema) = IsPlaced schema
 
 -- what a job's replies need
 abbrev pub IsPlacedJob : Job → Type 0
-IsPlacedJob (Dump schema limits) = IsPlaced schema
+IsPlacedJob (jobs.Frames job limits) = IsPlacedFrame job
+IsPlacedJob (jobs.Once job) = Unit {0}
+
+pub frame_placed : (job : FrameJob) → IsReadyFrame job → IsPlacedFrame job
+frame_placed (Dump schema) ready = ready.1
 
 pub ready_placed : (job : Job) → IsReady job → IsPlacedJob job
-ready_placed (Dump schema limits) ready = ready.1
+ready_placed (jobs.Frames job limits) ready = frame_placed job ready
+ready_placed (jobs.Once job) ready = tt
 
 abbrev pub Suits : Reading → Piece → Type 0
 Suits (Frames limits) (Frame item) = Unit {0}
@@ -36,26 +49,42 @@ Suits Once Whole = Unit {0}
 Suits Nothing piece = ⊥
 
 -- the code's answer is a reply
-pub frame_replied : (job : Job) (kept : Kept) (item : Item) → IsPlacedJob job → IsReply job kept (Frame item) (reply_of job kept item)
-frame_replied (Dump schema limits) kept item placed = (is_dumped schema placed kept.items item, refl)
+pub frame_replied : (job : FrameJob) (kept : Kept) (item : Item) → IsPlacedFrame job → IsFrameReply job kept item (reply_of job kept item)
+frame_replied (Dump schema) kept item placed = (is_dumped schema placed kept.items item, refl)
+
+pub whole_replied : (job : OnceJob) → IsWholeReply job (whole_reply job)
+whole_replied (Check schema) = (refl, refl, refl)
 
 some_reply : (job : Job) (kept : Kept) (piece : Piece) → IsPlacedJob job → Suits (reading_of job) piece → (reply : Reply) × IsReply job kept piece reply
-some_reply (Dump schema limits) kept (Frame item) placed suits = (reply_of (Dump schema limits) kept item, frame_replied (Dump schema limits) kept item placed)
-some_reply (Dump schema limits) kept (Line line) placed suits = absurd suits
-some_reply (Dump schema limits) kept Whole placed suits = absurd suits
+some_reply (jobs.Frames job limits) kept (Frame item) placed suits = (reply_of job kept item, frame_replied job kept item placed)
+some_reply (jobs.Frames job limits) kept (Line line) placed suits = absurd suits
+some_reply (jobs.Frames job limits) kept Whole placed suits = absurd suits
+some_reply (jobs.Once job) kept (Frame item) placed suits = absurd suits
+some_reply (jobs.Once job) kept (Line line) placed suits = absurd suits
+some_reply (jobs.Once job) kept Whole placed suits = (whole_reply job, whole_replied job)
 
 abbrev as_reply : List ℕ → List ℕ → Verdict → Reply
 as_reply output notes verdict = record { output = output; notes = notes; verdict = verdict }
 
-pub reply_once : (job : Job) (kept : Kept) (piece : Piece) (a b : Reply) → IsPlacedJob job → IsReply job kept piece a → IsReply job kept piece b → a ≡ b
-reply_once (Dump schema limits) kept (Frame item) a b placed h k =
+equal_replies : (a b : Reply) → a.output ≡ b.output → a.notes ≡ b.notes → a.verdict ≡ b.verdict → a ≡ b
+equal_replies a b h k t = ap (λ o. as_reply o a.notes a.verdict) h ∙ ap (λ n. as_reply b.output n a.verdict) k ∙ ap (λ (v : Verdict). as_reply b.output b.notes v) t
+
+-- there is no other
+frame_once : (job : FrameJob) (kept : Kept) (item : Item) (a b : Reply) → IsPlacedFrame job → IsFrameReply job kept item a → IsFrameReply job kept item b → a ≡ b
+frame_once (Dump schema) kept item a b placed h k =
     let same = dumped_once schema placed kept.items item a.output b.output a.verdict b.verdict h.0 k.0 in
     equal_replies a b same.0 (h.1 ∙ sym k.1) same.1
-  where
-    equal_replies : (a b : Reply) → a.output ≡ b.output → a.notes ≡ b.notes → a.verdict ≡ b.verdict → a ≡ b
-    equal_replies a b h k t = ap (λ o. as_reply o a.notes a.verdict) h ∙ ap (λ n. as_reply b.output n a.verdict) k ∙ ap (λ (v : Verdict). as_reply b.output b.notes v) t
-reply_once (Dump schema limits) kept (Line line) a b placed h k = absurd h
-reply_once (Dump schema limits) kept Whole a b placed h k = absurd h
+
+whole_once : (job : OnceJob) (a b : Reply) → IsWholeReply job a → IsWholeReply job b → a ≡ b
+whole_once (Check schema) a b h k = equal_replies a b (h.0 ∙ sym k.0) (h.1 ∙ sym k.1) (h.2 ∙ sym k.2)
+
+pub reply_once : (job : Job) (kept : Kept) (piece : Piece) (a b : Reply) → IsPlacedJob job → IsReply job kept piece a → IsReply job kept piece b → a ≡ b
+reply_once (jobs.Frames job limits) kept (Frame item) a b placed h k = frame_once job kept item a b placed h k
+reply_once (jobs.Frames job limits) kept (Line line) a b placed h k = absurd h
+reply_once (jobs.Frames job limits) kept Whole a b placed h k = absurd h
+reply_once (jobs.Once job) kept (Frame item) a b placed h k = absurd h
+reply_once (jobs.Once job) kept (Line line) a b placed h k = absurd h
+reply_once (jobs.Once job) kept Whole a b placed h k = whole_once job a b h k
 
 -- ---- there is one fold
 

@@ -9,16 +9,18 @@ use Rattle.open_framing.specs.Heads.{IsBytes}
 use Rattle.sbe_cli.specs.Small.{small_schema}
 use Rattle.sbe_cli.specs.Splits.{Piece, PieceEnd}
 use Rattle.sbe_cli.specs.Replies.{Written, reading_of, none_kept, Replies}
-use Rattle.sbe_cli.specs.Report.{Outcome, HoldsSchema, HoldsNone, JudgesFile, Judges, closed, JobReport, JudgedReport, CommandReport, Report}
+use Rattle.sbe_cli.specs.Report.{Outcome, HoldsSchema, HoldsNone, JudgesFile, file_schema, Judges, closed, JobReport, JudgedReport, CommandReport, Report}
 use Rattle.sbe_cli.specs.Words.{command_of}
 use Rattle.sbe_cli.specs.declared.files.FileRefusal.{FileRefusal}
-use Rattle.sbe_cli.specs.declared.files.FileRefusal.TheVariants.{Absent, TooLong, NotBuilt}
+use Rattle.sbe_cli.specs.declared.files.FileRefusal.TheVariants.{Absent, TooLong, NotBuilt, Unread, Broken}
 use Rattle.sbe_cli.specs.declared.files.TheConstants.{SCHEMA_BYTES}
 use Rattle.sbe_cli.specs.declared.job.Job.{Job}
 use Rattle.sbe_cli.specs.declared.job.Job.TheVariants as jobs
+use Rattle.sbe_cli.specs.declared.job.FrameJob.TheVariants as frames
+use Rattle.sbe_cli.specs.declared.job.OnceJob.TheVariants as once
 use Rattle.sbe_cli.specs.declared.pump.Kept.{Kept}
 use Rattle.sbe_cli.specs.declared.words.Command.{Command}
-use Rattle.sbe_cli.specs.declared.words.Command.TheVariants.{Dump}
+use Rattle.sbe_cli.specs.declared.words.Command.TheVariants.{Check, Dump}
 use Rattle.sbe_cli.proofs.SmallLemmas.{small_placed}
 use Rattle.sbe_cli.proofs.Splitting.{some_same, none_some, splits_once, splits_some}
 use Rattle.sbe_cli.proofs.Folding.{IsPlacedJob, replies_once, replies_some, splits_suit}
@@ -62,18 +64,28 @@ file_once file (Ok s) (Ok t) h k =
 file_once file (Ok s) (Err Absent) h k = absurd (none_some (sym k ∙ h.1.0))
 file_once file (Ok s) (Err TooLong) h k = absurd (too_long file h.0 k.0 h.1.0 h.1.1 k.1 k.2)
 file_once file (Ok s) (Err NotBuilt) h k = absurd (not_both file h.0 k.0 s h.1.0 h.2 k.1.0 k.2)
+file_once file (Ok s) (Err (Unread c p)) h k = absurd k
+file_once file (Ok s) (Err (Broken c p)) h k = absurd k
 file_once file (Err Absent) (Ok t) h k = absurd (none_some (sym h ∙ k.1.0))
 file_once file (Err Absent) (Err Absent) h k = refl
 file_once file (Err Absent) (Err TooLong) h k = absurd (none_some (sym h ∙ k.1))
 file_once file (Err Absent) (Err NotBuilt) h k = absurd (none_some (sym h ∙ k.1.0))
+file_once file (Err Absent) (Err (Unread c p)) h k = absurd k
+file_once file (Err Absent) (Err (Broken c p)) h k = absurd k
 file_once file (Err TooLong) (Ok t) h k = absurd (too_long file k.0 h.0 k.1.0 k.1.1 h.1 h.2)
 file_once file (Err TooLong) (Err Absent) h k = absurd (none_some (sym k ∙ h.1))
 file_once file (Err TooLong) (Err TooLong) h k = refl
 file_once file (Err TooLong) (Err NotBuilt) h k = absurd (too_long file k.0 h.0 k.1.0 k.1.1 h.1 h.2)
+file_once file (Err TooLong) (Err (Unread c p)) h k = absurd k
+file_once file (Err TooLong) (Err (Broken c p)) h k = absurd k
 file_once file (Err NotBuilt) (Ok t) h k = absurd (not_both file k.0 h.0 t k.1.0 k.2 h.1.0 h.2)
 file_once file (Err NotBuilt) (Err Absent) h k = absurd (none_some (sym k ∙ h.1.0))
 file_once file (Err NotBuilt) (Err TooLong) h k = absurd (too_long file h.0 k.0 h.1.0 h.1.1 k.1 k.2)
 file_once file (Err NotBuilt) (Err NotBuilt) h k = refl
+file_once file (Err NotBuilt) (Err (Unread c p)) h k = absurd k
+file_once file (Err NotBuilt) (Err (Broken c p)) h k = absurd k
+file_once file (Err (Unread c p)) b h k = absurd h
+file_once file (Err (Broken c p)) b h k = absurd h
 
 file_some : (file : Option (List ℕ)) → (r : Result WireSchema FileRefusal) × JudgesFile file r
 file_some None = (Err Absent, refl)
@@ -93,34 +105,41 @@ file_some (Some bytes) = by_length (nat_lt SCHEMA_BYTES (length bytes)) refl
 
 -- ---- a command is judged in one way, and its job can be carried out
 
+ok_same : {s t : WireSchema} → ◌≡◌ {A = Result WireSchema FileRefusal} (Ok s) (Ok t) → s ≡ t
+ok_same h = cc
+
+never : {s : WireSchema} {e : FileRefusal} → ◌≡◌ {A = Result WireSchema FileRefusal} (Ok s) (Err e) → ⊥
+never h = cc
+
+err_same : {s t : FileRefusal} → ◌≡◌ {A = Result WireSchema FileRefusal} (Err s) (Err t) → s ≡ t
+err_same h = cc
+
 pub judged_once : (command : Command) (contents : List ℕ → Option (List ℕ)) (a b : Result Job FileRefusal) → Judges command contents a → Judges command contents b → a ≡ b
+judged_once (Check name) contents (Ok x) (Ok y) h k = ap Ok (h.2 ∙ ap (λ (s : WireSchema). jobs.Once (once.Check s)) (ok_same (sym h.1 ∙ k.1)) ∙ sym k.2)
+judged_once (Check name) contents (Ok x) (Err f) h k = absurd (never (sym h.1 ∙ k))
+judged_once (Check name) contents (Err f) (Ok y) h k = absurd (never (sym k.1 ∙ h))
+judged_once (Check name) contents (Err f) (Err g) h k = ap Err (err_same (sym h ∙ k))
 judged_once (Dump name limits) contents (Ok x) (Ok y) h k =
     let same : h.0 ≡ k.0 = ok_same (file_once (contents name) (Ok h.0) (Ok k.0) h.1 k.1) in
-    ap Ok (h.2 ∙ ap (λ (s : WireSchema). jobs.Dump s limits) same ∙ sym k.2)
-  where
-    ok_same : {s t : WireSchema} → ◌≡◌ {A = Result WireSchema FileRefusal} (Ok s) (Ok t) → s ≡ t
-    ok_same h = cc
+    ap Ok (h.2 ∙ ap (λ (s : WireSchema). jobs.Frames (frames.Dump s) limits) same ∙ sym k.2)
 judged_once (Dump name limits) contents (Ok x) (Err f) h k = absurd (never (file_once (contents name) (Ok h.0) (Err f) h.1 k))
-  where
-    never : {s : WireSchema} {e : FileRefusal} → ◌≡◌ {A = Result WireSchema FileRefusal} (Ok s) (Err e) → ⊥
-    never h = cc
 judged_once (Dump name limits) contents (Err f) (Ok y) h k = absurd (never (file_once (contents name) (Ok k.0) (Err f) k.1 h))
-  where
-    never : {s : WireSchema} {e : FileRefusal} → ◌≡◌ {A = Result WireSchema FileRefusal} (Ok s) (Err e) → ⊥
-    never h = cc
 judged_once (Dump name limits) contents (Err f) (Err g) h k = ap Err (err_same (file_once (contents name) (Err f) (Err g) h k))
-  where
-    err_same : {s t : FileRefusal} → ◌≡◌ {A = Result WireSchema FileRefusal} (Err s) (Err t) → s ≡ t
-    err_same h = cc
 
 pub some_judged : (command : Command) (contents : List ℕ → Option (List ℕ)) → (r : Result Job FileRefusal) × Judges command contents r
+some_judged (Check name) contents = by (file_schema (contents name)) refl
+  where
+    by : (r : Result WireSchema FileRefusal) → file_schema (contents name) ≡ r → (judged : Result Job FileRefusal) × Judges (Check name) contents judged
+    by (Ok schema) h = (Ok (jobs.Once (once.Check schema)), (schema, h, refl))
+    by (Err f) h = (Err f, h)
 some_judged (Dump name limits) contents = by (file_some (contents name))
   where
     by : (r : Result WireSchema FileRefusal) × JudgesFile (contents name) r → (r : Result Job FileRefusal) × Judges (Dump name limits) contents r
-    by (Ok schema, h) = (Ok (jobs.Dump schema limits), (schema, h, refl))
+    by (Ok schema, h) = (Ok (jobs.Frames (frames.Dump schema) limits), (schema, h, refl))
     by (Err f, h) = (Err f, h)
 
 pub judged_placed : (command : Command) (contents : List ℕ → Option (List ℕ)) (job : Job) → Judges command contents (Ok job) → IsPlacedJob job
+judged_placed (Check name) contents job h = subst IsPlacedJob (sym h.2) tt
 judged_placed (Dump name limits) contents job h = subst IsPlacedJob (sym h.2) (small_placed h.1.0 h.0 h.1.2.1)
 
 -- ---- there is one report

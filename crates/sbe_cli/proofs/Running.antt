@@ -1,10 +1,10 @@
 -- How far a job has come, and how it ends.
-use Rattle.std.proofs.Common.{◌≡◌, inl, inr, ℕ, ◌≤◌, List, [], ◌∷◌, ◌++◌, Option, Some, None, refl, sym, ap, ◌∙◌, subst, arith}
+use Rattle.std.proofs.Common.{◌≡◌, inl, inr, ℕ, false, ◌≤◌, List, [], ◌∷◌, ◌++◌, Option, Some, None, refl, sym, ap, ◌∙◌, subst, arith}
 use Rattle.std.proofs.KnownBytes.{Appends-nil}
 use Rattle.sbe_base.specs.Causes.{Rose}
 use Rattle.sbe_base.proofs.Known.{appends_more}
 use Rattle.sbe_base.specs.declared.status.Status.{Status}
-use Rattle.sbe_cli.specs.Splits.{Piece, Begins, most_taken}
+use Rattle.sbe_cli.specs.Splits.{Piece, Begins, is_read, most_pieces}
 use Rattle.sbe_cli.specs.Replies.{Written, IsReply, reading_of, none_kept, none_written, written_of, then_written, Replies}
 use Rattle.sbe_cli.specs.Outside.{Object, Sinks, Streams, Wrote, Failed, Calm}
 use Rattle.sbe_cli.specs.Steps.{PumpState, behind, TakesPiece, Halts, Causes, Steps, Progress, Drains, opened}
@@ -48,9 +48,10 @@ progress_none job old input source = record { pieces = []; left = input; written
 pub record IsRunning (job : Job) (pump : PumpState) (old now : Streams) : Type 0 where
   pub job_is : pump.job ≡ job
   pub runs : pump.ended ≡ None
-  pub within : pump.kept.bytes ≤ most_taken (reading_of pump.job)
+  pub within : pump.kept.items ≤ most_pieces (reading_of pump.job)
   pub progress : (input : List ℕ) → old.input.told ≡ Some input → Progress job pump.kept old now input
   pub calm : Calm old now
+  pub unread : is_read (reading_of job) ≡ false → now.input ≡ old.input
 
 module _ (job : Job) (old now new : Streams) (pump pump' : PumpState) where
   one_more : (input : List ℕ) → pump.job ≡ job → Progress job pump.kept old now input → ((left : List ℕ) → now.input.told ≡ Some left → TakesPiece pump pump' now new left) → Progress job pump'.kept old new input
@@ -70,6 +71,10 @@ module _ (job : Job) (old now new : Streams) (pump pump' : PumpState) where
         wrote = wrote_more old.sinks now.sinks new.sinks h.written (written_of a.reply) h.wrote a.wrote;
       }
 
+  -- the pump reads what its job does
+  read_so : IsRunning job pump old now → is_read (reading_of job) ≡ false → is_read (reading_of pump.job) ≡ false
+  read_so h none = ap (λ (j : Job). is_read (reading_of j)) h.job_is ∙ none
+
   pub runs_more : IsRunning job pump old now → Steps pump pump' now new Went → IsRunning job pump' old new
   runs_more h step =
       let goes = step.1 in
@@ -79,6 +84,7 @@ module _ (job : Job) (old now new : Streams) (pump pump' : PumpState) where
         within = goes.within;
         progress = λ input source. one_more input h.job_is (h.progress input source) goes.answers;
         calm = calm_more old now new h.calm goes.calm;
+        unread = λ none. goes.unread (read_so h none) ∙ h.unread none;
       }
 
   -- ---- the end
@@ -99,6 +105,7 @@ module _ (job : Job) (old now new : Streams) (pump pump' : PumpState) where
           let p = h.progress input source in
           record { kept = pump.kept; mid = now; progress = p; calm = h.calm; halts = subst (λ (s : PumpState). Halts s now new p.left code) (pump_is pump h.job_is h.runs) (closes.1.halts p.left p.source) };
       causes = later_causes code h.calm closes.1.causes;
+      unread = λ none. closes.1.unread (read_so h none) ∙ h.unread none;
     }
   ]
     where
@@ -113,7 +120,8 @@ pub runs_new : (pump : PumpState) (old : Streams) → pump ≡ opened pump.job �
 runs_new pump old new = record {
   job_is = refl;
   runs = ap (λ (s : PumpState). s.ended) new;
-  within = let none : pump.kept.bytes ≡ 0 = ap (λ (s : PumpState). s.kept.bytes) new in omega (arith, none);
+  within = let none : pump.kept.items ≡ 0 = ap (λ (s : PumpState). s.kept.items) new in omega (arith, none);
   progress = λ input source. subst (λ (k : Kept). Progress pump.job k old old input) (sym (ap (λ (s : PumpState). s.kept) new)) (progress_none pump.job old input source);
   calm = calm_none old;
+  unread = λ none. refl;
 }

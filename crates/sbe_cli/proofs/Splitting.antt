@@ -159,12 +159,19 @@ is_one n true h e = absurd (apart (sym miss ∙ h))
     apart k = cc
 is_one n false h e = refl
 
+-- whether the one job is still to do
+pub once_none : (kept : Kept) → kept.items ≡ 0 → behind Once kept ≡ Once
+once_none kept e = is_none kept.items (kept.items == 0) refl e
+
+pub once_one : (kept : Kept) → kept.items ≡ 1 → behind Once kept ≡ Nothing
+once_one kept e = is_one kept.items (kept.items == 0) refl e
+
 -- one job was done, or none yet
 once_done : (kept : Kept) (pieces : List Piece) → Counts kept pieces → pieces ≡ Whole ∷ [] → behind Once kept ≡ Nothing
-once_done kept pieces c e = is_one kept.items (kept.items == 0) refl (c.items ∙ ap length e)
+once_done kept pieces c e = once_one kept (c.items ∙ ap length e)
 
 once_left : (kept : Kept) (pieces : List Piece) → Counts kept pieces → pieces ≡ [] → behind Once kept ≡ Once
-once_left kept pieces c e = is_none kept.items (kept.items == 0) refl (c.items ∙ ap length e)
+once_left kept pieces c e = once_none kept (c.items ∙ ap length e)
 
 pub begins_more : (reading : Reading) (kept : Kept) (stream mid rest : List ℕ) (xs ys : List Piece) → Counts kept xs → Begins reading stream xs mid → Begins (behind reading kept) mid ys rest → Begins reading stream (xs ++ ys) rest
 begins_more (Frames limits) kept stream mid rest xs ys c h k = (

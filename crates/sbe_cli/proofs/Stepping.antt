@@ -3,6 +3,7 @@ use Rattle.std.proofs.Common.{◌≡◌, ℕ, ◌+◌, ◌-◌, ◌≤◌, Bool,
 use Rattle.std.specs.Prelude.{nat_lt}
 use Rattle.std.proofs.lemmas.List.{append-nil, take_all}
 use Rattle.std.proofs.lemmas.Bool.Decides.{nat_tests}
+use Rattle.sbe_base.specs.declared.status.Limits.{Limits}
 use Rattle.sbe_base.specs.declared.status.Status.{Status}
 use Rattle.sbe_base.specs.declared.status.Status.TheVariants as status
 use Rattle.open_framing.specs.declared.head.Head.{Head}
@@ -19,19 +20,21 @@ use Rattle.frame_stream.specs.declared.stream.Taken.{Taken}
 use Rattle.frame_stream.specs.declared.stream.Taken.TheVariants as taken
 use Rattle.frame_stream.specs.declared.stream.StreamErr.{StreamErr}
 use Rattle.frame_stream.specs.declared.stream.StreamErr.TheVariants as err
-use Rattle.frame_stream.specs.Stream.{StreamState, room, told_by, Takes, TakesFrom, TakesBy}
-use Rattle.sbe_cli.specs.Splits.{Reading, Frames, Frame, PieceEnd, End, EndInside, HeadFault, InputLimit, frames_end, Splits, Begins, Holds, most_taken}
-use Rattle.sbe_cli.specs.Replies.{Reply, reading_of, IsReply, counted, counted_by, written_of}
+use Rattle.frame_stream.specs.Stream.{StreamState, room, told_by, Takes, TakesFrom, TakesBy, BodyOf}
+use Rattle.sbe_cli.specs.Splits.{Reading, Frames, Frame, PieceEnd, End, EndInside, HeadFault, InputLimit, frames_end, Splits, Begins, Holds}
+use Rattle.sbe_cli.specs.Replies.{Reply, IsFrameReply, refusals, translations, counted, counted_by, written_of}
 use Rattle.sbe_cli.specs.Report.{end_notes, end_status}
 use Rattle.sbe_cli.specs.Stops.{stop_line}
 use Rattle.sbe_cli.specs.Outside.{Streams, Wrote, Failed, Calm, Told}
-use Rattle.sbe_cli.specs.Steps.{PumpState, IsReady, reading_on, Goes, Fails, Halts, ended_at, stalled_at}
-use Rattle.sbe_cli.specs.Pumps.{job_limits, Stands, reply_of}
-use Rattle.sbe_cli.specs.declared.job.Job.{Job}
-use Rattle.sbe_cli.specs.declared.job.Job.TheVariants.{Dump}
+use Rattle.sbe_cli.specs.Steps.{PumpState, IsReadyFrame, Goes, Fails, Halts, ended_at, stalled_at}
+use Rattle.sbe_cli.specs.Pumps.{IsBounded, Stands, CanCount, reply_of, running, frames_pump}
+use Rattle.sbe_cli.specs.declared.job.FrameJob.{FrameJob}
+use Rattle.sbe_cli.specs.declared.job.Job.TheVariants as jobs
+use Rattle.sbe_cli.specs.declared.job.Verdict.{Verdict}
+use Rattle.sbe_cli.specs.declared.job.Verdict.TheVariants.{Answered, Refused, Translated}
 use Rattle.sbe_cli.specs.declared.pump.Kept.{Kept}
 use Rattle.sbe_cli.specs.declared.stop.Stop.TheVariants as stop
-use Rattle.sbe_cli.proofs.Folding.{ready_placed, frame_replied}
+use Rattle.sbe_cli.proofs.Folding.{frame_placed, frame_replied}
 use Rattle.sbe_cli.proofs.Splitting.{some_same, none_some}
 
 -- ---- a cut that ends with nothing left
@@ -89,15 +92,26 @@ took old new (Some x) (Some y) result input none h e =
 
 -- ---- a step
 
-module _ (job : Job) (kept : Kept) where
+-- an item is refused once at the most
+pub refused_one : (verdict : Verdict) → refusals verdict ≤ 1
+refused_one Answered = omega arith
+refused_one Refused = omega arith
+refused_one Translated = omega arith
+
+pub translated_one : (verdict : Verdict) → translations verdict ≤ 1
+translated_one Answered = omega arith
+translated_one Refused = omega arith
+translated_one Translated = omega arith
+
+module _ (job : FrameJob) (limits : Limits) (kept : Kept) where
   abbrev pub pump : PumpState
-  pump = record { job = job; kept = kept; ended = None }
+  pump = frames_pump job limits kept
 
   abbrev on : Reading
-  on = Frames (record { frame = (job_limits job).frame; input = (job_limits job).input - kept.bytes })
+  on = Frames (record { frame = limits.frame; input = limits.input - kept.bytes })
 
-  module _ (st st' : StreamState) (stands : Stands job st kept) where
-    room_left : room st ≡ (job_limits job).input - kept.bytes
+  module _ (st st' : StreamState) (stands : Stands limits st kept) where
+    room_left : room st ≡ limits.input - kept.bytes
     room_left = omega (arith, stands.room)
 
     module _ (before after : Streams) (code : Status) where
@@ -107,7 +121,7 @@ module _ (job : Job) (kept : Kept) where
       split input left e h = (
         [],
         cut_end e,
-        subst (λ n. Cut input (job_limits job).frame n [] (cut_end e)) room_left (subst (λ n. Cut input n (room st) [] (cut_end e)) stands.frame (cut_told input left st st' e h)),
+        subst (λ n. Cut input limits.frame n [] (cut_end e)) room_left (subst (λ n. Cut input n (room st) [] (cut_end e)) stands.frame (cut_told input left st st' e h)),
         refl,
         same_end e,
       )
@@ -121,40 +135,20 @@ module _ (job : Job) (kept : Kept) where
       nothing_left input left (ended.Head e) takes source h is = cc
       nothing_left input left ended.Over takes source h is = cc
 
-      -- ---- the parts of an end
-
-      reads_on : reading_on pump ≡ on
-      reads_on = by job
-        where
-          by : (j : Job) → reading_on (record { job = j; kept = kept; ended = None }) ≡ Frames (record { frame = (job_limits j).frame; input = (job_limits j).input - kept.bytes })
-          by (Dump schema limits) = refl
-
-      most : most_taken (reading_of job) ≡ (job_limits job).input
-      most = by job
-        where
-          by : (j : Job) → most_taken (reading_of j) ≡ (job_limits j).input
-          by (Dump schema limits) = refl
-
       pub ends : (e : Ended) (input : List ℕ) → Takes st st' before.input.told after.input.told (told_by e) → after.sinks.output ≡ before.sinks.output →
-          Told (end_notes (piece_end e) kept.bytes (job_limits job).input) (end_status (piece_end e) kept.refused) before.sinks.notes after.sinks.notes code →
+          Told (end_notes (piece_end e) kept.bytes limits.input) (end_status (piece_end e) kept.refused) before.sinks.notes after.sinks.notes code →
           before.input.told ≡ Some input → Halts pump before after input code
       ends e input takes same told source =
           let h = took st st' before.input.told after.input.told (told_by e) input stands.held takes.from source in
-          ended_at (record {
-            end = piece_end e;
-            split = subst (λ r. Splits r input [] (piece_end e)) (sym reads_on) (split input h.0 e h.2);
-            left = nothing_left input h.0 e takes h.1 h.2;
-            output = same;
-            noted = subst (λ n. Told (end_notes (piece_end e) kept.bytes n) (end_status (piece_end e) kept.refused) before.sinks.notes after.sinks.notes code) (sym most) told;
-          })
+          ended_at (record { end = piece_end e; split = split input h.0 e h.2; left = λ read. nothing_left input h.0 e takes h.1 h.2; output = same; noted = told })
 
       -- ---- a fault of the input
 
       no_frame : (limit : ℕ) (bytes : List ℕ) → first_item limit bytes ≡ None → (x : Item) (more : List ℕ) → IsFrame limit x → bytes ≡ frame_of x ++ more → ⊥
       no_frame limit bytes none x more is e = none_some (sym none ∙ ap (first_item limit) e ∙ frame_complete limit x more is)
 
-      part_held : (held : List ℕ) → first_item (job_limits job).frame held ≡ None → Holds on held []
-      part_held held none = ([], held, record { whole = refl; each = tt; longest = no_frame (job_limits job).frame held none }, refl)
+      part_held : (held : List ℕ) → first_item limits.frame held ≡ None → Holds on held []
+      part_held held none = ([], held, record { whole = refl; each = tt; longest = no_frame limits.frame held none }, refl)
 
       pub stalls_at : (input : List ℕ) → Takes st st' before.input.told after.input.told (Err err.ReadFault) → first_item st'.frame st'.held ≡ None → Failed before.input after.input → after.sinks.output ≡ before.sinks.output →
           Told (stop_line (stop.ReadFault st'.taken)) status.ReadFault before.sinks.notes after.sinks.notes code → before.input.told ≡ Some input → Halts pump before after input code
@@ -166,7 +160,7 @@ module _ (job : Job) (kept : Kept) where
             left = h.0;
             source = h.1;
             taken = h.2;
-            part = subst (λ r. Holds r st'.held []) (sym reads_on) (part_held st'.held (subst (λ n. first_item n st'.held ≡ None) (takes.frame ∙ stands.frame) none));
+            part = part_held st'.held (subst (λ n. first_item n st'.held ≡ None) (takes.frame ∙ stands.frame) none);
             fault = fault;
             output = same;
             noted = subst (λ n. Told (stop_line (stop.ReadFault n)) status.ReadFault before.sinks.notes after.sinks.notes code) at told;
@@ -181,7 +175,7 @@ module _ (job : Job) (kept : Kept) where
         fell : room st ≡ length st'.body + 6 + room st'
         fell = takes.falls
 
-        pub fits : kept.bytes + h.length ≤ (job_limits job).input
+        pub fits : kept.bytes + h.length ≤ limits.input
         fits = omega (arith, stands.room, fell, size)
 
         frame_size : length (frame_of item) ≡ h.length
@@ -189,7 +183,7 @@ module _ (job : Job) (kept : Kept) where
 
         begins : (input left : List ℕ) → TakesBy input st st' left (Ok (taken.Frame h)) → Begins on input (Frame item ∷ []) left
         begins input left by_frame =
-            let is : IsFrame (job_limits job).frame item = subst (λ n. IsFrame n item) stands.frame (subst (IsFrame st.frame) by_frame.4 by_frame.1) in
+            let is : IsFrame limits.frame item = subst (λ n. IsFrame n item) stands.frame (subst (IsFrame st.frame) by_frame.4 by_frame.1) in
             let whole : input ≡ frame_of item ++ left = by_frame.3 ∙ ap (λ i. frame_of i ++ left) by_frame.4 in
             let one : joined frame_of (item ∷ []) ≡ frame_of item = append-nil (frame_of item) in (
               item ∷ [],
@@ -198,28 +192,51 @@ module _ (job : Job) (kept : Kept) where
               refl,
             )
 
-        begins_on : (input left : List ℕ) → TakesBy input st st' left (Ok (taken.Frame h)) → Begins (reading_on pump) input (Frame item ∷ []) left
-        begins_on input left by_frame = subst (λ r. Begins r input (Frame item ∷ []) left) (sym reads_on) (begins input left by_frame)
+        -- what stands behind the frame
+        module _ (verdict : Verdict) where
+          pub stands_on : BodyOf st' (Ok (taken.Frame h)) → Stands limits st' (counted_by kept h.length verdict)
+          stands_on body = record {
+            runs = body.2;
+            held = body.1;
+            frame = takes.frame ∙ stands.frame;
+            input = takes.input ∙ stands.input;
+            room = omega (arith, stands.room, fell, size);
+            items = omega (arith, stands.items, size);
+            refused = omega (arith, stands.refused, refused_one verdict);
+            translated = omega (arith, stands.translated, translated_one verdict);
+          }
 
-        module _ (ready : IsReady job) where
-          replied : IsReply job kept (Frame item) (reply_of job kept item)
-          replied = frame_replied job kept item (ready_placed job ready)
+          pub countable : IsBounded limits → CanCount kept (record { bytes = h.length; verdict = verdict })
+          countable bounded = record {
+            items = omega (arith, fits, bounded.input, stands.items);
+            refused = omega (arith, fits, bounded.input, stands.items, stands.refused);
+            translated = omega (arith, fits, bounded.input, stands.items, stands.translated);
+            bytes = omega (arith, fits, bounded.input);
+          }
+
+        module _ (ready : IsReadyFrame job) where
+          replied : IsFrameReply job kept item (reply_of job kept item)
+          replied = frame_replied job kept item (frame_placed job ready)
 
           pub fails : (input : List ℕ) (IsWritten : Reply → Type 0) → IsWritten (reply_of job kept item) → before.input.told ≡ Some input → Fails pump after input IsWritten
           fails input IsWritten wrote source =
               let f = took st st' before.input.told after.input.told (Ok (taken.Frame h)) input stands.held takes.from source in
-              record { piece = Frame item; reply = reply_of job kept item; left = f.0; source = f.1; taken = begins_on input f.0 f.2; replied = replied; wrote = wrote }
+              record { piece = Frame item; reply = reply_of job kept item; left = f.0; source = f.1; taken = begins input f.0 f.2; replied = replied; wrote = wrote }
 
-          pub goes : (now : PumpState) → Wrote before.sinks after.sinks (written_of (reply_of job kept item)) → Calm before after → now ≡ record { job = job; kept = counted_by kept h.length (reply_of job kept item).verdict; ended = None } → Goes pump now before after
-          goes now wrote calm is =
+          pub goes : Wrote before.sinks after.sinks (written_of (reply_of job kept item)) → Calm before after →
+              Goes pump (running (jobs.Frames job limits) (counted_by kept h.length (reply_of job kept item).verdict)) before after
+          goes wrote calm =
               let counts : counted_by kept h.length (reply_of job kept item).verdict ≡ counted kept (Frame item) (reply_of job kept item).verdict = ap (λ n. counted_by kept n (reply_of job kept item).verdict) (sym frame_size) in
-              subst (λ (s : PumpState). Goes pump s before after) (sym is) (record {
+              record {
                 answers = λ input source.
                     let f = took st st' before.input.told after.input.told (Ok (taken.Frame h)) input stands.held takes.from source in
-                    record { piece = Frame item; reply = reply_of job kept item; left = f.0; source = f.1; taken = begins_on input f.0 f.2; replied = replied; wrote = wrote; kept = counts };
+                    record { piece = Frame item; reply = reply_of job kept item; left = f.0; source = f.1; taken = begins input f.0 f.2; replied = replied; wrote = wrote; kept = counts };
                 calm = calm;
                 runs = refl;
                 job = refl;
-                more = omega (arith, size);
-                within = omega (arith, fits, most);
-              })
+                more = omega arith;
+                within = omega (arith, fits, stands.items, size);
+                bytes_more = λ read. omega (arith, size);
+                bytes_within = fits;
+                unread = λ none. cc;
+              }

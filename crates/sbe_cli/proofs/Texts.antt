@@ -15,6 +15,10 @@ then_grown (Err e) old mid new x y h k = tt
 pub then_put : {E : Type 0} {result : Result (Unit {0}) E} {u : Unit {0}} {old mid new x y : List ℕ} → Puts {E = E} (Ok u) old mid x → Puts result mid new y → Puts result old new (x ++ y)
 then_put h k = record { grown = then_grown _ _ _ _ _ _ h.grown k.grown }
 
+-- what grew is put
+pub put_as : {E : Type 0} {result : Result (Unit {0}) E} {old new text : List ℕ} → OnOk result (new ≡ old ++ text) → Puts result old new text
+put_as h = record { grown = h }
+
 -- what is put where a choice puts nothing or something
 pub chosen_text : (absent : Bool) (old x : List ℕ) → absent ≡ true → old ≡ old ++ cond absent [] x
 chosen_text true old x h = sym (append-nil old)

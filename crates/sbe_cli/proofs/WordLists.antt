@@ -1,5 +1,5 @@
 -- Words by one, and by two.
-use Rattle.std.proofs.Common.{◌≡◌, ◌≤◌, ◌<◌, ◌-◌, ◌==◌, ℕ, Bool, true, false, not, ◌&&◌, ◌||◌, List, [], ◌∷◌, length, get_or, map, take, drop, refl, sym, ap, ◌∙◌, subst, arith}
+use Rattle.std.proofs.Common.{◌≡◌, ◌≤◌, ◌<◌, ◌-◌, ◌==◌, Bool, true, false, not, ◌&&◌, ◌||◌, ℕ, ◌+◌, cond, Some, find, add-one, drop-cons, List, [], ◌∷◌, length, get_or, map, take, drop, refl, sym, ap, ◌∙◌, subst, arith}
 use Rattle.std.proofs.lemmas.Bool.{le-leb}
 use Rattle.std.proofs.lemmas.List.{length-map, take_rest, take-map}
 use Rattle.std.specs.List.{drop-map}
@@ -88,3 +88,9 @@ fits_so row (a ∷ more) word text named one first is_text same enough is_named 
     let e4 : are_options row.options (drop row.files (texts more)) ≡ are_options row.options (texts (behind_files row.files (a ∷ more))) =
     ap (λ t. are_options row.options t) (drop-map (λ word. string_bytes word) row.files more ∙ ap (λ m. texts m) (sym rest)) in
     sym (all_so _ _ _ _ _ _ e1 e2 e3 e4)
+
+-- an item that doesn't pass is passed over
+pub find_on : {X : Type 0} (p : X → Bool) (xs : List X) (i : ℕ) (x : X) → i < length xs → p (get_or xs i x) ≡ false → find p (drop (i + 1) xs) ≡ find p (drop i xs)
+find_on p xs i x h fails =
+    let front : drop i xs ≡ get_or xs i x ∷ drop (i + 1) xs = rw add-one (drop-cons xs i x h) in
+    sym (ap (find p) front ∙ ap (λ t. cond t (Some (get_or xs i x)) (find p (drop (i + 1) xs))) fails)

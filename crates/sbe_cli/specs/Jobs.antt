@@ -1,8 +1,8 @@
 -- What loading the files of a command answers.
 use Rattle.std.specs.Prelude.{◌≡◌, ℕ, List, Option, Some, Result, Ok, Err, ⊤}
 use Rattle.sbe_cli.specs.Report.{Judges}
-use Rattle.sbe_cli.specs.Steps.{IsReady}
-use Rattle.sbe_cli.specs.Pumps.{IsBounded, job_limits}
+use Rattle.sbe_cli.specs.Steps.{IsReady, IsReadAs}
+use Rattle.sbe_cli.specs.Pumps.{IsBoundedJob}
 use Rattle.sbe_cli.specs.declared.files.LoadStop.{LoadStop}
 use Rattle.sbe_cli.specs.declared.files.LoadStop.TheVariants.{Refused, Fault, NoMemory}
 use Rattle.sbe_cli.specs.declared.job.Job.{Job}
@@ -15,12 +15,12 @@ JudgesAs contents command (Err (Refused refusal)) = Judges command contents (Err
 JudgesAs contents command (Err Fault) = ⊤
 JudgesAs contents command (Err NoMemory) = ⊤
 
--- a job that can be carried out, within the bounds of its limits
-abbrev pub IsSound : Result Job LoadStop → Type 0
-IsSound (Ok job) = IsReady job × IsBounded (job_limits job)
-IsSound (Err stop) = ⊤
+-- a job that can be carried out, within the bounds of its limits, and that reads what its command does
+abbrev pub IsSound : Command → Result Job LoadStop → Type 0
+IsSound command (Ok job) = IsReady job × IsBoundedJob job × IsReadAs command job
+IsSound command (Err stop) = ⊤
 
 -- the same where the files tell what they hold
 pub record LoadsJob (told : Option (List ℕ → Option (List ℕ))) (command : Command) (result : Result Job LoadStop) : Type 0 where
   pub judges : (contents : List ℕ → Option (List ℕ)) → told ≡ Some contents → JudgesAs contents command result
-  pub sound : IsSound result
+  pub sound : IsSound command result

@@ -13,5 +13,6 @@ pub mod Outside
 pub mod Files
 pub mod Steps
 pub mod Runs
+pub mod Drafts
 pub mod Pumps
 pub mod Jobs

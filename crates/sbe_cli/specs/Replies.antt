@@ -1,9 +1,15 @@
 -- What each command answers to each piece of its input, and what it has done so far.
 use Rattle.std.specs.Prelude.{◌≡◌, ℕ, ◌+◌, List, [], ◌∷◌, ◌++◌, length}
+use Rattle.schema_lines.specs.Lines.{message_lines}
 use Rattle.sbe_cli.specs.Dump.{IsDumped}
-use Rattle.sbe_cli.specs.Splits.{Reading, Frames, Piece, Frame, Line, Whole, piece_bytes}
+use Rattle.open_framing.specs.Frames.{Item}
+use Rattle.sbe_cli.specs.Splits.{Reading, Frames, Once, Piece, Frame, Line, Whole, piece_bytes}
 use Rattle.sbe_cli.specs.declared.job.Job.{Job}
-use Rattle.sbe_cli.specs.declared.job.Job.TheVariants.{Dump}
+use Rattle.sbe_cli.specs.declared.job.Job.TheVariants as jobs
+use Rattle.sbe_cli.specs.declared.job.FrameJob.{FrameJob}
+use Rattle.sbe_cli.specs.declared.job.FrameJob.TheVariants.{Dump}
+use Rattle.sbe_cli.specs.declared.job.OnceJob.{OnceJob}
+use Rattle.sbe_cli.specs.declared.job.OnceJob.TheVariants.{Check}
 use Rattle.sbe_cli.specs.declared.job.Verdict.{Verdict}
 use Rattle.sbe_cli.specs.declared.job.Verdict.TheVariants.{Answered, Refused, Translated}
 use Rattle.sbe_cli.specs.declared.pump.Kept.{Kept}
@@ -21,13 +27,25 @@ pub record Reply : Type 0 where
 
 -- how a command reads its input
 abbrev pub reading_of : Job → Reading
-reading_of (Dump schema limits) = Frames limits
+reading_of (jobs.Frames job limits) = Frames limits
+reading_of (jobs.Once job) = Once
 
--- The answer to one piece: one case a command.
+-- the answer to one frame: one case a command
+abbrev pub IsFrameReply : FrameJob → Kept → Item → Reply → Type 0
+IsFrameReply (Dump schema) kept item reply = IsDumped schema kept.items item reply.output reply.verdict × (reply.notes ≡ [])
+
+-- all that a job over its files answers: one case a command
+abbrev pub IsWholeReply : OnceJob → Reply → Type 0
+IsWholeReply (Check schema) reply = (reply.output ≡ message_lines schema.messages) × (reply.notes ≡ []) × (reply.verdict ≡ Answered)
+
+-- The answer to one piece.
 abbrev pub IsReply : Job → Kept → Piece → Reply → Type 0
-IsReply (Dump schema limits) kept (Frame item) reply = IsDumped schema kept.items item reply.output reply.verdict × (reply.notes ≡ [])
-IsReply (Dump schema limits) kept (Line line) reply = ⊥
-IsReply (Dump schema limits) kept Whole reply = ⊥
+IsReply (jobs.Frames job limits) kept (Frame item) reply = IsFrameReply job kept item reply
+IsReply (jobs.Frames job limits) kept (Line line) reply = ⊥
+IsReply (jobs.Frames job limits) kept Whole reply = ⊥
+IsReply (jobs.Once job) kept (Frame item) reply = ⊥
+IsReply (jobs.Once job) kept (Line line) reply = ⊥
+IsReply (jobs.Once job) kept Whole reply = IsWholeReply job reply
 
 -- ---- what was done so far
 

@@ -3,6 +3,11 @@ use Rattle.std.specs.Prelude.{◌≡◌, ◌≤◌, ◌<◌, ℕ, ◌+◌, nat_l
 use Rattle.sbe_base.specs.declared.status.Status.{Status}
 use Rattle.sbe_base.specs.declared.status.Status.TheVariants as status
 use Rattle.sbe_types.specs.declared.schema.WireSchema.{WireSchema}
+use Rattle.sbe_types.specs.declared.tree.Schema.{Schema}
+use Rattle.json_elements.specs.Reading.{Reading as Reads}
+use Rattle.sbe_schema.specs.Schemas.{schema_of}
+use Rattle.schema_rules.specs.Judging.{Judged}
+use Rattle.schema_rules.specs.Checked.{checked_of}
 use Rattle.open_framing.specs.Lines.{longest_line}
 use Rattle.sbe_cli.specs.Small.{small_schema}
 use Rattle.sbe_cli.specs.Splits.{Reading, Piece, PieceEnd, End, EndInside, HeadFault, LineOver, InputLimit, Splits, most_taken}
@@ -10,13 +15,15 @@ use Rattle.sbe_cli.specs.Replies.{Written, reading_of, none_kept, Replies}
 use Rattle.sbe_cli.specs.Stops.{usage_line, fault_line, head_line, at_line, refusal_line, refusal_status}
 use Rattle.sbe_cli.specs.Words.{command_of}
 use Rattle.sbe_cli.specs.declared.files.FileRefusal.{FileRefusal}
-use Rattle.sbe_cli.specs.declared.files.FileRefusal.TheVariants.{Absent, TooLong, NotBuilt}
+use Rattle.sbe_cli.specs.declared.files.FileRefusal.TheVariants.{Absent, TooLong, NotBuilt, Unread, Broken}
 use Rattle.sbe_cli.specs.declared.files.TheConstants.{SCHEMA_BYTES}
 use Rattle.sbe_cli.specs.declared.job.Job.{Job}
 use Rattle.sbe_cli.specs.declared.job.Job.TheVariants as jobs
+use Rattle.sbe_cli.specs.declared.job.FrameJob.TheVariants as frames
+use Rattle.sbe_cli.specs.declared.job.OnceJob.TheVariants as once
 use Rattle.sbe_cli.specs.declared.pump.Kept.{Kept}
 use Rattle.sbe_cli.specs.declared.words.Command.{Command}
-use Rattle.sbe_cli.specs.declared.words.Command.TheVariants.{Dump}
+use Rattle.sbe_cli.specs.declared.words.Command.TheVariants.{Check, Dump}
 
 -- the output, the notes and the status of a run
 pub record Outcome : Type 0 where
@@ -38,16 +45,39 @@ HoldsNone bytes = IsUtf8 bytes → small_schema bytes ≡ None
 abbrev pub IsFile : Option (List ℕ) → List ℕ → Type 0
 IsFile file bytes = (file ≡ Some bytes) × (length bytes ≤ SCHEMA_BYTES)
 
--- the schema of a file, or why it is refused
+-- the schema of the small form that a file has, or why it is refused
 abbrev pub JudgesFile : Option (List ℕ) → Result WireSchema FileRefusal → Type 0
 JudgesFile file (Ok schema) = (bytes : List ℕ) × IsFile file bytes × HoldsSchema bytes schema
 JudgesFile file (Err Absent) = file ≡ None
 JudgesFile file (Err TooLong) = (bytes : List ℕ) × (file ≡ Some bytes) × (SCHEMA_BYTES < length bytes)
 JudgesFile file (Err NotBuilt) = (bytes : List ℕ) × IsFile file bytes × HoldsNone bytes
+JudgesFile file (Err (Unread cause path)) = ⊥
+JudgesFile file (Err (Broken rule path)) = ⊥
+
+-- the schema that a judgement finds in order, or the rule that is broken, with the path of the element that breaks it
+abbrev pub in_order : Judged WireSchema → Result WireSchema FileRefusal
+in_order (Ok schema) = Ok schema
+in_order (Err broken) = Err (Broken broken.code broken.path)
+
+-- the judgement of a tree that is read, or why there is no tree, and where
+abbrev pub tree_in_order : Reads Schema → Result WireSchema FileRefusal
+tree_in_order (Ok tree) = in_order (checked_of tree)
+tree_in_order (Err unread) = Err (Unread unread.cause unread.path)
+
+-- The schema that bytes hold: they are read first, and what is read is judged.
+abbrev pub schema_in : List ℕ → Result WireSchema FileRefusal
+schema_in bytes = tree_in_order (schema_of bytes)
+
+-- The schema of a file, which is there and isn't too long.
+abbrev pub file_schema : Option (List ℕ) → Result WireSchema FileRefusal
+file_schema None = Err Absent
+file_schema (Some bytes) = if nat_lt SCHEMA_BYTES (length bytes) then Err TooLong else schema_in bytes
 
 -- The job of a command whose files are accepted, or the first refusal of a file.
 abbrev pub Judges : Command → (List ℕ → Option (List ℕ)) → Result Job FileRefusal → Type 0
-Judges (Dump name limits) contents (Ok job) = (schema : WireSchema) × JudgesFile (contents name) (Ok schema) × (job ≡ jobs.Dump schema limits)
+Judges (Check name) contents (Ok job) = (schema : WireSchema) × (file_schema (contents name) ≡ Ok schema) × (job ≡ jobs.Once (once.Check schema))
+Judges (Check name) contents (Err refusal) = file_schema (contents name) ≡ Err refusal
+Judges (Dump name limits) contents (Ok job) = (schema : WireSchema) × JudgesFile (contents name) (Ok schema) × (job ≡ jobs.Frames (frames.Dump schema) limits)
 Judges (Dump name limits) contents (Err refusal) = JudgesFile (contents name) (Err refusal)
 
 -- ---- the end

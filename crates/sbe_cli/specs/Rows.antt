@@ -1,11 +1,16 @@
 -- Texts that the laws are computed on.
-use Rattle.std.specs.Prelude.{ℕ, List, codes}
+use Rattle.std.specs.Prelude.{ℕ, List, [], ◌∷◌, ◌++◌, codes}
 use Rattle.open_framing.specs.Frames.{Item}
-use Rattle.open_framing.specs.Rows.{ping}
+use Rattle.open_framing.specs.Rows.{ping, ping_item}
+use Rattle.sbe_cli.specs.Splits.{Piece, Frame}
 
 -- the same message in a frame of the other byte order
 abbrev pub big_endian_item : Item
 big_endian_item = record { encoding = 0x5be0; body = ping }
+
+-- The sample message, and behind it the same in the other byte order.
+abbrev pub two_pieces : List Piece
+two_pieces = Frame ping_item ∷ Frame big_endian_item ∷ []
 
 -- The note where the words are no command.
 abbrev pub usage : List ℕ
@@ -30,3 +35,17 @@ ends_inside = codes "{\"framing\":\"EndInside\",\"at\":20,\"number\":3}\n"
 -- The note at a limit of 30 bytes.
 abbrev pub over_limit : List ℕ
 over_limit = codes "{\"limit\":\"Input\",\"at\":30}\n"
+
+-- The lines of the six messages.
+abbrev pub six_lines : List ℕ
+six_lines =
+    codes "{\"message\":\"Ping\",\"id\":1,\"block\":6,\"groups\":0,\"data\":0}\n"
+    ++ codes "{\"message\":\"Nul\",\"id\":2,\"block\":1,\"groups\":0,\"data\":0}\n"
+    ++ codes "{\"message\":\"One\",\"id\":3,\"block\":1,\"groups\":0,\"data\":0}\n"
+    ++ codes "{\"message\":\"Grp\",\"id\":4,\"block\":0,\"groups\":1,\"data\":0}\n"
+    ++ codes "{\"message\":\"Nest\",\"id\":5,\"block\":0,\"groups\":2,\"data\":1}\n"
+    ++ codes "{\"message\":\"Big\",\"id\":6,\"block\":0,\"groups\":1,\"data\":0}\n"
+
+-- The note where the schema is in XML.
+abbrev pub refused_xml : List ℕ
+refused_xml = codes "{\"file\":\"schema\",\"refused\":\"S01\",\"path\":\"\"}\n"

@@ -1,21 +1,20 @@
 -- What a run promises about the outside before and after it.
-use Rattle.std.specs.Prelude.{◌≡◌, ◌⊎◌, ℕ, Bool, false, true, Option, Some, None, Ok, List, [], ◌∷◌, ◌++◌, length}
+use Rattle.std.specs.Prelude.{◌≡◌, ◌⊎◌, ℕ, true, false, Option, Some, None, Ok, List, [], ◌∷◌, ◌++◌, length}
 use Rattle.std.specs.Io.KnownBytes.{Consumes, Appends}
 use Rattle.sbe_base.specs.Causes.{AppendsPart}
 use Rattle.sbe_base.specs.declared.status.Status.{Status}
 use Rattle.sbe_base.specs.declared.status.Status.TheVariants as status
-use Rattle.sbe_cli.specs.Words.{command_of}
+use Rattle.sbe_cli.specs.Words.{command_of, reads_input}
 use Rattle.sbe_cli.specs.Splits.{Piece, Begins, Holds}
 use Rattle.sbe_cli.specs.Replies.{Written, Reply, reading_of, IsReply, none_kept, written_of, Replies}
 use Rattle.sbe_cli.specs.Report.{Outcome, Judges, Report}
 use Rattle.sbe_cli.specs.Stops.{stop_line}
 use Rattle.sbe_cli.specs.Outside.{Desk, Sinks, Streams, Outside, Wrote, Breaks, Failed, Calm}
-use Rattle.sbe_cli.specs.Steps.{IsReady, JudgedAs, Declines, Drains, IsReported, IsStepStatus}
+use Rattle.sbe_cli.specs.Steps.{IsReady, IsReadAs, JudgedAs, Declines, Drains, IsReported, IsStepStatus}
 use Rattle.sbe_cli.specs.declared.job.Job.{Job}
 use Rattle.sbe_cli.specs.declared.pump.Kept.{Kept}
 use Rattle.sbe_cli.specs.declared.stop.Stop.TheVariants as stop
 use Rattle.sbe_cli.specs.declared.words.Command.{Command}
-use Rattle.sbe_cli.specs.declared.words.Command.TheVariants.{Dump}
 
 -- the files and the notes
 abbrev pub desk : Outside → Desk
@@ -118,21 +117,16 @@ Fronts words old new =
 
 -- ---- the run
 
--- whether a command takes anything of the input
-abbrev pub reads_input : Option Command → Bool
-reads_input None = false
-reads_input (Some (Dump name limits)) = true
-
 -- the input was read to its end
 abbrev pub HasRead : Status → Type 0
 HasRead code = (code ≡ status.Done) ⊎ (code ≡ status.SomeRefused)
 
 -- What the words, and the outside before and after, say of the status.
 pub record Runs (words : List (List ℕ)) (old new : Outside) (code : Status) : Type 0 where
-  -- nothing outside cut the run short: all is as in the report, no call failed, and nothing is left where all was answered
+  -- nothing outside cut the run short: all is as in the report, no call failed, and nothing is left where all of the input was answered
   pub report : IsReported code → Reports words old new code
   pub calm : IsReported code → (new.files.faults ≡ old.files.faults) × Calm old.streams new.streams
-  pub read : HasRead code → (input : List ℕ) → old.streams.input.told ≡ Some input → new.streams.input.told ≡ Some []
+  pub read : reads_input (command_of words) ≡ true → HasRead code → (input : List ℕ) → old.streams.input.told ≡ Some input → new.streams.input.told ≡ Some []
   -- a fault is answered only where that object failed
   pub file_fault : code ≡ status.FileFault → Failed old.files new.files
   pub read_fault : code ≡ status.ReadFault → Failed old.streams.input new.streams.input
@@ -150,4 +144,4 @@ pub record Runs (words : List (List ℕ)) (old new : Outside) (code : Status) : 
 abbrev pub CarriesOut : Command → Outside → Outside → Status → Type 0
 CarriesOut command old new code =
     (Declines command (desk old) (desk new) code × (new.streams.input ≡ old.streams.input) × (new.streams.sinks.output ≡ old.streams.sinks.output))
-    ⊎ ((job : Job) × JudgedAs command (desk old) (Ok job) × IsReady job × (new.files ≡ old.files) × Drains job old.streams new.streams code)
+    ⊎ ((job : Job) × JudgedAs command (desk old) (Ok job) × IsReady job × (new.files ≡ old.files) × Drains job old.streams new.streams code × IsReadAs command job)

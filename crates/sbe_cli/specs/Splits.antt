@@ -1,5 +1,5 @@
 -- What a command takes from its input, one piece after another.
-use Rattle.std.specs.Prelude.{◌≡◌, ◌≤◌, ◌⊎◌, ℕ, List, [], ◌∷◌, ◌++◌, length, map}
+use Rattle.std.specs.Prelude.{◌≡◌, ◌≤◌, ◌⊎◌, ℕ, Bool, true, false, List, [], ◌∷◌, ◌++◌, length, map}
 use Rattle.std.specs.List.{AllByRecursion}
 use Rattle.sbe_base.specs.declared.status.Limits.{Limits}
 use Rattle.open_framing.specs.declared.head.HeadErr.{HeadErr}
@@ -55,6 +55,20 @@ most_taken (Frames limits) = limits.input
 most_taken (Lines input) = input
 most_taken Once = 0
 most_taken Nothing = 0
+
+-- the pieces are taken of the input
+abbrev pub is_read : Reading → Bool
+is_read (Frames limits) = true
+is_read (Lines input) = true
+is_read Once = false
+is_read Nothing = false
+
+-- no more pieces than this are there: each has a byte, or there is one in all
+abbrev pub most_pieces : Reading → ℕ
+most_pieces (Frames limits) = limits.input
+most_pieces (Lines input) = input
+most_pieces Once = 1
+most_pieces Nothing = 0
 
 -- The input is these pieces, as many as there are, and ends so.
 abbrev pub Splits : Reading → List ℕ → List Piece → PieceEnd → Type 0

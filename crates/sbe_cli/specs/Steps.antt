@@ -1,17 +1,20 @@
 -- What opening a pump and each step of it do.
-use Rattle.std.specs.Prelude.{◌≡◌, ◌≤◌, ◌<◌, ◌⊎◌, ◌==◌, if◌then◌else◌, ℕ, ◌+◌, ◌-◌, Option, Some, None, Result, Ok, Err, List, [], ◌∷◌, ◌++◌, length, ⊤}
+use Rattle.std.specs.Prelude.{◌≡◌, ◌≤◌, ◌<◌, ◌⊎◌, ◌==◌, if◌then◌else◌, ℕ, ◌+◌, ◌-◌, Bool, true, false, Option, Some, None, Result, Ok, Err, List, [], ◌∷◌, ◌++◌, length, ⊤}
 use Rattle.sbe_base.specs.declared.status.Status.{Status}
 use Rattle.sbe_base.specs.declared.status.Status.TheVariants as status
 use Rattle.sbe_wire.specs.Placed.{IsPlaced}
 use Rattle.sbe_cli.specs.Block.{IsSmall}
-use Rattle.sbe_cli.specs.Splits.{Reading, Frames, Lines, Once, Nothing, Piece, PieceEnd, End, Splits, Begins, Holds, most_taken}
+use Rattle.sbe_cli.specs.Splits.{Reading, Frames, Lines, Once, Nothing, Piece, PieceEnd, End, is_read, most_pieces, Splits, Begins, Holds, most_taken}
 use Rattle.sbe_cli.specs.Replies.{Written, Reply, reading_of, IsReply, none_kept, counted, written_of, Replies}
 use Rattle.sbe_cli.specs.Stops.{stop_line, stop_status}
+use Rattle.sbe_cli.specs.Words.{reads_input}
 use Rattle.sbe_cli.specs.Report.{Judges, end_notes, end_status}
 use Rattle.sbe_cli.specs.Outside.{Streams, Desk, Wrote, Breaks, Failed, Calm, Told}
 use Rattle.sbe_cli.specs.declared.files.FileRefusal.{FileRefusal}
 use Rattle.sbe_cli.specs.declared.job.Job.{Job}
-use Rattle.sbe_cli.specs.declared.job.Job.TheVariants.{Dump}
+use Rattle.sbe_cli.specs.declared.job.Job.TheVariants as jobs
+use Rattle.sbe_cli.specs.declared.job.FrameJob.{FrameJob}
+use Rattle.sbe_cli.specs.declared.job.FrameJob.TheVariants.{Dump}
 use Rattle.sbe_cli.specs.declared.pump.Kept.{Kept}
 use Rattle.sbe_cli.specs.declared.pump.Step.{Step}
 use Rattle.sbe_cli.specs.declared.pump.Step.TheVariants.{Went, Ended}
@@ -24,9 +27,18 @@ pub record PumpState : Type 0 where
   pub kept : Kept
   pub ended : Option Status
 
+-- frames can be answered so
+abbrev pub IsReadyFrame : FrameJob → Type 0
+IsReadyFrame (Dump schema) = IsSmall schema × IsPlaced schema
+
 -- a job that can be carried out
 abbrev pub IsReady : Job → Type 0
-IsReady (Dump schema limits) = IsSmall schema × IsPlaced schema
+IsReady (jobs.Frames job limits) = IsReadyFrame job
+IsReady (jobs.Once job) = ⊤
+
+-- the job takes something of the input exactly where its command does
+abbrev pub IsReadAs : Command → Job → Type 0
+IsReadAs command job = is_read (reading_of job) ≡ reads_input (Some command)
 
 -- ---- the start
 
@@ -47,7 +59,7 @@ pub data Declines (command : Command) (before after : Desk) (code : Status) : Ty
 
 -- The pump of the command's job, or the status that its files are declined with.
 abbrev pub Opens : Command → Desk → Desk → Result PumpState Status → Type 0
-Opens command before after (Ok pump) = JudgedAs command before (Ok pump.job) × IsReady pump.job × (pump ≡ opened pump.job) × (after ≡ before)
+Opens command before after (Ok pump) = JudgedAs command before (Ok pump.job) × IsReady pump.job × (pump ≡ opened pump.job) × (after ≡ before) × IsReadAs command pump.job
 Opens command before after (Err code) = Declines command before after code
 
 -- ---- a step
@@ -80,16 +92,21 @@ pub record Goes (old new : PumpState) (before after : Streams) : Type 0 where
   pub calm : Calm before after
   pub runs : new.ended ≡ None
   pub job : new.job ≡ old.job
-  pub more : old.kept.bytes < new.kept.bytes
-  pub within : new.kept.bytes ≤ most_taken (reading_of new.job)
+  -- the items grow to their most, and the bytes of an input to its limit
+  pub more : old.kept.items < new.kept.items
+  pub within : new.kept.items ≤ most_pieces (reading_of new.job)
+  pub bytes_more : is_read (reading_of old.job) ≡ true → old.kept.bytes < new.kept.bytes
+  pub bytes_within : new.kept.bytes ≤ most_taken (reading_of new.job)
+  -- a job that takes nothing of the input leaves it as it was
+  pub unread : is_read (reading_of old.job) ≡ false → after.input ≡ before.input
 
 -- ---- the end of the steps
 
--- The pieces end here: all that was taken behind the last one is told, or nothing is left.
+-- The pieces end here: all that was taken behind the last one is told, or nothing is left of an input that is read.
 pub record Ends (pump : PumpState) (before after : Streams) (input : List ℕ) (code : Status) : Type 0 where
   pub end : PieceEnd
   pub split : Splits (reading_on pump) input [] end
-  pub left : end ≡ End → after.input.told ≡ Some []
+  pub left : is_read (reading_of pump.job) ≡ true → end ≡ End → after.input.told ≡ Some []
   pub output : after.sinks.output ≡ before.sinks.output
   pub noted : Told (end_notes end pump.kept.bytes (most_taken (reading_of pump.job))) (end_status end pump.kept.refused) before.sinks.notes after.sinks.notes code
 
@@ -163,6 +180,7 @@ pub record Closes (old new : PumpState) (before after : Streams) (code : Status)
   pub halts : (input : List ℕ) → before.input.told ≡ Some input → Halts old before after input code
   pub causes : Causes before after code
   pub kept : new ≡ record { job = old.job; kept = old.kept; ended = Some code }
+  pub unread : is_read (reading_of old.job) ≡ false → after.input ≡ before.input
 
 -- A piece is answered, or the pump ends; a pump that has ended answers the same again, and leaves all as it was.
 abbrev pub Steps : PumpState → PumpState → Streams → Streams → Step → Type 0
@@ -194,3 +212,4 @@ pub record Course (job : Job) (old new : Streams) (input : List ℕ) (code : Sta
 pub record Drains (job : Job) (old new : Streams) (code : Status) : Type 0 where
   pub course : (input : List ℕ) → old.input.told ≡ Some input → Course job old new input code
   pub causes : Causes old new code
+  pub unread : is_read (reading_of job) ≡ false → new.input ≡ old.input

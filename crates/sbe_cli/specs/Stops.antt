@@ -1,5 +1,10 @@
 -- What is noted where a run stops before its end, and the status that it stops with.
-use Rattle.std.specs.Prelude.{ℕ, List, ◌++◌, codes, decimal}
+use Rattle.std.specs.Prelude.{ℕ, List, [], ◌++◌, codes, decimal}
+use Rattle.json_elements.specs.declared.refusal.Cause.{Cause}
+use Rattle.json_elements.specs.declared.refusal.Cause.TheVariants as cause
+use Rattle.schema_lines.specs.Texts.{json_text}
+use Rattle.schema_rules.specs.declared.codes.CCode.{CCode}
+use Rattle.schema_rules.specs.declared.codes.CCode.TheVariants as rule
 use Rattle.sbe_base.specs.declared.status.Status.{Status}
 use Rattle.sbe_base.specs.declared.status.Status.TheVariants as status
 use Rattle.open_framing.specs.declared.head.HeadErr.{HeadErr}
@@ -13,9 +18,40 @@ use Rattle.sbe_cli.specs.declared.stop.Stop.TheVariants.{Usage, FileFault, Refus
 abbrev pub usage_line : List ℕ
 usage_line = codes "{\"usage\":\"sbe check compat dump build fixcheck tofix tosbe selftest\"}\n"
 
--- The line of a schema that is refused with this code.
-abbrev pub refused_schema : List ℕ → List ℕ
-refused_schema code = codes "{\"file\":\"schema\",\"refused\":\"" ++ (code ++ codes "\",\"path\":\"\"}\n")
+-- The line of a schema that is refused with this code at this path.
+abbrev pub refused_schema : List ℕ → List ℕ → List ℕ
+refused_schema code path = codes "{\"file\":\"schema\",\"refused\":\"" ++ (code ++ (codes "\",\"path\":" ++ (json_text path ++ codes "}\n")))
+
+-- the code of why a file holds no schema
+abbrev pub cause_code : Cause → List ℕ
+cause_code cause.Xml = codes "S01"
+cause_code cause.NotJson = codes "S02"
+cause_code cause.Shape = codes "S03"
+cause_code cause.Missing = codes "S04"
+cause_code cause.BadAttribute = codes "S05"
+cause_code cause.Limit = codes "S06"
+
+-- the code of a rule that a schema breaks
+abbrev pub rule_code : CCode → List ℕ
+rule_code rule.DuplicateType = codes "C01"
+rule_code rule.UnknownType = codes "C02"
+rule_code rule.Float = codes "C03"
+rule_code rule.Cycle = codes "C04"
+rule_code rule.BadEncoding = codes "C05"
+rule_code rule.BadNumber = codes "C06"
+rule_code rule.DuplicateValue = codes "C07"
+rule_code rule.Offset = codes "C08"
+rule_code rule.BlockShort = codes "C09"
+rule_code rule.BadHeader = codes "C10"
+rule_code rule.BadDimension = codes "C11"
+rule_code rule.BadData = codes "C12"
+rule_code rule.DuplicateName = codes "C13"
+rule_code rule.Order = codes "C14"
+rule_code rule.Since = codes "C15"
+rule_code rule.EmptyGroup = codes "C16"
+rule_code rule.Depth = codes "C17"
+rule_code rule.Width = codes "C18"
+rule_code rule.Presence = codes "C19"
 
 -- A line that ends with a number.
 abbrev pub at_line : List ℕ → ℕ → List ℕ
@@ -36,14 +72,18 @@ head_line (Encoding n) at = fault_line (codes "Encoding") at n
 -- The line of a file that is refused.
 abbrev pub refusal_line : FileRefusal → List ℕ
 refusal_line file.Absent = codes "{\"absent\":\"schema\"}\n"
-refusal_line file.TooLong = refused_schema (codes "S06")
-refusal_line file.NotBuilt = refused_schema (codes "S00")
+refusal_line file.TooLong = refused_schema (codes "S06") []
+refusal_line file.NotBuilt = refused_schema (codes "S00") []
+refusal_line (file.Unread cause path) = refused_schema (cause_code cause) path
+refusal_line (file.Broken rule path) = refused_schema (rule_code rule) path
 
 -- The status where a file is refused.
 abbrev pub refusal_status : FileRefusal → Status
 refusal_status file.Absent = status.NoFile
 refusal_status file.TooLong = status.SchemaRefused
 refusal_status file.NotBuilt = status.SchemaRefused
+refusal_status (file.Unread cause path) = status.SchemaRefused
+refusal_status (file.Broken rule path) = status.SchemaRefused
 
 -- the line of each stop
 abbrev pub stop_line : Stop → List ℕ

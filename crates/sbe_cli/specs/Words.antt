@@ -6,7 +6,7 @@ use Rattle.std.specs.Str.{bytes_eq, all_ascii_digits}
 use Rattle.std.specs.Str.Parse.{digits_value}
 use Rattle.sbe_base.specs.declared.status.Limits.{Limits}
 use Rattle.sbe_cli.specs.declared.words.Command.{Command}
-use Rattle.sbe_cli.specs.declared.words.Command.TheVariants.{Dump}
+use Rattle.sbe_cli.specs.declared.words.Command.TheVariants.{Check, Dump}
 use Rattle.sbe_cli.specs.declared.words.WordsErr.{WordsErr}
 use Rattle.sbe_cli.specs.declared.words.WordsErr.TheVariants.{Usage, Memory}
 use Rattle.sbe_cli.specs.declared.words.forms.Form.{Form}
@@ -79,6 +79,7 @@ pub record FormRow : Type 0 where
 
 -- the table of forms
 abbrev pub row_of : Form → FormRow
+row_of form.Check = record { word = codes "check"; files = 1; options = [] }
 row_of form.Dump = record { word = codes "dump"; files = 1; options = MAX_FRAME.now ∷ MAX_INPUT.now ∷ [] }
 
 -- the words have the form of this row, whatever values its options have
@@ -88,6 +89,13 @@ fits row (word ∷ rest) =
     bytes_eq word row.word && nat_le row.files (length rest)
     && list_all is_file_name (take row.files rest) && are_options row.options (drop row.files rest)
 
+-- `check S`
+abbrev pub check_of : List (List ℕ) → Option Command
+check_of (word ∷ schema ∷ []) = Some (Check schema)
+check_of (word ∷ schema ∷ next ∷ more) = None
+check_of (word ∷ []) = None
+check_of [] = None
+
 -- `dump S`, with the limits of its options
 abbrev pub dump_of : List (List ℕ) → Option Command
 dump_of (word ∷ schema ∷ pairs) = option_map (λ limits. Dump schema limits) (limits_of pairs)
@@ -96,6 +104,7 @@ dump_of [] = None
 
 -- what words of this form say, if the values of their options may be so
 abbrev pub said_by : Form → List (List ℕ) → Option Command
+said_by form.Check words = check_of words
 said_by form.Dump words = dump_of words
 
 -- The command that words say: that of the first form that they have, with each option at most once and a right value.
@@ -108,6 +117,13 @@ Says (Ok command) said = said ≡ Some command
 Says (Err Usage) said = said ≡ None
 Says (Err Memory) said = ⊤
 
--- the limits of a command: 64 to 16,777,216 bytes a frame, and 1 to 1,099,511,627,776 bytes in all
+-- whether a command takes anything of the input
+abbrev pub reads_input : Option Command → Bool
+reads_input None = false
+reads_input (Some (Check name)) = false
+reads_input (Some (Dump name limits)) = true
+
+-- the limits of a command, where it has some: 64 to 16,777,216 bytes a frame, and 1 to 1,099,511,627,776 bytes in all
 abbrev pub HasLimits : Command → Type 0
+HasLimits (Check schema) = ⊤
 HasLimits (Dump schema limits) = (64 ≤ limits.frame) × (limits.frame ≤ 16_777_216) × (1 ≤ limits.input) × (limits.input ≤ 2 ^ 40)

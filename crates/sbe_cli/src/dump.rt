@@ -1,14 +1,41 @@
 ghost use Rattle.std.specs.Prelude.{◌≡◌, ◌++◌, IfOk, OnOk};
 ghost use Rattle.sbe_cli.specs.Block.{IsSmall};
 ghost use Rattle.sbe_cli.specs.Dump.{dumped_line, dumped_verdict, message_in};
+ghost use Rattle.sbe_cli.specs.Files.{LoadCause};
+ghost use Rattle.sbe_cli.specs.Jobs.{LoadsJob};
+ghost use Rattle.sbe_cli.specs.Pumps.{IsBounded};
+ghost use Rattle.sbe_cli.specs.declared.words.Command.TheVariants as command;
 
 use crate::block::{DecodeErr, decode};
-use crate::job::Verdict;
+use crate::files::{LoadStop, load_schema};
+use crate::job::{FrameJob, Job, Verdict};
 use crate::line::{put, put_message, put_refused};
 use lists::NoMem;
 use open_framing::SBE_LITTLE;
+use sbe_base::{Files, Limits};
 use sbe_types::WireSchema;
 use std::alloc::Global;
+
+/// Loads and judges the schema of a dump.
+pub fn load_dump<F: Files>(
+    alloc: Global,
+    name: &str,
+    limits: Limits,
+    files: &mut F,
+) -> Result<Job, LoadStop>
+    requires { IsBounded limits }
+    ensures kept { F.contents files.new ≡ F.contents files.old }
+    ensures loads { LoadsJob (F.contents files.old) (command.Dump name.now limits) result }
+    ensures cause { LoadCause (F.faults files.old) (F.faults files.new) result }
+{
+    match load_schema(alloc, files, name) {
+        Ok(schema) => Ok(Job::Frames {
+            job: FrameJob::Dump { schema },
+            limits,
+        }),
+        Err(stop) => Err(stop),
+    }
+}
 
 /// Appends the line of one frame: its message's, or that of a refused item.
 pub fn put_dumped(

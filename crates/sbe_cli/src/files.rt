@@ -5,15 +5,18 @@ ghost use Rattle.sbe_cli.specs.Files.{LoadsSchema, LoadCause, ReadsSchema};
 
 use crate::attributes::SmallErr;
 use crate::small::read_small;
+use json_elements::Cause;
+use lists::Text;
 use sbe_base::{Files, LoadErr};
 use sbe_types::WireSchema;
+use schema_check::CCode;
 use std::alloc::Global;
 
 /// The most bytes of a schema's file.
 pub const SCHEMA_BYTES: usize = 1_048_576;
 
 /// Why a file isn't taken.
-#[derive(Clone, Copy, Debug, PartialEq, Eq)]
+#[derive(Debug, Drop)]
 pub enum FileRefusal {
     /// No file has the name.
     Absent,
@@ -21,10 +24,14 @@ pub enum FileRefusal {
     TooLong,
     /// Its schema isn't built yet.
     NotBuilt,
+    /// It holds no schema: why, and where, as a JSON pointer.
+    Unread(Cause, Text),
+    /// Its schema isn't in order: the rule that is broken, and the path of the element that breaks it.
+    Broken(CCode, Text),
 }
 
 /// Why a file's schema isn't there.
-#[derive(Clone, Copy, Debug, PartialEq, Eq)]
+#[derive(Debug, Drop)]
 pub enum LoadStop {
     Refused(FileRefusal),
     /// The files failed.

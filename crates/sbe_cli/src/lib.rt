@@ -3,23 +3,27 @@
 
 mod attributes;
 mod block;
+mod check;
+mod draft;
 mod dump;
 mod engine;
 mod files;
+mod frames;
 mod job;
 mod laws;
 mod line;
+mod once;
 mod pump;
+mod refusal;
 pub mod rows;
+mod schema_file;
 mod small;
 mod stop;
-#[cfg(test)]
-mod tests;
 mod words;
 
 pub use engine::run;
 pub use files::FileRefusal;
-pub use job::{Job, Verdict};
+pub use job::{FrameJob, Job, OnceJob, Verdict};
 pub use laws::{one_report, some_report};
 pub use pump::{Kept, Pump, Step};
 pub use words::{Command, FORMS, Form, Name, Row, WordsErr, read_words};

@@ -1,17 +1,20 @@
-ghost use Rattle.std.specs.Prelude.{◌≡◌, ◌+◌, ◌-◌, ◌<◌, ◌≤◌, ◌^◌, []};
-ghost use Rattle.sbe_cli.specs.Outside.{object_of, sinks_of, streams_of, desk_of};
+ghost use Rattle.std.specs.Prelude.{◌≡◌, IfOk};
+ghost use Rattle.sbe_cli.specs.Outside.{object_of, streams_of, desk_of};
 ghost use Rattle.sbe_cli.specs.Words.{HasLimits};
-ghost use Rattle.sbe_cli.specs.Replies.{counted_by};
+ghost use Rattle.sbe_cli.specs.Replies.{none_kept, counted_by};
 ghost use Rattle.sbe_cli.specs.Report.{done_status};
 ghost use Rattle.sbe_cli.specs.Steps.{IsReady, Opens, Steps};
-ghost use Rattle.sbe_cli.specs.Pumps.{IsBounded, job_limits, drafted, Writes, EndsAs, TellsEnd, IsOpened};
+ghost use Rattle.sbe_cli.specs.Pumps.{IsBoundedJob, job_of, IsSoundWork, StandsSo, CanCount, running, Answers, EndsAs, IsOpened};
 
+use crate::draft::Draft;
 use crate::files::LoadStop;
-use crate::job::{Draft, Job, Verdict, job_limits, load_job, put_answer};
+use crate::frames::{FrameWork, open_frames};
+use crate::job::{Job, OnceJob, Verdict, load_job};
+use crate::once::answer_once;
 use crate::stop::{Stop, tell};
 use crate::words::Command;
-use frame_stream::{FrameStream, StreamErr, Taken};
-use sbe_base::{Files, Sink, Source, Status, WriteFault, write_all_to};
+use lists::NoMem;
+use sbe_base::{Files, Sink, Source, Status};
 use std::alloc::Global;
 use std::marker::Model;
 
@@ -28,6 +31,14 @@ pub struct Kept {
     pub bytes: u64,
 }
 
+/// What is counted of an item that was answered.
+#[derive(Clone, Copy, Debug, PartialEq, Eq)]
+pub struct Tally {
+    /// Its bytes in the input.
+    pub bytes: u64,
+    pub verdict: Verdict,
+}
+
 /// What a step did.
 #[derive(Clone, Copy, Debug, PartialEq, Eq)]
 pub enum Step {
@@ -37,12 +48,18 @@ pub enum Step {
     Ended(Status),
 }
 
+/// A job, with what it needs of its input.
+#[derive(Drop)]
+pub enum Work {
+    Frames(FrameWork),
+    Once(OnceJob),
+}
+
 /// One command on its way through its input.
 #[derive(Drop)]
 pub struct Pump {
     alloc: Global,
-    job: Job,
-    stream: FrameStream,
+    work: Work,
     draft: Draft,
     kept: Kept,
     ended: Option<Status>,
@@ -50,7 +67,7 @@ pub struct Pump {
 
 impl Model for Pump {
     ghost use Rattle.sbe_cli.specs.Steps.{PumpState};
-    ghost use Rattle.sbe_cli.specs.Pumps.{IsPump};
+    ghost use Rattle.sbe_cli.specs.Pumps.{IsPump, job_of};
     ghost use Rattle.std.specs.Coded.{codes};
     ghost use Rattle.sbe_types.specs.contracts.kind.Kind as kind;
     ghost use Rattle.sbe_types.specs.contracts.schema.Level as level;
@@ -59,9 +76,9 @@ impl Model for Pump {
 
     ghost coded = { Prim.hlevel (codes, kind.the_row.coded, level.the_row.coded) };
 
-    ghost view = { λ pump. record { job = pump.job; kept = pump.kept; ended = pump.ended } };
+    ghost view = { λ pump. record { job = job_of pump.work; kept = pump.kept; ended = pump.ended } };
 
-    ghost invariant = { λ pump. IsPump pump.job pump.stream pump.kept pump.ended };
+    ghost invariant = { λ pump. IsPump pump.work pump.kept pump.ended };
 }
 
 impl Pump {
@@ -107,45 +124,58 @@ impl Pump {
         if let Some(status) = self.ended {
             return Step::Ended(status);
         }
-        match self.stream.take(input) {
-            Ok(Taken::Frame(head)) => {
-                clear(&mut self.draft);
-                let body = self.stream.frame();
-                match put_answer(
-                    self.alloc,
-                    &self.job,
-                    self.kept,
-                    head.encoding,
-                    body,
-                    &mut self.draft,
-                ) {
-                    Ok(verdict) => match write_draft(&self.draft, output, notes) {
-                        Ok(()) => {
-                            count(&mut self.kept, head.length as u64, verdict);
-                            Step::Went
-                        }
-                        Err(_) => end(&mut self.ended, Status::WriteFault),
-                    },
-                    Err(_) => end(&mut self.ended, Status::NoMemory),
-                }
+        match self.work.answer_next(self.alloc, self.kept, &mut self.draft, input, output, notes) {
+            Ok(tally) => {
+                count(&mut self.kept, tally);
+                Step::Went
             }
-            Ok(Taken::End) => end(&mut self.ended, done(self.kept)),
-            Ok(Taken::EndInside(held)) => {
-                let stop = Stop::EndInside(held as u64, self.kept.bytes);
-                end_with(self.alloc, &mut self.ended, stop, notes)
-            }
-            Err(StreamErr::Head(fault)) => {
-                let stop = Stop::Head(fault, self.kept.bytes);
-                end_with(self.alloc, &mut self.ended, stop, notes)
-            }
-            Err(StreamErr::InputLimit) => {
-                let stop = Stop::InputLimit(job_limits(&self.job).input);
-                end_with(self.alloc, &mut self.ended, stop, notes)
-            }
-            Err(StreamErr::ReadFault) => {
-                let stop = Stop::ReadFault(self.stream.taken());
-                end_with(self.alloc, &mut self.ended, stop, notes)
-            }
+            Err(status) => end(&mut self.ended, status),
+        }
+    }
+}
+
+impl Work {
+    /// Work on a job of which nothing is done yet.
+    fn open(alloc: Global, job: Job) -> Result<Work, NoMem>
+        requires ready { IsReady job }
+        requires bounded { IsBoundedJob job }
+        ensures job { IfOk result (λ work. job_of work ≡ job) }
+        ensures sound { IfOk result (λ work. IsSoundWork work) }
+        ensures stands { IfOk result (λ work. StandsSo work none_kept) }
+    {
+        match job {
+            Job::Frames { job, limits } => match open_frames(alloc, job, limits) {
+                Ok(work) => Ok(Work::Frames(work)),
+                Err(e) => Err(e),
+            },
+            Job::Once(job) => Ok(Work::Once(job)),
+        }
+    }
+
+    /// Answers the next item, or answers the status of the run that ends here.
+    fn answer_next<I: Source, O: Sink, N: Sink>(
+        &mut self,
+        alloc: Global,
+        kept: Kept,
+        draft: &mut Draft,
+        input: &mut I,
+        output: &mut O,
+        notes: &mut N,
+    ) -> Result<Tally, Status>
+        requires sound { IsSoundWork self.old }
+        requires stands { StandsSo self.old kept }
+        ensures answers { Answers (running (job_of self.old) kept)
+            (streams_of (object_of (I.left input.old) (I.faults input.old)) (object_of (O.held output.old) (O.faults output.old)) (object_of (N.held notes.old) (N.faults notes.old)))
+            (streams_of (object_of (I.left input.new) (I.faults input.new)) (object_of (O.held output.new) (O.faults output.new)) (object_of (N.held notes.new) (N.faults notes.new)))
+            result }
+        ensures job { job_of self.new ≡ job_of self.old }
+        ensures sound { IsSoundWork self.new }
+        ensures stands { IfOk result (λ tally. StandsSo self.new (counted_by kept tally.bytes tally.verdict)) }
+        ensures countable { IfOk result (λ tally. CanCount kept tally) }
+    {
+        match self {
+            Work::Frames(work) => work.answer_next(alloc, kept, draft, input, output, notes),
+            Work::Once(job) => answer_once(job, kept, draft, output, notes),
         }
     }
 }
@@ -153,20 +183,16 @@ impl Pump {
 /// A pump that has done nothing yet.
 fn begin(alloc: Global, job: Job) -> Result<Pump, Status>
     requires ready { IsReady job }
-    requires bounded { IsBounded (job_limits job) }
+    requires bounded { IsBoundedJob job }
     ensures { IsOpened job result }
 {
-    let Ok(stream) = FrameStream::open(alloc, job_limits(&job)) else {
+    let Ok(work) = Work::open(alloc, job) else {
         return Err(Status::NoMemory);
     };
     Ok(Pump {
         alloc,
-        job,
-        stream,
-        draft: Draft {
-            output: Vec::new(alloc),
-            notes: Vec::new(alloc),
-        },
+        work,
+        draft: Draft::new(alloc),
         kept: Kept {
             items: 0,
             refused: 0,
@@ -177,43 +203,14 @@ fn begin(alloc: Global, job: Job) -> Result<Pump, Status>
     })
 }
 
-/// Empties a draft.
-fn clear(draft: &mut Draft)
-    ensures output { draft.new.output.items ≡ [] }
-    ensures notes { draft.new.notes.items ≡ [] }
-{
-    draft.output.clear();
-    draft.notes.clear();
-}
-
-/// Writes what a draft holds, the output first.
-fn write_draft<O: Sink, N: Sink>(
-    draft: &Draft,
-    output: &mut O,
-    notes: &mut N,
-) -> Result<(), WriteFault>
-    ensures { Writes (drafted draft.now)
-        (sinks_of (object_of (O.held output.old) (O.faults output.old)) (object_of (N.held notes.old) (N.faults notes.old)))
-        (sinks_of (object_of (O.held output.new) (O.faults output.new)) (object_of (N.held notes.new) (N.faults notes.new)))
-        result }
-{
-    match write_all_to(output, draft.output.as_slice()) {
-        Ok(()) => write_all_to(notes, draft.notes.as_slice()),
-        Err(fault) => Err(fault),
-    }
-}
-
-/// Counts an item of so many bytes.
-fn count(kept: &mut Kept, bytes: u64, verdict: Verdict)
-    requires items { kept.old.items < 2 ^ 64 - 1 }
-    requires refused { kept.old.refused < 2 ^ 64 - 1 }
-    requires translated { kept.old.translated < 2 ^ 64 - 1 }
-    requires bytes { kept.old.bytes + bytes < 2 ^ 64 }
-    ensures { kept.new ≡ counted_by kept.old bytes verdict }
+/// Counts an item.
+fn count(kept: &mut Kept, tally: Tally)
+    requires { CanCount kept.old tally }
+    ensures { kept.new ≡ counted_by kept.old tally.bytes tally.verdict }
 {
     kept.items += 1;
-    kept.bytes += bytes;
-    match verdict {
+    kept.bytes += tally.bytes;
+    match tally.verdict {
         Verdict::Answered => {}
         Verdict::Refused => kept.refused += 1,
         Verdict::Translated => kept.translated += 1,
@@ -221,7 +218,7 @@ fn count(kept: &mut Kept, bytes: u64, verdict: Verdict)
 }
 
 /// The status of a run that answered all items.
-fn done(kept: Kept) -> Status
+pub fn done(kept: Kept) -> Status
     ensures { result ≡ done_status kept.refused }
 {
     if kept.refused > 0 {
@@ -237,12 +234,4 @@ fn end(ended: &mut Option<Status>, status: Status) -> Step
 {
     *ended = Some(status);
     Step::Ended(status)
-}
-
-/// Ends a pump with a stop that is noted.
-fn end_with<N: Sink>(alloc: Global, ended: &mut Option<Status>, stop: Stop, notes: &mut N) -> Step
-    ensures { TellsEnd stop (object_of (N.held notes.old) (N.faults notes.old)) (object_of (N.held notes.new) (N.faults notes.new)) result ended.new }
-{
-    let status = tell(alloc, stop, notes);
-    end(ended, status)
 }

@@ -1,16 +1,17 @@
 //! The definitions of a run, computed on small runs.
 
-ghost use Rattle.std.specs.Prelude.{◌≡◌, ◌∷◌, ◌++◌, [], ℕ, List, Option, None, codes};
+ghost use Rattle.std.specs.Prelude.{◌≡◌, ◌∷◌, ◌++◌, [], ℕ, List, Option, Some, None, codes};
 ghost use Rattle.sbe_base.specs.declared.status.Limits.{Limits};
 ghost use Rattle.sbe_base.specs.declared.status.Status.TheVariants as status;
 ghost use Rattle.sbe_wire.specs.Placed.{IsPlaced};
 ghost use Rattle.sbe_wire.specs.Rows.Schemas.{schema7};
-ghost use Rattle.open_framing.specs.Rows.{ping_item};
-ghost use Rattle.sbe_cli.specs.Splits.{Frames, Frame, End, EndInside, InputLimit};
+ghost use Rattle.sbe_cli.specs.Splits.{Frames, End, EndInside, InputLimit};
 ghost use Rattle.sbe_cli.specs.Replies.{Replies, none_kept, none_written};
-ghost use Rattle.sbe_cli.specs.Report.{Report, closed};
-ghost use Rattle.sbe_cli.specs.Rows.{big_endian_item, ping_line, refused_second, usage, absent, ends_inside, over_limit};
-ghost use Rattle.sbe_cli.specs.declared.job.Job.TheVariants as job;
+ghost use Rattle.sbe_cli.specs.Report.{Report, JobReport, closed};
+ghost use Rattle.sbe_cli.specs.Rows.{two_pieces, ping_line, six_lines, refused_second, refused_xml, usage, absent, ends_inside, over_limit};
+ghost use Rattle.sbe_cli.specs.declared.job.Job.TheVariants as jobs;
+ghost use Rattle.sbe_cli.specs.declared.job.FrameJob.TheVariants as frame;
+ghost use Rattle.sbe_cli.specs.declared.job.OnceJob.TheVariants as once;
 
 /// No words are no command.
 pub fn no_words()
@@ -24,8 +25,19 @@ pub fn no_file()
 
 /// Two frames of 20 bytes, of which the second isn't little-endian.
 pub fn two_frames()
-    ensures { (limits : Limits) → IsPlaced schema7 → Replies (job.Dump schema7 limits) none_kept (Frame ping_item ∷ Frame big_endian_item ∷ [])
+    ensures { (limits : Limits) → IsPlaced schema7 → Replies (jobs.Frames (frame.Dump schema7) limits) none_kept two_pieces
         (record { output = ping_line ++ refused_second; notes = [] }) (record { items = 2; refused = 1; translated = 0; bytes = 40 }) }
+{}
+
+/// A check of a schema of six messages, whatever the input holds.
+pub fn six_messages()
+    ensures { (input : List ℕ) → JobReport (jobs.Once (once.Check schema7)) input (record { output = six_lines; notes = []; status = status.Done }) }
+{}
+
+/// A schema in XML.
+pub fn xml_schema()
+    ensures { (input : List ℕ) → Report (codes "check" ∷ codes "ping.xml" ∷ []) (λ name. Some (codes "<")) input
+        (record { output = []; notes = refused_xml; status = status.SchemaRefused }) }
 {}
 
 /// The ends behind one frame of 20 bytes that was answered.

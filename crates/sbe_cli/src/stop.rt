@@ -1,17 +1,18 @@
 ghost use Rattle.std.specs.Prelude.{◌≡◌};
 ghost use Rattle.sbe_cli.specs.Line.{Puts};
 ghost use Rattle.sbe_cli.specs.Outside.{Told, object_of};
-ghost use Rattle.sbe_cli.specs.Stops.{stop_status, stop_line, refused_schema, at_line, head_line, fault_line};
+ghost use Rattle.sbe_cli.specs.Stops.{stop_status, stop_line, at_line, head_line, fault_line};
 
 use crate::files::FileRefusal;
 use crate::line::{put, put_count};
+use crate::refusal::{put_refusal, refusal_status};
 use lists::NoMem;
 use open_framing::HeadErr;
 use sbe_base::{Sink, Status, write_all_to};
 use std::alloc::Global;
 
 /// What is noted where a run stops before its end.
-#[derive(Clone, Copy, Debug, PartialEq, Eq)]
+#[derive(Debug, Drop)]
 pub enum Stop {
     /// The words are no command.
     Usage,
@@ -31,16 +32,13 @@ pub enum Stop {
 
 impl Stop {
     /// The status that it ends the run with.
-    pub fn status(self) -> Status
-        ensures { result ≡ stop_status self }
+    pub fn status(&self) -> Status
+        ensures { result ≡ stop_status self.now }
     {
         match self {
             Stop::Usage => Status::Usage,
             Stop::FileFault => Status::FileFault,
-            Stop::Refused(FileRefusal::Absent) => Status::NoFile,
-            Stop::Refused(FileRefusal::TooLong) | Stop::Refused(FileRefusal::NotBuilt) => {
-                Status::SchemaRefused
-            }
+            Stop::Refused(refusal) => refusal_status(refusal),
             Stop::ReadFault(_) => Status::ReadFault,
             Stop::EndInside(_, _) | Stop::Head(_, _) => Status::FramingRefused,
             Stop::InputLimit(_) => Status::InputLimit,
@@ -53,7 +51,7 @@ pub fn tell<N: Sink>(alloc: Global, stop: Stop, notes: &mut N) -> Status
     ensures { Told (stop_line stop) (stop_status stop) (object_of (N.held notes.old) (N.faults notes.old)) (object_of (N.held notes.new) (N.faults notes.new)) result }
 {
     let mut line = Vec::new(alloc);
-    match put_stop(&mut line, stop) {
+    match put_stop(&mut line, &stop) {
         Ok(()) => {}
         Err(_) => return Status::NoMemory,
     }
@@ -64,8 +62,8 @@ pub fn tell<N: Sink>(alloc: Global, stop: Stop, notes: &mut N) -> Status
 }
 
 /// Appends the line that a stop is noted by.
-fn put_stop(out: &mut Vec<u8>, stop: Stop) -> Result<(), NoMem>
-    ensures { Puts result out.old.items out.new.items (stop_line stop) }
+fn put_stop(out: &mut Vec<u8>, stop: &Stop) -> Result<(), NoMem>
+    ensures { Puts result out.old.items out.new.items (stop_line stop.now) }
 {
     match stop {
         Stop::Usage => put(
@@ -73,22 +71,12 @@ fn put_stop(out: &mut Vec<u8>, stop: Stop) -> Result<(), NoMem>
             b"{\"usage\":\"sbe check compat dump build fixcheck tofix tosbe selftest\"}\n",
         ),
         Stop::FileFault => put(out, b"{\"fault\":\"File\",\"file\":\"schema\"}\n"),
-        Stop::Refused(FileRefusal::Absent) => put(out, b"{\"absent\":\"schema\"}\n"),
-        Stop::Refused(FileRefusal::TooLong) => put_refused_schema(out, b"S06"),
-        Stop::Refused(FileRefusal::NotBuilt) => put_refused_schema(out, b"S00"),
-        Stop::ReadFault(at) => put_at(out, b"{\"fault\":\"Read\",\"at\":", at),
-        Stop::EndInside(held, at) => put_fault(out, b"EndInside", at, held),
-        Stop::Head(fault, at) => put_head_fault(out, fault, at),
-        Stop::InputLimit(limit) => put_at(out, b"{\"limit\":\"Input\",\"at\":", limit),
+        Stop::Refused(refusal) => put_refusal(out, refusal),
+        Stop::ReadFault(at) => put_at(out, b"{\"fault\":\"Read\",\"at\":", *at),
+        Stop::EndInside(held, at) => put_fault(out, b"EndInside", *at, *held),
+        Stop::Head(fault, at) => put_head_fault(out, *fault, *at),
+        Stop::InputLimit(limit) => put_at(out, b"{\"limit\":\"Input\",\"at\":", *limit),
     }
-}
-
-fn put_refused_schema(out: &mut Vec<u8>, code: &[u8]) -> Result<(), NoMem>
-    ensures { Puts result out.old.items out.new.items (refused_schema code.now) }
-{
-    put(out, b"{\"file\":\"schema\",\"refused\":\"")?;
-    put(out, code)?;
-    put(out, b"\",\"path\":\"\"}\n")
 }
 
 fn put_at(out: &mut Vec<u8>, front: &[u8], at: u64) -> Result<(), NoMem>

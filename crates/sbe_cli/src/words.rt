@@ -1,10 +1,8 @@
 ghost use Rattle.std.specs.Prelude.{◌≡◌, map, string_bytes, IfOk};
-ghost use Rattle.sbe_cli.specs.Words.{Says, HasLimits, command_of, dump_of, limits_of, said_by};
+ghost use Rattle.sbe_cli.specs.Words.{Says, HasLimits, check_of, command_of, dump_of, limits_of, said_by};
 
 mod forms;
 mod options;
-#[cfg(test)]
-mod tests;
 
 pub use forms::{FORMS, Form, Row};
 use options::{FRAME_RANGE, INPUT_RANGE, MAX_FRAME, MAX_INPUT, number_given};
@@ -39,6 +37,8 @@ impl Name {
 /// What a run is to do.
 #[derive(Drop)]
 pub enum Command {
+    /// Prints a line for each message of a schema that is in order.
+    Check { schema: Name },
     /// Prints a line for each frame of the input.
     Dump { schema: Name, limits: Limits },
 }
@@ -76,8 +76,23 @@ fn read_form(alloc: Global, form: Form, words: &[String]) -> Result<Command, Wor
     ensures ranges { IfOk result (λ command. HasLimits command) }
 {
     match form {
+        Form::Check => read_check(alloc, words),
         Form::Dump => read_dump(alloc, words),
     }
+}
+
+fn read_check(alloc: Global, words: &[String]) -> Result<Command, WordsErr>
+    ensures says { Says result (check_of (map (λ word. string_bytes word) words.now)) }
+    ensures ranges { IfOk result (λ command. HasLimits command) }
+{
+    let [_, schema] = words else {
+        return Err(WordsErr::Usage);
+    };
+    let Ok(text) = String::from_str(alloc, schema.as_str()) else {
+        return Err(WordsErr::Memory);
+    };
+    let schema = Name { text };
+    Ok(Command::Check { schema })
 }
 
 fn read_dump(alloc: Global, words: &[String]) -> Result<Command, WordsErr>

@@ -9,12 +9,14 @@ use std::marker::Model;
 /// A form that words may have.
 #[derive(Clone, Copy, Debug, PartialEq, Eq)]
 pub enum Form {
+    /// `check S`
+    Check,
     /// `dump S`
     Dump,
 }
 
 /// All forms, in the order in which they are tried.
-pub const FORMS: [Form; 1] = [Form::Dump];
+pub const FORMS: [Form; 2] = [Form::Check, Form::Dump];
 
 /// What words of a form are: a command's word, names of files, and options in pairs.
 #[derive(Drop)]
@@ -41,6 +43,11 @@ impl Form {
         ensures { result ≡ row_of self.now }
     {
         match self {
+            Form::Check => Row {
+                word: "check",
+                files: 1,
+                options: &[],
+            },
             Form::Dump => Row {
                 word: "dump",
                 files: 1,

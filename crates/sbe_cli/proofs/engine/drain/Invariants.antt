@@ -1,5 +1,5 @@
 use Rattle.std.proofs.Common.{◌-◌}
-use Rattle.sbe_cli.specs.Splits.{most_taken}
+use Rattle.sbe_cli.specs.Splits.{most_pieces}
 use Rattle.sbe_cli.specs.Replies.{reading_of}
 use Rattle.sbe_cli.proofs.Running.{IsRunning}
 use Rattle.sbe_cli.proofs.engine.drain.Given as goal
@@ -12,4 +12,4 @@ invariant-steps g l = record {
 }
 
 abbrev pub decreases-steps : goal.decreases-steps
-decreases-steps g l = most_taken (reading_of l.pump.job) - l.pump.kept.bytes
+decreases-steps g l = most_pieces (reading_of l.pump.job) - l.pump.kept.items
