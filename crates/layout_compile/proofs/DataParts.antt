@@ -1,5 +1,5 @@
 -- Data parts by their numbers.
-use Rattle.std.proofs.Common.{◌≡◌, ◌≤◌, ◌<◌, ◌⊎◌, inl, inr, ℕ, zero, suc, ◌+◌, List, [], ◌∷◌, ◌++◌, length, take, get_or, Option, Some, None, refl, sym, ap, ◌∙◌, subst, arith, append_assoc, length-append}
+use Rattle.std.proofs.Common.{◌≡◌, ◌≤◌, ◌<◌, inl, inr, ℕ, zero, suc, ◌+◌, List, [], ◌∷◌, ◌++◌, length, take, get_or, Option, Some, None, refl, sym, ap, ◌∙◌, subst, arith, append_assoc, length-append}
 use Rattle.std.specs.Prelude.{slice_get, map}
 use Rattle.std.specs.Option.{option_map}
 use Rattle.std.proofs.lemmas.List.{append-nil}
@@ -16,6 +16,7 @@ use Rattle.layout_compile.specs.Grown.{RowsAre, Grown}
 use Rattle.layout_compile.specs.Parts.{parts_of, all_parts, part_number, part_counts, firsts_from, places_in, places_from, Numbered, PartStands}
 use Rattle.layout_compile.proofs.Grows.{map_more}
 use Rattle.layout_compile.proofs.Told.{item_of}
+use Rattle.layout_compile.proofs.Items.{item_there, long_map, in_two, get_front, get_behind}
 
 -- ---- the tables as they grow
 
@@ -91,10 +92,6 @@ places_more rows i places more row h is so grown =
 
 -- ---- rows have as many data parts as their levels
 
-long_map : {X Y : Type 0} (f : X → Y) (xs : List X) → length (map f xs) ≡ length xs
-long_map f [] = refl
-long_map f (x ∷ xs) = ap suc (long_map f xs)
-
 pub counts_same : (k : ℕ) (rows : List LevelRow) (nodes : List Node) → RowsAre k rows nodes → counts_of rows ≡ part_counts nodes
 counts_same k [] [] h = refl
 counts_same k [] (n ∷ nodes) h = absurd h
@@ -123,22 +120,6 @@ places_many n (x ∷ nodes) =
 pub places_all : (schema : WireSchema) (places : List PartPlace) → places ≡ places_from 0 (part_counts (all_nodes schema)) → length places ≡ length (all_parts schema)
 places_all schema places is = ap length is ∙ places_many 0 (all_nodes schema)
 
--- an item of the first or the second of two lists
-in_two : {X : Type 0} (a b : List X) (k : ℕ) (x : X) → slice_get (a ++ b) k ≡ Some x → (slice_get a k ≡ Some x) ⊎ ((j : ℕ) × (k ≡ length a + j) × (slice_get b j ≡ Some x))
-in_two [] b k x h = inr (k, omega arith, h)
-in_two (y ∷ a) b zero x h = inl h
-in_two (y ∷ a) b (suc k) x h = elim (in_two a b k x h) [ inl e ↦ inl e | inr e ↦ inr (e.0, omega (arith, e.1), e.2) ]
-
-pub get_front : {X : Type 0} (a b : List X) (k : ℕ) → k < length a → slice_get (a ++ b) k ≡ slice_get a k
-get_front [] b k h = absurd (omega arith)
-get_front (y ∷ a) b zero h = refl
-get_front (y ∷ a) b (suc k) h = get_front a b k (omega arith)
-
-pub get_behind : {X : Type 0} (a b : List X) (k j : ℕ) → k ≡ length a + j → slice_get (a ++ b) k ≡ slice_get b j
-get_behind [] b k j h = ap (slice_get b) (omega arith)
-get_behind (y ∷ a) b zero j h = absurd (omega arith)
-get_behind (y ∷ a) b (suc k) j h = get_behind a b k j (omega arith)
-
 place_in_level : (level i many k : ℕ) (p : PartPlace) → slice_get (places_in level i many) k ≡ Some p → (p.level ≡ level) × (p.part ≡ i + k) × (k < many)
 place_in_level level i zero k p h = cc
 place_in_level level i (suc many) zero p h =
@@ -156,6 +137,7 @@ record InLevel (n : ℕ) (nodes : List Node) (k : ℕ) (p : PartPlace) : Type 0 
   pub level : p.level ≡ n + i
   pub at : slice_get nodes i ≡ Some node
   pub part : p.part < length (out-Level node.level).parts
+  pub number : k ≡ length (parts_of (take i nodes)) + p.part
   pub same : slice_get (parts_of nodes) k ≡ slice_get (out-Level node.level).parts p.part
 
 in_level : (n : ℕ) (nodes : List Node) (k : ℕ) (p : PartPlace) → slice_get (places_from n (part_counts nodes)) k ≡ Some p → InLevel n nodes k p
@@ -172,16 +154,19 @@ in_level n (x ∷ nodes) k p h =
             level = omega (arith, here.0);
             at = refl;
             part = omega (arith, here.2, part);
+            number = omega (arith, part);
             same = get_front parts (parts_of nodes) k here.2 ∙ ap (slice_get parts) part;
           }
       | inr e ↦
           let rest = in_level (suc n) nodes e.0 p e.2 in
+          let all : length (parts_of (take (suc rest.i) (x ∷ nodes))) ≡ length parts + length (parts_of (take rest.i nodes)) = length-append parts (parts_of (take rest.i nodes)) in
           record {
             i = suc rest.i;
             node = rest.node;
             level = omega (arith, rest.level);
             at = rest.at;
             part = rest.part;
+            number = omega (arith, e.1, long_in n 0 (length parts), rest.number, all);
             same = get_behind parts (parts_of nodes) k e.0 (omega (arith, e.1, long_in n 0 (length parts))) ∙ rest.same;
           }
     ]
@@ -198,6 +183,7 @@ part_told schema places k p is h at =
     record {
       level = slice_get_within (all_nodes schema) p.level found.node node;
       part = omega (arith, found.part, ap length parts);
+      number = found.number ∙ ap (λ i. length (parts_of (take i (all_nodes schema))) + p.part) same;
       same = found.same ∙ ap (λ l. slice_get l p.part) (sym parts);
     }
 
@@ -243,17 +229,12 @@ numbered (x ∷ nodes) (suc n) i node at h =
       get_behind parts (parts_of nodes) (length (parts_of (take (suc n) (x ∷ nodes))) + i) (length (parts_of (take n nodes)) + i) (omega (arith, front)) ∙ rest.1,
     )
 
-node_there : (nodes : List Node) (n : ℕ) → n < length nodes → (node : Node) × (slice_get nodes n ≡ Some node)
-node_there [] n h = absurd (omega arith)
-node_there (x ∷ nodes) zero h = (x, refl)
-node_there (x ∷ nodes) (suc n) h = node_there nodes n (omega arith)
-
 pub number_told : (schema : WireSchema) (firsts : List ℕ) (n i f : ℕ) → firsts ≡ firsts_from 0 (part_counts (all_nodes schema)) → n < length (all_nodes schema) → i < length (parts_at schema n) →
     f ≡ get_or firsts n f → Numbered schema n i f
 number_told schema firsts n i f is h has at =
     let there : slice_get (firsts_from 0 (part_counts (all_nodes schema))) n ≡ Some f =
     ap (λ l. slice_get l n) (sym is) ∙ slice_get_read firsts (length firsts) n f refl (first_within schema firsts n is h) at in
-    let node = node_there (all_nodes schema) n h in
+    let node = item_there (all_nodes schema) n h in
     let parts : parts_at schema n ≡ (out-Level node.0.level).parts = ap (λ (o : Option Node). parts_in (option_map (λ (x : Node). x.level) o)) node.1 in
     let found = numbered (all_nodes schema) n i node.0 node.1 (omega (arith, has, ap length parts)) in
     let same : f + i ≡ part_number schema n i = omega (arith, first_is 0 (all_nodes schema) n f there) in

@@ -10,7 +10,8 @@ use Rattle.sbe_types.specs.declared.schema.WireSchema.{WireSchema}
 use Rattle.layout_compile.specs.declared.rows.LevelRow.{LevelRow}
 use Rattle.schema_facts.specs.Levels.{Node, nodes, nodes_below, nodes_of, nodes_from, all_nodes, root_of, Stands, node, group_node, level_at}
 use Rattle.layout_compile.specs.Rowed.{RowFor}
-use Rattle.layout_compile.proofs.Nodes.{stands_more, stands_behind, stands_first, stands_split, in_two, whole, nodes_open, open_group}
+use Rattle.layout_compile.proofs.Nodes.{stands_more, stands_behind, stands_first, stands_split, whole, nodes_open, open_group}
+use Rattle.layout_compile.proofs.Items.{in_two, drop_is}
 
 mutual
   unfolding nodes nodes_below nodes_of
@@ -100,13 +101,6 @@ root_is schema n this at =
 
 stands_front : (xs : List Node) (k : ℕ) (ys zs : List Node) → Stands xs k (ys ++ zs) → Stands xs k ys
 stands_front xs k ys zs h = (h.0, zs ++ h.1, h.2 ∙ ap (λ l. h.0 ++ l) (append_assoc ys zs h.1), h.3)
-
-drop_is : {X : Type 0} (xs : List X) (i : ℕ) (x : X) → i < length xs → x ≡ get_or xs i x → drop i xs ≡ x ∷ drop (i + 1) xs
-drop_is [] i x h is = absurd (omega arith)
-drop_is (y ∷ xs) zero x h is = ap (λ z. z ∷ xs) (sym is)
-drop_is (y ∷ xs) (suc i) x h is =
-    let next : suc i + 1 ≡ suc (i + 1) = omega arith in
-    rw next (drop_is xs i x (omega arith) is)
 
 -- a group's level, the levels of its groups, and those behind it
 pub record ChildAt (schema : WireSchema) (t k : ℕ) (g : Group) (rest : List Group) : Type 0 where

@@ -15,7 +15,7 @@ use Rattle.layout_compile.specs.Parts.{group_number, dim_at}
 use Rattle.layout_compile.proofs.Nodes.{children, stands_first}
 use Rattle.layout_compile.proofs.Grows.{flat_more}
 use Rattle.layout_compile.proofs.Finds.{ChildAt, child_at, child_end, message_of, opened_message}
-use Rattle.layout_compile.proofs.Told.{item_there}
+use Rattle.layout_compile.proofs.Items.{item_there}
 
 mutual
   unfolding nodes nodes_below nodes_of
@@ -103,6 +103,12 @@ group_level schema n k child w h =
     let this = here schema n k child w h in
     ap (option_map (λ (x : Node). x.level)) this.child_is.at
     ∙ sym (ap (λ (gs : List Group). option_map (λ (g : Group). (out-Group g).level) (slice_get gs k)) (groups_are schema n w.this w.at) ∙ ap (option_map (λ (g : Group). (out-Group g).level)) this.there)
+
+-- it is no root
+pub group_some : (schema : WireSchema) (n k child : ℕ) → GroupsFrom schema n k child → k < length (groups_at schema n) → IsSome (dim_at schema child)
+group_some schema n k child w h =
+    let this = here schema n k child w h in
+    subst (λ (o : Option Node). IsSome (option_and_then (λ (x : Node). x.dim) o)) (sym this.child_is.at) refl
 
 pub group_dim : (schema : WireSchema) (n k child : ℕ) → GroupsFrom schema n k child → k < length (groups_at schema n) →
     dim_at schema child ≡ option_map (λ (g : Group). (out-Group g).dim) (slice_get (groups_at schema n) k)

@@ -31,13 +31,6 @@ pub end_snoc : (e : ℕ) (fs : List Field) (f : Field) → fields_end e (fs ++ f
 end_snoc e [] f = refl
 end_snoc e (g ∷ fs) f = end_snoc (end_past e g.offset g.kind) fs f
 
-pub take_one : {X : Type 0} (fs : List X) (i : ℕ) (f : X) → i < length fs → f ≡ get_or fs i f → take (i + 1) fs ≡ take i fs ++ f ∷ []
-take_one [] i f h is = absurd (omega arith)
-take_one (g ∷ fs) zero f h is = ap (λ x. x ∷ []) (sym is)
-take_one (g ∷ fs) (suc i) f h is =
-    let next : suc i + 1 ≡ suc (i + 1) = omega arith in
-    ap (λ m. take m (g ∷ fs)) next ∙ ap (λ l. g ∷ l) (take_one fs i f (omega arith) is)
-
 -- one more field that ends within the largest place
 pub field_narrow : (e : ℕ) (fs : List Field) (i : ℕ) (f : Field) → i < length fs → f ≡ get_or fs i f → AreNarrowFields e (drop i fs) →
     IsNarrow f.kind × EndsWithin e f.offset f.kind × AreNarrowFields (end_past e f.offset f.kind) (drop (i + 1) fs)

@@ -4,26 +4,22 @@ use Rattle.std.specs.Prelude.{slice_get, map, flat_map, codes}
 use Rattle.std.specs.Option.{option_map}
 use Rattle.std.proofs.lemmas.List.{append-nil}
 use Rattle.std.proofs.lemmas.Option.{slice_get-map, slice_get_read}
+use Rattle.sbe_types.specs.declared.schema.DataField.{DataField}
+use Rattle.sbe_types.specs.declared.schema.Group.{Group, out-Group}
 use Rattle.sbe_types.specs.declared.schema.Field.{Field}
 use Rattle.sbe_types.specs.declared.schema.Level.{Level, out-Level}
 use Rattle.sbe_types.specs.declared.schema.WireSchema.{WireSchema}
-use Rattle.schema_facts.specs.Levels.{Node, level_at, fields_at, fields_in}
+use Rattle.schema_facts.specs.Levels.{Node, level_at, fields_at, fields_in, groups_at, groups_in, parts_at, parts_in}
 use Rattle.layout_compile.specs.declared.rows.KeyRow.{KeyRow}
 use Rattle.layout_compile.specs.declared.rows.KeyTable.{KeyTable}
 use Rattle.layout_compile.specs.declared.rows.LevelRow.{LevelRow}
 use Rattle.layout_compile.specs.Keys.{key_text, names_of, names_in, names_at, rows_from, KeysAre}
 use Rattle.layout_compile.specs.Paths.{NamedPart, level_parts, field_part, group_part, data_part}
+use Rattle.layout_compile.specs.Parts.{parts_in_all}
 use Rattle.layout_compile.specs.Rowed.{RowFor}
-use Rattle.layout_compile.proofs.DataParts.{get_front}
+use Rattle.layout_compile.proofs.Items.{long_map, get_front, get_behind, take_at, all_taken}
 
 -- ---- the table as it grows
-
-take_at : {X : Type 0} (xs : List X) (i : ℕ) (x : X) → slice_get xs i ≡ Some x → take (i + 1) xs ≡ take i xs ++ x ∷ []
-take_at [] i x at = cc
-take_at (y ∷ xs) zero x at = let here : y ≡ x = cc in ap (λ z. z ∷ []) here
-take_at (y ∷ xs) (suc i) x at =
-    let next : suc i + 1 ≡ suc (i + 1) = omega arith in
-    ap (λ m. take m (y ∷ xs)) next ∙ ap (λ l. y ∷ l) (take_at xs i x at)
 
 bytes_snoc : (names : List (List ℕ)) (name : List ℕ) → flat_map key_text (names ++ name ∷ []) ≡ flat_map key_text names ++ key_text name
 bytes_snoc [] name = append-nil (key_text name)
@@ -56,12 +52,6 @@ keys_more names i bytes more rows next row name at so grown starts ends pushed =
       rows_are = pushed ∙ ap (λ l. l ++ row ∷ []) so.rows_are ∙ sym (ap (rows_from 0) one ∙ rows_snoc 0 before name row start end);
     }
 
-all_taken : {X : Type 0} (k : ℕ) (xs : List X) → length xs ≤ k → take k xs ≡ xs
-all_taken zero [] h = refl
-all_taken zero (x ∷ xs) h = absurd (omega arith)
-all_taken (suc k) [] h = refl
-all_taken (suc k) (x ∷ xs) h = ap (λ l. x ∷ l) (all_taken k xs (omega arith))
-
 pub keys_done : (names : List (List ℕ)) (i : ℕ) (table : KeyTable) → KeysSo names i table.bytes.items table.rows.items → length names ≤ i → KeysAre names table
 keys_done names i table so past =
     let whole = all_taken i names past in
@@ -72,10 +62,6 @@ keys_done names i table so past =
 
 pub name_at : (level : Level) (i : ℕ) (name : List ℕ) → option_map (λ (p : NamedPart). p.name) (slice_get (level_parts level) i) ≡ Some name → slice_get (names_of level) i ≡ Some name
 name_at level i name h = slice_get-map (λ (p : NamedPart). p.name) (level_parts level) i ∙ h
-
-long_map : {X Y : Type 0} (f : X → Y) (xs : List X) → length (map f xs) ≡ length xs
-long_map f [] = refl
-long_map f (x ∷ xs) = ap suc (long_map f xs)
 
 pub names_many : (level : Level) → length (names_of level) ≡ length (level_parts level)
 names_many level = long_map (λ (p : NamedPart). p.name) (level_parts level)
@@ -187,11 +173,6 @@ unquoted name =
     let long : length (key_text name) ≡ 1 + (length name + 2) = omega (arith, length-append name (codes "\":")) in
     take_all name (codes "\":") (length (key_text name) - 2 - 1) (omega (arith, long))
 
-pub key_long : (name : List ℕ) → length (key_text name) ≡ length name + 3
-key_long name =
-    let long : length (key_text name) ≡ 1 + (length name + 2) = omega (arith, length-append name (codes "\":")) in
-    omega (arith, long)
-
 pub field_named : (schema : WireSchema) (n i : ℕ) (key : List ℕ) → i < length (fields_at schema n) → option_map key_text (slice_get (names_at schema n) i) ≡ Some key →
     option_map (λ (f : Field). f.name) (slice_get (fields_at schema n) i) ≡ Some (take (length key - 2 - 1) (drop 1 key))
 field_named schema n i key h is = inner (slice_get (names_at schema n) i) (field_key schema n i h) is
@@ -202,3 +183,62 @@ field_named schema n i key h is = inner (slice_get (names_at schema n) i) (field
     inner (Some name) same is =
         let here : key_text name ≡ key = cc in
         sym same ∙ ap Some (sym (unquoted name)) ∙ ap (λ (k : List ℕ). Some (take (length k - 2 - 1) (drop 1 k))) here
+
+-- ---- the names of a level's parts
+
+pub names_all : (schema : WireSchema) (n : ℕ) → length (names_at schema n) ≡ parts_in_all schema n
+names_all schema n = in_level (level_at schema n)
+  where
+    in_level : (o : Option Level) → length (names_in o) ≡ length (fields_in o) + length (groups_in o) + length (parts_in o)
+    in_level None = omega arith
+    in_level (Some level) = omega (arith, names_many level, parts_many level)
+
+group_at : (level : Level) (i : ℕ) → i < length (out-Level level).groups →
+    slice_get (names_of level) (length (out-Level level).fields + i) ≡ option_map (λ (g : Group). (out-Level (out-Group g).level).name) (slice_get (out-Level level).groups i)
+group_at level i h =
+    let a = map field_part (out-Level level).fields in
+    let b = map group_part (out-Level level).groups in
+    let c = map data_part (out-Level level).parts in
+    let k = length (out-Level level).fields + i in
+    let behind : slice_get (level_parts level) k ≡ slice_get (b ++ c) i = get_behind a (b ++ c) k i (omega (arith, long_map field_part (out-Level level).fields)) in
+    let front : slice_get (b ++ c) i ≡ slice_get b i = get_front b c i (omega (arith, h, long_map group_part (out-Level level).groups)) in
+    let found : slice_get (level_parts level) k ≡ option_map group_part (slice_get (out-Level level).groups i) = behind ∙ front ∙ slice_get-map group_part (out-Level level).groups i in
+    slice_get-map (λ (p : NamedPart). p.name) (level_parts level) k ∙ ap (option_map (λ (p : NamedPart). p.name)) found ∙ twice (slice_get (out-Level level).groups i)
+  where
+    twice : (o : Option Group) → option_map (λ (p : NamedPart). p.name) (option_map group_part o) ≡ option_map (λ (g : Group). (out-Level (out-Group g).level).name) o
+    twice None = refl
+    twice (Some g) = refl
+
+pub group_key : (schema : WireSchema) (n i : ℕ) → i < length (groups_at schema n) →
+    slice_get (names_at schema n) (length (fields_at schema n) + i) ≡ option_map (λ (g : Group). (out-Level (out-Group g).level).name) (slice_get (groups_at schema n) i)
+group_key schema n i h = in_level (level_at schema n) h
+  where
+    in_level : (o : Option Level) → i < length (groups_in o) → slice_get (names_in o) (length (fields_in o) + i) ≡ option_map (λ (g : Group). (out-Level (out-Group g).level).name) (slice_get (groups_in o) i)
+    in_level None h = absurd (omega arith)
+    in_level (Some level) h = group_at level i h
+
+data_at : (level : Level) (i : ℕ) → i < length (out-Level level).parts →
+    slice_get (names_of level) (length (out-Level level).fields + length (out-Level level).groups + i) ≡ option_map (λ (d : DataField). d.name) (slice_get (out-Level level).parts i)
+data_at level i h =
+    let a = map field_part (out-Level level).fields in
+    let b = map group_part (out-Level level).groups in
+    let c = map data_part (out-Level level).parts in
+    let j = length (out-Level level).groups + i in
+    let k = length (out-Level level).fields + length (out-Level level).groups + i in
+    let first : slice_get (level_parts level) k ≡ slice_get (b ++ c) j = get_behind a (b ++ c) k j (omega (arith, long_map field_part (out-Level level).fields)) in
+    let second : slice_get (b ++ c) j ≡ slice_get c i = get_behind b c j i (omega (arith, long_map group_part (out-Level level).groups)) in
+    let found : slice_get (level_parts level) k ≡ option_map data_part (slice_get (out-Level level).parts i) = first ∙ second ∙ slice_get-map data_part (out-Level level).parts i in
+    slice_get-map (λ (p : NamedPart). p.name) (level_parts level) k ∙ ap (option_map (λ (p : NamedPart). p.name)) found ∙ twice (slice_get (out-Level level).parts i)
+  where
+    twice : (o : Option DataField) → option_map (λ (p : NamedPart). p.name) (option_map data_part o) ≡ option_map (λ (d : DataField). d.name) o
+    twice None = refl
+    twice (Some d) = refl
+
+pub data_key : (schema : WireSchema) (n i : ℕ) → i < length (parts_at schema n) →
+    slice_get (names_at schema n) (length (fields_at schema n) + length (groups_at schema n) + i) ≡ option_map (λ (d : DataField). d.name) (slice_get (parts_at schema n) i)
+data_key schema n i h = in_level (level_at schema n) h
+  where
+    in_level : (o : Option Level) → i < length (parts_in o) →
+        slice_get (names_in o) (length (fields_in o) + length (groups_in o) + i) ≡ option_map (λ (d : DataField). d.name) (slice_get (parts_in o) i)
+    in_level None h = absurd (omega arith)
+    in_level (Some level) h = data_at level i h

@@ -1,24 +1,26 @@
 -- The least number of bytes of an entry, by the rows.
-use Rattle.std.proofs.Common.{◌≡◌, ◌≤◌, ◌<◌, ℕ, zero, suc, ◌+◌, cond, List, [], ◌∷◌, ◌++◌, length, take, drop, get_or, Option, Some, None, refl, sym, ap, ◌∙◌, subst, arith}
+use Rattle.std.proofs.Common.{◌≡◌, ◌<◌, ◌≤◌, ℕ, ◌+◌, cond, List, [], ◌∷◌, ◌++◌, length, take, Option, Some, None, refl, sym, ap, ◌∙◌, subst, arith}
 use Rattle.std.specs.Prelude.{slice_get, map}
-use Rattle.std.specs.Option.{option_map}
+use Rattle.std.specs.Option.{option_map, option_and_then, IsSome}
 use Rattle.sbe_types.specs.declared.kind.Member.{Member}
 use Rattle.sbe_types.specs.declared.schema.DataField.{DataField}
 use Rattle.sbe_types.specs.declared.schema.Group.{Group, out-Group}
-use Rattle.sbe_types.specs.declared.schema.Level.{out-Level}
+use Rattle.sbe_types.specs.declared.schema.Level.{Level, out-Level}
 use Rattle.sbe_types.specs.declared.schema.WireSchema.{WireSchema}
 use Rattle.sbe_types.specs.Places.{members_end}
 use Rattle.sbe_wire.specs.Versions.{is_alive, floor}
+use Rattle.schema_facts.specs.CheckedLevels.{TakesByte}
+use Rattle.schema_facts.specs.IsChecked.{EntriesTakeBytes}
+use Rattle.schema_facts.proofs.KindDeclared.{all_at}
 use Rattle.schema_facts.specs.Entries.{group_least, groups_least, part_least, parts_least, entry_least}
-use Rattle.schema_facts.specs.Levels.{Node, all_nodes, groups_at, groups_in, parts_at, parts_in, fields_at, fields_in, level_at, group_node}
+use Rattle.schema_facts.specs.Levels.{Node, all_nodes, groups_at, groups_in, parts_at, parts_in, fields_at, fields_in, level_at, node, group_node}
 use Rattle.layout_compile.specs.declared.rows.DimRow.{DimRow}
 use Rattle.layout_compile.specs.declared.rows.LevelRow.{LevelRow}
-use Rattle.layout_compile.specs.declared.rows.PartRow.{PartRow}
 use Rattle.layout_compile.specs.Rowed.{RowFor, DimOf, part_row}
-use Rattle.layout_compile.specs.Least.{dim_width, row_least, part_row_least, part_rows_least}
-use Rattle.layout_compile.proofs.Grows.{take_one}
+use Rattle.layout_compile.specs.Parts.{dim_at}
+use Rattle.layout_compile.specs.Least.{dim_width, row_least, part_rows_least}
 use Rattle.layout_compile.proofs.GroupWalk.{GroupsFrom, here, groups_are}
-use Rattle.layout_compile.proofs.Told.{item_there}
+use Rattle.layout_compile.proofs.Items.{item_there, take_one}
 
 groups_snoc : (version : ℕ) (gs : List Group) (g : Group) → groups_least version (gs ++ g ∷ []) ≡ groups_least version gs + group_least version g
 groups_snoc version [] g = omega arith
@@ -51,37 +53,6 @@ least_more schema n k child version so next row w h is least grown =
     let after : next ≡ groups_least version (take (k + 1) groups) = omega (arith, grown, here_is, before, one) in
     after ∙ sym (ap (λ gs. groups_least version (take (k + 1) gs)) same)
 
-pub all_taken : {X : Type 0} (k : ℕ) (xs : List X) → length xs ≤ k → take k xs ≡ xs
-all_taken zero [] h = refl
-all_taken zero (x ∷ xs) h = absurd (omega arith)
-all_taken (suc k) [] h = refl
-all_taken (suc k) (x ∷ xs) h = ap (λ l. x ∷ l) (all_taken k xs (omega arith))
-
--- one more data part
-pub parts_more : (version : ℕ) (rows : List PartRow) (i so next : ℕ) (row : PartRow) → i < length rows → row ≡ get_or rows i row → so + part_rows_least version (drop i rows) ≡ part_rows_least version rows →
-    next ≡ so + part_row_least version row → next + part_rows_least version (drop (i + 1) rows) ≡ part_rows_least version rows
-parts_more version rows i so next row h is least grown =
-    let one : part_rows_least version (drop i rows) ≡ part_row_least version row + part_rows_least version (drop (i + 1) rows) = ap (part_rows_least version) (drop_is rows i row h is) in
-    omega (arith, one, least, grown)
-  where
-    drop_is : (xs : List PartRow) (i : ℕ) (x : PartRow) → i < length xs → x ≡ get_or xs i x → drop i xs ≡ x ∷ drop (i + 1) xs
-    drop_is [] i x h is = absurd (omega arith)
-    drop_is (y ∷ xs) zero x h is = ap (λ z. z ∷ xs) (sym is)
-    drop_is (y ∷ xs) (suc i) x h is =
-        let next : suc i + 1 ≡ suc (i + 1) = omega arith in
-        rw next (drop_is xs i x (omega arith) is)
-
-none_left : {X : Type 0} (xs : List X) (i : ℕ) → length xs ≤ i → drop i xs ≡ []
-none_left [] zero h = refl
-none_left [] (suc i) h = refl
-none_left (x ∷ xs) zero h = absurd (omega arith)
-none_left (x ∷ xs) (suc i) h = none_left xs i (omega arith)
-
-pub parts_done : (version : ℕ) (rows : List PartRow) (i so : ℕ) → length rows ≤ i → so + part_rows_least version (drop i rows) ≡ part_rows_least version rows → so ≡ part_rows_least version rows
-parts_done version rows i so h least =
-    let none : part_rows_least version (drop i rows) ≡ 0 = ap (part_rows_least version) (none_left rows i h) in
-    omega (arith, none, least)
-
 rows_are : (version : ℕ) (parts : List DataField) → part_rows_least version (map part_row parts) ≡ parts_least version parts
 rows_are version [] = refl
 rows_are version (part ∷ parts) = ap (λ n. part_least version part + n) (rows_are version parts)
@@ -103,3 +74,21 @@ entry_told schema n version least first second third h floors groups parts is =
     let c : third ≡ parts_least version (out-Level level).parts = parts ∙ ap (λ o. parts_least version (parts_in o)) at in
     let all : entry_least version level ≡ least = omega (arith, a, b, c, is) in
     ap (option_map (entry_least version)) at ∙ ap Some all
+
+-- an entry of a group that is alive takes a byte
+takes_one : (t version : ℕ) (dim : Option (List Member)) (level : Level) → TakesByte (node t dim level) → IsSome dim → (out-Level level).since ≤ version → 1 ≤ entry_least version level
+takes_one t version None level h some alive = cc
+takes_one t version (Some dim) level h some alive = h version alive
+
+pub entry_some : (schema : WireSchema) (n version since least : ℕ) → EntriesTakeBytes schema → n < length (all_nodes schema) → IsSome (dim_at schema n) →
+    option_map (λ (l : Level). (out-Level l).since) (level_at schema n) ≡ Some since → since ≤ version → option_map (entry_least version) (level_at schema n) ≡ Some least → 1 ≤ least
+entry_some schema n version since least takes h group at alive told =
+    let this = item_there (all_nodes schema) n h in
+    let level_is : level_at schema n ≡ Some this.0.level = ap (option_map (λ (x : Node). x.level)) this.1 in
+    let some : IsSome this.0.dim = subst (λ (o : Option Node). IsSome (option_and_then (λ (x : Node). x.dim) o)) this.1 group in
+    let own : Some (out-Level this.0.level).since ≡ Some since = sym (ap (option_map (λ (l : Level). (out-Level l).since)) level_is) ∙ at in
+    let first : (out-Level this.0.level).since ≡ since = cc in
+    let bytes : Some (entry_least version this.0.level) ≡ Some least = sym (ap (option_map (entry_least version)) level_is) ∙ told in
+    let same : entry_least version this.0.level ≡ least = cc in
+    let one = takes_one this.0.template version this.0.dim this.0.level (all_at TakesByte (all_nodes schema) n this.0 takes this.1) some (omega (arith, first, alive)) in
+    omega (arith, one, same)

@@ -1,3 +1,4 @@
+pub mod Items
 pub mod Widths
 pub mod Nodes
 pub mod Counters

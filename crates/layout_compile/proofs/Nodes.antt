@@ -1,5 +1,5 @@
 -- Where the levels stand among all levels.
-use Rattle.std.proofs.Common.{◌≡◌, ◌⊎◌, inl, inr, ℕ, zero, suc, ◌+◌, List, [], ◌∷◌, ◌++◌, length, Option, Some, None, refl, sym, ap, ◌∙◌, subst, arith, append_assoc, length-append}
+use Rattle.std.proofs.Common.{◌≡◌, inl, inr, ℕ, zero, suc, ◌+◌, List, [], ◌∷◌, ◌++◌, length, Option, Some, None, refl, sym, ap, ◌∙◌, subst, append_assoc, length-append}
 use Rattle.std.specs.Prelude.{slice_get, flat_map}
 use Rattle.std.proofs.lemmas.List.{append-nil}
 use denote.Hole.Carrier as carrier
@@ -10,6 +10,7 @@ use Rattle.sbe_types.specs.declared.schema.Group.{Group, Group', out-Group}
 use Rattle.sbe_types.specs.declared.schema.Level.{Level, Level', out-Level, Row_of-Group, end_of-Group, more_of-Group, items-the_row-Group, items_shown-the_row-Group-0}
 use Rattle.sbe_types.specs.declared.schema.WireSchema.{WireSchema}
 use Rattle.schema_facts.specs.Levels.{Node, nodes, nodes_below, nodes_of, nodes_from, all_nodes, Stands, node}
+use Rattle.layout_compile.proofs.Items.{in_two}
 
 pub stands_more : (a b : List Node) (k : ℕ) (ys : List Node) → Stands a k ys → Stands (a ++ b) k ys
 stands_more a b k ys h =
@@ -32,11 +33,6 @@ stands_first xs k y ys h = ap (λ l. slice_get l k) h.2 ∙ ap (slice_get (h.0 +
 pub stands_split : (xs : List Node) (k : ℕ) (ys zs : List Node) → Stands xs k (ys ++ zs) → Stands xs (k + length ys) zs
 stands_split xs k ys zs h =
     (h.0 ++ ys, h.1, h.2 ∙ ap (λ l. h.0 ++ l) (append_assoc ys zs h.1) ∙ sym (append_assoc h.0 ys (zs ++ h.1)), length-append h.0 ys ∙ ap (λ n. n + length ys) h.3)
-
-pub in_two : (a b : List Node) (k : ℕ) (x : Node) → slice_get (a ++ b) k ≡ Some x → (slice_get a k ≡ Some x) ⊎ ((j : ℕ) × (k ≡ length a + j) × (slice_get b j ≡ Some x))
-in_two [] b k x h = inr (k, omega arith, h)
-in_two (y ∷ a) b zero x h = inl h
-in_two (y ∷ a) b (suc k) x h = elim (in_two a b k x h) [ inl e ↦ inl e | inr e ↦ inr (e.0, omega (arith, e.1), e.2) ]
 
 pub whole : (xs : List Node) → Stands xs 0 xs
 whole xs = ([], [], sym (append-nil xs), refl)

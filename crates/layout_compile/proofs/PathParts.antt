@@ -8,11 +8,7 @@ use Rattle.sbe_types.specs.declared.kind.Member.{Member}
 use Rattle.sbe_types.specs.declared.schema.DataField.{DataField}
 use Rattle.sbe_types.specs.declared.schema.Level.{Level, out-Level}
 use Rattle.layout_compile.specs.Paths.{NamedPart, in_nothing, level_parts, kind_parts, field_part, group_part, data_part, member_part}
-use Rattle.layout_compile.proofs.DataParts.{get_behind}
-
-long_map : {X Y : Type 0} (f : X → Y) (xs : List X) → length (map f xs) ≡ length xs
-long_map f [] = refl
-long_map f (x ∷ xs) = ap suc (long_map f xs)
+use Rattle.layout_compile.proofs.Items.{long_map, get_behind}
 
 data_at : (parts : List DataField) (j : ℕ) → j < length parts → option_map (λ (p : NamedPart). p.inside) (slice_get (map data_part parts) j) ≡ Some in_nothing
 data_at [] j h = absurd (omega arith)

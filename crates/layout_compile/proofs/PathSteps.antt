@@ -13,6 +13,7 @@ use Rattle.layout_compile.specs.Paths.{Inside, in_level, parts_inside, Stepped, 
 use Rattle.layout_compile.specs.Walks.{step_text}
 use Rattle.layout_compile.specs.Writes.{Outlet, Writes}
 use Rattle.layout_compile.proofs.WriteSteps.{writes_more, writes_part}
+use Rattle.layout_compile.proofs.Items.{drop_at, all_dropped}
 
 -- how far the text of a path is written: what is left of it is the text of the steps behind
 pub record PathSo (found left : Option (List ℕ)) (before after : Outlet) : Type 0 where
@@ -55,19 +56,6 @@ path_within schema template steps some = within schema.messages template some
     within [] t h = absurd (none_some (List ℕ) h)
     within (l ∷ ls) zero h = omega arith
     within (l ∷ ls) (suc t) h = let rest = within ls t h in omega (arith, rest)
-
-drop_at : {X : Type 0} (xs : List X) (i : ℕ) (x : X) → slice_get xs i ≡ Some x → drop i xs ≡ x ∷ drop (i + 1) xs
-drop_at [] i x at = cc
-drop_at (y ∷ xs) zero x at = let here : y ≡ x = cc in ap (λ z. z ∷ xs) here
-drop_at (y ∷ xs) (suc i) x at =
-    let next : suc i + 1 ≡ suc (i + 1) = omega arith in
-    rw next (drop_at xs i x at)
-
-none_left : {X : Type 0} (xs : List X) (i : ℕ) → length xs ≤ i → drop i xs ≡ []
-none_left [] zero h = refl
-none_left [] (suc i) h = refl
-none_left (x ∷ xs) zero h = absurd (omega arith)
-none_left (x ∷ xs) (suc i) h = none_left xs i (omega arith)
 
 -- the text of one step, and then that of the steps behind it
 abbrev behind : List Step → Option Stepped → Option (List ℕ)
@@ -138,6 +126,6 @@ path_stops found first inside steps i step a b c e r h at some w bad =
 pub path_ends : (found : Option (List ℕ)) (first : Bool) (inside : Inside) (steps : List Step) (i : ℕ) (a b : Outlet) → PathSo found (path_from first inside (drop i steps)) a b → length steps ≤ i →
     Writes a b (unwrap_or found []) (Ok tt)
 path_ends found first inside steps i a b h past =
-    let none : path_from first inside (drop i steps) ≡ Some [] = ap (path_from first inside) (none_left steps i past) in
+    let none : path_from first inside (drop i steps) ≡ Some [] = ap (path_from first inside) (all_dropped steps i past) in
     let is : Some (h.so ++ []) ≡ found = ap (option_map (λ rest. h.so ++ rest)) (sym none) ∙ h.is in
     subst (λ o. Writes a b (unwrap_or o []) (Ok tt)) is (subst (λ t. Writes a b t (Ok tt)) (sym (append-nil h.so)) h.wrote)

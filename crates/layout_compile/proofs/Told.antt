@@ -1,9 +1,12 @@
 -- What the rows tell of the schema.
 use Rattle.std.proofs.lemmas.Bool.Decides.{nat_tests}
-use Rattle.std.proofs.Common.{◌≡◌, ◌≤◌, ◌<◌, cond, ℕ, zero, suc, Bool, true, false, List, [], ◌∷◌, length, get_or, Option, Some, None, refl, sym, ap, ◌∙◌, subst, arith}
-use Rattle.std.specs.Prelude.{slice_get, map, max, not, ◌&&◌}
+use Rattle.std.proofs.Common.{◌≡◌, ◌≤◌, ◌<◌, ◌+◌, cond, ℕ, zero, suc, Bool, true, false, List, [], ◌∷◌, length, get_or, Option, Some, None, refl, sym, ap, ◌∙◌, subst, arith}
+use Rattle.std.specs.Prelude.{slice_get, max, not, ◌&&◌}
+use Rattle.std.specs.List.{AllByRecursion}
 use Rattle.std.specs.Option.{option_map, IsSome}
 use Rattle.std.proofs.lemmas.Option.{slice_get_within, slice_get_read, slice_get-map}
+use Rattle.sbe_types.specs.declared.limits.TheConstants.{PART_LIMIT}
+use Rattle.sbe_types.specs.declared.kind.Kind.{Kind}
 use Rattle.sbe_types.specs.declared.schema.Field.{Field}
 use Rattle.sbe_types.specs.declared.schema.WireSchema.{WireSchema}
 use Rattle.sbe_types.specs.declared.schema.Level.{Level, out-Level}
@@ -13,8 +16,12 @@ use Rattle.layout_compile.specs.declared.rows.FieldRow.{FieldRow}
 use Rattle.layout_compile.specs.declared.rows.LevelRow.{LevelRow}
 use Rattle.layout_compile.specs.declared.rows.PartRow.{PartRow}
 use Rattle.schema_facts.specs.Levels.{Node, all_nodes, level_at, fields_at, groups_at, parts_at, fields_in, groups_in, parts_in, root_of}
+use Rattle.schema_facts.specs.CheckedLevels.{HasFewParts}
+use Rattle.schema_facts.specs.IsChecked.{LevelsHaveFewParts}
+use Rattle.layout_compile.specs.Parts.{parts_in_all}
 use Rattle.layout_compile.specs.Rowed.{FieldsAre, AreRows, RowFor, newest_from, rows_floor, part_row, roots_from}
 use Rattle.layout_compile.proofs.Grows.{floor_rows, roots_many, root_at}
+use Rattle.layout_compile.proofs.Items.{item_there, long_map}
 
 as_many : (e : ℕ) (fs : List Field) (rs : List FieldRow) → FieldsAre e fs rs → length rs ≡ length fs
 as_many e [] [] h = refl
@@ -50,10 +57,20 @@ place_in_range e [] i some = cc
 place_in_range e (x ∷ fs) zero some = omega arith
 place_in_range e (x ∷ fs) (suc i) some = let rest = place_in_range (end_past e x.offset x.kind) fs i some in omega (arith, rest)
 
-pub item_there : {X : Type 0} (xs : List X) (n : ℕ) → n < length xs → (x : X) × (slice_get xs n ≡ Some x)
-item_there [] n h = absurd (omega arith)
-item_there (x ∷ xs) zero h = (x, refl)
-item_there (x ∷ xs) (suc n) h = item_there xs n (omega arith)
+-- a field that is no constant has a place
+some_place : (e : ℕ) (fs : List Field) (i : ℕ) (kind : Kind) → option_map (λ (f : Field). f.kind) (slice_get fs i) ≡ Some kind → is_const kind ≡ false → IsSome (field_place e fs i)
+some_place e [] i kind at h = cc
+some_place e (f ∷ fs) zero kind at h =
+    let same : f.kind ≡ kind = cc in
+    placed (is_const f.kind) (ap is_const same ∙ h)
+  where
+    placed : (b : Bool) → b ≡ false → IsSome (cond b None (Some (begin_of e f.offset)))
+    placed true h = cc
+    placed false h = refl
+some_place e (f ∷ fs) (suc i) kind at h = some_place (end_past e f.offset f.kind) fs i kind at h
+
+pub place_there : (fs : List Field) (i : ℕ) (kind : Kind) → option_map (λ (f : Field). f.kind) (slice_get fs i) ≡ Some kind → is_const kind ≡ false → IsSome (field_place 0 fs i)
+place_there fs i kind at h = some_place 0 fs i kind at h
 
 -- the row of a level that there is
 pub node_row : (schema : WireSchema) (levels : List LevelRow) (n : ℕ) (row : LevelRow) → AreRows schema levels → slice_get levels n ≡ Some row → RowFor schema n row
@@ -63,10 +80,6 @@ node_row schema levels n row t at =
 
 abbrev opened : Option Node → Option Level
 opened o = option_map (λ (x : Node). x.level) o
-
-long_map : {X Y : Type 0} (f : X → Y) (xs : List X) → length (map f xs) ≡ length xs
-long_map f [] = refl
-long_map f (x ∷ xs) = ap suc (long_map f xs)
 
 pub fields_there : (schema : WireSchema) (n : ℕ) (row : LevelRow) → RowFor schema n row → length row.fields.items ≡ length (fields_at schema n)
 fields_there schema n row t = as_many 0 _ row.fields.items t.2.fields ∙ ap (λ (o : Option Node). length (fields_in (opened o))) (sym t.1)
@@ -165,3 +178,13 @@ part_told schema n i row r t within is =
     let there : slice_get row.parts.items i ≡ Some r = slice_get_read row.parts.items _ i r refl (omega (arith, within, parts_there schema n row t)) is in
     ap (λ (o : Option Node). option_map part_row (slice_get (parts_in (opened o)) i)) t.1
     ∙ sym (slice_get-map part_row (out-Level t.0.level).parts i) ∙ ap (λ l. slice_get l i) (sym t.2.parts) ∙ there
+
+few_at : (nodes : List Node) → AllByRecursion (λ (x : Node). HasFewParts x.level) nodes → (n : ℕ) →
+    length (fields_in (opened (slice_get nodes n))) + length (groups_in (opened (slice_get nodes n))) + length (parts_in (opened (slice_get nodes n))) ≤ PART_LIMIT
+few_at [] h n = omega arith
+few_at (x ∷ nodes) h zero = h.0
+few_at (x ∷ nodes) h (suc n) = few_at nodes h.1 n
+
+-- a level has few parts
+pub few_told : (schema : WireSchema) (n : ℕ) → LevelsHaveFewParts schema → parts_in_all schema n ≤ PART_LIMIT
+few_told schema n h = few_at (all_nodes schema) h n

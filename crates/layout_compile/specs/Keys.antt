@@ -15,6 +15,7 @@ key_text name = codes "\"" ++ (name ++ codes "\":")
 abbrev pub names_of : Level → List (List ℕ)
 names_of level = map (λ p. p.name) (level_parts level)
 
+-- the names of the parts of a level, if there is one
 abbrev pub names_in : Option Level → List (List ℕ)
 names_in None = []
 names_in (Some level) = names_of level

@@ -1,8 +1,7 @@
 -- The groups and data parts of a schema by their numbers. From SBE 1.0, Message structure; the numbers are own profile.
-use Rattle.std.specs.Prelude.{◌≡◌, ℕ, zero, suc, ◌+◌, ◌<◌, ◌≤◌, Option, List, [], ◌∷◌, ◌++◌, length, map, flat_map, take, slice_get}
+use Rattle.std.specs.Prelude.{◌≡◌, ℕ, zero, suc, ◌+◌, ◌<◌, Option, List, [], ◌∷◌, ◌++◌, length, map, flat_map, take, slice_get}
 use Rattle.std.specs.Option.{option_and_then}
 use Rattle.sbe_types.specs.declared.kind.Member.{Member}
-use Rattle.sbe_types.specs.declared.limits.TheConstants.{PART_LIMIT}
 use Rattle.sbe_types.specs.declared.schema.DataField.{DataField}
 use Rattle.sbe_types.specs.declared.schema.Level.{out-Level}
 use Rattle.sbe_types.specs.declared.schema.WireSchema.{WireSchema}
@@ -33,10 +32,6 @@ part_number schema n i = length (parts_of (take n (all_nodes schema))) + i
 abbrev pub parts_in_all : WireSchema → ℕ → ℕ
 parts_in_all schema n = length (fields_at schema n) + length (groups_at schema n) + length (parts_at schema n)
 
--- no level has more parts than the limit
-abbrev pub HasFewParts : WireSchema → Type 0
-HasFewParts schema = (n : ℕ) → parts_in_all schema n ≤ PART_LIMIT
-
 -- ---- the tables of data parts
 
 -- how many data parts each level has
@@ -62,6 +57,7 @@ places_from n (count ∷ counts) = places_in n 0 count ++ places_from (suc n) co
 pub record PartStands (schema : WireSchema) (k : ℕ) (place : PartPlace) : Type 0 where
   pub level : place.level < length (all_nodes schema)
   pub part : place.part < length (parts_at schema place.level)
+  pub number : k ≡ part_number schema place.level place.part
   pub same : slice_get (all_parts schema) k ≡ slice_get (parts_at schema place.level) place.part
 
 -- f data parts stand before those of level n, which has a data part i

@@ -68,6 +68,35 @@ worked =
       messages = order ∷ ping ∷ [];
     }
 
+-- one group of that name around the entries of a level
+abbrev pub around : List ℕ → Level → Level
+around name level = Level' name 1 [] 0 0 [] (tt ∷ []) (more_of-Group (Group' size16 level) end_of-Group) []
+
+-- a composite of one member of that name
+abbrev pub holding : List ℕ → Kind → Kind
+holding name kind = Comp' (tt ∷ []) (more_of-Member name None kind end_of-Member)
+
+-- a field of a composite four deep, whose innermost member is an array
+abbrev pub deep_field : Field
+deep_field = field (codes "x") 1 0 (holding (codes "p") (holding (codes "q") (holding (codes "r") (holding (codes "sizes") three))))
+
+-- a message of six groups around one another, the innermost with that field
+abbrev pub deep : Level
+deep =
+    around (codes "Deep") (around (codes "a") (around (codes "b") (around (codes "c") (around (codes "d") (around (codes "e")
+    (Level' (codes "f") 1 [] 0 6 (deep_field ∷ []) [] end_of-Group []))))))
+
+-- the schema of this message alone
+abbrev pub deep_schema : WireSchema
+deep_schema =
+    record {
+      id = 1;
+      version = 0;
+      order = Little;
+      header = record { members = header_members };
+      messages = deep ∷ [];
+    }
+
 -- the names of all levels, by their numbers
 abbrev pub level_names : List (List ℕ)
 level_names = map (λ (node : Node). (out-Level node.level).name) (all_nodes worked)
@@ -91,3 +120,9 @@ to_note = Part 5 ∷ Entry 13 ∷ Part 2 ∷ []
 -- to an entry of a field, which there is none of
 abbrev pub to_nothing : List Step
 to_nothing = Part 0 ∷ Entry 0 ∷ []
+
+-- to an element of the innermost array, with as many steps as a path can need
+abbrev pub to_deepest : List Step
+to_deepest =
+    Part 0 ∷ Entry 1 ∷ Part 0 ∷ Entry 2 ∷ Part 0 ∷ Entry 3 ∷ Part 0 ∷ Entry 4 ∷ Part 0 ∷ Entry 5 ∷ Part 0 ∷ Entry 6
+    ∷ Part 0 ∷ Part 0 ∷ Part 0 ∷ Part 0 ∷ Part 0 ∷ Elem 2 ∷ []

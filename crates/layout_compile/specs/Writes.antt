@@ -9,6 +9,7 @@ pub record Outlet : Type 0 where
   pub held : Option (List ℕ)
   pub faults : ℕ
 
+-- a sink by what it holds and how often it failed
 abbrev pub outlet_of : Option (List ℕ) → ℕ → Outlet
 outlet_of held faults = record { held = held; faults = faults }
 

@@ -16,6 +16,8 @@ impl Layout {
     pub fn group(&self, level: usize, i: usize) -> usize
         requires level { level < length (all_nodes self.now) }
         requires group { i < length (groups_at self.now level) }
+        ensures within { result < length (all_nodes self.now) }
+        ensures some { IsSome (dim_at self.now result) }
         ensures number { result ≡ group_number self.now level i }
         ensures level { level_at self.now result ≡ option_map (λ g. (out-Group g).level) (slice_get (groups_at self.now level) i) }
         ensures dim { dim_at self.now result ≡ option_map (λ g. (out-Group g).dim) (slice_get (groups_at self.now level) i) }
@@ -49,6 +51,7 @@ impl Layout {
     pub fn data(&self, level: usize, i: usize) -> usize
         requires level { level < length (all_nodes self.now) }
         requires part { i < length (parts_at self.now level) }
+        ensures within { result < length (all_parts self.now) }
         ensures number { result ≡ part_number self.now level i }
         ensures same { slice_get (all_parts self.now) result ≡ slice_get (parts_at self.now level) i }
     {

@@ -1,9 +1,11 @@
 // The least number of bytes of an entry.
-ghost use Rattle.std.specs.Prelude.{◌≡◌, ◌≤◌, ◌<◌, ◌*◌, ◌^◌, length, Some};
-ghost use Rattle.std.specs.Option.{option_map};
+ghost use Rattle.std.specs.Prelude.{◌≡◌, ℕ, ◌≤◌, ◌<◌, ◌*◌, ◌^◌, length, Some};
+ghost use Rattle.std.specs.Option.{option_map, IsSome};
+ghost use Rattle.sbe_types.specs.declared.schema.Level.{out-Level};
 ghost use Rattle.sbe_types.specs.declared.limits.TheConstants.{PART_LIMIT};
 ghost use Rattle.schema_facts.specs.Entries.{entry_least, groups_least, parts_least};
 ghost use Rattle.schema_facts.specs.Levels.{all_nodes, level_at, groups_at, parts_at};
+ghost use Rattle.layout_compile.specs.Parts.{dim_at};
 ghost use Rattle.layout_compile.specs.Least.{row_least, part_row_least, part_rows_least};
 
 use crate::layout::Layout;
@@ -11,12 +13,16 @@ use crate::rows::{LevelRow, PartRow};
 
 impl Layout {
     /// The least number of bytes of an entry of a level at a version: the floor of its block, the dimensions
-    /// of its groups and the length numbers of its data, as far as they are alive. It needs a level in range.
+    /// of its groups and the length numbers of its data, as far as they are alive. No entry that lays out has
+    /// fewer, and where a group is alive each of its entries has at least one. It needs a level in range.
     #[tactic(auto, using(crate::proofs::LeastRows::entry_told))]
     pub fn min_entry(&self, level: usize, version: u32) -> u64
         requires { level < length (all_nodes self.now) }
-        ensures { option_map (entry_least version) (level_at self.now level) ≡ Some result }
+        ensures least { option_map (entry_least version) (level_at self.now level) ≡ Some result }
+        ensures some { (since : ℕ) → IsSome (dim_at self.now level)
+            → option_map (λ l. (out-Level l).since) (level_at self.now level) ≡ Some since → since ≤ version → 1 ≤ result }
     {
+        let _schema = self.schema();
         let groups = self.groups_least(level, version);
         let parts = self.parts_least(level, version);
         self.floor(level, version) as u64 + groups + parts

@@ -1,5 +1,5 @@
 // The keys of a level's parts in a line of JSON.
-ghost use Rattle.std.specs.Prelude.{◌≡◌, ◌++◌, length, IfOk, IfSome, OnOk};
+ghost use Rattle.std.specs.Prelude.{◌≡◌, ◌≤◌, ◌^◌, ◌++◌, length, IfOk, IfSome, IfNone, OnOk};
 ghost use Rattle.layout_compile.specs.Keys.{key_text, names_of, KeysAre};
 
 use crate::paths::level_name;
@@ -31,7 +31,8 @@ pub(crate) fn keys_of(alloc: Global, level: &Level) -> Result<KeyTable, NoMem>
 
 /// How many parts a level has, or none where a number can't say it.
 fn count_parts(level: &Level) -> Option<usize>
-    ensures { IfSome result (λ n. n ≡ length (names_of level.now)) }
+    ensures same { IfSome result (λ n. n ≡ length (names_of level.now)) }
+    ensures none { IfNone result (2 ^ 64 ≤ length (names_of level.now)) }
 {
     let most = usize::MAX - level.fields.len();
     if level.groups.len() > most || level.parts.len() > most - level.groups.len() {

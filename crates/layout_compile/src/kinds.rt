@@ -51,19 +51,21 @@ pub(crate) fn end_of(members: &List<Member>) -> u32
 
 /// Where the parts end when one more is added.
 #[cycle(width)]
-pub(crate) fn end_behind(end: u32, offset: Option<u32>, kind: &Kind) -> u32
+pub fn end_behind(end: u32, offset: Option<u32>, kind: &Kind) -> u32
     requires narrow { IsNarrow kind.now }
     requires within { EndsWithin end offset kind.now }
     ensures { result ≡ end_past end offset kind.now }
 {
     match kind {
         Kind::Const(_) => end,
-        _ => begin_of(end, offset) + width_of(kind),
+        Kind::Leaf(_) | Kind::Enum(_, _) | Kind::Set(_, _) | Kind::Comp(_) => {
+            begin_of(end, offset) + width_of(kind)
+        }
     }
 }
 
 /// Where a part begins behind parts that end at `end`.
-pub(crate) fn begin_of(end: u32, offset: Option<u32>) -> u32
+pub fn begin_of(end: u32, offset: Option<u32>) -> u32
     ensures { result ≡ begins_at end offset }
 {
     match offset {

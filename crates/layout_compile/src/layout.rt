@@ -6,6 +6,7 @@ ghost use Rattle.sbe_types.specs.declared.schema.Level.{out-Level};
 ghost use Rattle.sbe_types.specs.Places.{field_place};
 ghost use Rattle.sbe_wire.specs.Faults.{message_named};
 ghost use Rattle.sbe_wire.specs.Versions.{floor};
+ghost use Rattle.schema_facts.specs.IsChecked.{IsChecked};
 ghost use Rattle.schema_facts.specs.Levels.{all_nodes, fields_at, groups_at, parts_at, level_at, root_of, nodes_of, group_node, Stands};
 ghost use Rattle.layout_compile.specs.Parts.{all_parts, dim_at, parts_in_all, Numbered, PartStands};
 ghost use Rattle.layout_compile.specs.Rowed.{HeaderIs, RowFor};
@@ -19,7 +20,8 @@ use std::marker::Model;
 /// The tables of a schema that is in order: where each part stands. To contracts it is the schema.
 ///
 /// Levels are numbered from 0 in the schema's order, a message's root directly before the levels of its
-/// groups, and a group's level directly before those of its own groups.
+/// groups, and a group's level directly before those of its own groups. A group is named by the number of its
+/// entries' level. Data parts are numbered from 0 over the whole schema, level by level in that order.
 #[derive(Drop)]
 pub struct Layout {
     schema: WireSchema,
@@ -44,6 +46,14 @@ impl Model for Layout {
 }
 
 impl Layout {
+    /// The schema itself, which is in order.
+    pub fn schema(&self) -> &WireSchema
+        ensures schema { result.now ≡ self.now }
+        ensures order { IsChecked self.now }
+    {
+        &self.schema
+    }
+
     /// How many levels there are.
     pub fn levels(&self) -> usize
         ensures { result ≡ length (all_nodes self.now) }

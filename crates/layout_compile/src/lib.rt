@@ -16,10 +16,10 @@ mod tables;
 mod templates;
 pub mod worked;
 
-pub use heads::number_at;
-pub use kinds::{member_place, width_of};
+pub use heads::{number_at, small_number};
+pub use kinds::{begin_of, end_behind, member_place, width_of};
 pub use layout::Layout;
 pub use rows::{
     DimRow, FieldRow, HeaderRow, KeyRow, KeyTable, LevelRow, PartPlace, PartRow, SpotRow,
 };
-pub use tables::compile_schema;
+pub use tables::compile;

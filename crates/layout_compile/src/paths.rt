@@ -130,11 +130,13 @@ fn place_behind<'a>(place: Place<'a>, step: Step) -> Place<'a>
     requires { IsSome (stepped true (inside_of place) step) }
     ensures { (first : Bool) → option_map (λ s. s.inside) (stepped first (inside_of place.entry) step) ≡ Some (inside_of result) }
 {
-    match (step, place) {
-        (Step::Part(i), place) => part_inside(place, i as usize),
-        (Step::Entry(_), Place::Group(level)) => Place::Level(level),
-        (Step::Elem(_), Place::Kind(_)) => Place::Nothing,
-        _ => unreachable!(),
+    match step {
+        Step::Part(i) => part_inside(place, i as usize),
+        Step::Entry(_) => match place {
+            Place::Group(level) => Place::Level(level),
+            Place::Level(_) | Place::Kind(_) | Place::Nothing => unreachable!(),
+        },
+        Step::Elem(_) => Place::Nothing,
     }
 }
 

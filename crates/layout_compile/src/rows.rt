@@ -1,4 +1,4 @@
-ghost use Rattle.std.specs.Prelude.{◌≡◌, IfSome};
+ghost use Rattle.std.specs.Prelude.{◌≡◌, ◌≤◌, ◌^◌, IfSome, IfNone};
 
 use sbe_types::Leaf;
 use std::collections::BTreeMap;
@@ -116,7 +116,8 @@ pub(crate) struct Tables {
 
 /// The number in 32 bits, or none where it needs more.
 pub(crate) fn narrowed(n: usize) -> Option<u32>
-    ensures { IfSome result (λ m. m ≡ n) }
+    ensures same { IfSome result (λ m. m ≡ n) }
+    ensures none { IfNone result (2 ^ 32 ≤ n) }
 {
     if n > u32::MAX as usize {
         return None;

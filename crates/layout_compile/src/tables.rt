@@ -6,10 +6,11 @@ ghost use Rattle.sbe_wire.specs.Named.{spot_named, spot_of as spot_in};
 ghost use Rattle.schema_facts.specs.Levels.{nodes, nodes_of, nodes_from};
 ghost use Rattle.sbe_types.specs.declared.kind.Kind.{Comp};
 ghost use Rattle.sbe_types.specs.Places.{is_const};
-ghost use Rattle.schema_facts.specs.Measured.{AreNarrowFields, IsNarrow, EndsWithin, HasCounter, IsDimension, IsHeader, IsMeasured, AreMeasured};
+ghost use Rattle.schema_facts.specs.IsChecked.{IsChecked};
+ghost use Rattle.schema_facts.specs.Measured.{AreNarrowFields, IsNarrow, EndsWithin, HasCounter, IsDimension, IsHeader, AreMeasured};
 ghost use Rattle.layout_compile.specs.Rowed.{as_spot, DimIs, FieldIs, FieldsAre, HeaderIs, SpotIs, newest_of, part_row, roots_from, rows_floor};
 ghost use Rattle.layout_compile.specs.Grown.{Grown, LevelIs, Pushed};
-ghost use Rattle.layout_compile.specs.Parts.{HasFewParts};
+ghost use Rattle.layout_compile.specs.Tables.{AreTables};
 
 use crate::keys::keys_of;
 use crate::kinds::{begin_of, end_behind, end_of};
@@ -18,30 +19,38 @@ use crate::numbers::{firsts_of, places_of};
 use crate::rows::{DimRow, FieldRow, HeaderRow, LevelRow, PartRow, SpotRow, Tables};
 use crate::templates::ids_of;
 use sbe_types::{DataField, Field, Group, Kind, Level, List, Member, NoMem, WireSchema};
+use schema_check::Checked;
 use std::alloc::Global;
 
-/// The layout of a schema that is in order.
-pub fn compile_schema(alloc: Global, schema: &WireSchema) -> Result<Layout, NoMem>
-    requires measured { IsMeasured schema.now }
-    requires few { HasFewParts schema.now }
-    ensures { IfOk result (λ layout. layout ≡ schema.now) }
+/// The layout of a schema that is in order: where each of its parts stands, and how wide it is. What is wanting is
+/// memory alone.
+pub fn compile(alloc: Global, checked: &Checked) -> Result<Layout, NoMem>
+    ensures { IfOk result (λ layout. layout ≡ checked.now) }
 {
-    let copy = schema.copy(alloc)?;
-    let header = header_row(&copy.header.members);
+    let schema = checked.schema().copy(alloc)?;
+    let tables = tables_of(alloc, &schema)?;
+    Ok(of_tables(schema, tables))
+}
+
+/// The tables of a schema that is in order.
+fn tables_of(alloc: Global, schema: &WireSchema) -> Result<Tables, NoMem>
+    requires { IsChecked schema.now }
+    ensures { IfOk result (λ tables. AreTables schema.now tables) }
+{
+    let header = header_row(&schema.header.members);
     let mut levels = Vec::new(alloc);
-    let roots = push_roots(alloc, &mut levels, copy.messages.as_slice())?;
-    let ids = ids_of(alloc, copy.messages.as_slice())?;
+    let roots = push_roots(alloc, &mut levels, schema.messages.as_slice())?;
+    let ids = ids_of(alloc, schema.messages.as_slice())?;
     let firsts = firsts_of(alloc, levels.as_slice())?;
     let places = places_of(alloc, levels.as_slice())?;
-    let tables = Tables {
+    Ok(Tables {
         header,
         levels,
         roots,
         ids,
         firsts,
         places,
-    };
-    Ok(of_tables(copy, tables))
+    })
 }
 
 /// The row of the header.
@@ -103,7 +112,7 @@ fn number_at(place: u32, kind: &Kind) -> Option<SpotRow>
 {
     match kind {
         Kind::Leaf(leaf) => Some(SpotRow { place, leaf: *leaf }),
-        _ => None,
+        Kind::Enum(_, _) | Kind::Set(_, _) | Kind::Comp(_) | Kind::Const(_) => None,
     }
 }
 
@@ -136,12 +145,12 @@ fn field_row(end: u32, field: &Field) -> FieldRow
 }
 
 /// Whether the kind is a constant, which takes no bytes.
-fn is_constant(kind: &Kind) -> bool
+pub(crate) fn is_constant(kind: &Kind) -> bool
     ensures { result ≡ is_const kind.now }
 {
     match kind {
         Kind::Const(_) => true,
-        _ => false,
+        Kind::Leaf(_) | Kind::Enum(_, _) | Kind::Set(_, _) | Kind::Comp(_) => false,
     }
 }
 

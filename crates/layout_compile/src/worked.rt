@@ -10,7 +10,7 @@ ghost use Rattle.layout_compile.specs.Keys.{key_text, names_at};
 ghost use Rattle.layout_compile.specs.Parts.{group_number, part_number};
 ghost use Rattle.layout_compile.specs.Paths.{path_found, path_text};
 ghost use Rattle.layout_compile.specs.Rowed.{newest_of};
-ghost use Rattle.layout_compile.specs.Rows.{worked, order, order_fields, legs, level_names, data_names, to_mantissa, to_element, to_note, to_nothing};
+ghost use Rattle.layout_compile.specs.Rows.{worked, order, order_fields, legs, level_names, data_names, to_mantissa, to_element, to_note, to_nothing, deep_schema, to_deepest};
 
 /// A message's root stands before the levels of its groups, and a group's level before those of its own groups.
 pub fn levels_are_numbered_from_the_root_down()
@@ -58,6 +58,7 @@ pub fn paths_are_written_out()
     ensures members { path_text worked 0 to_mantissa ≡ codes "legs[2].subs[0].price.mantissa" }
     ensures element { path_text worked 0 to_element ≡ codes "sizes[1]" }
     ensures data { path_text worked 0 to_note ≡ codes "legs[13].note" }
+    ensures deepest { path_text deep_schema 0 to_deepest ≡ codes "a[1].b[2].c[3].d[4].e[5].f[6].x.p.q.r.sizes[2]" }
     ensures root { path_text worked 0 [] ≡ [] }
     ensures nothing { path_found worked 0 to_nothing ≡ None }
 {}

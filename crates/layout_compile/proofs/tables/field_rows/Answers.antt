@@ -2,7 +2,8 @@ use Rattle.std.proofs.Common.{◌++◌, ◌∷◌, [], ◌+◌, take, drop, subs
 use Rattle.sbe_types.specs.Places.{fields_end}
 use Rattle.schema_facts.specs.Measured.{AreNarrowFields}
 use Rattle.layout_compile.specs.Rowed.{FieldsAre, FieldIs}
-use Rattle.layout_compile.proofs.Grows.{fields_snoc, end_snoc, take_one, field_narrow}
+use Rattle.layout_compile.proofs.Grows.{fields_snoc, end_snoc, field_narrow}
+use Rattle.layout_compile.proofs.Items.{take_one}
 use Rattle.layout_compile.proofs.tables.field_rows.Goals as goal
 
 pub loop-field-preserved : goal.loop-field-preserved

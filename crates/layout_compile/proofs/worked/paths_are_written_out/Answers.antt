@@ -15,6 +15,10 @@ pub returns-clause-data : goal.returns-clause-data
 unfolding computing
 returns-clause-data c = simp items_shown-the_row-Group-0
 
+pub returns-clause-deepest : goal.returns-clause-deepest
+unfolding computing
+returns-clause-deepest c = simp items_shown-the_row-Group-0
+
 pub returns-clause-root : goal.returns-clause-root
 unfolding computing
 returns-clause-root c = refl

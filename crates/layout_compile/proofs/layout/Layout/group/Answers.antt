@@ -1,5 +1,5 @@
 use Rattle.std.proofs.Common.{◌≡◌, subst, arith}
-use Rattle.layout_compile.proofs.GroupWalk.{GroupsFrom, groups_begin, groups_go, group_within, group_is, group_level, group_dim}
+use Rattle.layout_compile.proofs.GroupWalk.{GroupsFrom, groups_begin, groups_go, group_within, group_some, group_is, group_level, group_dim}
 use Rattle.layout_compile.proofs.layout.Layout.group.Goals as goal
 
 pub loop-init : goal.loop-init
@@ -10,6 +10,16 @@ row-requires c = group_within c.args.self.now c.args.level c.loop.counter c.loop
 
 pub loop-preserved : goal.loop-preserved
 loop-preserved c = groups_go c.args.self.now c.args.level c.loop.counter c.loop.child c.row.result.now c.loop.invariant (omega arith) c.row.ensures
+
+pub returns-clause-within : goal.returns-clause-within
+returns-clause-within c =
+    let done : c.loop.counter ≡ c.args.i = omega arith in
+    group_within c.args.self.now c.args.level c.args.i c.loop.child (subst (λ k. GroupsFrom c.args.self.now c.args.level k c.loop.child) done c.loop.invariant) c.requires.group
+
+pub returns-clause-some : goal.returns-clause-some
+returns-clause-some c =
+    let done : c.loop.counter ≡ c.args.i = omega arith in
+    group_some c.args.self.now c.args.level c.args.i c.loop.child (subst (λ k. GroupsFrom c.args.self.now c.args.level k c.loop.child) done c.loop.invariant) c.requires.group
 
 pub returns-clause-level : goal.returns-clause-level
 returns-clause-level c =
