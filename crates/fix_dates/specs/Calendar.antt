@@ -1,4 +1,5 @@
--- The proleptic Gregorian calendar (ISO 8601), from the year 0 on, by its own rule.
+-- The proleptic Gregorian calendar from the year 0 on, by its own rule. From ISO 8601, the Gregorian calendar; that days
+-- are counted from 1 January 1970 is own profile.
 use Rattle.std.specs.Prelude.{ℕ, zero, suc, ◌+◌, ◌-◌, ◌%◌, ◌≤◌, Bool, not, ◌&&◌, ◌||◌, ◌==◌, if◌then◌else◌, ℤ, pos, ◌-ℤ◌}
 use Rattle.fix_dates.specs.declared.calendar.Day.{Day}
 

@@ -1,4 +1,5 @@
--- The texts of times of day, FIX's UTCTimeOnly: HH:MM:SS, and a fraction of up to twelve digits.
+-- The texts of times of day: HH:MM:SS, and a fraction. From the FIX tag-value encoding, datatype UTCTimeOnly. Own profile:
+-- at most twelve digits, the four units, and no leap seconds.
 use Rattle.std.specs.Prelude.{ℕ, zero, suc, ◌≡◌, ◌⊎◌, ◌+◌, ◌*◌, ◌^◌, ◌<◌, ◌≤◌, ℤ, pos, List, [], ◌∷◌, ◌++◌}
 use Rattle.fix_dates.specs.declared.clock.Clock.{Clock}
 use Rattle.fix_dates.specs.Digits.{digits}

@@ -1,4 +1,4 @@
--- The texts of FIX's UTCDateOnly and LocalMktDate: eight digits, YYYYMMDD.
+-- The texts of days: eight digits, YYYYMMDD. From the FIX tag-value encoding, datatypes UTCDateOnly and LocalMktDate.
 use Rattle.std.specs.Prelude.{ℕ, ◌≡◌, ◌<◌, ℤ, List, ◌++◌}
 use Rattle.fix_dates.specs.declared.calendar.Day.{Day}
 use Rattle.fix_dates.specs.Digits.{digits}

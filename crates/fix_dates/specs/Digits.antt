@@ -1,4 +1,4 @@
--- Decimal digits in a fixed number of places.
+-- Decimal digits in a fixed number of places. Own profile.
 use Rattle.std.specs.Prelude.{ℕ, zero, suc, ◌+◌, ◌-◌, ◌*◌, ◌/◌, ◌%◌, nat_le, ◌&&◌, if◌then◌else◌, Option, Some, None, List, [], ◌∷◌, ◌++◌}
 
 -- the last decimal digits of a number, so many of them, the highest first, in ASCII

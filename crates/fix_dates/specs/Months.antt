@@ -1,4 +1,5 @@
--- The texts of FIX's MonthYear: YYYYMM, YYYYMMDD or YYYYMMw and the digit of a week.
+-- The texts of months: YYYYMM, YYYYMMDD, or YYYYMMw and the digit of a week. From the FIX tag-value encoding, datatype
+-- MonthYear.
 use Rattle.std.specs.Prelude.{ℕ, ◌≡◌, ◌<◌, ◌≤◌, ℤ, pos, Option, Some, None, List, [], ◌∷◌, ◌++◌}
 use Rattle.fix_dates.specs.declared.month.Month.{Month}
 use Rattle.fix_dates.specs.declared.month.MonthYear.{MonthYear}

@@ -1,4 +1,4 @@
--- What it is to show a value as a text, and to read a text as a value.
+-- What it is to show a value as a text, and to read a text as a value. Own profile: the refusals and their order.
 use Rattle.std.specs.Prelude.{◌≡◌, ◌≢◌, Result, Ok, Err, List, [], ℕ}
 use Rattle.fix_values.specs.declared.rule.V.{V}
 use Rattle.fix_values.specs.declared.rule.V.TheVariants.{Spelling, Range, Inexact, Soh, Empty, UnknownCode}

@@ -1,4 +1,4 @@
--- Worked rows, on which the definitions are computed.
+-- Worked rows, on which the definitions are computed. Own profile.
 use Rattle.fix_dates.specs.declared.calendar.Day.{Day}
 use Rattle.fix_dates.specs.declared.clock.Clock.{Clock}
 use Rattle.fix_dates.specs.declared.month.Month.{Month}

@@ -1,8 +1,10 @@
--- The texts of FIX's UTCTimestamp, a day and a time of day, and the moments that texts are read as.
+-- The texts of moments, a day and a time of day, and the moments that texts are read as. From the FIX tag-value encoding,
+-- datatype UTCTimestamp; that moments are nanoseconds from 1 January 1970 is own profile.
 use Rattle.std.specs.Prelude.{ℕ, ◌≡◌, ◌*◌, ◌^◌, min, ℤ, pos, ◌+ℤ◌, ◌*ℤ◌, Result, Ok, Err, List, ◌∷◌, ◌++◌}
 use Rattle.fix_values.specs.declared.rule.V.{V}
 use Rattle.fix_values.specs.declared.rule.V.TheVariants.{Spelling, Range, Inexact, Soh, Empty, UnknownCode}
 use Rattle.fix_dates.specs.declared.clock.Clock.{Clock}
+use Rattle.fix_dates.specs.declared.clock.TheConstants.{SECONDS_OF_A_DAY}
 use Rattle.fix_dates.specs.declared.moment.Moment.{Moment}
 use Rattle.fix_dates.specs.declared.stamp.Stamp.{Stamp}
 use Rattle.fix_dates.specs.Calendar.{IsDay, number_of}
@@ -16,7 +18,7 @@ stamp_text stamp = day_text stamp.day ++ (45 ∷ clock_text stamp.clock)
 
 -- the time since 1 January 1970, in units of the last place
 abbrev pub stamp_count : Stamp → ℤ
-stamp_count stamp = (number_of stamp.day *ℤ pos (86_400 * 10 ^ stamp.clock.places)) +ℤ pos (count_of stamp.clock)
+stamp_count stamp = (number_of stamp.day *ℤ pos (SECONDS_OF_A_DAY * 10 ^ stamp.clock.places)) +ℤ pos (count_of stamp.clock)
 
 -- the day is one of the calendar, and the time one of a day
 abbrev pub IsStamp : Stamp → Type 0

@@ -17,11 +17,12 @@ pub struct Clock {
     pub places: u8,
 }
 
-const SECONDS_OF_A_DAY: u64 = 86_400;
+/// How many seconds a day has: there are no leap seconds.
+pub const SECONDS_OF_A_DAY: u64 = 86_400;
 
 /// How many of the unit a day has; none where the unit isn't one.
 pub fn units_of_a_day(unit: u8) -> Option<u64>
-    ensures some { IfSome result (λ units. units ≡ 86_400 * 10 ^ unit) }
+    ensures some { IfSome result (λ units. units ≡ SECONDS_OF_A_DAY * 10 ^ unit) }
     ensures known { IfSome result (λ units. IsUnit unit) }
     ensures none { IfNone result (¬ (IsUnit unit)) }
 {
@@ -37,7 +38,7 @@ pub fn units_of_a_day(unit: u8) -> Option<u64>
 /// The time of day at which so many of the unit have passed since midnight.
 pub fn clock_at(count: u64, unit: u8) -> Clock
     requires unit { IsUnit unit }
-    requires count { count < 86_400 * 10 ^ unit }
+    requires count { count < SECONDS_OF_A_DAY * 10 ^ unit }
     ensures fits { InUnit unit result }
     ensures real { IsTime result }
     ensures count { count_of result ≡ count }

@@ -7,9 +7,12 @@ use crate::calendar::{Day, day_of, number_of_day};
 use crate::digits::{number, put_digits};
 use fix_values::{ROOM, Short, V};
 
-/// Shows a day by its number, counted from 1 January 1970, as `YYYYMMDD`.
+/// Shows a day by its number, counted in days from 1 January 1970, as `YYYYMMDD`: FIX's datatypes
+/// UTCDateOnly and LocalMktDate.
 ///
-/// It is `V::Range` where the year isn't 0 to 9999; then `out` is empty.
+/// # Errors
+///
+/// `Range` where the year isn't 0 to 9999. Then `out` is empty.
 pub fn show_day(n: i128, out: &mut Short) -> Result<(), V>
     ensures { Shows days n result out.new }
 {
@@ -19,10 +22,12 @@ pub fn show_day(n: i128, out: &mut Short) -> Result<(), V>
     Ok(())
 }
 
-/// Reads the number of a day, counted from 1 January 1970, from a text `YYYYMMDD`.
+/// Reads the number of a day, counted in days from 1 January 1970, from a text `YYYYMMDD`: FIX's
+/// datatypes UTCDateOnly and LocalMktDate.
 ///
-/// It is `V::Spelling` where the text isn't eight digits, and then `V::Range` where the calendar
-/// has no such day.
+/// # Errors
+///
+/// `Spelling` where the text isn't eight digits, and then `Range` where the calendar has no such day.
 pub fn read_day(text: &[u8]) -> Result<i128, V>
     ensures { Reads days text.now result }
 {

@@ -13,8 +13,6 @@ mod moment;
 mod month;
 pub mod rows;
 mod stamp;
-#[cfg(test)]
-mod tests;
 mod time;
 
 pub use day::{read_day, show_day};

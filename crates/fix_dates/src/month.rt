@@ -41,10 +41,12 @@ pub struct Month {
 }
 
 /// Shows a month as `YYYYMM`, and behind it `DD` where it has a day, or `w` and one digit where it
-/// has a week.
+/// has a week: FIX's datatype MonthYear.
 ///
-/// It is `V::Range` where the year isn't 0 to 9999, the month isn't 1 to 12, the day isn't in its
-/// month, the week isn't 1 to 5, or both day and week are there; then `out` is empty.
+/// # Errors
+///
+/// `Range` where the year isn't 0 to 9999, the month isn't 1 to 12, the day isn't in its month, the
+/// week isn't 1 to 5, or both day and week are there. Then `out` is empty.
 pub fn show_month(value: &MonthYear, out: &mut Short) -> Result<(), V>
     ensures { Shows months value.now result out.new }
 {
@@ -59,11 +61,12 @@ pub fn show_month(value: &MonthYear, out: &mut Short) -> Result<(), V>
     Ok(())
 }
 
-/// Reads a month, and the day or the week of it that the text names.
+/// Reads a month, FIX's datatype MonthYear, and the day or the week of it that the text names.
 ///
-/// It is `V::Spelling` where the text is neither `YYYYMM` nor `YYYYMMDD` nor `YYYYMM`, `w` and one
-/// digit, and then `V::Range` where the month isn't 1 to 12, the day isn't in its month or the week
-/// isn't 1 to 5.
+/// # Errors
+///
+/// `Spelling` where the text is neither `YYYYMM` nor `YYYYMMDD` nor `YYYYMM`, `w` and one digit, and
+/// then `Range` where the month isn't 1 to 12, the day isn't in its month or the week isn't 1 to 5.
 pub fn read_month(text: &[u8]) -> Result<MonthYear, V>
     ensures { Reads months text.now result }
 {

@@ -23,10 +23,11 @@ const NANOS_OF_A_DAY: i128 = 86_400_000_000_000;
 const NANOS_OF_A_SECOND: i128 = 1_000_000_000;
 
 /// Shows a moment, which is a number of units of ten to the minus `unit` seconds since 1 January
-/// 1970, as `YYYYMMDD-HH:MM:SS` with `unit` digits behind a point.
+/// 1970, as `YYYYMMDD-HH:MM:SS` with `unit` digits behind a point: FIX's datatype UTCTimestamp.
 ///
-/// It is `V::Range` where the year isn't 0 to 9999, or the unit isn't 0, 3, 6 or 9; then `out` is
-/// empty.
+/// # Errors
+///
+/// `Range` where the year isn't 0 to 9999, or the unit isn't 0, 3, 6 or 9. Then `out` is empty.
 pub fn show_stamp(n: i128, unit: u8, out: &mut Short) -> Result<(), V>
     ensures { Shows (stamps_in unit) n result out.new }
 {
@@ -44,11 +45,12 @@ pub fn show_stamp(n: i128, unit: u8, out: &mut Short) -> Result<(), V>
     Ok(())
 }
 
-/// Reads a moment as its nanoseconds since 1 January 1970.
+/// Reads a moment, FIX's datatype UTCTimestamp, as its nanoseconds since 1 January 1970.
 ///
-/// It is `V::Spelling` where the text isn't that of a day, a dash and that of a time of day, then
-/// `V::Range` where a part isn't in its range, and then `V::Inexact` where digits behind the ninth
-/// aren't 0.
+/// # Errors
+///
+/// `Spelling` where the text isn't that of a day, a dash and that of a time of day, then `Range` where
+/// a part isn't in its range, and then `Inexact` where digits behind the ninth aren't 0.
 pub fn read_stamp(text: &[u8]) -> Result<Moment, V>
     ensures { Reads stamps text.now result }
 {
@@ -70,9 +72,12 @@ pub fn read_stamp(text: &[u8]) -> Result<Moment, V>
     })
 }
 
-/// The number of units of ten to the minus `unit` seconds that a moment is.
+/// The number of units of ten to the minus `unit` seconds that a moment is. It needs the unit 0, 3, 6
+/// or 9.
 ///
-/// It is `V::Inexact` where it isn't a whole number of them.
+/// # Errors
+///
+/// `Inexact` where it isn't a whole number of them.
 pub fn fit_moment(moment: &Moment, unit: u8) -> Result<i128, V>
     requires { IsUnit unit }
     ensures { FitsIn moment.now unit result }
@@ -96,7 +101,7 @@ fn days_and_rest(n: i128, units: u64) -> (i128, u64)
 
 /// The nanoseconds of whole days and of a time of day.
 fn nanos_since(days: i32, nanos: u64) -> i128
-    ensures { result ≡ (days *ℤ pos 86_400_000_000_000) +ℤ pos nanos }
+    ensures { result ≡ (days *ℤ NANOS_OF_A_DAY) +ℤ pos nanos }
 {
     days as i128 * NANOS_OF_A_DAY + nanos as i128
 }

@@ -79,6 +79,9 @@ some_left (suc k) r some small = omega arith
 pub ten_pos : (k : ℕ) → 0 < 10 ^ k
 ten_pos k = one-le-pow k 10 (omega arith)
 
+pub ten_next : (k : ℕ) → 10 ^ suc k ≡ 10 * 10 ^ k
+ten_next k = grind arith
+
 pub fraction_text : (out more : List ℕ) (k r p : ℕ) → 0 < r → r < 10 ^ k → p ≡ 10 ^ (k - 1) → more ≡ out ++ (48 + r / p) ∷ [] →
     more ++ fraction_of (k - 1) (r % p) ≡ out ++ fraction_of k r
 fraction_text out more k r p some small power text =
@@ -167,10 +170,10 @@ pub trailing_again : (ds : List ℕ) → without_trailing (without_trailing ds) 
 trailing_again [] = refl
 trailing_again (d ∷ ds) = kept_again d (without_trailing ds) (trailing_again ds)
 
-over : (n : ℕ) → 38 < n → nat_le n 38 ≡ false
+pub over : (n : ℕ) → 38 < n → nat_le n 38 ≡ false
 over n h = grind (arith, nat_tests)
 
-within : (n : ℕ) → n ≤ 38 → nat_le n 38 ≡ true
+pub within : (n : ℕ) → n ≤ 38 → nat_le n 38 ≡ true
 within n h = grind (arith, nat_tests)
 
 -- what was written and counted is what is shown
@@ -204,6 +207,14 @@ pub length_trailing : (ds : List ℕ) → length (without_trailing ds) ≤ lengt
 length_trailing [] = omega arith
 length_trailing (d ∷ ds) = length_kept d (without_trailing ds) ds (length_trailing ds)
 
+length_leading_by : (b : Bool) (d : ℕ) (ds rest : List ℕ) → length rest ≤ length ds → length (cond b rest (d ∷ ds)) ≤ suc (length ds)
+length_leading_by true d ds rest h = omega (arith, h)
+length_leading_by false d ds rest h = omega arith
+
+pub length_leading : (ds : List ℕ) → length (without_leading ds) ≤ length ds
+length_leading [] = omega arith
+length_leading (d ∷ ds) = length_leading_by (eqb d 48) d ds (without_leading ds) (length_leading ds)
+
 digits_kept_by : (b : Bool) (d : ℕ) → is_ascii_digit d ≡ true → all_ascii_digits (cond b [] (d ∷ [])) ≡ true
 digits_kept_by true d h = refl
 digits_kept_by false d h = together (is_ascii_digit d) true h refl
@@ -227,7 +238,7 @@ digits_leading [] h = refl
 digits_leading (d ∷ ds) h = digits_leading_by (eqb d 48) d ds (without_leading ds) h (digits_leading ds (both (is_ascii_digit d) (all_ascii_digits ds) h).1)
 
 -- a decimal's text by its parts
-text_at : (m e : ℤ) → int_le (neg_ℤ (pos 18)) e ≡ true → int_le e (pos 18) ≡ true → decimal_text (dec m e) ≡ shown_text (shown_parts (dec m e))
+pub text_at : (m e : ℤ) → int_le (neg_ℤ (pos 18)) e ≡ true → int_le e (pos 18) ≡ true → decimal_text (dec m e) ≡ shown_text (shown_parts (dec m e))
 text_at m e low high = rw (low, high)
 
 pub text_below : (m e : ℤ) (negative : Bool) (size power places : ℕ) → int_le (neg_ℤ (pos 18)) e ≡ true → int_le e (pos 18) ≡ true → e <ℤ pos 0 → negative ≡ is_below_zero m →
@@ -274,11 +285,11 @@ size_bound a k small few =
     let product : a * 10 ^ k ≤ 2 ^ 127 * 10 ^ 18 = mul-le-mul small power in
     omega (arith, product)
 
-no_places : (k : ℕ) → natural (neg_ℤ (pos k)) ≡ 0
+pub no_places : (k : ℕ) → natural (neg_ℤ (pos k)) ≡ 0
 no_places zero = refl
 no_places (suc k) = refl
 
-undivided : (n k : ℕ) → k ≡ 0 → n / 10 ^ k ≡ n
+pub undivided : (n k : ℕ) → k ≡ 0 → n / 10 ^ k ≡ n
 undivided n k none = let one : n / 10 ^ 0 ≡ n = omega arith in ap (λ j. n / 10 ^ j) none ∙ one
 
 add_more : (a b : ℕ) → 38 < a → 38 < a + b
@@ -368,7 +379,7 @@ abs_up : (z : ℤ) → pos 0 ≤ℤ z → unsigned_abs z ≡ natural z
 abs_up (pos n) h = refl
 abs_up (negsuc n) h = absurd (omega (arith, ints, h))
 
-up_from : (a b : ℤ) → int_le b a ≡ true → pos 0 ≤ℤ (a -ℤ b)
+pub up_from : (a b : ℤ) → int_le b a ≡ true → pos 0 ≤ℤ (a -ℤ b)
 up_from a b h = grind (arith, ints)
 
 pub under_wide : (d : Dec) (e : ℤ) (places : ℕ) → int_le e d.exponent ≡ true → places ≡ unsigned_abs (d.exponent -ℤ e) → mantissa_under d e ≡ Ok (widened d.mantissa places)

@@ -8,16 +8,17 @@ use Rattle.std.proofs.lemmas.Bool.Decides.{nat_tests}
 use Rattle.std.specs.Char.{digit_value, is_ascii_digit}
 use Rattle.std.specs.Str.{all_ascii_digits}
 use Rattle.std.specs.Str.Parse.{digits_value, digits_value_after}
+use Rattle.sbe_types.specs.declared.kind.Leaf.{Leaf as LeafOf}
 use Rattle.sbe_types.specs.Numbers.{natural}
 use Rattle.fix_values.specs.declared.rule.V.{V}
 use Rattle.fix_values.specs.declared.rule.V.TheVariants.{Range, Spelling}
 use Rattle.fix_values.specs.declared.rule.Dec.{Dec}
-use Rattle.fix_values.specs.Numerals.{sign, signed, is_below_zero, is_negative, unsigned, is_numeral}
-use Rattle.fix_values.specs.Decimals.{SameFraction, dec, zeros, places, without_leading, without_trailing, kept_before, digits_at, pointed, Parts, digits_counted, whole_of, rest_of, shown_parts, parts_text, shown_text, decimal_text, before_point, behind_point, parts_of, are_digits, reduced, decimal_of}
-use Rattle.fix_values.proofs.NumeralLemmas.{both, together, false≢true, value_append}
+use Rattle.fix_values.specs.Numerals.{sign, signed, is_below_zero, is_negative, unsigned, is_numeral, is_value}
+use Rattle.fix_values.specs.Decimals.{SameFraction, dec, zeros, places, without_leading, without_trailing, kept_before, digits_at, pointed, Parts, digits_counted, whole_of, rest_of, shown_parts, parts_text, shown_text, decimal_text, before_point, behind_point, parts_of, are_digits, reduced, decimal_of, judged, fitted}
+use Rattle.fix_values.proofs.NumeralLemmas.{both, together, false≢true, ok_is, sized, sign_taken, digits_first, value_append}
 use Rattle.fix_values.proofs.ReadBack.{numeral_of}
-use Rattle.fix_values.proofs.Fractions.{sign_of, below_some}
-use Rattle.fix_values.proofs.DecimalLemmas.{ten_pos, rest_small, trailing_again, digits_trailing, whole_small}
+use Rattle.fix_values.proofs.Fractions.{sign_of, below_some, fit_only, turned}
+use Rattle.fix_values.proofs.DecimalLemmas.{ten_pos, ten_next, rest_small, trailing_again, digits_trailing, whole_small, no_places}
 use Rattle.std.specs.Int.{w128}
 
 -- digits behind a number add their own number to it, moved by as many places
@@ -26,9 +27,6 @@ first_value d ds = let alone : 0 * 10 + digit_value d ≡ digit_value d = omega 
 
 digit_moves : (n v l rest : ℕ) → (n * 10 + v) * l + rest ≡ n * (10 * l) + (v * l + rest)
 digit_moves n v l rest = grind arith
-
-ten_next : (k : ℕ) → 10 ^ suc k ≡ 10 * 10 ^ k
-ten_next k = grind arith
 
 value_after_is : (n : ℕ) (ds : List ℕ) → digits_value_after 10 n ds ≡ n * 10 ^ length ds + digits_value 10 ds
 value_after_is n [] = omega arith
@@ -129,36 +127,22 @@ pointed_behind : (fraction : List ℕ) → behind_point (pointed fraction) ≡ f
 pointed_behind [] = refl
 pointed_behind (f ∷ fs) = refl
 
-no_minus : (d : ℕ) → is_ascii_digit d ≡ true → eqb d 45 ≡ false
-no_minus d h = grind (arith, nat_tests)
+pointed_plain : (fraction : List ℕ) → is_negative (pointed fraction) ≡ false
+pointed_plain [] = refl
+pointed_plain (f ∷ fs) = refl
 
-unsigned_by : (negative : Bool) (whole rest : List ℕ) → is_numeral whole ≡ true →
-    (is_negative (sign negative ++ (whole ++ rest)) ≡ negative) × (unsigned (sign negative ++ (whole ++ rest)) ≡ whole ++ rest)
-unsigned_by true whole rest h = (refl, refl)
-unsigned_by false [] rest h = absurd (false≢true h)
-unsigned_by false (d ∷ ds) rest h =
-    let other : eqb d 45 ≡ false = no_minus d (both _ _ (both (nat_lt 0 (length (d ∷ ds))) (all_ascii_digits (d ∷ ds)) h).1).0 in
-    (other, rw other)
+-- the parts of a sign, digits, and what stands behind them
+pub split_parts : (negative : Bool) (whole rest : List ℕ) → all_ascii_digits whole ≡ true → is_negative rest ≡ false → before_point rest ≡ [] →
+    parts_of (sign negative ++ (whole ++ rest)) ≡ record { negative = negative; whole = whole; fraction = behind_point rest }
+split_parts negative whole rest digits plain none =
+    let taken = sign_taken negative (whole ++ rest) (digits_first whole rest digits plain) in
+    rw (taken.0, taken.1, before_is whole rest digits none, behind_is whole rest digits)
 
 pub parts_back : (parts : Parts) → is_numeral parts.whole ≡ true → parts_of (parts_text parts) ≡ parts
 parts_back parts h =
-    let taken = unsigned_by parts.negative parts.whole (pointed parts.fraction) h in
     let digits = (both (nat_lt 0 (length parts.whole)) (all_ascii_digits parts.whole) h).1 in
-    let whole : before_point (unsigned (parts_text parts)) ≡ parts.whole = ap before_point taken.1 ∙ before_is parts.whole (pointed parts.fraction) digits (pointed_before parts.fraction) in
-    let fraction : behind_point (unsigned (parts_text parts)) ≡ parts.fraction = ap behind_point taken.1 ∙ (behind_is parts.whole (pointed parts.fraction) digits ∙ pointed_behind parts.fraction) in
-    rw (taken.0, whole, fraction)
-
-pub sized : (b : Bool) (k : ℕ) → unsigned_abs (signed b k) ≡ k
-sized true zero = refl
-sized true (suc k) = refl
-sized false k = refl
-
-pub no_places : (k : ℕ) → natural (neg_ℤ (pos k)) ≡ 0
-no_places zero = refl
-no_places (suc k) = refl
-
-no_zeros : (k : ℕ) → natural (neg_ℤ (pos k)) ≡ 0
-no_zeros k = no_places k
+    split_parts parts.negative parts.whole (pointed parts.fraction) digits (pointed_plain parts.fraction) (pointed_before parts.fraction)
+    ∙ ap (λ f. record { negative = parts.negative; whole = parts.whole; fraction = f }) (pointed_behind parts.fraction)
 
 pub placed : (k : ℕ) → natural (neg_ℤ (neg_ℤ (pos k))) ≡ k
 placed zero = refl
@@ -169,9 +153,6 @@ joined x i j = ap (λ p. x * p) (pow-add 10 i j) ∙ sym (mul_assoc x (10 ^ i) (
 
 total_some : (m e : ℤ) (n : ℕ) → n ≡ unsigned_abs m * 10 ^ natural e → is_below_zero m ≡ true → 0 < n
 total_some m e n size below = let some : 0 < unsigned_abs m * 10 ^ natural e = mul-pos (below_some m below) (ten_pos (natural e)) in omega (arith, size, some)
-
-pub ok_is : {A : Type 0} (x y : A) → ◌≡◌ {A = Result A V} (Ok x) (Ok y) → x ≡ y
-ok_is x y h = cc
 
 counts : (a b : ℕ) → 0 < a → nat_lt 0 (a + b) ≡ true
 counts a b h = grind (arith, nat_tests)
@@ -282,3 +263,9 @@ pub decimals_back : (m e : ℤ) (text : List ℕ) → FitsSigned w128 m → deci
 decimals_back m e text fits h =
     let high : int_le e (pos 18) ≡ true = within_by (int_le (neg_ℤ (pos 18)) e) (int_le e (pos 18)) (shown_text (shown_parts (dec m e))) text h in
     decimal_back (dec m e) text (whole_small m e fits high) h
+
+-- and it has the mantissa that was shown under the exponent that was shown
+pub fits_back : (leaf : LeafOf) (m e : ℤ) (text : List ℕ) → FitsSigned w128 m → is_value leaf m ≡ true → decimal_text (dec m e) ≡ Ok text → (d : Dec) × (decimal_of text ≡ Ok d) × (fitted d leaf e ≡ Ok m)
+fits_back leaf m e text fits is h =
+    let back = decimals_back m e text fits h in
+    (back.0, back.1, ap (judged leaf) (fit_only back.0 e m (turned back.2)) ∙ rw is)

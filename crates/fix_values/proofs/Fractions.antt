@@ -1,5 +1,5 @@
 -- Decimals as fractions: the mantissa under another exponent.
-use Rattle.std.proofs.Common.{◌≡◌, ℕ, zero, suc, ◌+◌, ◌*◌, ◌/◌, ◌%◌, ◌^◌, ◌<◌, Bool, true, false, ◌==◌, refl, sym, ap, ◌∙◌, arith, subst, pos, negsuc, ℤ, ◌-ℤ◌, ◌≤ℤ◌, neg_ℤ, int_le, unsigned_abs, Result, Ok, Err, if◌then◌else◌}
+use Rattle.std.proofs.Common.{◌≡◌, ℕ, zero, suc, ◌+◌, ◌*◌, ◌/◌, ◌%◌, ◌^◌, ◌<◌, Bool, true, false, ◌==◌, refl, sym, ap, ◌∙◌, arith, subst, inl, inr, pos, negsuc, ℤ, ◌-ℤ◌, ◌≤ℤ◌, neg_ℤ, int_le, unsigned_abs, Result, Ok, Err, if◌then◌else◌}
 use Rattle.std.proofs.Math.Nat.{mul_assoc, mul-pos, mul-mod_left, mul-div_cancel}
 use Rattle.std.proofs.lemmas.Int.{ints}
 use Rattle.std.proofs.lemmas.Nat.{pow-add, div-add-mod'}
@@ -10,9 +10,9 @@ use Rattle.fix_values.specs.declared.rule.V.{V}
 use Rattle.fix_values.specs.declared.rule.V.TheVariants.{Inexact}
 use Rattle.fix_values.specs.declared.rule.Dec.{Dec}
 use Rattle.fix_values.specs.Numerals.{signed, is_below_zero}
-use Rattle.fix_values.specs.Decimals.{SameFraction, dec, widened, narrowed, mantissa_under}
-use Rattle.fix_values.proofs.NumeralLemmas.{false≢true}
-use Rattle.fix_values.proofs.DecimalLemmas.{ten_pos}
+use Rattle.fix_values.specs.Decimals.{SameFraction, IsReduced, dec, widened, narrowed, mantissa_under}
+use Rattle.fix_values.proofs.NumeralLemmas.{false≢true, ok_is, sized}
+use Rattle.fix_values.proofs.DecimalLemmas.{ten_pos, ten_next, up_from}
 
 parts_is : (z : ℤ) → z ≡ pos (natural z) -ℤ pos (natural (neg_ℤ z))
 parts_is (pos zero) = refl
@@ -46,11 +46,6 @@ resigned : (n : ℤ) → n ≡ signed (is_below_zero n) (unsigned_abs n)
 resigned (pos n) = refl
 resigned (negsuc n) = refl
 
-size_of : (b : Bool) (k : ℕ) → unsigned_abs (signed b k) ≡ k
-size_of true zero = refl
-size_of true (suc k) = refl
-size_of false k = refl
-
 pub sign_of : (b : Bool) (k : ℕ) → (b ≡ true → 0 < k) → is_below_zero (signed b k) ≡ b
 sign_of true zero some = absurd (omega (arith, some refl))
 sign_of true (suc k) some = refl
@@ -70,7 +65,7 @@ wide_same m a e h =
     record {
       sign = sign_of (is_below_zero m) (unsigned_abs m * 10 ^ s) (λ b. mul_some (unsigned_abs m) s (below_some m b));
       size =
-          ap (λ n. n * 10 ^ natural e * 10 ^ natural (neg_ℤ a)) (size_of (is_below_zero m) (unsigned_abs m * 10 ^ s))
+          ap (λ n. n * 10 ^ natural e * 10 ^ natural (neg_ℤ a)) (sized (is_below_zero m) (unsigned_abs m * 10 ^ s))
           ∙ (sym (shifted_power (unsigned_abs m) s (natural e) (natural (neg_ℤ a)))
           ∙ (ap (λ k. unsigned_abs m * 10 ^ k) (sym (balance a e h)) ∙ sym (joined_powers (unsigned_abs m) (natural a) (natural (neg_ℤ e)))));
     }
@@ -100,9 +95,6 @@ narrow_size n m a e h same =
     (sym (shifted_power (unsigned_abs n) (natural (e -ℤ a)) (natural a) (natural (neg_ℤ e)))
     ∙ (ap (λ k. unsigned_abs n * 10 ^ k) (sym (balance e a h)) ∙ (sym (joined_powers (unsigned_abs n) (natural e) (natural (neg_ℤ a))) ∙ same.size)))
 
-ok_is : {A : Type 0} (x y : A) → ◌≡◌ {A = Result A V} (Ok x) (Ok y) → x ≡ y
-ok_is x y h = cc
-
 narrow_by : (b : Bool) (q n : ℤ) → ◌≡◌ {A = Result ℤ V} (if b then Ok q else Err Inexact) (Ok n) → (b ≡ true) × (q ≡ n)
 narrow_by true q n h = (refl, ok_is q n h)
 narrow_by false q n h = absurd (cc h)
@@ -125,7 +117,7 @@ narrow_same m n a e h is =
     subst (λ k. SameFraction (dec k e) (dec m a)) found.1
     (same_narrow (signed (is_below_zero m) (unsigned_abs m / 10 ^ s)) m a e h
     (sign_of (is_below_zero m) (unsigned_abs m / 10 ^ s) (λ b. quotient_some (unsigned_abs m) s none (below_some m b)))
-    (ap (λ k. k * 10 ^ s) (size_of (is_below_zero m) (unsigned_abs m / 10 ^ s)) ∙ whole))
+    (ap (λ k. k * 10 ^ s) (sized (is_below_zero m) (unsigned_abs m / 10 ^ s)) ∙ whole))
 
 pub narrow_only : (n m a e : ℤ) → pos 0 ≤ℤ (e -ℤ a) → SameFraction (dec n e) (dec m a) → narrowed m (natural (e -ℤ a)) ≡ Ok n
 narrow_only n m a e h same =
@@ -135,9 +127,6 @@ narrow_only n m a e h same =
     let quotient : unsigned_abs m / 10 ^ s ≡ unsigned_abs n = ap (λ k. k / 10 ^ s) size ∙ mul-div_cancel (unsigned_abs n) (ten_pos s) in
     let test : (unsigned_abs m % 10 ^ s == 0) ≡ true = (Decides-eqb (unsigned_abs m % 10 ^ s) 0).1 none in
     rw (test, quotient, ← same.sign, ← resigned n)
-
-up_from : (a b : ℤ) → int_le b a ≡ true → pos 0 ≤ℤ (a -ℤ b)
-up_from a b h = grind (arith, ints)
 
 down_from : (a b : ℤ) → int_le b a ≡ false → pos 0 ≤ℤ (b -ℤ a)
 down_from a b h = grind (arith, ints)
@@ -160,3 +149,46 @@ fit_same d e n h = fit_by (int_le e d.exponent) d e n refl h
 
 pub fit_only : (d : Dec) (e n : ℤ) → SameFraction (dec n e) d → mantissa_under d e ≡ Ok n
 fit_only d e n same = only_by (int_le e d.exponent) d e n refl same
+
+-- the same the other way round
+pub turned : {a b : Dec} → SameFraction a b → SameFraction b a
+turned same = record { sign = sym same.sign; size = sym same.size }
+
+-- fractions that are the same are so with another sign too
+pub resign : (b : Bool) (x v : ℕ) (g e : ℤ) → SameFraction (dec (pos x) g) (dec (pos v) e) → SameFraction (dec (signed b x) g) (dec (signed b v) e)
+resign false x v g e h = h
+resign true zero zero g e h = h
+resign true zero (suc v) g e h = absurd (omega (arith, h.size, mul_some (suc v * 10 ^ natural e) (natural (neg_ℤ g)) (mul_some (suc v) (natural e) (omega arith))))
+resign true (suc x) zero g e h = absurd (omega (arith, h.size, mul_some (suc x * 10 ^ natural g) (natural (neg_ℤ e)) (mul_some (suc x) (natural g) (omega arith))))
+resign true (suc x) (suc v) g e h = record { sign = refl; size = h.size }
+
+-- a fraction has one reduced form
+zero_form : (d : Dec) → IsReduced d → unsigned_abs d.mantissa % 10 ≡ 0 → d ≡ dec (pos 0) (pos 0)
+zero_form d (inl other) none = absurd (other none)
+zero_form d (inr zero_is) none = ap (λ m. dec m d.exponent) zero_is.0 ∙ ap (dec (pos 0)) zero_is.1
+
+tens : (n k : ℕ) → n * 10 ^ suc k % 10 ≡ 0
+tens n k = let moved : n * 10 ^ suc k ≡ n * 10 ^ k * 10 = rw (ten_next k) (grind arith) in ap (λ x. x % 10) moved ∙ mul-mod_left (n * 10 ^ k) 10
+
+form_by : (k : ℕ) (d e : Dec) → natural (d.exponent -ℤ e.exponent) ≡ k → pos 0 ≤ℤ (d.exponent -ℤ e.exponent) → IsReduced d → IsReduced e → SameFraction e d → e ≡ d
+form_by zero d e is up rd re same =
+    let shift = d.exponent -ℤ e.exponent in
+    let exponent : e.exponent ≡ d.exponent = omega (arith, ints, parts_is shift, no_neg shift up, is) in
+    let one : unsigned_abs d.mantissa * 10 ^ 0 ≡ unsigned_abs d.mantissa = omega arith in
+    let plain : widened d.mantissa 0 ≡ d.mantissa = ap (signed (is_below_zero d.mantissa)) one ∙ sym (resigned d.mantissa) in
+    let mantissa : e.mantissa ≡ d.mantissa = sym (wide_only e.mantissa d.mantissa d.exponent e.exponent up same) ∙ (ap (widened d.mantissa) is ∙ plain) in
+    ap (λ m. dec m e.exponent) mantissa ∙ ap (dec d.mantissa) exponent
+form_by (suc k) d e is up rd re same =
+    let wide : e.mantissa ≡ widened d.mantissa (suc k) = sym (wide_only e.mantissa d.mantissa d.exponent e.exponent up same) ∙ ap (widened d.mantissa) is in
+    let size : unsigned_abs e.mantissa ≡ unsigned_abs d.mantissa * 10 ^ suc k = ap unsigned_abs wide ∙ sized (is_below_zero d.mantissa) (unsigned_abs d.mantissa * 10 ^ suc k) in
+    let zero_is : e ≡ dec (pos 0) (pos 0) = zero_form e re (ap (λ x. x % 10) size ∙ tens (unsigned_abs d.mantissa) k) in
+    let nothing : 0 ≡ 0 * 10 ^ suc k = omega arith in
+    let none : unsigned_abs d.mantissa ≡ 0 = cancel (unsigned_abs d.mantissa) 0 (suc k) (sym size ∙ (ap (λ x. unsigned_abs x.mantissa) zero_is ∙ nothing)) in
+    zero_is ∙ sym (zero_form d rd (ap (λ x. x % 10) none))
+
+one_form_by : (b : Bool) (d e : Dec) → int_le e.exponent d.exponent ≡ b → IsReduced d → IsReduced e → SameFraction d e → d ≡ e
+one_form_by true d e is rd re same = sym (form_by _ d e refl (up_from d.exponent e.exponent is) rd re (turned same))
+one_form_by false d e is rd re same = form_by _ e d refl (down_from d.exponent e.exponent is) re rd same
+
+pub one_form : (d e : Dec) → IsReduced d → IsReduced e → SameFraction d e → d ≡ e
+one_form d e rd re same = one_form_by (int_le e.exponent d.exponent) d e refl rd re same

@@ -10,3 +10,4 @@ mod Reduced
 mod SetsBack
 mod WholeBack
 mod Spelled
+mod Enough

@@ -1,9 +1,10 @@
 -- Numbers that digits spell.
-use Rattle.std.proofs.Common.{◌≡◌, ℕ, suc, ◌+◌, ◌-◌, ◌*◌, ◌^◌, ◌<◌, ◌≤◌, Bool, true, false, ◌&&◌, List, [], ◌∷◌, ◌++◌, length, drop, get_or, refl, ap, ◌∙◌, arith, subst, length-append, Some, ℤ, pos, negsuc, int_le, nat_abs, to_z, of_z, ◌||◌, ◌⊎◌, inl, inr, not, nat_le}
+use Rattle.std.proofs.Common.{◌≡◌, ℕ, zero, suc, ◌+◌, ◌-◌, ◌*◌, ◌^◌, ◌<◌, ◌≤◌, Bool, true, false, ◌&&◌, eqb, List, [], ◌∷◌, ◌++◌, length, drop, get_or, refl, ap, ◌∙◌, arith, subst, length-append, Some, ℤ, pos, negsuc, int_le, nat_abs, unsigned_abs, to_z, of_z, ◌||◌, ◌⊎◌, inl, inr, Result, Ok}
 use Rattle.std.proofs.Math.Seq.{drop-cons}
 use Rattle.std.proofs.Math.Nat.{pow-le-pow_right}
 use Rattle.std.proofs.lemmas.Int.Digits.{digits_value-lt}
 use Rattle.std.proofs.lemmas.Str.Parse.{numerals_by_value, tells_all_ascii_digits}
+pub use Rattle.std.proofs.lemmas.Bool.{and_parts as both, and_from as together, or_parts as neither, not-true as is_not_true, or_left, or_right, false≢true, leb-true}
 use Rattle.std.proofs.lemmas.Bool.Decides.{nat_tests}
 use Rattle.std.specs.Int.{w128}
 use mir.Syntax.{Width}
@@ -13,41 +14,48 @@ use Rattle.sbe_types.specs.Numbers.{natural}
 use Rattle.std.specs.Char.{digit_value, is_ascii_digit}
 use Rattle.std.specs.Str.{all_ascii_digits}
 use Rattle.std.specs.Str.Parse.{digits_value, digits_value_after}
-use Rattle.fix_values.specs.Numerals.{is_numeral, is_negative, unsigned, integer_of, signed}
-
--- both of two tests hold
-pub both : (a b : Bool) → a && b ≡ true → (a ≡ true) × (b ≡ true)
-both true true h = (refl, refl)
-both true false h = cc
-both false b h = cc
-
-pub together : (a b : Bool) → a ≡ true → b ≡ true → a && b ≡ true
-together true b h g = g
-together false b h g = h
+use Rattle.fix_values.specs.declared.rule.V.{V}
+use Rattle.fix_values.specs.Numerals.{is_numeral, is_negative, unsigned, integer_of, sign, signed}
 
 pub not_true : (b : Bool) → ¬ (b ≡ true) → b ≡ false
 not_true true h = absurd (h refl)
 not_true false h = refl
-
-pub false≢true : false ≡ true → ⊥
-false≢true h = absurd (cc)
 
 -- one of two tests holds
 pub either : (a b : Bool) → a || b ≡ true → (a ≡ true) ⊎ (b ≡ true)
 either true b h = inl refl
 either false b h = inr h
 
--- none of two tests holds
-pub neither : (a b : Bool) → a || b ≡ false → (a ≡ false) × (b ≡ false)
-neither true b h = cc
-neither false b h = (refl, h)
+pub and_true : (b : Bool) → b && true ≡ b
+and_true true = refl
+and_true false = refl
 
-pub is_not_true : (b : Bool) → not b ≡ true → b ≡ false
-is_not_true true h = cc
-is_not_true false h = refl
+pub eqb_comm : (a b : ℕ) → eqb a b ≡ eqb b a
+eqb_comm a b = grind (arith, nat_tests)
 
-pub leb-true : (a b : ℕ) → nat_le a b ≡ true → a ≤ b
-leb-true a b h = grind (arith, nat_tests)
+-- an answer is one
+pub ok_is : {A : Type 0} (x y : A) → ◌≡◌ {A = Result A V} (Ok x) (Ok y) → x ≡ y
+ok_is x y h = cc
+
+-- the size of a number of this sign and size
+pub sized : (b : Bool) (k : ℕ) → unsigned_abs (signed b k) ≡ k
+sized true zero = refl
+sized true (suc k) = refl
+sized false k = refl
+
+-- a text that begins with digits has no sign
+pub no_minus : (d : ℕ) → is_ascii_digit d ≡ true → eqb d 45 ≡ false
+no_minus d h = grind (arith, nat_tests)
+
+pub digits_first : (digits rest : List ℕ) → all_ascii_digits digits ≡ true → is_negative rest ≡ false → is_negative (digits ++ rest) ≡ false
+digits_first [] rest h none = none
+digits_first (d ∷ ds) rest h none = no_minus d (both (is_ascii_digit d) (all_ascii_digits ds) h).0
+
+-- what stands behind a sign
+pub sign_taken : (negative : Bool) (rest : List ℕ) → is_negative rest ≡ false → (is_negative (sign negative ++ rest) ≡ negative) × (unsigned (sign negative ++ rest) ≡ rest)
+sign_taken true rest h = (refl, refl)
+sign_taken false [] h = (refl, refl)
+sign_taken false (b ∷ bs) h = (h, rw h)
 
 pub digit_is : (c : ℕ) → is_ascii_digit c ≡ true → digit_value c ≡ c - 48
 digit_is c h = grind (arith, nat_tests)

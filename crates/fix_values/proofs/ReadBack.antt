@@ -23,30 +23,20 @@ use Rattle.fix_values.specs.Numerals.{is_numeral, is_negative, unsigned, integer
 use Rattle.fix_values.specs.Decimals.{judged}
 use Rattle.fix_values.specs.Codes.{has_soh, found_text, code_text, found_number, code_number, same_text, is_apart, boolean_text, truth_text, boolean_shown, is_truth, named_number, truth_number, boolean_number, same_truth, is_same_truth}
 use Rattle.fix_values.specs.Values.{text_of, value_of, is_asked, char_text, char_value, spelled_number}
-use Rattle.fix_values.proofs.NumeralLemmas.{both, together, either, false≢true, is_not_true, integer_is}
-
-no_minus : (d : ℕ) → is_ascii_digit d ≡ true → eqb d 45 ≡ false
-no_minus d h = grind (arith, nat_tests)
+use Rattle.fix_values.proofs.NumeralLemmas.{both, together, either, or_left, or_right, false≢true, is_not_true, ok_is, eqb_comm, no_minus, sign_taken, integer_is}
 
 some_length : (k : ℕ) → 0 < k → nat_lt 0 k ≡ true
 some_length k h = grind (arith, nat_tests)
 
 -- a text of digits has no sign
-plain_digits : (ds : List ℕ) → is_numeral ds ≡ true → (is_negative ds ≡ false) × (unsigned ds ≡ ds)
-plain_digits [] h = (refl, refl)
-plain_digits (d ∷ ds) h =
-    let other : eqb d 45 ≡ false = no_minus d (both _ _ (both (nat_lt 0 (length (d ∷ ds))) (all_ascii_digits (d ∷ ds)) h).1).0 in
-    (other, rw other)
-
-by_sign : (negative : Bool) (text : List ℕ) (n : ℤ) (digits : List ℕ) → text ≡ sign negative ++ digits → is_numeral digits ≡ true → n ≡ signed negative (digits_value 10 digits) → integer_of text ≡ Some n
-by_sign true text n digits spelled numeral number =
-    subst (λ t. integer_of t ≡ Some n) (sym spelled) (integer_is (45 ∷ digits) true digits refl refl numeral ∙ ap Some (sym number))
-by_sign false text n digits spelled numeral number =
-    let plain = plain_digits digits numeral in
-    subst (λ t. integer_of t ≡ Some n) (sym spelled) (integer_is digits false digits (sym plain.0) (sym plain.1) numeral ∙ ap Some (sym number))
+plain_digits : (ds : List ℕ) → all_ascii_digits ds ≡ true → is_negative ds ≡ false
+plain_digits [] h = refl
+plain_digits (d ∷ ds) h = no_minus d (both (is_ascii_digit d) (all_ascii_digits ds) h).0
 
 pub spelled_back : (text : List ℕ) (n : ℤ) → SpellsInteger text n → integer_of text ≡ Some n
-spelled_back text n h = by_sign h.negative text n h.digits h.spelled h.numeral h.number
+spelled_back text n h =
+    let taken = sign_taken h.negative h.digits (plain_digits h.digits (both (nat_lt 0 (length h.digits)) (all_ascii_digits h.digits) h.numeral).1) in
+    ap integer_of h.spelled ∙ (integer_is (sign h.negative ++ h.digits) h.negative h.digits (sym taken.0) (sym taken.1) h.numeral ∙ ap Some (sym h.number))
 
 pub numeral_of : (k : ℕ) → k < 10 ^ 64 → (is_numeral (decimal k) ≡ true) × (digits_value 10 (decimal k) ≡ k)
 numeral_of k small =
@@ -86,9 +76,6 @@ taken_apart false text n is h =
 pub read_spelled : (text : List ℕ) (n : ℤ) → integer_of text ≡ Some n → SpellsInteger text n
 read_spelled text n h = taken_apart (is_numeral (unsigned text)) text n refl h
 
-ok_is : {A : Type 0} (x y : A) → ◌≡◌ {A = Result A V} (Ok x) (Ok y) → x ≡ y
-ok_is x y h = cc
-
 pub integer_back : (leaf : LeafOf) (n : ℤ) (text : List ℕ) → FitsSigned w128 n → is_value leaf n ≡ true → text_of rule.Int n ≡ Ok text → value_of rule.Int leaf text ≡ Ok n
 integer_back leaf n text fits is h =
     let spelled : integer_of text ≡ Some n = subst (λ t. integer_of t ≡ Some n) (ok_is (signed_decimal n) text h) (spelled_back (signed_decimal n) n (shown_spelled n fits)) in
@@ -103,14 +90,6 @@ char_by false leaf k text is e h =
 pub char_back : (leaf : LeafOf) (n : ℤ) (text : List ℕ) → is_asked rule.Char n ≡ true → is_value leaf n ≡ true → text_of rule.Char n ≡ Ok text → value_of rule.Char leaf text ≡ Ok n
 char_back leaf (negsuc k) text asked is h = absurd (false≢true (both (int_le (pos 0) (negsuc k)) (int_le (negsuc k) (pos 255)) asked).0)
 char_back leaf (pos k) text asked is h = char_by (eqb k 1) leaf k text is refl h
-
-pub or_left : (a b : Bool) → a ≡ true → a || b ≡ true
-or_left true b h = refl
-or_left false b h = absurd (false≢true h)
-
-pub or_right : (a b : Bool) → b ≡ true → a || b ≡ true
-or_right true b h = refl
-or_right false b h = h
 
 found_step : (b : Bool) (x : Code) (rest : Option Code) (text : List ℕ) → found_text (cond b (Some x) rest) ≡ Ok text →
     ((b ≡ true) × (found_text (Some x) ≡ Ok text)) ⊎ ((b ≡ false) × (found_text rest ≡ Ok text))
@@ -155,12 +134,9 @@ named_step : (b : Bool) (x : Named) (rest : Option Named) (n : ℤ) → (b ≡ t
 named_step true x rest n here later = ap Ok (here refl)
 named_step false x rest n here later = later refl
 
-eqb_swap : (a b : ℕ) → eqb a b ≡ true → eqb b a ≡ true
-eqb_swap a b h = (Decides-eqb b a).1 (sym (eqb-true a b h))
-
 same_truth_by : (b : ℕ) (o : Option ℕ) → is_truth b o ≡ true → is_same_truth o (Some b) ≡ true
 same_truth_by b None h = absurd (false≢true h)
-same_truth_by b (Some t) h = eqb_swap b t h
+same_truth_by b (Some t) h = eqb_comm t b ∙ h
 
 listed_truth : (x : Named) (xs : List Named) (n : ℤ) (b : ℕ) → boolean_text n ≡ Some b → is_truth b (boolean_text x.number) ≡ true → is_listed xs n ≡ true → list_any (same_truth x) xs ≡ true
 listed_truth x [] n b text is h = absurd (false≢true h)

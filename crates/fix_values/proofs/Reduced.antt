@@ -10,10 +10,10 @@ use Rattle.fix_values.specs.declared.rule.V.{V}
 use Rattle.fix_values.specs.declared.rule.V.TheVariants.{Range, Spelling}
 use Rattle.fix_values.specs.declared.rule.Dec.{Dec}
 use Rattle.fix_values.specs.Numerals.{signed}
-use Rattle.fix_values.specs.Decimals.{SameFraction, IsReduced, dec, zeros, places, without_leading, without_trailing, kept_before, digits_counted, are_digits, reduced, decimal_of, decimal_text, parts_of}
-use Rattle.fix_values.proofs.NumeralLemmas.{both, false≢true, value_append, digit_is, digit_small}
+use Rattle.fix_values.specs.Decimals.{SameFraction, IsReduced, Parts, dec, zeros, places, without_leading, without_trailing, kept_before, digits_counted, are_digits, reduced, decimal_of, decimal_text, parts_of}
+use Rattle.fix_values.proofs.NumeralLemmas.{both, false≢true, ok_is, sized, value_append, digit_is, digit_small}
 use Rattle.fix_values.proofs.DecimalLemmas.{ten_pos, digits_leading, parts_digits}
-use Rattle.fix_values.proofs.DecimalsBack.{decimals_back, sized}
+use Rattle.fix_values.proofs.DecimalsBack.{decimals_back}
 
 -- the number ends in a digit that isn't zero, whatever stands before it
 abbrev EndsNonzero : List ℕ → Type 0
@@ -88,20 +88,22 @@ reduced_is b whole (f ∷ fs) lead h (inl none) = absurd (cc none)
 reduced_is b whole (f ∷ fs) lead h (inr last) =
     inl (λ same. last (digits_value 10 whole) (ap (λ n. n % 10) (sym (sized b (digits_value 10 (whole ++ f ∷ fs)) ∙ value_append 0 whole (f ∷ fs))) ∙ same))
 
-ok_is : {A : Type 0} (x y : A) → ◌≡◌ {A = Result A V} (Ok x) (Ok y) → x ≡ y
-ok_is x y h = cc
-
 pub read_by : (a c : Bool) (r d : Dec) → ◌≡◌ {A = Result Dec V} (if a then (if c then Ok r else Err Range) else Err Spelling) (Ok d) → (a ≡ true) × (r ≡ d)
 read_by true true r d h = (refl, ok_is r d h)
 read_by true false r d h = absurd (cc h)
 read_by false c r d h = absurd (cc h)
 
+-- the reduced form of a text's parts
+pub parts_reduced : (p : Parts) → are_digits p.whole p.fraction ≡ true → IsReduced (reduced p.negative (without_leading p.whole) (without_trailing p.fraction))
+parts_reduced p are =
+    let digits = parts_digits p.whole p.fraction are in
+    reduced_is p.negative (without_leading p.whole) (without_trailing p.fraction) (leads p.whole) (digits_leading p.whole digits.0) (ends p.fraction digits.1)
+
 pub read_reduced : (text : List ℕ) (d : Dec) → decimal_of text ≡ Ok d → IsReduced d
 read_reduced text d h =
     let p = parts_of text in
     let read = read_by (are_digits p.whole p.fraction) (nat_le (digits_counted p) 38) (reduced p.negative (without_leading p.whole) (without_trailing p.fraction)) d h in
-    let digits = parts_digits p.whole p.fraction read.0 in
-    subst IsReduced read.1 (reduced_is p.negative (without_leading p.whole) (without_trailing p.fraction) (leads p.whole) (digits_leading p.whole digits.0) (ends p.fraction digits.1))
+    subst IsReduced read.1 (parts_reduced p read.0)
 
 through_size : (x a b p q s : ℕ) → x * p ≡ a * s → x * q ≡ b * s → a * q * s ≡ b * p * s
 through_size x a b p q s first second =

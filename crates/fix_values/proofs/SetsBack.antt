@@ -9,11 +9,9 @@ use Rattle.fix_values.specs.declared.rule.V.TheVariants.{Spelling, Soh, Empty, U
 use Rattle.fix_values.specs.declared.rule.Code.{Code}
 use Rattle.fix_values.specs.Codes.{bits_of, characters, codes_in, every_other, has_bit, has_code, has_soh, is_among, is_apart, is_choice, is_code_of, is_distinct, is_named, is_set_text, joined, same_text, set_number, set_text}
 use Rattle.fix_values.specs.Tables.{first_byte}
-use Rattle.fix_values.proofs.NumeralLemmas.{both, together, neither, is_not_true, false≢true}
+use Rattle.fix_values.proofs.NumeralLemmas.{both, together, neither, or_left, or_right, and_true, eqb_comm, is_not_true, false≢true, ok_is}
 use Rattle.fix_values.proofs.CodeLemmas.{filter_all, is_byte}
 use Rattle.fix_values.proofs.TableLemmas.{byte_named}
-use Rattle.fix_values.proofs.ReadBack.{or_left, or_right}
-use Rattle.fix_values.proofs.DecimalsBack.{ok_is}
 
 -- the bytes of codes of one byte each
 abbrev bytes : List Code → List ℕ
@@ -50,10 +48,6 @@ odd_length x [] h = ap (λ n. n % 2 == 1) (is_byte x (both (is_choice x) true h)
 odd_length x (y ∷ ys) h =
     let all = both (is_choice x) (list_all is_choice (y ∷ ys)) h in
     ap (λ t. length t % 2 == 1) (joined_two x y ys (is_byte x all.0)) ∙ odd_two (length (joined (y ∷ ys))) (odd_length y ys all.1)
-
-and_true : (b : Bool) → b && true ≡ b
-and_true true = refl
-and_true false = refl
 
 same_bytes : (a b : List ℕ) → length a ≡ 1 → length b ≡ 1 → bytes_eq a b ≡ eqb (slice_index a 0) (slice_index b 0)
 same_bytes a b h g = ap (λ t. bytes_eq t b) (one_byte a h) ∙ (ap (bytes_eq (slice_index a 0 ∷ [])) (one_byte b g) ∙ and_true (eqb (slice_index a 0) (slice_index b 0)))
@@ -108,11 +102,8 @@ all_coded p (x ∷ xs) h =
     let all = both (is_choice x) (list_all is_choice xs) h in
     coded_by (p x) x xs (filter p xs) all.0 (all_coded p xs all.1)
 
-eqb_turn : (a b : ℕ) → eqb a b ≡ eqb b a
-eqb_turn a b = grind (arith, nat_tests)
-
 apart_byte : (x y : Code) → is_choice x ≡ true → is_choice y ≡ true → same_text x y ≡ false → eqb (first_byte y) (first_byte x) ≡ false
-apart_byte x y g h other = eqb_turn (first_byte y) (first_byte x) ∙ (sym (same_bytes x.text y.text (is_byte x g) (is_byte y h)) ∙ other)
+apart_byte x y g h other = eqb_comm (first_byte y) (first_byte x) ∙ (sym (same_bytes x.text y.text (is_byte x g) (is_byte y h)) ∙ other)
 
 lift : (p : Code → Bool) (b : Bool) (x : Code) (F ys : List Code) → is_choice x ≡ true → list_all is_choice ys ≡ true → list_any (same_text x) ys ≡ false →
     AllByRecursion (λ y. is_among (first_byte y) (bytes F) ≡ p y) ys → AllByRecursion (λ y. is_among (first_byte y) (bytes (cond b (x ∷ F) F)) ≡ p y) ys

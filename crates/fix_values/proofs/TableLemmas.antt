@@ -9,7 +9,7 @@ use Rattle.fix_values.specs.declared.rule.Code.{Code}
 use Rattle.fix_values.specs.declared.rule.V.TheVariants.{Spelling, UnknownCode}
 use Rattle.fix_values.specs.Codes.{every_other, characters, is_among, is_distinct, is_set_text, is_code_of, has_code, is_named, is_choice, set_number, bits_of}
 use Rattle.fix_values.specs.Tables.{is_marked, marked, goes_on, marks_of, first_byte, is_marked_code, marked_codes, with_marks, are_marked}
-use Rattle.fix_values.proofs.NumeralLemmas.{both, false≢true}
+use Rattle.fix_values.proofs.NumeralLemmas.{both, false≢true, and_true, eqb_comm}
 use Rattle.fix_values.proofs.CodeLemmas.{is_byte}
 
 abbrev pub AreBytes : List ℕ → Type 0
@@ -20,9 +20,6 @@ every_small true [] h = tt
 every_small false [] h = tt
 every_small true (b ∷ bs) h = (h.0, every_small false bs h.1)
 every_small false (b ∷ bs) h = every_small true bs h.1
-
-eqb_comm : (b c : ℕ) → eqb b c ≡ eqb c b
-eqb_comm b c = grind (arith, nat_tests)
 
 -- a mark that was just set, and the others
 marked_at_by : (t : List Bool) (b c : ℕ) (v : Bool) → c < length t → eqb c b ≡ v → is_marked (marked t b) c ≡ v || is_marked t c
@@ -137,10 +134,6 @@ unmarked = replicate 256 false
 none_marked : (xs : List ℕ) → AreBytes xs → list_all (λ x. not (is_marked unmarked x)) xs ≡ true
 none_marked [] h = refl
 none_marked (x ∷ xs) h = rw (get_or-replicate 256 x false false h.0) (none_marked xs h.1)
-
-and_true : (b : Bool) → b && true ≡ b
-and_true true = refl
-and_true false = refl
 
 pub spelled_is : (text : List ℕ) → AreBytes text → goes_on false unmarked text ≡ is_set_text text
 spelled_is text h =

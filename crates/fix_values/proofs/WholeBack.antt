@@ -9,16 +9,10 @@ use Rattle.fix_values.specs.Numerals.{is_below_zero, is_value}
 use Rattle.fix_values.specs.Decimals.{SameFraction, dec, Parts, parts_text, parts_of, without_leading, digits_counted, are_digits, reduced, decimal_of, judged}
 use Rattle.fix_values.specs.Values.{text_of, value_of, whole_value}
 use Rattle.fix_values.proofs.ReadBack.{numeral_of}
-use Rattle.fix_values.proofs.Fractions.{fit_only}
-use Rattle.fix_values.proofs.DecimalsBack.{parts_back, digits_are, of_parts, of_parts_is, same_reduced, value_leading, ok_is}
-
-length_leading_by : (b : Bool) (d : ℕ) (ds rest : List ℕ) → length rest ≤ length ds → length (cond b rest (d ∷ ds)) ≤ suc (length ds)
-length_leading_by true d ds rest h = omega (arith, h)
-length_leading_by false d ds rest h = omega arith
-
-length_leading : (ds : List ℕ) → length (without_leading ds) ≤ length ds
-length_leading [] = omega arith
-length_leading (d ∷ ds) = length_leading_by (eqb d 48) d ds (without_leading ds) (length_leading ds)
+use Rattle.fix_values.proofs.Fractions.{fit_only, turned}
+use Rattle.fix_values.proofs.NumeralLemmas.{ok_is}
+use Rattle.fix_values.proofs.DecimalLemmas.{length_leading, within}
+use Rattle.fix_values.proofs.DecimalsBack.{parts_back, digits_are, of_parts, of_parts_is, same_reduced, value_leading}
 
 abbrev whole_parts : ℤ → Parts
 whole_parts n = record { negative = is_below_zero n; whole = decimal (unsigned_abs n); fraction = [] }
@@ -26,9 +20,6 @@ whole_parts n = record { negative = is_below_zero n; whole = decimal (unsigned_a
 whole_text : (n : ℤ) → signed_decimal n ≡ parts_text (whole_parts n)
 whole_text (pos k) = sym (append-nil (decimal k))
 whole_text (negsuc k) = ap (λ t. 45 ∷ t) (sym (append-nil (decimal (suc k))))
-
-few : (k : ℕ) → k ≤ 38 → nat_le (k + 0) 38 ≡ true
-few k h = grind (arith, nat_tests)
 
 pub whole_back : (leaf : LeafOf) (n : ℤ) (text : List ℕ) → unsigned_abs n < 10 ^ 38 → is_value leaf n ≡ true → text_of rule.Decimal n ≡ Ok text → value_of rule.Decimal leaf text ≡ Ok n
 whole_back leaf n text small is h =
@@ -41,8 +32,7 @@ whole_back leaf n text small is h =
     omega (arith, length_leading (decimal k), length-decimal-le_wide 38 k (omega arith) small (omega (arith, small))) in
     let r = reduced (is_below_zero n) (without_leading (decimal k)) [] in
     let read : decimal_of text ≡ Ok r =
-    ap of_parts parts ∙ of_parts_is (are_digits p.whole p.fraction) (nat_le (digits_counted p) 38) r (digits_are p.whole [] numeral.0 refl) (few (length (without_leading (decimal k))) short) in
+    ap of_parts parts ∙ of_parts_is (are_digits p.whole p.fraction) (nat_le (digits_counted p) 38) r (digits_are p.whole [] numeral.0 refl) (within (length (without_leading (decimal k)) + 0) (omega (arith, short))) in
     let same : SameFraction r (dec n (pos 0)) =
     same_reduced (is_below_zero n) n (pos 0) (k * 10 ^ 0) k 0 0 (without_leading (decimal k)) [] refl refl (omega arith) (value_leading (decimal k) ∙ numeral.1) (omega arith) (omega arith) in
-    let turned : SameFraction (dec n (pos 0)) r = record { sign = sym same.sign; size = sym same.size } in
-    ap (whole_value leaf) read ∙ (ap (judged leaf) (fit_only r (pos 0) n turned) ∙ rw is)
+    ap (whole_value leaf) read ∙ (ap (judged leaf) (fit_only r (pos 0) n (turned same)) ∙ rw is)

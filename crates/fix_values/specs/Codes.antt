@@ -1,4 +1,6 @@
--- The texts of listed values: codes, sets of codes and Booleans.
+-- The texts of listed values: codes, sets of codes and Booleans. From FIX Orchestra, code sets, and the FIX tag-value
+-- encoding, datatypes MultipleCharValue and Boolean. Own profile: the order in which a set is shown, that no character
+-- stands twice, and that SOH in a code is refused.
 use Rattle.std.specs.Prelude.{ℕ, ◌/◌, ◌%◌, ◌^◌, Bool, true, false, not, ◌&&◌, ◌||◌, ◌==◌, nat_eq, nat_lt, int_le, nat_le, if◌then◌else◌, List, [], ◌∷◌, length, map, codes, ℤ, pos, bytes_eq, find, filter, sum_by, Option, Some, None, Result, Ok, Err}
 use Rattle.std.specs.List.{list_any, list_all, join_with_byte}
 use Rattle.std.specs.Ordering.{int_eq}
@@ -9,6 +11,7 @@ use Rattle.sbe_types.specs.Shown.{is_null, is_listed}
 use Rattle.fix_values.specs.declared.rule.V.{V}
 use Rattle.fix_values.specs.declared.rule.V.TheVariants.{Spelling, Soh, Empty, UnknownCode}
 use Rattle.fix_values.specs.declared.rule.Code.{Code}
+use Rattle.fix_values.specs.declared.rule.TheConstants.{MOST_BYTES}
 use Rattle.fix_values.specs.declared.text.TheConstants.{SOH}
 
 -- SOH, which ends a field, is among the bytes
@@ -137,7 +140,7 @@ boolean_number names leaf (b ∷ c ∷ bs) = Err Spelling
 
 -- a code's text has 1 to 64 bytes
 abbrev pub has_short_text : Code → Bool
-has_short_text code = nat_lt 0 (length code.text) && nat_le (length code.text) 64
+has_short_text code = nat_lt 0 (length code.text) && nat_le (length code.text) MOST_BYTES
 
 -- a choice's text has one byte, and its number is one of the bits of a set
 abbrev pub is_choice : Code → Bool

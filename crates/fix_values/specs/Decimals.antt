@@ -1,11 +1,13 @@
--- The texts of decimals, and when two decimals are the same fraction.
-use Rattle.std.specs.Prelude.{◌≡◌, ◌≢◌, ◌⊎◌, ℕ, zero, suc, ◌+◌, ◌-◌, ◌*◌, ◌/◌, ◌%◌, ◌^◌, Bool, true, ◌&&◌, ◌==◌, nat_lt, nat_le, if◌then◌else◌, List, [], ◌∷◌, ◌++◌, length, codes, decimal, ℤ, pos, ◌-ℤ◌, neg_ℤ, unsigned_abs, int_le, Result, Ok, Err}
+-- The texts of decimals, and when two decimals are the same fraction. From the FIX tag-value encoding, datatype float, and
+-- for mantissa and exponent SBE 1.0, Field encoding. Own profile: how many digits are read, which exponents are shown, and
+-- that a text is shown without needless zeros.
+use Rattle.std.specs.Prelude.{◌≡◌, ◌≢◌, ◌⊎◌, ℕ, zero, suc, ◌+◌, ◌-◌, ◌*◌, ◌/◌, ◌%◌, ◌^◌, ◌<◌, ◌≤◌, Bool, true, ◌&&◌, ◌==◌, nat_lt, nat_le, if◌then◌else◌, List, [], ◌∷◌, ◌++◌, length, codes, decimal, ℤ, pos, ◌-ℤ◌, neg_ℤ, unsigned_abs, int_le, Result, Ok, Err}
 use Rattle.std.specs.Str.{all_ascii_digits}
 use Rattle.std.specs.Str.Parse.{digits_value}
 use Rattle.sbe_types.specs.declared.kind.Leaf.{Leaf as LeafOf}
 use Rattle.sbe_types.specs.Numbers.{natural}
 use Rattle.fix_values.specs.declared.rule.V.{V}
-use Rattle.fix_values.specs.declared.rule.V.TheVariants.{Spelling, Range, Inexact}
+use Rattle.fix_values.specs.declared.rule.V.TheVariants.{Spelling, Range, Inexact, Soh, Empty, UnknownCode}
 use Rattle.fix_values.specs.declared.rule.Dec.{Dec}
 use Rattle.fix_values.specs.declared.decimal.TheConstants.{MOST_DIGITS, MOST_EXPONENT}
 use Rattle.fix_values.specs.Numerals.{sign, signed, is_below_zero, is_negative, unsigned, is_value}
@@ -131,6 +133,30 @@ number_of_parts parts = record {
   mantissa = signed parts.negative (digits_value 10 (parts.whole ++ parts.fraction));
   exponent = neg_ℤ (pos (length parts.fraction));
 }
+
+-- a text is read as this decimal: the one in the reduced form that is the fraction of its digits, where not too many count
+pub record IsReadAs (text : List ℕ) (d : Dec) : Type 0 where
+  pub parts : Parts
+  pub spelled : SpellsDecimal text parts
+  pub few : digits_counted parts ≤ MOST_DIGITS
+  pub number : SameFraction d (number_of_parts parts)
+  pub form : IsReduced d
+
+-- a text spells a decimal, but more of its digits count than are read
+pub record HasTooMany (text : List ℕ) : Type 0 where
+  pub parts : Parts
+  pub spelled : SpellsDecimal text parts
+  pub many : MOST_DIGITS < digits_counted parts
+
+-- what reading a decimal's text answers: first whether it is spelled as one is asked, then how many digits count
+abbrev pub ReadsDecimal : List ℕ → Result Dec V → Type 0
+ReadsDecimal text (Ok d) = IsReadAs text d
+ReadsDecimal text (Err Spelling) = (parts : Parts) → ¬ (SpellsDecimal text parts)
+ReadsDecimal text (Err Range) = HasTooMany text
+ReadsDecimal text (Err Inexact) = ⊥
+ReadsDecimal text (Err Soh) = ⊥
+ReadsDecimal text (Err Empty) = ⊥
+ReadsDecimal text (Err UnknownCode) = ⊥
 
 -- the reduced decimal of a whole part without leading zeros and a fraction without trailing zeros
 abbrev pub reduced : Bool → List ℕ → List ℕ → Dec

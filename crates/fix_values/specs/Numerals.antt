@@ -1,4 +1,5 @@
--- Digits, signs and the whole numbers that they spell, and which numbers are a leaf's.
+-- Digits, signs and the whole numbers that they spell, and which numbers are a leaf's. From the FIX tag-value encoding,
+-- datatype int, and SBE 1.0, Field encoding.
 use Rattle.std.specs.Prelude.{◌≡◌, ℕ, Bool, true, false, not, ◌&&◌, ◌==◌, nat_lt, if◌then◌else◌, List, [], ◌∷◌, ◌++◌, length, codes, ℤ, pos, negsuc, neg_ℤ, Option, Some, None}
 use Rattle.std.specs.Str.{all_ascii_digits}
 use Rattle.std.specs.Str.Parse.{digits_value}

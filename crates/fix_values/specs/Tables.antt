@@ -1,4 +1,4 @@
--- What the code keeps on the way: a set's text as it grows, and tables of 256 marks, one for each byte.
+-- What the code keeps on the way: a set's text as it grows, and tables of 256 marks, one for each byte. Own profile.
 use Rattle.std.specs.Prelude.{ℕ, Bool, true, false, not, ◌&&◌, ◌==◌, List, [], ◌∷◌, ◌++◌, filter, slice_index, slice_index_or, slice_set}
 use Rattle.std.specs.List.{list_all}
 use Rattle.fix_values.specs.declared.rule.Code.{Code}

@@ -1,4 +1,5 @@
--- The text of one value by its rule, and the value of one text.
+-- The text of one value by its rule, and the value of one text. From the FIX tag-value encoding, datatypes int, float,
+-- char, Boolean and String. Own profile: the refusals and their order, and that nothing is rounded.
 use Rattle.std.specs.Prelude.{◌≡◌, ℕ, Bool, true, ◌&&◌, ◌==◌, nat_le, int_le, if◌then◌else◌, List, [], ◌∷◌, length, ℤ, pos, Option, Some, None, Result, Ok, Err}
 use Rattle.std.specs.Fmt.{signed_decimal}
 use Rattle.std.specs.List.{list_all}

@@ -7,30 +7,21 @@ ghost use Rattle.fix_values.specs.Codes.{is_apart, same_number, same_text, same_
 
 use crate::Code;
 use crate::number::{boolean_text, is_truth};
+use crate::rule::MOST_BYTES;
 use sbe_types::Named;
 
-/// Whether each code's text has 1 to 64 bytes.
+/// Whether each code's text has 1 to [`MOST_BYTES`] bytes.
 pub fn are_short(list: &[Code]) -> bool
     ensures { result ≡ list_all codes.has_short_text list.now }
 {
-    for code in list {
-        if code.text.is_empty() || code.text.len() > 64 {
-            return false;
-        }
-    }
-    true
+    list.iter().all(|code| !code.text.is_empty() && code.text.len() <= MOST_BYTES)
 }
 
 /// Whether each code is one of a set: its text has one byte, and its number is a bit from 0 to 63.
 pub fn are_choices(list: &[Code]) -> bool
     ensures { result ≡ list_all codes.is_choice list.now }
 {
-    for code in list {
-        if !is_choice(code) {
-            return false;
-        }
-    }
-    true
+    list.iter().all(is_choice)
 }
 
 fn is_choice(code: &Code) -> bool
@@ -55,12 +46,7 @@ pub fn are_numbers_apart(list: &[Code]) -> bool
 fn has_number(list: &[Code], other: &Code) -> bool
     ensures { result ≡ list_any (same_number other.now) list.now }
 {
-    for code in list {
-        if other.number == code.number {
-            return true;
-        }
-    }
-    false
+    list.iter().any(|code| other.number == code.number)
 }
 
 /// Whether no two codes have the same text.
@@ -78,12 +64,8 @@ pub fn are_texts_apart(list: &[Code]) -> bool
 fn has_text(list: &[Code], other: &Code) -> bool
     ensures { result ≡ list_any (same_text other.now) list.now }
 {
-    for code in list {
-        if other.text.as_slice() == code.text.as_slice() {
-            return true;
-        }
-    }
-    false
+    list.iter()
+        .any(|code| other.text.as_slice() == code.text.as_slice())
 }
 
 /// Whether no two listed values are spelled by the same byte as truth values.
@@ -101,12 +83,7 @@ pub fn are_truths_apart(list: &[Named]) -> bool
 fn has_truth(list: &[Named], other: &Named) -> bool
     ensures { result ≡ list_any (same_truth other.now) list.now }
 {
-    for name in list {
-        if is_same_truth(other, name) {
-            return true;
-        }
-    }
-    false
+    list.iter().any(|name| is_same_truth(other, name))
 }
 
 fn is_same_truth(one: &Named, other: &Named) -> bool

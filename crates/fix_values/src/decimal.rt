@@ -20,8 +20,9 @@ pub const MOST_DIGITS: usize = 38;
 /// The greatest exponent that is shown. Its negative is the least one.
 pub const MOST_EXPONENT: i32 = 18;
 
-/// Writes the text of a decimal: a minus sign, the whole part without leading zeros, and a point and
-/// the digits behind it down to the last that isn't zero.
+/// Writes the text of a decimal, the mantissa times ten to the exponent, as FIX's datatype float: a
+/// minus sign, the whole part without leading zeros, and a point and the digits behind it down to the
+/// last that isn't zero.
 ///
 /// # Errors
 ///
@@ -129,7 +130,8 @@ fn put_places(rest: u128, places: u32, out: &mut Short) -> usize
     count
 }
 
-/// Reads a decimal. Its mantissa isn't a multiple of ten, and zero has the exponent 0.
+/// Reads a decimal, FIX's datatype float. Its mantissa isn't a multiple of ten, and zero has the
+/// exponent 0.
 ///
 /// # Errors
 ///

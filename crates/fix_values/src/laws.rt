@@ -1,18 +1,18 @@
-//! Laws of the definitions, as functions without a body: what is shown reads back, a fraction has one
-//! reduced form and one mantissa under an exponent, and the rows compute.
+//! Laws of the definitions, as functions without a body: what is shown reads back, a text is read as
+//! what it spells, and a fraction has one reduced form and one mantissa under an exponent.
 
-ghost use Rattle.std.specs.Prelude.{◌≡◌, ◌<◌, ◌≤◌, ◌^◌, ℕ, ℤ, pos, negsuc, true, false, List, [], ◌∷◌, ◌++◌, Ok, Err, Some, None, codes, int_le, unsigned_abs, FitsSigned};
+ghost use Rattle.std.specs.Prelude.{◌≡◌, ◌<◌, ◌+◌, ◌^◌, ℕ, ℤ, pos, neg_ℤ, true, false, List, Result, Ok, Some, int_le, unsigned_abs, FitsSigned};
 ghost use Rattle.std.specs.Int.{w128};
-ghost use Rattle.std.specs.Str.Parse.{digits_value};
 ghost use Rattle.sbe_types.specs.declared.kind.Leaf.{Leaf};
 ghost use Rattle.sbe_types.specs.declared.kind.Named.{Named};
 ghost use Rattle.sbe_types.specs.Shown.{is_null};
 ghost use Rattle.fix_values.specs.declared.rule.Code.{Code};
 ghost use Rattle.fix_values.specs.declared.rule.Dec.{Dec};
 ghost use Rattle.fix_values.specs.declared.rule.NumRule.TheVariants as rule;
-ghost use Rattle.fix_values.specs.declared.rule.V.TheVariants.{Spelling, Range, Inexact};
+ghost use Rattle.fix_values.specs.declared.rule.V.{V};
+ghost use Rattle.fix_values.specs.declared.decimal.TheConstants.{MOST_DIGITS, MOST_EXPONENT};
 ghost use Rattle.fix_values.specs.Numerals.{SpellsInteger, integer_of, is_value};
-ghost use Rattle.fix_values.specs.Decimals.{SameFraction, IsReduced, SpellsDecimal, dec, decimal_of, decimal_text, mantissa_under, number_of_parts, parts_of};
+ghost use Rattle.fix_values.specs.Decimals.{SameFraction, IsReduced, ReadsDecimal, dec, decimal_of, decimal_text, fitted, mantissa_under};
 ghost use Rattle.fix_values.specs.Values.{can_read, is_asked, text_of, value_of};
 
 /// The number of a text is the one that it spells: an optional minus sign, and digits.
@@ -54,11 +54,16 @@ pub fn mantissas_are_of_the_same_fraction()
     ensures only { (d : Dec) (exponent n : ℤ) → SameFraction (dec n exponent) d → mantissa_under d exponent ≡ Ok n }
 {}
 
-/// A decimal that was shown reads back as the same fraction.
+/// A decimal that was shown reads back as the same fraction, and under the same exponent it has the
+/// same mantissa.
 pub fn decimals_read_back()
-    ensures { (mantissa exponent : ℤ) (text : List ℕ) → FitsSigned w128 mantissa
+    ensures same { (mantissa exponent : ℤ) (text : List ℕ) → FitsSigned w128 mantissa
         → decimal_text (dec mantissa exponent) ≡ Ok text
         → (d : Dec) × (decimal_of text ≡ Ok d) × SameFraction d (dec mantissa exponent) }
+    ensures mantissa { (leaf : Leaf) (mantissa exponent : ℤ) (text : List ℕ)
+        → FitsSigned w128 mantissa → is_value leaf mantissa ≡ true
+        → decimal_text (dec mantissa exponent) ≡ Ok text
+        → (d : Dec) × (decimal_of text ≡ Ok d) × (fitted d leaf exponent ≡ Ok mantissa) }
 {}
 
 /// What is read of a text is in the form whose mantissa isn't a multiple of ten, and zero has the
@@ -87,11 +92,26 @@ pub fn sets_read_back()
         → text_of (rule.Codes list) (pos n) ≡ Ok text → value_of (rule.Codes list) leaf text ≡ Ok (pos n) }
 {}
 
-/// A text that is read as a decimal spells it: an optional minus sign, and digits with at most one
-/// point; and the decimal is the fraction of all its digits over as many tens as stand behind the point.
+/// A text is read as the decimal that it spells, an optional minus sign and digits with at most one
+/// point, in the reduced form; and it is refused exactly where it spells none, or more digits count
+/// than are read.
 pub fn decimals_are_spelled()
-    ensures parts { (text : List ℕ) (d : Dec) → decimal_of text ≡ Ok d → SpellsDecimal text (parts_of text) }
-    ensures number { (text : List ℕ) (d : Dec) → decimal_of text ≡ Ok d
-        → 0 < digits_value 10 ((parts_of text).whole ++ (parts_of text).fraction)
-        → SameFraction d (number_of_parts (parts_of text)) }
+    ensures read { (text : List ℕ) → ReadsDecimal text (decimal_of text) }
+    ensures only { (text : List ℕ) (answer : Result Dec V) → ReadsDecimal text answer
+        → answer ≡ decimal_of text }
+{}
+
+/// A fraction has one reduced form.
+pub fn a_fraction_has_one_reduced_form()
+    ensures { (d e : Dec) → IsReduced d → IsReduced e → SameFraction d e → d ≡ e }
+{}
+
+/// Thirty-eight digits are enough: a mantissa of 64 bits has a text under each exponent that is shown.
+/// And they are few enough: an i128 holds every number of so many, and not of one more.
+pub fn thirty_eight_digits_are_enough()
+    ensures shown { (mantissa exponent : ℤ) → unsigned_abs mantissa < 2 ^ 64
+        → int_le (neg_ℤ MOST_EXPONENT) exponent ≡ true → int_le exponent MOST_EXPONENT ≡ true
+        → (text : List ℕ) × (decimal_text (dec mantissa exponent) ≡ Ok text) }
+    ensures held { 10 ^ MOST_DIGITS < 2 ^ 127 }
+    ensures most { 2 ^ 127 < 10 ^ (MOST_DIGITS + 1) }
 {}

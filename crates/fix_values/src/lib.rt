@@ -9,10 +9,9 @@ mod decimal;
 mod digits;
 pub mod laws;
 mod number;
+pub mod rows;
 mod rule;
 mod short;
-#[cfg(test)]
-mod tests;
 mod text;
 
 pub use decimal::{fit_decimal, read_decimal, show_decimal};

@@ -14,7 +14,8 @@ use crate::{NumRule, Short, V};
 use itoa::Buffer;
 use sbe_types::{Leaf, NamedList};
 
-/// Writes the text of a number by its rule. It needs a rule by which numbers can be shown
+/// Writes the text of a number by its rule: FIX's datatypes int, float, char, Boolean and
+/// MultipleCharValue, and Orchestra's code sets. It needs a rule by which numbers can be shown
 /// ([`NumRule::can_show`]); for a character a number from 0 to 255, for a set one of 64 bits.
 ///
 /// # Errors
@@ -36,7 +37,8 @@ pub fn show_num(rule: &NumRule, n: i128, out: &mut Short) -> Result<(), V>
     }
 }
 
-/// Reads a number by its rule, as one of the leaf's. It needs a rule by which texts can be read
+/// Reads a number by its rule, as one of the leaf's: FIX's datatypes int, float, char, Boolean and
+/// MultipleCharValue, and Orchestra's code sets. It needs a rule by which texts can be read
 /// ([`NumRule::can_read`]). For a set the leaf isn't looked at.
 ///
 /// # Errors
@@ -99,22 +101,17 @@ fn show_boolean(names: &NamedList, n: i128, out: &mut Short) -> Result<(), V>
 fn is_listed(names: &NamedList, n: i128) -> bool
     ensures { result ≡ shown.is_listed names.now n }
 {
-    for name in names.as_slice() {
-        if name.number == n {
-            return true;
-        }
-    }
-    false
+    names.as_slice().iter().any(|name| name.number == n)
 }
 
 /// `Y` for 1 and the character `Y`, `N` for 0 and the character `N`.
 pub fn boolean_text(n: i128) -> Option<u8>
     ensures { result ≡ codes.boolean_text n }
 {
-    if n == 1 || n == 89 {
+    if n == 1 || n == b'Y' as i128 {
         return Some(b'Y');
     }
-    if n == 0 || n == 78 {
+    if n == 0 || n == b'N' as i128 {
         return Some(b'N');
     }
     None

@@ -30,6 +30,9 @@ pub enum V {
     UnknownCode,
 }
 
+/// How many bytes the text of a code may have.
+pub const MOST_BYTES: usize = 64;
+
 /// The text that stands for a number: for a value of an enum its number, for a choice of a set
 /// its bit.
 #[derive(Debug, Drop)]

@@ -10,7 +10,7 @@ use sbe_types::{Leaf, LeafShape};
 /// The byte that ends a field of a tag-value text.
 pub const SOH: u8 = 1;
 
-/// Judges a text that is to be written.
+/// Judges a text that is to be written: FIX's datatype String, of one byte or more without SOH.
 ///
 /// # Errors
 ///
@@ -27,7 +27,7 @@ pub fn show_text(bytes: &[u8]) -> Result<(), V>
     Ok(())
 }
 
-/// Judges a text that was read for a char array.
+/// Judges a text that was read for a char array, of as many bytes as the leaf has elements at most.
 ///
 /// # Errors
 ///
@@ -49,12 +49,7 @@ pub fn read_text(leaf: &Leaf, bytes: &[u8]) -> Result<(), V>
 fn are_text_bytes(leaf: &Leaf, bytes: &[u8]) -> bool
     ensures { result ≡ list_all (shows.is_text_byte leaf.now) bytes.now }
 {
-    for byte in bytes {
-        if !is_text_byte(leaf, *byte) {
-            return false;
-        }
-    }
-    true
+    bytes.iter().all(|byte| is_text_byte(leaf, *byte))
 }
 
 /// Whether SOH is among the bytes.

@@ -1,4 +1,4 @@
-use crate::{
+use fix_dates::{
     Moment, MonthYear, fit_moment, read_day, read_month, read_stamp, read_time, show_day,
     show_month, show_stamp, show_time,
 };
@@ -87,6 +87,10 @@ fn shows_times(rt: HostRuntime) {
         assert_eq!(rt; show_time(n, unit, &mut out), Ok(()), "at {n}");
         assert_eq!(rt; out.bytes(), text, "at {n}");
     }
+}
+
+#[test]
+fn shows_no_other_times(rt: HostRuntime) {
     for (n, unit) in [
         (-1, 0),
         (86_400, 0),
@@ -98,7 +102,14 @@ fn shows_times(rt: HostRuntime) {
         (0, 4),
         (0, 10),
         (0, 255),
+        (i64::MIN as i128, 0),
+        (i64::MIN as i128, 3),
+        (i64::MIN as i128, 6),
         (i64::MIN as i128, 9),
+        (i64::MAX as i128, 0),
+        (i64::MAX as i128, 3),
+        (i64::MAX as i128, 6),
+        (i64::MAX as i128, 9),
         (u64::MAX as i128, 0),
     ] {
         let mut out = Short::new();
@@ -241,6 +252,16 @@ fn reads_moments(rt: HostRuntime) {
         let read = read_stamp(text).map(|moment| (moment.nanos, moment.digits));
         assert_eq!(rt; read, want, "at {text:?}");
     }
+}
+
+/// A second and a half after midnight of 2 January 1970, under each unit.
+#[test]
+fn fits_a_text_under_each_unit(rt: HostRuntime) {
+    let moment = read_stamp(b"19700102-00:00:01.500").expect(&rt, "it is a moment");
+    assert_eq!(rt; fit_moment(&moment, 0), Err(V::Inexact));
+    assert_eq!(rt; fit_moment(&moment, 3), Ok(86_401_500));
+    assert_eq!(rt; fit_moment(&moment, 6), Ok(86_401_500_000));
+    assert_eq!(rt; fit_moment(&moment, 9), Ok(86_401_500_000_000));
 }
 
 #[test]

@@ -1,0 +1,7 @@
+//! Tests of the texts of single values, over values from outside: the rows of `fix_values` and
+//! of `fix_dates`.
+
+#[cfg(test)]
+mod dates;
+#[cfg(test)]
+mod values;
