@@ -13,6 +13,3 @@ pub use element::{content_of, limit_children, lone_of, refuse_children};
 pub use file::{FILE_LIMIT, read_value};
 pub use form::{Form, IdNumber, JsonText, TextOrNumber, WholeNumber, read_limited, str_of};
 pub use refusal::{Cause, ElementErr, Step, at_child, inside, path_of, refuse};
-
-#[cfg(test)]
-mod tests;

@@ -3,21 +3,11 @@
 #![tactic(auto)]
 
 mod element_name;
-#[cfg(test)]
-mod element_rows;
 mod form;
 pub mod laws;
-#[cfg(test)]
-mod limit_rows;
 mod message;
-#[cfg(test)]
-mod outline;
-#[cfg(test)]
-mod refusal_rows;
 mod schema;
 mod schema_err;
-#[cfg(test)]
-mod tree_rows;
 mod types;
 pub mod worked;
 
