@@ -1,0 +1,260 @@
+mod checks;
+mod faults;
+mod limits;
+mod rules;
+
+use sbe_base::{MemFiles, MemSink, MemSource, Status};
+use sbe_cli::run;
+use std::alloc::Global;
+use std::process::Abort;
+use std::test::Fail;
+
+const PING: &[u8] = b"{\"messageSchema\":{\"package\":\"demo\",\"id\":7,\"version\":0,\"content\":[
+    {\"types\":{\"content\":[{\"composite\":{\"name\":\"messageHeader\",\"content\":[
+        {\"type\":{\"name\":\"blockLength\",\"primitiveType\":\"uint16\"}},
+        {\"type\":{\"name\":\"templateId\",\"primitiveType\":\"uint16\"}},
+        {\"type\":{\"name\":\"schemaId\",\"primitiveType\":\"uint16\"}},
+        {\"type\":{\"name\":\"version\",\"primitiveType\":\"uint16\"}}]}}]}},
+    {\"message\":{\"name\":\"Ping\",\"id\":1,\"content\":[
+        {\"field\":{\"name\":\"a\",\"id\":1001,\"type\":\"uint16\"}},
+        {\"field\":{\"name\":\"b\",\"id\":1002,\"type\":\"int32\",\"presence\":\"optional\"}}]}}]}}";
+
+/// A Ping whose a is 258 and whose b is null.
+const FRAME: &[u8] =
+    b"\x00\x00\x00\x14\xeb\x50\x06\x00\x01\x00\x07\x00\x00\x00\x02\x01\x00\x00\x00\x80";
+
+/// The same twice.
+const TWICE: &[u8] =
+    b"\x00\x00\x00\x14\xeb\x50\x06\x00\x01\x00\x07\x00\x00\x00\x02\x01\x00\x00\x00\x80\x00\x00\x00\x14\xeb\x50\x06\x00\x01\x00\x07\x00\x00\x00\x02\x01\x00\x00\x00\x80";
+
+const LINE: &[u8] =
+    b"{\"data\":{},\"fields\":{\"a\":258,\"b\":null},\"groups\":{},\"template\":\"Ping\",\"version\":0}\n";
+
+const REFUSED: &[u8] =
+    b"{\"refused\":\"F00\",\"item\":0,\"offset\":null,\"path\":\"\",\"detail\":\"\"}\n";
+
+const USAGE: &[u8] = b"{\"usage\":\"sbe check compat dump build fixcheck tofix tosbe selftest\"}\n";
+
+/// What a run is given, and which calls of each object fail.
+#[derive(Clone, Copy)]
+struct Trial<'a> {
+    words: &'a [&'a str],
+    schema: &'a [u8],
+    input: &'a [u8],
+    piece: usize,
+    load: &'a [u64],
+    read: &'a [u64],
+    output: &'a [u64],
+    notes: &'a [u64],
+}
+
+/// The sample's words, schema and frame, with nothing failing.
+fn sample<'a>() -> Trial<'a> {
+    Trial {
+        words: &["dump", "ping.json"],
+        schema: PING,
+        input: FRAME,
+        piece: 7,
+        load: &[],
+        read: &[],
+        output: &[],
+        notes: &[],
+    }
+}
+
+/// How a run ended, what it wrote, and how many bytes the input has left.
+#[derive(Drop)]
+struct Outcome {
+    status: Status,
+    output: MemSink,
+    notes: MemSink,
+    left: usize,
+}
+
+/// Runs a trial, whose output has room for so many bytes.
+fn run_trial(alloc: Global, trial: &Trial, room: usize) -> Result<Outcome, Fail> {
+    let mut words = Vec::new(alloc);
+    for word in trial.words {
+        words.push(String::from_str(alloc, *word)?)?;
+    }
+    let mut files = MemFiles::new(alloc, trial.load)?;
+    files.put("ping.json", trial.schema)?;
+    let piece = trial.piece.max(1);
+    let mut input = MemSource::new(alloc, trial.input, piece, trial.read)?;
+    let mut output = MemSink::new(alloc, room, trial.output)?;
+    let mut notes = MemSink::new(alloc, 1024, trial.notes)?;
+    let status = run(
+        alloc,
+        words.as_slice(),
+        &mut files,
+        &mut input,
+        &mut output,
+        &mut notes,
+    );
+    let left = input.left().len();
+    Ok(Outcome {
+        status,
+        output,
+        notes,
+        left,
+    })
+}
+
+/// Runs a trial, and asserts its status and what it wrote.
+fn expect(
+    rt: &impl Abort,
+    alloc: Global,
+    trial: &Trial,
+    status: Status,
+    output: &[u8],
+    notes: &[u8],
+) -> Result<(), Fail> {
+    let ended = run_trial(alloc, trial, 32_768)?;
+    assert_eq!(rt; ended.status, status);
+    assert_eq!(rt; ended.output.bytes(), output);
+    assert_eq!(rt; ended.notes.bytes(), notes);
+    Ok(())
+}
+
+#[test]
+fn answers_frames(rt: HostRuntime) -> Result<(), Fail> {
+    let alloc = rt.alloc();
+    let mut trial = sample();
+    expect(&rt, alloc, &trial, Status::Done, LINE, b"")?;
+    trial.input = b"";
+    expect(&rt, alloc, &trial, Status::Done, b"", b"")?;
+    trial.input = FRAME;
+    for piece in 1..22usize {
+        trial.piece = piece;
+        expect(&rt, alloc, &trial, Status::Done, LINE, b"")?;
+    }
+    let short_block =
+        b"\x00\x00\x00\x13\xeb\x50\x06\x00\x01\x00\x07\x00\x00\x00\x02\x01\x00\x00\x00";
+    let big_endian =
+        b"\x00\x00\x00\x14\x5b\xe0\x06\x00\x01\x00\x07\x00\x00\x00\x02\x01\x00\x00\x00\x80";
+    let no_body = b"\x00\x00\x00\x06\xeb\x50";
+    for input in [
+        short_block.as_slice(),
+        big_endian.as_slice(),
+        no_body.as_slice(),
+    ] {
+        trial.input = input;
+        expect(&rt, alloc, &trial, Status::SomeRefused, REFUSED, b"")?;
+    }
+    Ok(())
+}
+
+#[test]
+fn refuses_in_order(rt: HostRuntime) -> Result<(), Fail> {
+    let alloc = rt.alloc();
+    let mut trial = sample();
+    let between =
+        b"\x00\x00\x00\x14\xeb\x50\x06\x00\x01\x00\x07\x00\x00\x00\x02\x01\x00\x00\x00\x80\x00\x00\x00\x07\xeb\x50\x06\x00\x00\x00\x14\xeb\x50\x06\x00\x01\x00\x07\x00\x00\x00\xfe\xff\x05\x00\x00\x00";
+    trial.input = between;
+    let output =
+        b"{\"data\":{},\"fields\":{\"a\":258,\"b\":null},\"groups\":{},\"template\":\"Ping\",\"version\":0}
+{\"refused\":\"F00\",\"item\":1,\"offset\":null,\"path\":\"\",\"detail\":\"\"}
+{\"data\":{},\"fields\":{\"a\":65534,\"b\":5},\"groups\":{},\"template\":\"Ping\",\"version\":0}
+";
+    expect(&rt, alloc, &trial, Status::SomeRefused, output, b"")
+}
+
+#[test]
+fn ends_inside_a_frame(rt: HostRuntime) -> Result<(), Fail> {
+    let alloc = rt.alloc();
+    let mut trial = sample();
+    for cut in 1..20usize {
+        trial.input = &FRAME[..cut];
+        let notes = format!(in alloc; "{{\"framing\":\"EndInside\",\"at\":0,\"number\":{cut}}}\n")?;
+        expect(
+            &rt,
+            alloc,
+            &trial,
+            Status::FramingRefused,
+            b"",
+            notes.as_bytes(),
+        )?;
+    }
+    Ok(())
+}
+
+#[test]
+fn names_faulty_heads(rt: HostRuntime) -> Result<(), Fail> {
+    let alloc = rt.alloc();
+    let mut trial = sample();
+    let rows: [(&[u8], &[u8]); 6] = [
+        (
+            b"\x00\x01\x00\x01\xeb\x50",
+            b"{\"framing\":\"LengthOver\",\"at\":0,\"number\":65537}\n",
+        ),
+        (
+            b"\x00\x00\x00\x06\xf5\x00",
+            b"{\"framing\":\"Encoding\",\"at\":0,\"number\":62720}\n",
+        ),
+        (
+            b"\x00\x00\x00\x00\xeb\x50",
+            b"{\"framing\":\"LengthShort\",\"at\":0,\"number\":0}\n",
+        ),
+        (
+            b"\x00\x00\x00\x05\xeb\x50",
+            b"{\"framing\":\"LengthShort\",\"at\":0,\"number\":5}\n",
+        ),
+        (
+            b"\xff\xff\xff\xff\xeb\x50",
+            b"{\"framing\":\"LengthOver\",\"at\":0,\"number\":4294967295}\n",
+        ),
+        (
+            b"\x00\x00\x00\x06\x12\x34",
+            b"{\"framing\":\"Encoding\",\"at\":0,\"number\":4660}\n",
+        ),
+    ];
+    for (input, notes) in rows {
+        trial.input = input;
+        expect(&rt, alloc, &trial, Status::FramingRefused, b"", notes)?;
+    }
+    trial.input =
+        b"\x00\x00\x00\x14\xeb\x50\x06\x00\x01\x00\x07\x00\x00\x00\x02\x01\x00\x00\x00\x80\x00\x01\x00\x01\xeb\x50";
+    let notes = b"{\"framing\":\"LengthOver\",\"at\":20,\"number\":65537}\n";
+    expect(&rt, alloc, &trial, Status::FramingRefused, LINE, notes)
+}
+
+#[test]
+fn refuses_schemas(rt: HostRuntime) -> Result<(), Fail> {
+    let alloc = rt.alloc();
+    let mut trial = sample();
+    let not_built = b"{\"file\":\"schema\",\"refused\":\"S00\",\"path\":\"\"}\n";
+    let deep = vec![in alloc; b'['; 1_048_576]?;
+    let schemas: [&[u8]; 4] = [b"", b"[1]", b"{}", deep.as_slice()];
+    for schema in schemas {
+        trial.schema = schema;
+        expect(&rt, alloc, &trial, Status::SchemaRefused, b"", not_built)?;
+    }
+    let long = vec![in alloc; b' '; 1_048_577]?;
+    trial.schema = long.as_slice();
+    let too_long = b"{\"file\":\"schema\",\"refused\":\"S06\",\"path\":\"\"}\n";
+    expect(&rt, alloc, &trial, Status::SchemaRefused, b"", too_long)
+}
+
+#[test]
+fn refuses_words(rt: HostRuntime) -> Result<(), Fail> {
+    let alloc = rt.alloc();
+    let rows: [&[&str]; 7] = [
+        &[],
+        &["check"],
+        &["dump"],
+        &["dump", ""],
+        &["dump", "--x"],
+        &["dump", "a", "b"],
+        &["check", "a", "b"],
+    ];
+    for words in rows {
+        let trial = Trial { words, ..sample() };
+        expect(&rt, alloc, &trial, Status::Usage, b"", USAGE)?;
+    }
+    let trial = Trial {
+        words: &["dump", "other.json"],
+        ..sample()
+    };
+    let absent = b"{\"absent\":\"schema\"}\n";
+    expect(&rt, alloc, &trial, Status::NoFile, b"", absent)
+}

@@ -1,0 +1,4 @@
+//! Tests of the words of a command line: which are a command, and what is wrong with the others.
+
+#[cfg(test)]
+mod words;
