@@ -1,0 +1,140 @@
+ghost use Rattle.std.specs.Prelude.{◌≡◌, ◌≤◌, ◌<◌, Some, length, slice_get};
+ghost use Rattle.std.specs.Option.{option_map};
+ghost use Rattle.sbe_types.specs.declared.kind.Primitive.TheVariants.{U16};
+ghost use Rattle.schema_facts.specs.IsChecked.{IsChecked};
+ghost use Rattle.schema_facts.specs.Measured.{IsSmall};
+ghost use Rattle.layout_compile.specs.Parts.{all_parts};
+ghost use Rattle.var_data.specs.Ranges.{data_range, range_behind};
+
+use layout_compile::{Layout, small_number};
+use sbe_types::{Leaf, Order};
+use thiserror::Error;
+
+/// Why bytes are no data.
+#[derive(Clone, Copy, Debug, PartialEq, Eq, Drop, Error)]
+pub enum DataErr {
+    /// The length number, or the data with it, passes the end of the bytes.
+    #[error("{needed} bytes are needed")]
+    Truncated {
+        /// How many bytes the length number, or the length number and the data, need.
+        needed: u64,
+    },
+    /// This length isn't admitted.
+    #[error("a length of {0} bytes is not admitted")]
+    Length(u32),
+}
+
+/// Reads a data part of the schema that begins at a place of the bytes (SBE 1.0, "Variable-length data"), and
+/// tells where its bytes begin and end.
+///
+/// # Errors
+///
+/// `Truncated` exactly where the length number passes the end of the bytes, then `Length` exactly where it isn't
+/// admitted as a required number of its type, then `Truncated` exactly where the data pass the end.
+#[tactic(auto, using(crate::proofs::DataRows::part_within, crate::proofs::DataRows::part_small, crate::proofs::DataRows::part_told))]
+pub fn read_data(
+    layout: &Layout,
+    part: usize,
+    bytes: &[u8],
+    at: usize,
+) -> Result<(usize, usize), DataErr>
+    requires checked { IsChecked layout.now }
+    requires part { part < length (all_parts layout.now) }
+    requires at { at ≤ length bytes.now }
+    ensures { option_map (λ d. data_range layout.now.order d.length bytes.now at) (slice_get (all_parts layout.now) part) ≡ Some result }
+{
+    let place = layout.part_place(part);
+    let row = layout.row(place.level as usize);
+    read_data_of(
+        layout.order(),
+        &row.parts[place.part as usize].length,
+        bytes,
+        at,
+    )
+}
+
+/// The same by the type of the length number.
+pub fn read_data_of(
+    order: Order,
+    leaf: &Leaf,
+    bytes: &[u8],
+    at: usize,
+) -> Result<(usize, usize), DataErr>
+    requires small { IsSmall leaf.now.prim }
+    requires at { at ≤ length bytes.now }
+    ensures { result ≡ data_range order leaf.now bytes.now at }
+{
+    let wide = leaf.prim.width();
+    if bytes.len() - at < wide {
+        return Err(DataErr::Truncated {
+            needed: wide as u64,
+        });
+    }
+    let start = at + wide;
+    let size = small_number(order, leaf.prim, &bytes[at..start]);
+    range_behind(leaf, size, bytes, start)
+}
+
+/// Data of so many bytes whose bytes begin at a place.
+fn range_behind(
+    leaf: &Leaf,
+    size: u32,
+    bytes: &[u8],
+    start: usize,
+) -> Result<(usize, usize), DataErr>
+    requires { start ≤ length bytes.now }
+    ensures { result ≡ range_behind leaf.now size bytes.now start }
+{
+    if !leaf.admits(size as i128) {
+        return Err(DataErr::Length(size));
+    }
+    if bytes.len() - start < size as usize {
+        return Err(DataErr::Truncated {
+            needed: leaf.prim.width() as u64 + size as u64,
+        });
+    }
+    Ok((start, start + size as usize))
+}
+
+#[cfg(test)]
+mod tests {
+    use super::*;
+    use sbe_types::{LeafShape, Presence, Prim};
+
+    /// A length of two bytes.
+    fn length16() -> Leaf
+        ensures { result.prim ≡ U16 }
+    {
+        Leaf {
+            prim: Prim::U16,
+            length: 1,
+            shape: LeafShape::Number,
+            presence: Presence::Required,
+            null: 65535,
+            low: 0,
+            high: 65534,
+        }
+    }
+
+    #[test]
+    fn reads_data(rt: HostRuntime) {
+        let leaf = length16();
+        let body = b"\x01\x00\x01\x00\x01\x00\x00\x00\x00\x02\x00\x68\x69";
+        assert_eq!(rt; read_data_of(Order::Little, &leaf, body, 9), Ok((11, 13)));
+        let short = b"\x03\x00\x68\x69";
+        let wanting = Err(DataErr::Truncated { needed: 5 });
+        assert_eq!(rt; read_data_of(Order::Little, &leaf, short, 0), wanting);
+        let cut = b"\x03";
+        let wanting = Err(DataErr::Truncated { needed: 2 });
+        assert_eq!(rt; read_data_of(Order::Little, &leaf, cut, 0), wanting);
+        let null = b"\xff\xff\x00";
+        assert_eq!(rt;
+            read_data_of(Order::Little, &leaf, null, 0),
+            Err(DataErr::Length(65535))
+        );
+        let empty = b"\x00\x00";
+        assert_eq!(rt; read_data_of(Order::Big, &leaf, empty, 0), Ok((2, 2)));
+        let big = b"\x00\x01\xff";
+        assert_eq!(rt; read_data_of(Order::Big, &leaf, big, 0), Ok((2, 3)));
+    }
+}
