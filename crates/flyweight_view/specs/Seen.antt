@@ -1,0 +1,94 @@
+-- What a view of a block shows: its parts by the schema, and their values. From SBE 1.0, Message structure.
+use Rattle.std.specs.Prelude.{ℕ, Option, Some, None, List, [], map}
+use Rattle.sbe_types.specs.declared.kind.Kind.{Kind, Leaf, Enum, Set, Const, Comp', items-the_row-Member}
+use Rattle.sbe_types.specs.declared.kind.Member.{Member}
+use Rattle.sbe_types.specs.declared.schema.Field.{Field}
+use Rattle.sbe_types.specs.declared.schema.DataField.{DataField}
+use Rattle.sbe_types.specs.declared.schema.Group.{Group, out-Group}
+use Rattle.sbe_types.specs.declared.schema.Level.{Level, out-Level}
+use Rattle.sbe_types.specs.declared.message.Block.{Block}
+use Rattle.sbe_types.specs.declared.message.DataVal.{DataVal}
+use Rattle.sbe_types.specs.declared.message.DataVal.TheVariants as dataval
+use Rattle.sbe_types.specs.declared.message.GroupVal.{GroupVal, items-the_row-Block}
+use Rattle.sbe_types.specs.declared.message.GroupVal as groupval
+use Rattle.sbe_types.specs.declared.message.Msg.{Msg}
+use Rattle.sbe_types.specs.declared.message.Value.{Value, items-the_row-Value}
+use Rattle.sbe_types.specs.declared.message.Value as value
+
+-- the parts of a block by the schema, and their values
+pub record Seen : Type 0 where
+  pub fields : List Field
+  pub groups : List Group
+  pub parts : List DataField
+  pub block : Block
+
+-- a block of a level
+abbrev pub seen_level : Level → Block → Seen
+seen_level level block = record { fields = (out-Level level).fields; groups = (out-Level level).groups; parts = (out-Level level).parts; block = block }
+
+-- a member of a composite as a field, which stands at each version
+abbrev pub member_field : Member → Field
+member_field m = record { name = m.name; id = 0; since = 0; offset = m.offset; kind = m.kind }
+
+-- a composite with the values of its members
+abbrev pub seen_members : List Member → List Value → Seen
+seen_members members values = record { fields = map member_field members; groups = []; parts = []; block = record { fields = values; groups = []; parts = [] } }
+
+-- ---- composites
+
+-- the members of a composite
+abbrev pub members_of : Kind → Option (List Member)
+members_of (Comp' n members) = Some (items-the_row-Member _ members)
+members_of (Leaf l) = None
+members_of (Enum l names) = None
+members_of (Set p names) = None
+members_of (Const c) = None
+
+-- the values of a composite's members
+abbrev pub values_in : Value → Option (List Value)
+values_in (value.Comp' n values) = Some (items-the_row-Value _ values)
+values_in (value.Num n) = None
+values_in (value.Text text) = None
+values_in (value.Nums elements) = None
+values_in (value.Enum n) = None
+values_in (value.Set bits) = None
+values_in value.Absent = None
+values_in value.Const = None
+values_in value.Null = None
+
+-- what is seen of a composite's value
+abbrev pub composite_seen : Option (List Member) → Option (List Value) → Option Seen
+composite_seen (Some members) (Some values) = Some (seen_members members values)
+composite_seen (Some members) None = None
+composite_seen None values = None
+
+-- what is seen of a field that is a composite
+abbrev pub field_seen : Option Field → Option Value → Option Seen
+field_seen (Some f) (Some v) = composite_seen (members_of f.kind) (values_in v)
+field_seen (Some f) None = None
+field_seen None v = None
+
+-- ---- groups and data
+
+-- the bytes of data, or none where it is absent
+abbrev pub bytes_in : DataVal → Option (List ℕ)
+bytes_in dataval.Absent = None
+bytes_in (dataval.Bytes bytes) = Some bytes
+
+-- what is seen of a group's entries, or none where it is absent
+abbrev pub entries_in : Level → GroupVal → Option (List Seen)
+entries_in level groupval.Absent = None
+entries_in level (groupval.Entries' n blocks) = Some (map (seen_level level) (items-the_row-Block _ blocks))
+
+-- what is seen of the group's entries, where there is a group with a value
+abbrev pub group_seen : Option Group → Option GroupVal → Option (Option (List Seen))
+group_seen (Some g) (Some v) = Some (entries_in (out-Group g).level v)
+group_seen (Some g) None = None
+group_seen None v = None
+
+-- ---- messages
+
+-- a message with the root of its template
+pub record SeenMessage : Type 0 where
+  pub level : Level
+  pub message : Msg

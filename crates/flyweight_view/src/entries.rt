@@ -1,0 +1,114 @@
+// Views of the entries of a group.
+ghost use Rattle.std.specs.Prelude.{◌≡◌, ◌<◌, ◌∷◌, length, drop};
+ghost use Rattle.flyweight_view.specs.Cursor.{entries_read};
+ghost use Rattle.flyweight_view.specs.Layers.{entries_seen, IsLayer, LieThere};
+ghost use Rattle.flyweight_view.specs.Planned.{block_of};
+ghost use Rattle.flyweight_view.specs.Seen.{seen_level};
+
+use crate::block::BlockView;
+use crate::layer::{Layer, entries_end};
+use crate::plan::{Plan, Span};
+use group_codec::Dim;
+use std::marker::Model;
+
+/// The entries of a group that are left, each found behind the one before it. It lends from the body.
+#[derive(Drop)]
+pub struct EntriesView<'a> {
+    layer: Layer<'a>,
+    left: Dim,
+}
+
+impl<'a> Model for EntriesView<'a> {
+    ghost use Rattle.std.specs.Prelude.{List};
+    ghost use Rattle.std.specs.Coded.{codes};
+    ghost use Rattle.sbe_types.specs.contracts.kind.Kind as kinds;
+    ghost use Rattle.sbe_types.specs.contracts.schema.Group as groups;
+    ghost use Rattle.sbe_types.specs.contracts.schema.Level as levels;
+    ghost use Rattle.sbe_types.specs.contracts.message.Value as values;
+    ghost use Rattle.sbe_types.specs.contracts.message.Block as blocks;
+    ghost use Rattle.flyweight_view.specs.Seen.{Seen};
+
+    ghost Value = { List Seen };
+
+    ghost coded = { Prim.hlevel (codes, kinds.the_row.coded, groups.the_row.coded, levels.the_row.coded, values.the_row.coded, blocks.the_row.coded) };
+
+    ghost use Rattle.flyweight_view.specs.Entries.{entries_of, AreEntries};
+
+    ghost view = { entries_of };
+
+    ghost invariant = { AreEntries };
+}
+
+impl<'a> EntriesView<'a> {
+    /// The entries that lie there.
+    pub(crate) fn new(layer: Layer<'a>, left: Dim) -> EntriesView<'a>
+        requires layer { IsLayer layer }
+        requires lie { LieThere layer left }
+        ensures { result ≡ entries_seen layer.entry left }
+    {
+        EntriesView { layer, left }
+    }
+
+    /// How many entries are left.
+    pub fn len(&self) -> usize
+        ensures { result ≡ length self.now }
+    {
+        self.left.count as usize
+    }
+}
+
+impl<'a> Iterator for EntriesView<'a> {
+    type Item = BlockView<'a>;
+
+    ghost use Rattle.std.specs.Iterator.{YieldsFirst, item_count};
+
+    ghost next_gives = { YieldsFirst (λ e. e) };
+
+    ghost remaining = { item_count (λ e. e) };
+
+    fn next(&mut self) -> Option<BlockView<'a>> {
+        if self.left.count == 0 {
+            return None;
+        }
+        let entry = first_entry(&self.layer, self.left);
+        self.left = behind_first(&self.layer, self.left);
+        Some(entry)
+    }
+}
+
+/// The first of some entries.
+fn first_entry<'a>(layer: &Layer<'a>, left: Dim) -> BlockView<'a>
+    requires layer { IsLayer layer.now }
+    requires lie { LieThere layer.now left }
+    requires some { 0 < left.count }
+    ensures { result ≡ seen_level layer.now.level.now (block_of (entries_read layer.now.mode layer.now.level.now left.block (drop left.after layer.now.body.now))) }
+{
+    let span = Span {
+        mode: layer.mode,
+        body: layer.body,
+        at: left.after,
+        size: left.block as usize,
+    };
+    BlockView::new(span, Plan::Level(layer.layout, layer.number, layer.level))
+}
+
+/// The entries behind the first one.
+fn behind_first(layer: &Layer<'_>, left: Dim) -> Dim
+    requires layer { IsLayer layer.now }
+    requires lie { LieThere layer.now left }
+    requires some { 0 < left.count }
+    ensures lie { LieThere layer.now result }
+    ensures seen { entries_seen layer.now left ≡ seen_level layer.now.level.now (block_of (entries_read layer.now.mode layer.now.level.now left.block (drop left.after layer.now.body.now))) ∷ entries_seen layer.now result }
+{
+    let first = Dim {
+        block: left.block,
+        count: 1,
+        after: left.after,
+    };
+    let behind = entries_end(layer, first);
+    Dim {
+        block: left.block,
+        count: left.count - 1,
+        after: behind,
+    }
+}

@@ -1,0 +1,27 @@
+//! A body is validated once, and its parts are lent.
+#![tactic(auto)]
+
+mod block;
+mod entries;
+mod fields;
+mod found;
+mod groups;
+mod header;
+mod kinds;
+mod layer;
+mod mode;
+mod numbers;
+mod parts;
+mod plan;
+mod values;
+mod view;
+mod walk;
+
+pub use block::BlockView;
+pub use entries::EntriesView;
+pub use field_values::FieldState;
+pub use groups::GroupsView;
+pub use parts::PartsView;
+pub use sbe_wire::FCode;
+pub use values::FieldBytes;
+pub use view::{MsgView, Refusal, validate};

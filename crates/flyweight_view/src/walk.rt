@@ -1,0 +1,308 @@
+// The levels of a body: their entries, groups and data.
+ghost use Rattle.std.specs.Prelude.{◌≡◌, ◌≤◌, ◌<◌, ◌+◌, ◌*◌, ◌^◌, ℕ, List, Some, length, IfSome, IfNone};
+ghost use Rattle.std.specs.List.{AllByRecursion};
+ghost use Rattle.sbe_types.specs.declared.kind.Member.{Member};
+ghost use Rattle.sbe_types.specs.declared.limits.TheConstants.{PART_LIMIT};
+ghost use Rattle.sbe_types.specs.declared.schema.Group.{out-Group};
+ghost use Rattle.sbe_types.specs.declared.schema.Level.{out-Level};
+ghost use Rattle.sbe_wire.specs.Reading.{tail_read, group_read};
+ghost use Rattle.sbe_wire.specs.Versions.{floor};
+ghost use Rattle.schema_rules.specs.PartRules.{most_groups};
+ghost use Rattle.schema_facts.specs.CheckedLevels.{groups_deep};
+ghost use Rattle.schema_facts.specs.Levels.{all_nodes, level_at};
+ghost use Rattle.schema_facts.specs.Measured.{IsSmall};
+ghost use Rattle.layout_compile.specs.Parts.{dim_at};
+ghost use Rattle.layout_compile.specs.Rowed.{DimIs};
+ghost use Rattle.group_codec.specs.Dims.{IsDimRow};
+ghost use Rattle.flyweight_view.specs.Cursor.{skim, entries_read, groups_told, steps_told, data_told, parts_told, dim_told, dim_went};
+ghost use Rattle.flyweight_view.specs.Ready.{IsReadySchema};
+ghost use Rattle.flyweight_view.specs.Told.{went};
+
+use crate::fields::judge_fields;
+use crate::found::Found;
+use crate::mode::Mode;
+use group_codec::{Dim, DimErr, read_dim_row};
+use layout_compile::{DimRow, Layout, PartRow};
+use sbe_types::{Group, Level, Order, Step};
+use sbe_wire::FCode;
+use var_data::{DataErr, read_data_of};
+
+/// Walks a block of so many bytes at a place of the body, and then the groups and the data of its level. Answers
+/// the place behind them; where there is none, `out` tells the first fault.
+#[cycle(walk)]
+pub(crate) fn walk_entry(
+    layout: &Layout,
+    mode: Mode,
+    n: usize,
+    level: &Level,
+    block: u32,
+    body: &[u8],
+    at: usize,
+    out: &mut Found,
+) -> Option<usize>
+    requires schema { IsReadySchema layout.now }
+    requires level { level_at layout.now n ≡ Some level.now }
+    requires shallow { groups_deep level.now ≤ most_groups }
+    requires reaches { floor mode.version (out-Level level.now).fields ≤ block }
+    requires at { at ≤ length body.now }
+    ensures told { went result out.new ≡ skim (entries_read mode level.now block) body.now at }
+    ensures within { IfSome result (λ next. next ≤ length body.now) }
+    ensures low { IfNone result (length out.new.path ≤ 2 * groups_deep level.now + 6) }
+{
+    let size = block as usize;
+    if body.len() - at < size {
+        out.tell(FCode::Truncated, at, block as i128);
+        return None;
+    }
+    let rows = layout.row(n).fields.as_slice();
+    let behind = at + size;
+    if !judge_fields(
+        mode,
+        rows,
+        level.fields.as_slice(),
+        at,
+        &body[at..behind],
+        out,
+    ) {
+        return None;
+    }
+    walk_tail(layout, mode, n, level, body, behind, out)
+}
+
+/// Walks the groups and then the data of a level from a place on.
+#[cycle(walk)]
+fn walk_tail(
+    layout: &Layout,
+    mode: Mode,
+    n: usize,
+    level: &Level,
+    body: &[u8],
+    at: usize,
+    out: &mut Found,
+) -> Option<usize>
+    requires schema { IsReadySchema layout.now }
+    requires level { level_at layout.now n ≡ Some level.now }
+    requires shallow { groups_deep level.now ≤ most_groups }
+    requires at { at ≤ length body.now }
+    ensures told { went result out.new ≡ skim (tail_read mode.order mode.known mode.version level.now) body.now at }
+    ensures within { IfSome result (λ next. next ≤ length body.now) }
+    ensures low { IfNone result (length out.new.path ≤ 2 * groups_deep level.now + 6) }
+{
+    match walk_groups(layout, mode, n, level, body, at, out) {
+        Some(next) => {
+            let first = first_part(level);
+            walk_parts(mode, layout.row(n).parts.as_slice(), first, body, next, out)
+        }
+        None => None,
+    }
+}
+
+/// Walks the groups of a level from a place on.
+#[cycle(walk)]
+fn walk_groups(
+    layout: &Layout,
+    mode: Mode,
+    n: usize,
+    level: &Level,
+    body: &[u8],
+    at: usize,
+    out: &mut Found,
+) -> Option<usize>
+    requires schema { IsReadySchema layout.now }
+    requires level { level_at layout.now n ≡ Some level.now }
+    requires shallow { groups_deep level.now ≤ most_groups }
+    requires at { at ≤ length body.now }
+    ensures told { went result out.new ≡ groups_told mode (length (out-Level level.now).fields) (out-Level level.now).groups body.now at }
+    ensures within { IfSome result (λ next. next ≤ length body.now) }
+    ensures low { IfNone result (length out.new.path ≤ 2 * groups_deep level.now + 6) }
+{
+    let first = level.fields.len();
+    let groups = level.groups.as_slice();
+    let mut child = first_child(layout, n);
+    let mut at = at;
+    for i in 0..groups.len() {
+        match walk_group(layout, mode, child, &groups[i], body, at, out) {
+            Some(next) => at = next,
+            None => {
+                out.under(Step::Part((first + i) as u32));
+                return None;
+            }
+        }
+        child = layout.row(child).end;
+    }
+    Some(at)
+}
+
+/// The number of a level's first data part among its parts.
+fn first_part(level: &Level) -> usize
+    requires { length (out-Level level.now).fields + length (out-Level level.now).groups ≤ PART_LIMIT }
+    ensures { result ≡ length (out-Level level.now).fields + length (out-Level level.now).groups }
+{
+    level.fields.len() + level.groups.len()
+}
+
+/// The number of the level behind a level.
+pub(crate) fn first_child(layout: &Layout, n: usize) -> usize
+    requires { n < length (all_nodes layout.now) }
+    ensures { result ≡ n + 1 }
+{
+    let _levels = layout.levels();
+    n + 1
+}
+
+/// Walks a group, whose entries' level has that number, from a place on.
+#[cycle(walk)]
+fn walk_group(
+    layout: &Layout,
+    mode: Mode,
+    n: usize,
+    group: &Group,
+    body: &[u8],
+    at: usize,
+    out: &mut Found,
+) -> Option<usize>
+    requires schema { IsReadySchema layout.now }
+    requires level { level_at layout.now n ≡ Some (out-Group group.now).level }
+    requires dim { dim_at layout.now n ≡ Some (out-Group group.now).dim }
+    requires shallow { groups_deep (out-Group group.now).level ≤ most_groups }
+    requires at { at ≤ length body.now }
+    ensures told { went result out.new ≡ skim (group_read mode.order mode.known mode.version group.now) body.now at }
+    ensures within { IfSome result (λ next. next ≤ length body.now) }
+    ensures low { IfNone result (length out.new.path ≤ 2 * groups_deep (out-Group group.now).level + 7) }
+{
+    let row = layout.row(n);
+    if row.since > mode.version {
+        return Some(at);
+    }
+    let least = layout.floor(n, mode.version);
+    match &row.dim {
+        Some(dim) => match walk_dim(mode.order, dim, least, body, at, out) {
+            Some(dim) => walk_entries(layout, mode, n, &group.level, dim, body, out),
+            None => None,
+        },
+        None => unreachable!(),
+    }
+}
+
+/// Walks the entries of a group from behind its dimension on.
+#[cycle(walk)]
+pub(crate) fn walk_entries(
+    layout: &Layout,
+    mode: Mode,
+    n: usize,
+    level: &Level,
+    dim: Dim,
+    body: &[u8],
+    out: &mut Found,
+) -> Option<usize>
+    requires schema { IsReadySchema layout.now }
+    requires level { level_at layout.now n ≡ Some level.now }
+    requires shallow { groups_deep level.now ≤ most_groups }
+    requires reaches { 0 < dim.count → floor mode.version (out-Level level.now).fields ≤ dim.block }
+    requires at { dim.after ≤ length body.now }
+    ensures told { went result out.new ≡ steps_told (skim (entries_read mode level.now dim.block) body.now) 0 dim.count dim.after }
+    ensures within { IfSome result (λ next. next ≤ length body.now) }
+    ensures low { IfNone result (length out.new.path ≤ 2 * groups_deep level.now + 7) }
+{
+    let mut at = dim.after;
+    for i in 0..dim.count {
+        match walk_entry(layout, mode, n, level, dim.block, body, at, out) {
+            Some(next) => at = next,
+            None => {
+                out.under(Step::Entry(i));
+                return None;
+            }
+        }
+    }
+    Some(at)
+}
+
+/// Reads the dimension of a group whose entries have at least so many bytes in their blocks.
+pub(crate) fn walk_dim(
+    order: Order,
+    row: &DimRow,
+    least: u32,
+    body: &[u8],
+    at: usize,
+    out: &mut Found,
+) -> Option<Dim>
+    requires row { IsDimRow row.now }
+    requires at { at ≤ length body.now }
+    ensures told { (dim : List Member) → DimIs row.now dim → dim_went result out.new ≡ dim_told order dim least body.now at }
+    ensures reaches { IfSome result (λ d. 0 < d.count → least ≤ d.block) }
+    ensures after { IfSome result (λ d. d.after ≡ at + row.now.width) }
+    ensures within { IfSome result (λ d. d.after ≤ length body.now) }
+    ensures low { IfNone result (length out.new.path ≡ 0) }
+{
+    match read_dim_row(order, row, body, at) {
+        Ok(dim) => {
+            if dim.count > 0 && dim.block < least {
+                let place = at + row.block.place as usize;
+                out.tell(FCode::BlockShort, place, dim.block as i128);
+                return None;
+            }
+            Some(dim)
+        }
+        Err(DimErr::Truncated) => {
+            out.tell(FCode::Truncated, at, row.width as i128);
+            None
+        }
+        Err(DimErr::Count(count)) => {
+            out.tell(FCode::Count, at + row.count.place as usize, count as i128);
+            None
+        }
+    }
+}
+
+/// Walks data parts, of which the first is part `first` of its level, from a place on.
+fn walk_parts(
+    mode: Mode,
+    rows: &[PartRow],
+    first: usize,
+    body: &[u8],
+    at: usize,
+    out: &mut Found,
+) -> Option<usize>
+    requires small { AllByRecursion (λ r. IsSmall r.length.prim) rows.now }
+    requires few { first + length rows.now ≤ PART_LIMIT }
+    requires at { at ≤ length body.now }
+    ensures told { went result out.new ≡ parts_told mode first rows.now body.now at }
+    ensures within { IfSome result (λ next. next ≤ length body.now) }
+    ensures low { IfNone result (length out.new.path ≤ 1) }
+{
+    let mut at = at;
+    for i in 0..rows.len() {
+        match walk_data(mode, &rows[i], body, at, out) {
+            Some(next) => at = next,
+            None => {
+                out.under(Step::Part((first + i) as u32));
+                return None;
+            }
+        }
+    }
+    Some(at)
+}
+
+/// Walks a data part from a place on.
+fn walk_data(mode: Mode, row: &PartRow, body: &[u8], at: usize, out: &mut Found) -> Option<usize>
+    requires small { IsSmall row.now.length.prim }
+    requires at { at ≤ length body.now }
+    ensures told { went result out.new ≡ data_told mode row.now body.now at }
+    ensures within { IfSome result (λ next. next ≤ length body.now) }
+    ensures low { IfNone result (length out.new.path ≡ 0) }
+{
+    if row.since > mode.version {
+        return Some(at);
+    }
+    match read_data_of(mode.order, &row.length, body, at) {
+        Ok(range) => Some(range.1),
+        Err(DataErr::Truncated { needed }) => {
+            out.tell(FCode::Truncated, at, needed as i128);
+            None
+        }
+        Err(DataErr::Length(length)) => {
+            out.tell(FCode::Length, at, length as i128);
+            None
+        }
+    }
+}
