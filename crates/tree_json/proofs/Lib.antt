@@ -1,0 +1,16 @@
+pub mod Written
+pub mod Numbers
+pub mod Computing
+pub mod Entries
+pub mod Plainly
+pub mod Bits
+pub mod Keys
+pub mod Shown
+pub mod Blocks
+pub mod Checked
+pub mod FromBytes
+pub mod MembersFit
+pub mod MembersShown
+pub mod Depth
+pub mod Views
+pub mod ViewSteps

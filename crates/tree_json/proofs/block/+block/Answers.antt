@@ -1,0 +1,92 @@
+use Rattle.std.proofs.Common.{◌≡◌, [], ◌∷◌, ◌++◌, refl, ap, sym, subst, ◌∙◌, arith, length}
+use Rattle.std.specs.Prelude.{false, slice_get}
+use Rattle.std.specs.Option.{option_map}
+use Rattle.serde_json.specs.Written.{comma_if}
+use Rattle.sbe_types.specs.declared.message.Block.{out-Block}
+use Rattle.tree_json.specs.Deep.{deepest, deepest_in}
+use Rattle.tree_json.specs.Values.{zipped}
+use Rattle.tree_json.specs.Lines.{group_name, items_by}
+use Rattle.tree_json.specs.Plain.{entry_text, entries_text, plain_items}
+use Rattle.tree_json.specs.Views.{entries_entry, entries_data, seen_data}
+use Rattle.tree_json.proofs.Written.{then_writes, retold, writes_nothing}
+use Rattle.tree_json.proofs.Entries.{goes_on, ends_so, item_next}
+use Rattle.tree_json.proofs.Depth.{AreWithin, seen_within, first_within, some_deep}
+use Rattle.tree_json.proofs.Blocks.{front_closed}
+use Rattle.tree_json.proofs.Views.{groups_are}
+use Rattle.tree_json.proofs.ViewSteps.{part_of, view_next, view_over}
+use Rattle.tree_json.proofs.block.+block.Goals as goal
+
+pub put_front-returns : goal.put_front-returns
+put_front-returns g t c =
+    then_writes c.put.ensures (then_writes c.put_parts.ensures (then_writes c.put-2.ensures (then_writes c.put_fields.ensures (then_writes c.put-3.ensures c.put_groups.ensures))))
+
+pub put_entry-returns : goal.put_entry-returns
+put_entry-returns g t c =
+    retold (ap (λ r. comma_if c.args.later ++ r) (front_closed c.args.entry.now)) (then_writes c.put_comma.ensures (then_writes c.put_front.ensures c.put.ensures))
+
+pub put_groups-loop-i-init : goal.put_groups-loop-i-init
+put_groups-loop-i-init g t c =
+    let groups = c.args.block.now.groups in
+    record {
+      count = omega (arith, c.groups-groups.ensures.count);
+      within = subst (AreWithin (deepest groups)) (sym c.groups-groups.ensures.seen) (seen_within (deepest groups) groups (out-Block c.args.block.now.block).groups (omega arith));
+      written = ([], writes_nothing, refl);
+    }
+
+pub put_groups-put_group-later-requires : goal.put_groups-put_group-later-requires
+put_groups-put_group-later-requires g t c =
+    let groups = c.args.block.now.groups in
+    let some = some_deep groups (omega (arith, c.loop-i-test.true, ap (λ r. r.1) c.counts-count.ensures)) in
+    let low = first_within (deepest groups) c.next_group.result c.next_group.new.self c.loop-i.groups c.next_group.ensures some c.loop-i.invariant.within in
+    λ κs h. (omega (arith, low.0, c.decreases), h)
+
+pub put_groups-loop-i-preserved : goal.put_groups-loop-i-preserved
+put_groups-loop-i-preserved g t c =
+    let so_far = c.loop-i.invariant in
+    let later = c.loop-i.later in
+    let groups = c.args.block.now.groups in
+    let entries = c.next_group.result in
+    let some = some_deep groups (omega (arith, c.loop-i-test.true, ap (λ r. r.1) c.counts-count.ensures)) in
+    let low = first_within (deepest groups) entries c.next_group.new.self c.loop-i.groups c.next_group.ensures some so_far.within in
+    let group = part_of group_name (slice_get groups c.loop-i.i) c.group_name.result.now c.group_name.ensures in
+    let next = view_next entries_entry later c.loop-i.i groups group.0 entries c.next_group.new.self c.loop-i.groups group.1 c.next_group.ensures in
+    let one = retold (ap (λ name. entry_text later (name, option_map entries_data entries)) (sym group.2)) c.put_group-later.ensures.text in
+    record {
+      count = omega (arith, so_far.count, ap length c.next_group.ensures);
+      within = low.1;
+      written = (_, then_writes so_far.written.1 one, rw c.put_group-later.ensures.later (goes_on so_far.written.0 _ _ _ _ next so_far.written.2));
+    }
+
+pub put_groups-returns : goal.put_groups-returns
+put_groups-returns g t c =
+    let so_far = c.loop-i.invariant.written in
+    let groups = c.args.block.now.groups in
+    let none = view_over entries_entry c.loop-i.later c.loop-i.i groups c.loop-i.groups (omega (arith, ap (λ r. r.1) c.counts-count.ensures)) in
+    let whole = ap (λ vs. entries_text false (zipped entries_entry groups vs)) c.groups-groups.ensures.seen ∙ ap (entries_text false) (groups_are groups (out-Block c.args.block.now.block).groups) in
+    retold (ends_so so_far.0 _ _ _ none so_far.2 ∙ whole) (then_writes so_far.1 c.put.ensures)
+
+pub put_entries-loop-entry-init : goal.put_entries-loop-entry-init
+put_entries-loop-entry-init g t c =
+    let same = c.into_iter-entry-iterator.ensures.into_iter_gives in
+    record { low = omega (arith, ap deepest_in same); written = ([], writes_nothing, ap (λ es. plain_items false (items_by seen_data es)) same) }
+
+pub put_entries-put_entry-requires : goal.put_entries-put_entry-requires
+put_entries-put_entry-requires g t c = λ κs h. (omega (arith, c.loop-entry.invariant.low, ap deepest_in c.in-Some.ensures.steps, c.decreases), h)
+
+pub put_entries-loop-entry-preserved : goal.put_entries-loop-entry-preserved
+put_entries-loop-entry-preserved g t c =
+    let so_far = c.loop-entry.invariant in
+    let later = c.loop-entry.later in
+    let rest = c.next.new.self in
+    let steps : c.loop-entry.entry-iterator ≡ c.in-Some.entry ∷ rest = c.in-Some.ensures.steps in
+    let next = sym (ap (λ es. plain_items later (items_by seen_data es)) steps ∙ item_next later (seen_data c.in-Some.entry) (items_by seen_data rest)) in
+    record {
+      low = omega (arith, so_far.low, ap deepest_in steps);
+      written = (_, then_writes so_far.written.1 c.put_entry.ensures, goes_on so_far.written.0 _ _ _ _ next so_far.written.2);
+    }
+
+pub put_entries-returns : goal.put_entries-returns
+put_entries-returns g t c =
+    let so_far = c.loop-entry.invariant.written in
+    let none = sym (ap (λ es. plain_items c.loop-entry.later (items_by seen_data es)) c.in-None.ensures.steps.0) in
+    then_writes c.put.ensures (retold (ends_so so_far.0 _ _ _ none so_far.2) (then_writes so_far.1 c.put-2.ensures))

@@ -1,0 +1,43 @@
+use Rattle.std.proofs.Common.{◌≡◌, ◌≤◌, ◌+◌, ◌*◌, ℕ, List, ◌++◌, length, drop, false}
+use Rattle.tree_json.specs.Deep.{deepest, deepest_in}
+use Rattle.tree_json.specs.Values.{zipped}
+use Rattle.tree_json.specs.Lines.{items_by}
+use Rattle.tree_json.specs.Plain.{entries_text, plain_items}
+use Rattle.tree_json.specs.Views.{seen_data, entries_entry}
+use Rattle.tree_json.specs.Writes.{output, Writes}
+use Rattle.tree_json.proofs.Depth.{deepest_of, AreWithin}
+use Rattle.tree_json.proofs.block.+block.Given as goal
+
+abbrev pub invariant-put_groups-loop-i : goal.invariant-put_groups-loop-i
+invariant-put_groups-loop-i g l =
+    record {
+      count : l.i + length l.groups ≡ length l.block.groups;
+      within : AreWithin (deepest l.block.groups) l.groups;
+      written : (done : List ℕ)
+          × Writes (output (g.O.Sink.held l.initial.sink) (g.O.Sink.faults l.initial.sink) l.initial.chunk) (output (g.O.Sink.held l.sink) (g.O.Sink.faults l.sink) l.chunk) done
+          × (done ++ entries_text l.later (zipped entries_entry (drop l.i l.block.groups) l.groups) ≡ entries_text false (zipped entries_entry l.block.groups l.initial.groups));
+    }
+
+abbrev pub invariant-put_entries-loop-entry : goal.invariant-put_entries-loop-entry
+invariant-put_entries-loop-entry g l =
+    record {
+      low : deepest_in l.entry-iterator ≤ deepest_in l.fn.entries;
+      written : (done : List ℕ)
+          × Writes (output (g.O.Sink.held l.initial.sink) (g.O.Sink.faults l.initial.sink) l.initial.chunk) (output (g.O.Sink.held l.sink) (g.O.Sink.faults l.sink) l.chunk) done
+          × (done ++ plain_items l.later (items_by seen_data l.entry-iterator) ≡ plain_items false (items_by seen_data l.fn.entries));
+    }
+
+abbrev pub decreases-put_front : goal.decreases-put_front
+decreases-put_front g l = 5 * deepest l.block.now.groups + 1
+
+abbrev pub decreases-put_groups : goal.decreases-put_groups
+decreases-put_groups g l = 5 * deepest l.block.now.groups
+
+abbrev pub decreases-put_entry : goal.decreases-put_entry
+decreases-put_entry g l = 5 * deepest l.entry.now.groups + 2
+
+abbrev pub decreases-put_entries : goal.decreases-put_entries
+decreases-put_entries g l = 5 * deepest_in l.entries + 3
+
+abbrev pub decreases-put_group : goal.decreases-put_group
+decreases-put_group g l = 5 * deepest_of l.entries + 4

@@ -1,0 +1,9 @@
+pub mod Writes
+pub mod Values
+pub mod Shown
+pub mod Lines
+pub mod Plain
+pub mod Names
+pub mod Rows
+pub mod Deep
+pub mod Views

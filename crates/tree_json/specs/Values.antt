@@ -1,0 +1,209 @@
+-- The values of a message as JSON data. From RFC 8259, Values; which JSON stands for which value is own profile.
+use Rattle.std.specs.Prelude.{ℕ, ◌&&◌, ◌==◌, nat_le, nat_lt, Bool, true, false, is_some, if◌then◌else◌, List, [], ◌∷◌, ℤ, pos, negsuc, int_le, codes, Option, Some, None}
+use Rattle.std.specs.Option.{option_map, option_map_or}
+use Rattle.std.specs.List.{list_all}
+use Rattle.std.specs.Ordering.{int_eq}
+use Rattle.std.specs.Int.{bit_at}
+use Rattle.hex.specs.Hex.{encode_lower}
+use Rattle.serde_json.specs.Data.{Data, null, number, string, array, object, Items, no_items, item, Members, no_members, member, unsigned}
+use Rattle.serde_json.specs.Find.{of_integer}
+use Rattle.sbe_types.specs.declared.kind.Primitive.{Primitive}
+use Rattle.sbe_types.specs.declared.kind.Primitive.TheVariants.{Char, I8, I16, I32, I64, U8, U16, U32, U64}
+use Rattle.sbe_types.specs.declared.kind.Named.{Named}
+use Rattle.sbe_types.specs.declared.kind.ConstValue.{ConstValue}
+use Rattle.sbe_types.specs.declared.kind.ConstValue.TheVariants as constant
+use Rattle.sbe_types.specs.declared.kind.Kind.{Kind, Leaf, Enum, Set, Const, Comp', items-the_row-Member, Row_of-Member, end_of-Member, more_of-Member}
+use Rattle.sbe_types.specs.declared.kind.Member.{Member}
+use Rattle.sbe_types.specs.declared.message.Elem.{Elem}
+use Rattle.sbe_types.specs.declared.message.Elem.TheVariants as elem
+use Rattle.sbe_types.specs.declared.message.Value as value
+use Rattle.sbe_types.specs.declared.message.Value.{Value, items-the_row-Value}
+use Rattle.sbe_types.specs.Numbers.{natural}
+use Rattle.sbe_types.specs.Shown.{has_listed_bits}
+
+-- ---- members of an object
+
+-- a name, and what stands under it; none where it is left out
+abbrev pub Entry : Type 0
+Entry = List ℕ × Option Data
+
+-- the members of an object, in the order of the list, without those that are left out
+abbrev pub listed : List Entry → Members
+listed [] = no_members
+listed ((name, None) ∷ entries) = listed entries
+listed ((name, Some d) ∷ entries) = member name d (listed entries)
+
+-- two lists side by side, as far as both go
+abbrev pub zipped : {A B : Type 0} → (A → B → Entry) → List A → List B → List Entry
+zipped f (x ∷ xs) (y ∷ ys) = f x y ∷ zipped f xs ys
+zipped f (x ∷ xs) [] = []
+zipped f [] ys = []
+
+-- ---- texts
+
+-- a byte from 20 to 7e: a space, or a character that is seen
+abbrev pub is_printable : ℕ → Bool
+is_printable b = nat_le 32 b && nat_le b 126
+
+-- bytes as an object with their digits to the base 16, in lower case
+abbrev pub hex : List ℕ → Data
+hex bytes = object (member (codes "hex") (string (encode_lower bytes)) no_members)
+
+-- bytes as a string where each is printable, else by their digits
+abbrev pub text_data : List ℕ → Data
+text_data bytes = if list_all is_printable bytes then string bytes else hex bytes
+
+-- ---- numbers
+
+-- an integer
+abbrev pub number_data : ℤ → Data
+number_data n = number (of_integer n)
+
+-- a char as a string of one character where it is printable, else as its number
+abbrev pub char_data : ℤ → Data
+char_data n = if int_le (pos 32) n && int_le n (pos 126) then string (natural n ∷ []) else number_data n
+
+-- the primitive is char
+abbrev pub is_character : Primitive → Bool
+is_character Char = true
+is_character I8 = false
+is_character I16 = false
+is_character I32 = false
+is_character I64 = false
+is_character U8 = false
+is_character U16 = false
+is_character U32 = false
+is_character U64 = false
+
+-- the kind is a char
+abbrev pub is_char : Kind → Bool
+is_char (Leaf l) = is_character l.prim
+is_char (Enum l names) = false
+is_char (Set p names) = false
+is_char (Const c) = false
+is_char (Comp' n members) = false
+
+-- a single number: a char, or an integer
+abbrev pub single_data : Bool → ℤ → Data
+single_data char n = if char then char_data n else number_data n
+
+-- an element of an array
+abbrev pub element_data : Elem → Data
+element_data (elem.Num n) = number_data n
+element_data elem.Null = null
+
+-- the elements of an array, in order
+abbrev pub elements_data : List Elem → Items
+elements_data [] = no_items
+elements_data (e ∷ es) = item (element_data e) (elements_data es)
+
+-- ---- names
+
+-- the valid values or choices of a kind
+abbrev pub named_in : Kind → List Named
+named_in (Enum l names) = names
+named_in (Set p names) = names
+named_in (Leaf l) = []
+named_in (Const c) = []
+named_in (Comp' n members) = []
+
+-- the name of the first valid value of that number
+abbrev pub name_of : List Named → ℤ → Option (List ℕ)
+name_of [] n = None
+name_of (v ∷ vs) n = if int_eq v.number n then Some v.name else name_of vs n
+
+-- a valid value by its name, and any other number as it is
+abbrev pub enum_data : List Named → ℤ → Data
+enum_data names n = option_map_or string (name_of names n) (number_data n)
+
+-- the place of a bit, where it is one of 64
+abbrev pub bit_of : ℤ → Option ℕ
+bit_of (pos k) = if nat_lt k 64 then Some k else None
+bit_of (negsuc k) = None
+
+-- the bit of that number is set
+abbrev pub has_bit : ℕ → ℤ → Bool
+has_bit bits (pos k) = bit_at bits k == 1
+has_bit bits (negsuc k) = false
+
+-- the names of the choices whose bits are set, in the order of the schema
+abbrev pub chosen : ℕ → List Named → Items
+chosen bits [] = no_items
+chosen bits (c ∷ cs) = if has_bit bits c.number then item (string c.name) (chosen bits cs) else chosen bits cs
+
+-- a set by the names of its choices, or by its number where a bit is no choice
+abbrev pub set_data : List Named → ℕ → Data
+set_data names bits = if has_listed_bits names 64 bits then array (chosen bits names) else number (unsigned bits)
+
+-- ---- constants
+
+-- a constant as the value that it has; a valid value by its name
+abbrev pub constant_data : ConstValue → Data
+constant_data (constant.Num n) = number_data n
+constant_data (constant.Text bytes) = text_data bytes
+constant_data (constant.Code p named) = string named.name
+
+-- the constant that a kind is
+abbrev pub constant_of : Kind → Option ConstValue
+constant_of (Const c) = Some c
+constant_of (Leaf l) = None
+constant_of (Enum l names) = None
+constant_of (Set p names) = None
+constant_of (Comp' n members) = None
+
+-- ---- values
+
+-- the members of a composite; no other kind has any
+abbrev pub members_in : Kind → List Member
+members_in (Comp' n members) = items-the_row-Member _ members
+members_in (Leaf l) = []
+members_in (Enum l names) = []
+members_in (Set p names) = []
+members_in (Const c) = []
+
+-- the value of a kind, where the values of a composite become such members; none where it is absent
+abbrev pub shown_data : Kind → (List Value → List Entry) → Value → Option Data
+shown_data kind members (value.Num n) = Some (single_data (is_char kind) n)
+shown_data kind members value.Null = Some null
+shown_data kind members (value.Text bytes) = Some (text_data bytes)
+shown_data kind members (value.Nums elements) = Some (array (elements_data elements))
+shown_data kind members (value.Enum n) = Some (enum_data (named_in kind) n)
+shown_data kind members (value.Set bits) = Some (set_data (named_in kind) bits)
+shown_data kind members (value.Comp' n values) = Some (object (listed (members (items-the_row-Value _ values))))
+shown_data kind members value.Const = option_map constant_data (constant_of kind)
+shown_data kind members value.Absent = None
+
+-- no members
+abbrev pub no_entries : List Value → List Entry
+no_entries values = []
+
+unfoldable mutual
+  -- the value of a kind; none where it is absent
+  pub value_data : Kind → Value → Option Data
+  value_data (Leaf l) v = shown_data (Leaf l) no_entries v
+  value_data (Enum l names) v = shown_data (Enum l names) no_entries v
+  value_data (Set p names) v = shown_data (Set p names) no_entries v
+  value_data (Const c) v = shown_data (Const c) no_entries v
+  value_data (Comp' n members) v = shown_data (Comp' n members) (row_entries members) v
+
+  -- the members of a composite, each with its value
+  pub row_entries : {n : _} → Row_of-Member n → List Value → List Entry
+  row_entries end_of-Member values = []
+  row_entries (more_of-Member name offset kind rest) [] = []
+  row_entries (more_of-Member name offset kind rest) (v ∷ values) = (name, value_data kind v) ∷ row_entries rest values
+
+-- a composite's member with its value
+abbrev pub member_entry : Member → Value → Entry
+member_entry m v = (m.name, value_data m.kind v)
+
+-- a value is there, and a constant where its kind is one
+abbrev pub is_there : Kind → Value → Bool
+is_there kind value.Absent = false
+is_there kind value.Const = is_some (constant_of kind)
+is_there kind (value.Num n) = true
+is_there kind value.Null = true
+is_there kind (value.Text bytes) = true
+is_there kind (value.Nums elements) = true
+is_there kind (value.Enum n) = true
+is_there kind (value.Set bits) = true
+is_there kind (value.Comp' n values) = true

@@ -1,0 +1,35 @@
+-- The text of what a view shows.
+use Rattle.std.specs.Prelude.{ℕ, false, List, ◌++◌, codes, Option}
+use Rattle.std.specs.Option.{option_map}
+use Rattle.serde_json.specs.Data.{Data, object, array}
+use Rattle.sbe_types.specs.declared.schema.DataField.{DataField}
+use Rattle.sbe_types.specs.declared.schema.Group.{Group}
+use Rattle.sbe_types.specs.declared.message.Block.{out-Block}
+use Rattle.flyweight_view.specs.Seen.{Seen}
+use Rattle.tree_json.specs.Values.{Entry, listed, zipped, text_data}
+use Rattle.tree_json.specs.Lines.{field_entry, part_entry, group_entry, group_name, items_by, three_entries}
+use Rattle.tree_json.specs.Plain.{entries_text}
+
+-- the object of a block
+abbrev pub seen_data : Seen → Data
+seen_data s =
+    object (listed (three_entries (zipped part_entry s.parts (out-Block s.block).parts) (zipped field_entry s.fields (out-Block s.block).fields) (zipped group_entry s.groups (out-Block s.block).groups)))
+
+-- the object of a block, without the closing bracket
+abbrev pub seen_front : Seen → List ℕ
+seen_front s =
+    codes "{\"data\":{" ++ (entries_text false (zipped part_entry s.parts (out-Block s.block).parts)
+    ++ (codes ",\"fields\":{" ++ (entries_text false (zipped field_entry s.fields (out-Block s.block).fields)
+    ++ (codes ",\"groups\":{" ++ entries_text false (zipped group_entry s.groups (out-Block s.block).groups)))))
+
+-- a data part with its bytes
+abbrev pub bytes_entry : DataField → Option (List ℕ) → Entry
+bytes_entry p bytes = (p.name, option_map text_data bytes)
+
+-- the entries of a group as an array
+abbrev pub entries_data : List Seen → Data
+entries_data es = array (items_by seen_data es)
+
+-- a group with its entries
+abbrev pub entries_entry : Group → Option (List Seen) → Entry
+entries_entry g entries = (group_name g, option_map entries_data entries)

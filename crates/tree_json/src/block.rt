@@ -1,0 +1,183 @@
+// Blocks of a message, as JSON.
+ghost use Rattle.std.specs.Prelude.{◌≡◌, ◌≤◌, ◌<◌, ◌++◌, false, length, slice_get, Some};
+ghost use Rattle.std.specs.Option.{option_map, IsSome};
+ghost use Rattle.serde_json.specs.Written.{comma_if};
+ghost use Rattle.sbe_types.specs.declared.message.Block.{out-Block};
+ghost use Rattle.sbe_types.specs.declared.message.Value.{Value};
+ghost use Rattle.sbe_types.specs.declared.schema.Field.{Field};
+ghost use Rattle.tree_json.specs.Values.{zipped, text_data};
+ghost use Rattle.tree_json.specs.Lines.{field_entry, part_entry, group_entry};
+ghost use Rattle.tree_json.specs.Plain.{plain_text, entry_text, entries_text, later_behind};
+ghost use Rattle.tree_json.specs.Views.{seen_data, seen_front, entries_data};
+ghost use Rattle.tree_json.specs.Writes.{output, Writes};
+
+use crate::chunk::Chunk;
+use crate::kinds::put_shown;
+use crate::texts::put_text;
+use crate::values::put_comma;
+use flyweight_view::{BlockView, EntriesView};
+use sbe_base::Sink;
+
+/// Writes the object of a message's root or of an entry, without the closing bracket.
+#[cycle(block)]
+pub(crate) fn put_front<O: Sink>(chunk: &mut Chunk, sink: &mut O, block: &BlockView<'_>)
+    ensures { Writes (output (O.held sink.old) (O.faults sink.old) chunk.old)
+        (output (O.held sink.new) (O.faults sink.new) chunk.new) (seen_front block.now) }
+{
+    chunk.put(sink, b"{\"data\":{");
+    put_parts(chunk, sink, block);
+    chunk.put(sink, b",\"fields\":{");
+    put_fields(chunk, sink, block);
+    chunk.put(sink, b",\"groups\":{");
+    put_groups(chunk, sink, block);
+}
+
+// ---- data parts
+
+/// Writes the data parts of a block that are there, with the bracket behind them.
+fn put_parts<O: Sink>(chunk: &mut Chunk, sink: &mut O, block: &BlockView<'_>)
+    ensures { Writes (output (O.held sink.old) (O.faults sink.old) chunk.old)
+        (output (O.held sink.new) (O.faults sink.new) chunk.new)
+        (entries_text false (zipped part_entry block.now.parts (out-Block block.now.block).parts)) }
+{
+    let (_, _, count) = block.counts();
+    let mut parts = block.parts();
+    let mut later = false;
+    for i in 0..count {
+        later = put_part(chunk, sink, later, block.data_name(i), parts.next_part());
+    }
+    chunk.put(sink, b"}");
+}
+
+/// Writes a data part behind its name, unless it is absent, and tells whether a member stands now.
+fn put_part<O: Sink>(
+    chunk: &mut Chunk,
+    sink: &mut O,
+    later: bool,
+    name: &[u8],
+    bytes: Option<&[u8]>,
+) -> bool
+    ensures later { result ≡ later_behind later (option_map text_data (option_map (λ b. b.now) bytes.entry)) }
+    ensures text { Writes (output (O.held sink.old) (O.faults sink.old) chunk.old)
+        (output (O.held sink.new) (O.faults sink.new) chunk.new)
+        (entry_text later (name.now, option_map text_data (option_map (λ b. b.now) bytes.entry))) }
+{
+    match bytes {
+        None => later,
+        Some(bytes) => {
+            chunk.put_key(sink, later, name);
+            put_text(chunk, sink, bytes);
+            true
+        }
+    }
+}
+
+// ---- fields
+
+/// Writes the fields of a block that are there, with the bracket behind them.
+fn put_fields<O: Sink>(chunk: &mut Chunk, sink: &mut O, block: &BlockView<'_>)
+    ensures { Writes (output (O.held sink.old) (O.faults sink.old) chunk.old)
+        (output (O.held sink.new) (O.faults sink.new) chunk.new)
+        (entries_text false (zipped field_entry block.now.fields (out-Block block.now.block).fields)) }
+{
+    let (count, _, _) = block.counts();
+    let mut later = false;
+    for i in 0..count {
+        later = put_field(chunk, sink, later, block, i);
+    }
+    chunk.put(sink, b"}");
+}
+
+/// Writes field `i`, unless it is absent, and tells whether one stands now. It needs a field in range.
+fn put_field<O: Sink>(
+    chunk: &mut Chunk,
+    sink: &mut O,
+    later: bool,
+    block: &BlockView<'_>,
+    i: usize,
+) -> bool
+    requires { i < length block.now.fields }
+    ensures there { IsSome (slice_get (out-Block block.now.block).fields i) }
+    ensures later { (f : Field) (v : Value) → slice_get block.now.fields i ≡ Some f → slice_get (out-Block block.now.block).fields i ≡ Some v
+        → result ≡ later_behind later (field_entry f v).1 }
+    ensures text { (f : Field) (v : Value) → slice_get block.now.fields i ≡ Some f → slice_get (out-Block block.now.block).fields i ≡ Some v
+        → Writes (output (O.held sink.old) (O.faults sink.old) chunk.old)
+        (output (O.held sink.new) (O.faults sink.new) chunk.new) (entry_text later (field_entry f v)) }
+{
+    match block.field(i) {
+        None => later,
+        Some(field) => {
+            chunk.put_key(sink, later, block.name(i));
+            put_shown(chunk, sink, field.order, field.kind, field.bytes);
+            true
+        }
+    }
+}
+
+// ---- groups
+
+/// Writes the groups of a block that are there, with the bracket behind them.
+#[cycle(block)]
+fn put_groups<O: Sink>(chunk: &mut Chunk, sink: &mut O, block: &BlockView<'_>)
+    ensures { Writes (output (O.held sink.old) (O.faults sink.old) chunk.old)
+        (output (O.held sink.new) (O.faults sink.new) chunk.new)
+        (entries_text false (zipped group_entry block.now.groups (out-Block block.now.block).groups)) }
+{
+    let (_, count, _) = block.counts();
+    let mut groups = block.groups();
+    let mut later = false;
+    for i in 0..count {
+        later = put_group(chunk, sink, later, block.group_name(i), groups.next_group());
+    }
+    chunk.put(sink, b"}");
+}
+
+/// Writes a group behind its name, unless it is absent, and tells whether a member stands now.
+#[cycle(block)]
+fn put_group<O: Sink>(
+    chunk: &mut Chunk,
+    sink: &mut O,
+    later: bool,
+    name: &[u8],
+    entries: Option<EntriesView<'_>>,
+) -> bool
+    ensures later { result ≡ later_behind later (option_map entries_data entries.entry) }
+    ensures text { Writes (output (O.held sink.old) (O.faults sink.old) chunk.old)
+        (output (O.held sink.new) (O.faults sink.new) chunk.new)
+        (entry_text later (name.now, option_map entries_data entries.entry)) }
+{
+    match entries {
+        None => later,
+        Some(entries) => {
+            chunk.put_key(sink, later, name);
+            put_entries(chunk, sink, entries);
+            true
+        }
+    }
+}
+
+/// Writes the entries of a group, as an array.
+#[cycle(block)]
+fn put_entries<O: Sink>(chunk: &mut Chunk, sink: &mut O, entries: EntriesView<'_>)
+    ensures { Writes (output (O.held sink.old) (O.faults sink.old) chunk.old)
+        (output (O.held sink.new) (O.faults sink.new) chunk.new) (plain_text (entries_data entries.entry)) }
+{
+    chunk.put(sink, b"[");
+    let mut later = false;
+    for entry in entries {
+        put_entry(chunk, sink, later, &entry);
+        later = true;
+    }
+    chunk.put(sink, b"]");
+}
+
+/// Writes the object of an entry, behind a comma where another stands before.
+#[cycle(block)]
+fn put_entry<O: Sink>(chunk: &mut Chunk, sink: &mut O, later: bool, entry: &BlockView<'_>)
+    ensures { Writes (output (O.held sink.old) (O.faults sink.old) chunk.old)
+        (output (O.held sink.new) (O.faults sink.new) chunk.new) (comma_if later ++ plain_text (seen_data entry.now)) }
+{
+    put_comma(chunk, sink, later);
+    put_front(chunk, sink, entry);
+    chunk.put(sink, b"}");
+}

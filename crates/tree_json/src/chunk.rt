@@ -1,0 +1,194 @@
+ghost use Rattle.std.specs.Prelude.{◌≡◌, ◌+◌, ◌≤◌, ◌++◌, [], codes, length, true, false, Result};
+ghost use Rattle.serde_json.specs.Written.{comma_if};
+ghost use Rattle.tree_json.specs.declared.chunk.TheConstants.{CHUNK_BYTES};
+ghost use Rattle.tree_json.specs.Plain.{key_text};
+ghost use Rattle.tree_json.specs.Writes.{output, Writes, Finishes, Tried};
+
+use sbe_base::{Sink, WriteFault, write_all_to};
+use std::marker::Model;
+
+/// How many bytes a chunk gathers.
+pub const CHUNK_BYTES: usize = 512;
+
+/// Bytes that wait to be written, and whether a write has failed. It takes no memory but its own.
+///
+/// Once a write has failed, nothing more is written.
+#[derive(Drop)]
+pub struct Chunk {
+    room: [u8; CHUNK_BYTES],
+    len: usize,
+    failed: bool,
+}
+
+impl Model for Chunk {
+    ghost use Rattle.std.specs.Prelude.{◌≡◌, ◌≤◌, take, length};
+    ghost use Rattle.tree_json.specs.declared.chunk.TheConstants.{CHUNK_BYTES};
+    ghost use Rattle.tree_json.specs.Writes.{Gathered};
+
+    ghost Value = { Gathered };
+
+    ghost view = { λ chunk. record { bytes = take chunk.len chunk.room; failed = chunk.failed } };
+
+    ghost invariant = { λ chunk. (length chunk.room ≡ CHUNK_BYTES) × (chunk.len ≤ CHUNK_BYTES) };
+}
+
+impl Chunk {
+    /// A chunk that holds nothing.
+    pub fn new() -> Chunk
+        ensures { result ≡ record { bytes = []; failed = false } }
+    {
+        Chunk {
+            room: [0; CHUNK_BYTES],
+            len: 0,
+            failed: false,
+        }
+    }
+
+    /// How many bytes it still gathers.
+    #[inline(always)]
+    fn left(&self) -> usize
+        ensures { result + length self.now.bytes ≡ CHUNK_BYTES }
+    {
+        CHUNK_BYTES - self.len
+    }
+
+    /// Whether a write has failed.
+    #[inline(always)]
+    fn has_failed(&self) -> bool
+        ensures { result ≡ self.now.failed }
+    {
+        self.failed
+    }
+
+    /// Gathers bytes, for which it has room.
+    #[inline(always)]
+    fn add(&mut self, bytes: &[u8])
+        requires { length self.old.bytes + length bytes.now ≤ CHUNK_BYTES }
+        ensures { self.new ≡ record self.old { bytes = self.old.bytes ++ bytes.now } }
+    {
+        let end = self.len + bytes.len();
+        self.room[self.len..end].copy_from_slice(bytes);
+        self.len = end;
+    }
+
+    /// What it has gathered.
+    fn as_slice(&self) -> &[u8]
+        ensures { result.now ≡ self.now.bytes }
+    {
+        &self.room[..self.len]
+    }
+
+    /// Lets go of what it has gathered.
+    fn clear(&mut self, failed: bool)
+        ensures { self.new ≡ record { bytes = []; failed = failed } }
+    {
+        self.len = 0;
+        self.failed = failed;
+    }
+
+    /// Writes bytes: they are gathered, and go to the sink once there is no more room.
+    #[inline(always)]
+    pub fn put<O: Sink>(&mut self, sink: &mut O, bytes: &[u8])
+        ensures { Writes (output (O.held sink.old) (O.faults sink.old) self.old)
+            (output (O.held sink.new) (O.faults sink.new) self.new) bytes.now }
+    {
+        if bytes.len() <= self.left() {
+            self.add(bytes);
+        } else {
+            spill(self, sink, bytes);
+        }
+    }
+
+    /// Writes the key of a member, behind a comma where another stands before: its name between quotes, and a colon.
+    #[inline(always)]
+    pub fn put_key<O: Sink>(&mut self, sink: &mut O, later: bool, name: &[u8])
+        ensures { Writes (output (O.held sink.old) (O.faults sink.old) self.old)
+            (output (O.held sink.new) (O.faults sink.new) self.new) (comma_if later ++ key_text name.now) }
+    {
+        let quote: &[u8] = if later { b",\"" } else { b"\"" };
+        if name.len() + 4 <= self.left() {
+            self.add_between(quote, name, b"\":");
+        } else {
+            put_between(self, sink, quote, name, b"\":");
+        }
+    }
+
+    /// Writes bytes between quotes.
+    #[inline(always)]
+    pub fn put_in_quotes<O: Sink>(&mut self, sink: &mut O, bytes: &[u8])
+        ensures { Writes (output (O.held sink.old) (O.faults sink.old) self.old)
+            (output (O.held sink.new) (O.faults sink.new) self.new) (codes "\"" ++ (bytes.now ++ codes "\"")) }
+    {
+        if bytes.len() + 2 <= self.left() {
+            self.add_between(b"\"", bytes, b"\"");
+        } else {
+            put_between(self, sink, b"\"", bytes, b"\"");
+        }
+    }
+
+    /// Gathers bytes between others, for all of which it has room.
+    #[inline(always)]
+    fn add_between(&mut self, before: &[u8], bytes: &[u8], behind: &[u8])
+        requires { length self.old.bytes + (length before.now + (length bytes.now + length behind.now)) ≤ CHUNK_BYTES }
+        ensures { self.new ≡ record self.old { bytes = self.old.bytes ++ (before.now ++ (bytes.now ++ behind.now)) } }
+    {
+        self.add(before);
+        self.add(bytes);
+        self.add(behind);
+    }
+
+    /// Writes what is gathered, and tells whether a write has failed.
+    ///
+    /// # Errors
+    ///
+    /// Where a write failed, now or before; the sink then holds a front of what was to be written.
+    pub fn finish<O: Sink>(&self, sink: &mut O) -> Result<(), WriteFault>
+        ensures { Finishes (output (O.held sink.old) (O.faults sink.old) self.now)
+            (record { held = O.held sink.new; faults = O.faults sink.new }) result }
+    {
+        if self.has_failed() {
+            return Err(WriteFault);
+        }
+        write_all_to(sink, self.as_slice())
+    }
+}
+
+/// Writes bytes between others, piece by piece.
+#[inline(never)]
+fn put_between<O: Sink>(chunk: &mut Chunk, sink: &mut O, before: &[u8], bytes: &[u8], behind: &[u8])
+    ensures { Writes (output (O.held sink.old) (O.faults sink.old) chunk.old)
+        (output (O.held sink.new) (O.faults sink.new) chunk.new) (before.now ++ (bytes.now ++ behind.now)) }
+{
+    chunk.put(sink, before);
+    chunk.put(sink, bytes);
+    chunk.put(sink, behind);
+}
+
+/// Writes bytes to the sink itself, and tells whether that failed.
+fn has_fault<O: Sink>(sink: &mut O, bytes: &[u8]) -> bool
+    ensures { Tried result (record { held = O.held sink.old; faults = O.faults sink.old })
+        (record { held = O.held sink.new; faults = O.faults sink.new }) bytes.now }
+{
+    match write_all_to(sink, bytes) {
+        Ok(()) => false,
+        Err(WriteFault) => true,
+    }
+}
+
+/// Writes what a chunk has gathered, and then bytes.
+#[inline(never)]
+#[tactic(auto, using(crate::proofs::Written::fails, crate::proofs::Written::spills))]
+fn spill<O: Sink>(chunk: &mut Chunk, sink: &mut O, bytes: &[u8])
+    ensures { Writes (output (O.held sink.old) (O.faults sink.old) chunk.old)
+        (output (O.held sink.new) (O.faults sink.new) chunk.new) bytes.now }
+{
+    if chunk.has_failed() {
+        return;
+    }
+    if has_fault(sink, chunk.as_slice()) {
+        chunk.clear(true);
+        return;
+    }
+    let failed = has_fault(sink, bytes);
+    chunk.clear(failed);
+}

@@ -1,0 +1,45 @@
+ghost use Rattle.std.specs.Prelude.{OnOk, OnErr, Some};
+ghost use Rattle.std.specs.Io.KnownBytes.{Appends};
+ghost use Rattle.sbe_base.specs.Causes.{AppendsPart, HasCause};
+ghost use Rattle.serde_json.specs.Written.{compact_text};
+ghost use Rattle.tree_json.specs.Lines.{message_at};
+ghost use Rattle.tree_json.specs.Plain.{plain_text};
+ghost use Rattle.tree_json.specs.Writes.{output, Writes};
+
+use crate::block::put_front;
+use crate::chunk::Chunk;
+use crate::texts::put_string;
+use crate::values::put_count;
+use flyweight_view::MsgView;
+use sbe_base::{Sink, WriteFault};
+
+/// Writes the line of a message, without its line end.
+///
+/// # Errors
+///
+/// Where a write fails; the sink then holds a front of the line.
+pub fn line_of<O: Sink>(view: &MsgView<'_>, sink: &mut O) -> Result<(), WriteFault>
+    ensures ok { OnOk result (Appends (O.held sink.old) (O.held sink.new) (compact_text (message_at (Some view.now.level) view.now.message))) }
+    ensures part { OnErr result (AppendsPart (O.held sink.old) (O.held sink.new) (compact_text (message_at (Some view.now.level) view.now.message))) }
+    ensures cause { HasCause (O.faults sink.old) (O.faults sink.new) result }
+{
+    // A checked schema's names stand for themselves.
+    let _schema = view.schema();
+    let mut chunk = Chunk::new();
+    put_message(&mut chunk, sink, view);
+    chunk.finish(sink)
+}
+
+/// Writes a message.
+fn put_message<O: Sink>(chunk: &mut Chunk, sink: &mut O, view: &MsgView<'_>)
+    ensures { Writes (output (O.held sink.old) (O.faults sink.old) chunk.old)
+        (output (O.held sink.new) (O.faults sink.new) chunk.new)
+        (plain_text (message_at (Some view.now.level) view.now.message)) }
+{
+    put_front(chunk, sink, &view.root());
+    chunk.put(sink, b",\"template\":");
+    put_string(chunk, sink, view.name());
+    chunk.put(sink, b",\"version\":");
+    put_count(chunk, sink, view.version() as u64);
+    chunk.put(sink, b"}");
+}

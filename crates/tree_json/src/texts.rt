@@ -1,0 +1,164 @@
+ghost use Rattle.std.specs.Prelude.{◌≡◌, ◌<◌, ◌/◌, ◌%◌, ◌∷◌, [], true, slice_index};
+ghost use Rattle.std.specs.Char.{digit_char};
+ghost use Rattle.std.specs.List.{list_all};
+ghost use Rattle.hex.specs.Hex.{encode_lower, lower_digits};
+ghost use Rattle.json.specs.Print.{escape, escape_byte, escape_letter};
+ghost use Rattle.serde_json.specs.Data.{string};
+ghost use Rattle.tree_json.specs.Values.{hex, text_data, is_printable};
+ghost use Rattle.tree_json.specs.Plain.{plain_text, is_plain_byte};
+ghost use Rattle.tree_json.specs.Writes.{output, Writes};
+
+use crate::chunk::Chunk;
+use sbe_base::Sink;
+
+const HEX_DIGITS: &[u8; 16] = b"0123456789abcdef";
+
+/// Writes bytes as a string where each is from 20 to 7e, and else as `{"hex":"61ff"}`.
+#[tactic(auto, using(crate::proofs::Plainly::shows_plain, crate::proofs::Plainly::shows_printable, crate::proofs::Plainly::shows_hex))]
+pub fn put_text<O: Sink>(chunk: &mut Chunk, sink: &mut O, bytes: &[u8])
+    ensures { Writes (output (O.held sink.old) (O.faults sink.old) chunk.old)
+        (output (O.held sink.new) (O.faults sink.new) chunk.new) (plain_text (text_data bytes.now)) }
+{
+    if is_plain(bytes) {
+        put_plain(chunk, sink, bytes);
+    } else if is_printable(bytes) {
+        put_quoted(chunk, sink, bytes);
+    } else {
+        put_hex(chunk, sink, bytes);
+    }
+}
+
+/// Writes a string of JSON (RFC 8259, Strings).
+pub fn put_string<O: Sink>(chunk: &mut Chunk, sink: &mut O, bytes: &[u8])
+    ensures { Writes (output (O.held sink.old) (O.faults sink.old) chunk.old)
+        (output (O.held sink.new) (O.faults sink.new) chunk.new) (plain_text (string bytes.now)) }
+{
+    if is_plain(bytes) {
+        put_plain(chunk, sink, bytes);
+    } else {
+        put_quoted(chunk, sink, bytes);
+    }
+}
+
+/// Whether each byte is printable, and stands for itself in a string.
+#[inline(always)]
+fn is_plain(bytes: &[u8]) -> bool
+    ensures { result ≡ list_all is_plain_byte bytes.now }
+{
+    bytes.iter().all(|b| *b >= b' ' && *b <= b'~' && !(*b == b'"' || *b == b'\\'))
+}
+
+/// Whether each byte is from 20 to 7e.
+fn is_printable(bytes: &[u8]) -> bool
+    ensures { result ≡ list_all is_printable bytes.now }
+{
+    bytes.iter().all(|b| *b >= b' ' && *b <= b'~')
+}
+
+/// Writes bytes that stand for themselves between quotes.
+#[inline(always)]
+fn put_plain<O: Sink>(chunk: &mut Chunk, sink: &mut O, bytes: &[u8])
+    requires { list_all is_plain_byte bytes.now ≡ true }
+    ensures { Writes (output (O.held sink.old) (O.faults sink.old) chunk.old)
+        (output (O.held sink.new) (O.faults sink.new) chunk.new) (plain_text (string bytes.now)) }
+{
+    chunk.put_in_quotes(sink, bytes);
+}
+
+/// Writes bytes between quotes, each of them escaped if need be.
+#[inline(never)]
+fn put_quoted<O: Sink>(chunk: &mut Chunk, sink: &mut O, bytes: &[u8])
+    ensures { Writes (output (O.held sink.old) (O.faults sink.old) chunk.old)
+        (output (O.held sink.new) (O.faults sink.new) chunk.new) (plain_text (string bytes.now)) }
+{
+    chunk.put(sink, b"\"");
+    put_escaped(chunk, sink, bytes);
+    chunk.put(sink, b"\"");
+}
+
+/// Writes bytes, each of them escaped if need be.
+fn put_escaped<O: Sink>(chunk: &mut Chunk, sink: &mut O, bytes: &[u8])
+    ensures { Writes (output (O.held sink.old) (O.faults sink.old) chunk.old)
+        (output (O.held sink.new) (O.faults sink.new) chunk.new) (escape bytes.now) }
+{
+    for byte in bytes {
+        put_escaped_byte(chunk, sink, *byte);
+    }
+}
+
+#[tactic(auto, using(crate::proofs::Plainly::escapes_short, crate::proofs::Plainly::escapes_control, crate::proofs::Plainly::escapes_none))]
+fn put_escaped_byte<O: Sink>(chunk: &mut Chunk, sink: &mut O, byte: u8)
+    ensures { Writes (output (O.held sink.old) (O.faults sink.old) chunk.old)
+        (output (O.held sink.new) (O.faults sink.new) chunk.new) (escape_byte byte) }
+{
+    let letter = escape_letter(byte);
+    if letter > 0 {
+        chunk.put(sink, &[b'\\', letter]);
+    } else if byte < b' ' {
+        put_control(chunk, sink, byte);
+    } else {
+        chunk.put(sink, &[byte]);
+    }
+}
+
+/// The letter behind the `\` of a byte's short escape, or 0 where it has none.
+fn escape_letter(byte: u8) -> u8
+    ensures { result ≡ escape_letter byte }
+{
+    match byte {
+        b'"' | b'\\' => byte,
+        8 => b'b',
+        12 => b'f',
+        b'\n' => b'n',
+        b'\r' => b'r',
+        b'\t' => b't',
+        _ => 0,
+    }
+}
+
+/// Writes a byte below a space by its number.
+fn put_control<O: Sink>(chunk: &mut Chunk, sink: &mut O, byte: u8)
+    ensures { Writes (output (O.held sink.old) (O.faults sink.old) chunk.old)
+        (output (O.held sink.new) (O.faults sink.new) chunk.new) (92 ∷ 117 ∷ 48 ∷ 48 ∷ digit_char (byte / 16) ∷ digit_char (byte % 16) ∷ []) }
+{
+    chunk.put(sink, b"\\u00");
+    chunk.put(sink, &[hex_digit(byte / 16), hex_digit(byte % 16)]);
+}
+
+/// Writes bytes by their digits to the base 16, as an object.
+#[inline(never)]
+fn put_hex<O: Sink>(chunk: &mut Chunk, sink: &mut O, bytes: &[u8])
+    ensures { Writes (output (O.held sink.old) (O.faults sink.old) chunk.old)
+        (output (O.held sink.new) (O.faults sink.new) chunk.new) (plain_text (hex bytes.now)) }
+{
+    chunk.put(sink, b"{\"hex\":\"");
+    put_digits(chunk, sink, bytes);
+    chunk.put(sink, b"\"}");
+}
+
+/// Writes two digits for each byte.
+fn put_digits<O: Sink>(chunk: &mut Chunk, sink: &mut O, bytes: &[u8])
+    ensures { Writes (output (O.held sink.old) (O.faults sink.old) chunk.old)
+        (output (O.held sink.new) (O.faults sink.new) chunk.new) (encode_lower bytes.now) }
+{
+    for byte in bytes {
+        put_byte(chunk, sink, *byte);
+    }
+}
+
+/// Writes the two digits of a byte.
+fn put_byte<O: Sink>(chunk: &mut Chunk, sink: &mut O, byte: u8)
+    ensures { Writes (output (O.held sink.old) (O.faults sink.old) chunk.old)
+        (output (O.held sink.new) (O.faults sink.new) chunk.new) (encode_lower (byte ∷ [])) }
+{
+    chunk.put(sink, &[hex_digit(byte / 16), hex_digit(byte % 16)]);
+}
+
+/// A digit to the base 16.
+#[inline(always)]
+fn hex_digit(n: u8) -> u8
+    requires { n < 16 }
+    ensures { result ≡ slice_index lower_digits n }
+{
+    HEX_DIGITS[n as usize]
+}

@@ -1,0 +1,111 @@
+ghost use Rattle.std.specs.Prelude.{◌≡◌};
+ghost use Rattle.std.specs.Option.{option_map};
+ghost use Rattle.serde_json.specs.Data.{null, number, unsigned};
+ghost use Rattle.serde_json.specs.Written.{comma_if};
+ghost use Rattle.tree_json.specs.Values.{number_data, char_data, single_data, enum_data, name_of, constant_data};
+ghost use Rattle.tree_json.specs.Plain.{plain_text};
+ghost use Rattle.tree_json.specs.Writes.{output, Writes};
+
+use crate::chunk::Chunk;
+use crate::texts::{put_string, put_text};
+use itoa::Buffer;
+use sbe_base::Sink;
+use sbe_types::{ConstValue, Named};
+
+/// Writes a null.
+#[inline(always)]
+pub fn put_null<O: Sink>(chunk: &mut Chunk, sink: &mut O)
+    ensures { Writes (output (O.held sink.old) (O.faults sink.old) chunk.old)
+        (output (O.held sink.new) (O.faults sink.new) chunk.new) (plain_text null) }
+{
+    chunk.put(sink, b"null");
+}
+
+/// Writes an integer.
+#[tactic(auto, using(crate::proofs::Numbers::number_is))]
+pub fn put_number<O: Sink>(chunk: &mut Chunk, sink: &mut O, n: &i128)
+    ensures { Writes (output (O.held sink.old) (O.faults sink.old) chunk.old)
+        (output (O.held sink.new) (O.faults sink.new) chunk.new) (plain_text (number_data n.now)) }
+{
+    let mut buffer = Buffer::new();
+    chunk.put(sink, buffer.format(*n).as_bytes());
+}
+
+/// Writes a count.
+pub fn put_count<O: Sink>(chunk: &mut Chunk, sink: &mut O, n: u64)
+    ensures { Writes (output (O.held sink.old) (O.faults sink.old) chunk.old)
+        (output (O.held sink.new) (O.faults sink.new) chunk.new) (plain_text (number (unsigned n))) }
+{
+    let mut buffer = Buffer::new();
+    chunk.put(sink, buffer.format(n).as_bytes());
+}
+
+/// Writes a char: from 20 to 7e as a string of one character, and else as an integer.
+pub fn put_char<O: Sink>(chunk: &mut Chunk, sink: &mut O, n: &i128)
+    ensures { Writes (output (O.held sink.old) (O.faults sink.old) chunk.old)
+        (output (O.held sink.new) (O.faults sink.new) chunk.new) (plain_text (char_data n.now)) }
+{
+    if *n >= 32 && *n <= 126 {
+        put_string(chunk, sink, &[*n as u8]);
+    } else {
+        put_number(chunk, sink, n);
+    }
+}
+
+/// Writes a single number: a char, or an integer.
+pub fn put_single<O: Sink>(chunk: &mut Chunk, sink: &mut O, is_char: bool, n: &i128)
+    ensures { Writes (output (O.held sink.old) (O.faults sink.old) chunk.old)
+        (output (O.held sink.new) (O.faults sink.new) chunk.new) (plain_text (single_data is_char n.now)) }
+{
+    if is_char {
+        put_char(chunk, sink, n);
+    } else {
+        put_number(chunk, sink, n);
+    }
+}
+
+/// Writes a comma, where something stands before.
+#[inline(always)]
+pub fn put_comma<O: Sink>(chunk: &mut Chunk, sink: &mut O, later: bool)
+    ensures { Writes (output (O.held sink.old) (O.faults sink.old) chunk.old)
+        (output (O.held sink.new) (O.faults sink.new) chunk.new) (comma_if later) }
+{
+    if later {
+        chunk.put(sink, b",");
+    }
+}
+
+/// The name of the first valid value of that number.
+fn name_of<'a>(names: &'a [Named], n: &i128) -> Option<&'a [u8]>
+    ensures { option_map (λ name. name.now) result ≡ name_of names.now n.now }
+{
+    for named in names {
+        if named.number == *n {
+            return Some(named.name.as_slice());
+        }
+    }
+    None
+}
+
+/// Writes an enum: the name of its number, or the number where no valid value has it.
+pub fn put_enum<O: Sink>(chunk: &mut Chunk, sink: &mut O, names: &[Named], n: &i128)
+    ensures { Writes (output (O.held sink.old) (O.faults sink.old) chunk.old)
+        (output (O.held sink.new) (O.faults sink.new) chunk.new) (plain_text (enum_data names.now n.now)) }
+{
+    match name_of(names, n) {
+        Some(name) => put_string(chunk, sink, name),
+        None => put_number(chunk, sink, n),
+    }
+}
+
+/// Writes a constant as the value that it has; a valid value by its name.
+pub fn put_constant<O: Sink>(chunk: &mut Chunk, sink: &mut O, constant: &ConstValue)
+    ensures { Writes (output (O.held sink.old) (O.faults sink.old) chunk.old)
+        (output (O.held sink.new) (O.faults sink.new) chunk.new) (plain_text (constant_data constant.now)) }
+{
+    match constant {
+        ConstValue::Num(n) => put_number(chunk, sink, n),
+        ConstValue::Text(bytes) => put_text(chunk, sink, bytes.as_slice()),
+        ConstValue::Code(_, named) => put_string(chunk, sink, named.name.as_slice()),
+    }
+}
