@@ -2,6 +2,7 @@ mod checks;
 mod faults;
 mod limits;
 mod rules;
+mod several;
 
 use sbe_base::{MemFiles, MemSink, MemSource, Status};
 use sbe_cli::run;
@@ -30,8 +31,9 @@ const TWICE: &[u8] =
 const LINE: &[u8] =
     b"{\"data\":{},\"fields\":{\"a\":258,\"b\":null},\"groups\":{},\"template\":\"Ping\",\"version\":0}\n";
 
+/// The line of a body of 10 bytes, which has no room for a block of 6.
 const REFUSED: &[u8] =
-    b"{\"refused\":\"F00\",\"item\":0,\"offset\":null,\"path\":\"\",\"detail\":\"\"}\n";
+    b"{\"refused\":\"F05\",\"item\":0,\"offset\":8,\"path\":\"\",\"detail\":\"6\"}\n";
 
 const USAGE: &[u8] = b"{\"usage\":\"sbe check compat dump build fixcheck tofix tosbe selftest\"}\n";
 
@@ -133,13 +135,20 @@ fn answers_frames(rt: HostRuntime) -> Result<(), Fail> {
     let big_endian =
         b"\x00\x00\x00\x14\x5b\xe0\x06\x00\x01\x00\x07\x00\x00\x00\x02\x01\x00\x00\x00\x80";
     let no_body = b"\x00\x00\x00\x06\xeb\x50";
-    for input in [
-        short_block.as_slice(),
-        big_endian.as_slice(),
-        no_body.as_slice(),
-    ] {
+    let rows: [(&[u8], &[u8]); 3] = [
+        (short_block, REFUSED),
+        (
+            big_endian,
+            b"{\"refused\":\"E01\",\"item\":0,\"offset\":null,\"path\":\"\",\"detail\":\"5be0\"}\n",
+        ),
+        (
+            no_body,
+            b"{\"refused\":\"F01\",\"item\":0,\"offset\":0,\"path\":\"\",\"detail\":\"0\"}\n",
+        ),
+    ];
+    for (input, output) in rows {
         trial.input = input;
-        expect(&rt, alloc, &trial, Status::SomeRefused, REFUSED, b"")?;
+        expect(&rt, alloc, &trial, Status::SomeRefused, output, b"")?;
     }
     Ok(())
 }
@@ -153,7 +162,7 @@ fn refuses_in_order(rt: HostRuntime) -> Result<(), Fail> {
     trial.input = between;
     let output =
         b"{\"data\":{},\"fields\":{\"a\":258,\"b\":null},\"groups\":{},\"template\":\"Ping\",\"version\":0}
-{\"refused\":\"F00\",\"item\":1,\"offset\":null,\"path\":\"\",\"detail\":\"\"}
+{\"refused\":\"F01\",\"item\":1,\"offset\":0,\"path\":\"\",\"detail\":\"1\"}
 {\"data\":{},\"fields\":{\"a\":65534,\"b\":5},\"groups\":{},\"template\":\"Ping\",\"version\":0}
 ";
     expect(&rt, alloc, &trial, Status::SomeRefused, output, b"")
@@ -222,12 +231,18 @@ fn names_faulty_heads(rt: HostRuntime) -> Result<(), Fail> {
 fn refuses_schemas(rt: HostRuntime) -> Result<(), Fail> {
     let alloc = rt.alloc();
     let mut trial = sample();
-    let not_built = b"{\"file\":\"schema\",\"refused\":\"S00\",\"path\":\"\"}\n";
+    let not_json = b"{\"file\":\"schema\",\"refused\":\"S02\",\"path\":\"\"}\n";
+    let shape = b"{\"file\":\"schema\",\"refused\":\"S03\",\"path\":\"\"}\n";
     let deep = vec![in alloc; b'['; 1_048_576]?;
-    let schemas: [&[u8]; 4] = [b"", b"[1]", b"{}", deep.as_slice()];
-    for schema in schemas {
+    let rows: [(&[u8], &[u8]); 4] = [
+        (b"", not_json),
+        (b"[1]", shape),
+        (b"{}", shape),
+        (deep.as_slice(), not_json),
+    ];
+    for (schema, notes) in rows {
         trial.schema = schema;
-        expect(&rt, alloc, &trial, Status::SchemaRefused, b"", not_built)?;
+        expect(&rt, alloc, &trial, Status::SchemaRefused, b"", notes)?;
     }
     let long = vec![in alloc; b' '; 1_048_577]?;
     trial.schema = long.as_slice();

@@ -14,11 +14,13 @@ check judges a message schema, and prints a line of JSON for each of its message
 dump reads SBE frames from standard input, and prints each message as a line of JSON.
 SCHEMA is the file of a message schema. Its name doesn't begin with `--`.
 
-Options of dump, each at most once, in any order behind the file:
+Options of dump, in any order behind the file:
+  --also SCHEMA      one more schema; a frame is read by the one whose id it has
+                     (at most 15 times; the schema of a message is then printed)
   --max-frame BYTES  the most bytes of a frame, its head included
-                     (64 to 16777216, default 65536)
+                     (64 to 16777216, default 65536; at most once)
   --max-input BYTES  the most bytes of the input
-                     (1 to 1099511627776, default 4294967296)
+                     (1 to 1099511627776, default 4294967296; at most once)
 
 Answers go to standard output, each before the next frame is waited for. Why a run
 ends early is noted on standard error, as a line of JSON.
@@ -27,18 +29,19 @@ Exit status:
    0  the schema is in order; the input was read to its end, and nothing was refused
    1  the input was read to its end, and at least one message was refused
    2  the words are no command
-   3  the schema was refused
+   3  a schema was refused
    5  the input is no row of whole frames, or a frame is longer than its limit
-   6  the schema's file could not be read
+   6  a schema's file could not be read
    7  standard input could not be read
    8  standard output or standard error could not be written
    9  memory was wanting
   10  the input is longer than its limit
-  11  the schema's file is absent
+  11  a schema's file is absent
 
 Examples:
   sbe check feed.json
-  sbe dump ping.json < frames.bin
+  sbe dump feed.json < frames.bin
+  sbe dump feed.json --also orders.json < frames.bin
 ";
 
 /// What `--version` prints.
@@ -94,7 +97,11 @@ mod tests {
     use std::alloc::Global;
     use std::test::Fail;
 
-    const EXAMPLES: [&str; 2] = ["  sbe check feed.json", "  sbe dump ping.json < frames.bin"];
+    const EXAMPLES: [&str; 3] = [
+        "  sbe check feed.json",
+        "  sbe dump feed.json < frames.bin",
+        "  sbe dump feed.json --also orders.json < frames.bin",
+    ];
 
     fn page_at(alloc: Global, texts: &[&str]) -> Result<Option<Page>, Fail> {
         let mut words = Vec::new(alloc);

@@ -9,10 +9,10 @@ use Rattle.sbe_cli.specs.Words.{command_of, reads_input}
 use Rattle.sbe_cli.specs.Splits.{is_read, PieceEnd, End, EndInside, HeadFault, LineOver, InputLimit}
 use Rattle.sbe_cli.specs.Replies.{Written, Reply, reading_of, written_of, then_written}
 use Rattle.sbe_cli.specs.Report.{Outcome, end_status, JobReport, JudgedReport, CommandReport, Report}
-use Rattle.sbe_cli.specs.Outside.{Sinks, Outside, Wrote, Breaks, Told, noted, wanting, failed}
+use Rattle.sbe_cli.specs.Outside.{Sinks, Outside, Wrote, Breaks, Told, noted, failed}
 use Rattle.sbe_cli.specs.Steps.{IsReady, IsReadAs, JudgedAs, IsReported, Ends, Stalls, Fails, ended_at, stalled_at, failed_at, wanting_at, Course, Drains}
 use Rattle.sbe_cli.specs.Runs.{desk, Known, IsJob, written_in, read_line, AllAnswered, StandsAtRead, StandsAtWrite, at_reply, at_end, at_read, NotesPart, Fronts, HasRead, Runs}
-use Rattle.sbe_cli.specs.declared.files.FileRefusal.{FileRefusal}
+use Rattle.sbe_cli.specs.declared.files.RefusedFile.{RefusedFile}
 use Rattle.sbe_cli.specs.declared.job.Job.{Job}
 use Rattle.sbe_cli.specs.declared.words.Command.{Command}
 use Rattle.sbe_cli.proofs.Folding.{IsPlacedJob, ready_placed}
@@ -62,7 +62,7 @@ module _ (words : List (List ℕ)) (old new : Outside) (command : Command) (is_c
   of_report : (contents : List ℕ → Option (List ℕ)) (input : List ℕ) (outcome : Outcome) → Known old contents input → Report words contents input outcome → JobReport job input outcome
   of_report contents input outcome known h =
       let r = subst (λ (c : Option Command). CommandReport c contents input outcome) is_command h in
-      subst (λ (j : Result Job FileRefusal). JudgedReport j input outcome) (judged_once command contents r.0 (Ok job) r.1 (judged contents known.files)) r.2
+      subst (λ (j : Result Job RefusedFile). JudgedReport j input outcome) (judged_once command contents r.0 (Ok job) r.1 (judged contents known.files)) r.2
 
   module _ (code : Status) (drains : Drains job old.streams new.streams code) where
     touched_by : Touched words old new code
@@ -78,7 +78,7 @@ module _ (words : List (List ℕ)) (old new : Outside) (command : Command) (is_c
       written = course.progress.written
 
       abbrev AreFronts : Outcome → Type 0
-      AreFronts outcome = AppendsPart old.streams.sinks.output.told new.streams.sinks.output.told outcome.output × NotesPart old new outcome.notes
+      AreFronts outcome = AppendsPart old.streams.sinks.output.told new.streams.sinks.output.told outcome.output × NotesPart words old new outcome.notes
 
       led : (outcome : Outcome) → JobReport job input outcome → Leading written outcome
       led outcome report = leading job placed input outcome report course.progress.pieces course.progress.left written course.kept course.progress.begins course.progress.replies
@@ -181,7 +181,6 @@ module _ (words : List (List ℕ)) (old new : Outside) (command : Command) (is_c
           ended_apart : {P : Type 0} {line : List ℕ} (end : PieceEnd) (refused : ℕ) → Told line (end_status end refused) course.mid.sinks.notes new.streams.sinks.notes code → P
           ended_apart end refused told = elim told [
             | noted c a k ↦ absurd (end_no_read end refused (sym is ∙ c))
-            | wanting c s ↦ absurd (apart_want (sym is ∙ c))
             | failed c p f ↦ absurd (apart_write (sym is ∙ c))
           ]
 
@@ -198,7 +197,6 @@ module _ (words : List (List ℕ)) (old new : Outside) (command : Command) (is_c
                 notes = appends_more old.streams.sinks.notes.told course.mid.sinks.notes.told new.streams.sinks.notes.told written.notes _ course.progress.wrote.notes a;
               },
             )
-            | wanting c x ↦ absurd (apart_want (sym is ∙ c))
             | failed c p f ↦ absurd (apart_write (sym is ∙ c))
           ]
 
@@ -253,6 +251,9 @@ module _ (words : List (List ℕ)) (old new : Outside) (command : Command) (is_c
 
   -- ---- by the status
 
+  apart : ◌≡◌ {A = Bool} true false → ⊥
+  apart e = cc
+
   pub carried : (code : Status) → new.files ≡ old.files → Drains job old.streams new.streams code → Runs words old new code
   carried status.Done files d = runs_so status.Done d files tt
   carried status.SomeRefused files d = runs_so status.SomeRefused d files tt
@@ -262,7 +263,7 @@ module _ (words : List (List ℕ)) (old new : Outside) (command : Command) (is_c
       runs_read words old new (d.causes.read refl) (λ contents input known. stands_at_read status.ReadFault d contents input known refl) (fronts status.ReadFault d) (touched_by status.ReadFault d)
   carried status.WriteFault files d =
       runs_write words old new (d.causes.write refl) (λ contents input known. stands_at_write status.WriteFault d contents input known refl) (fronts status.WriteFault d) (touched_by status.WriteFault d)
-  carried status.NoMemory files d = runs_wanting words old new (fronts status.NoMemory d) (touched_by status.NoMemory d)
+  carried status.NoMemory files d = runs_wanting words old new (fronts status.NoMemory d) (λ takes. absurd (apart (sym (sym reads ∙ takes) ∙ d.memory refl))) (touched_by status.NoMemory d)
   carried status.Usage files d = absurd d.causes.late
   carried status.SchemaRefused files d = absurd d.causes.late
   carried status.MapRefused files d = absurd d.causes.late

@@ -4,6 +4,7 @@ use Rattle.std.specs.Prelude.{nat_lt}
 use Rattle.std.specs.Io.KnownBytes.{Appends}
 use Rattle.std.proofs.KnownBytes.{Appends-nil}
 use Rattle.sbe_base.specs.declared.status.Limits.{Limits}
+use Rattle.sbe_base.specs.declared.stream.WriteFault.{WriteFault}
 use Rattle.sbe_base.specs.declared.status.Status.{Status}
 use Rattle.sbe_base.specs.declared.status.Status.TheVariants as status
 use Rattle.open_framing.specs.declared.head.Head.{Head}
@@ -17,9 +18,9 @@ use Rattle.sbe_cli.specs.Splits.{Once, Whole, End, Splits, Begins}
 use Rattle.sbe_cli.specs.Replies.{Written, Reply, counted_by, written_of}
 use Rattle.sbe_cli.specs.Report.{end_notes, end_status, done_status}
 use Rattle.sbe_cli.specs.Stops.{stop_line, stop_status}
-use Rattle.sbe_cli.specs.Outside.{Sinks, Streams, Wrote, Breaks, at_output, at_notes, Failed, Told, noted, wanting, failed}
+use Rattle.sbe_cli.specs.Outside.{Object, Sinks, Streams, Wrote, Breaks, at_output, at_notes, Failed, Told, noted, failed}
 use Rattle.sbe_cli.specs.Steps.{PumpState, IsReadyFrame, behind, IsStepStatus, Goes, Fails, Halts, ended_at, failed_at, wanting_at, Causes, Closes, Steps}
-use Rattle.sbe_cli.specs.Drafts.{Delivers}
+use Rattle.sbe_cli.specs.Drafts.{Delivers, DeliversDraft}
 use Rattle.sbe_cli.specs.Pumps.{Stands, StandsOnce, CanCount, reply_of, whole_reply, running, once_pump, Answers, EndsAs}
 use Rattle.sbe_cli.specs.declared.job.Job.{Job}
 use Rattle.sbe_cli.specs.declared.job.FrameJob.{FrameJob}
@@ -40,22 +41,26 @@ use Rattle.sbe_cli.proofs.Stepping.{refused_one, translated_one, piece_end, pump
 -- a status of an end is a step's, and no fault
 record IsEnd (code : Status) : Type 0 where
   step : IsStepStatus code
+  memory : code ≡ status.NoMemory → ⊥
   write : code ≡ status.WriteFault → ⊥
   read : code ≡ status.ReadFault → ⊥
 
 done_is : (some : Bool) → IsEnd (cond some status.SomeRefused status.Done)
-done_is true = record { step = tt; write = λ h. cc; read = λ h. cc }
-done_is false = record { step = tt; write = λ h. cc; read = λ h. cc }
+done_is true = record { step = tt; memory = λ h. cc; write = λ h. cc; read = λ h. cc }
+done_is false = record { step = tt; memory = λ h. cc; write = λ h. cc; read = λ h. cc }
 
 end_is : (e : Ended) (refused : ℕ) → IsEnd (end_status (piece_end e) refused)
 end_is ended.End refused = done_is (nat_lt 0 refused)
-end_is (ended.Inside n) refused = record { step = tt; write = λ h. cc; read = λ h. cc }
-end_is (ended.Head h) refused = record { step = tt; write = λ h. cc; read = λ h. cc }
-end_is ended.Over refused = record { step = tt; write = λ h. cc; read = λ h. cc }
+end_is (ended.Inside n) refused = record { step = tt; memory = λ h. cc; write = λ h. cc; read = λ h. cc }
+end_is (ended.Head h) refused = record { step = tt; memory = λ h. cc; write = λ h. cc; read = λ h. cc }
+end_is ended.Over refused = record { step = tt; memory = λ h. cc; write = λ h. cc; read = λ h. cc }
 
 -- nothing more is noted
 wrote_none : (old new : Sinks) → new ≡ old → Appends old.notes.told new.notes.told []
 wrote_none old new same = subst (λ (s : Sinks). Appends old.notes.told s.notes.told []) (sym same) (Appends-nil old.notes.told)
+
+noted_none : (old new : Object (List ℕ)) (notes : List ℕ) → new ≡ old → notes ≡ [] → Appends old.told new.told notes
+noted_none old new notes same none = subst (λ n. Appends old.told new.told n) (sym none) (subst (λ (o : Object (List ℕ)). Appends old.told o.told []) (sym same) (Appends-nil old.told))
 
 -- ---- the causes
 
@@ -80,23 +85,32 @@ module _ (before after : Streams) where
       write = λ w. absurd (is.write (sym c ∙ w));
       late = subst IsStepStatus (sym c) is.step;
     }
-    | wanting c s ↦ want_causes code c
     | failed c p f ↦ write_causes code c (inr f)
   ]
+
+  -- what is told is never want of memory
+  told_apart : (code last : Status) (line : List ℕ) (old new : Object (List ℕ)) → Told line last old new code → (last ≡ status.NoMemory → ⊥) → code ≡ status.NoMemory → ⊥
+  told_apart code last line old new told never is = elim told [
+    | noted c a k ↦ never (sym c ∙ is)
+    | failed c p f ↦ apart_write (sym c ∙ is)
+  ]
+    where
+      apart_write : ◌≡◌ {A = Status} status.WriteFault status.NoMemory → ⊥
+      apart_write e = cc
 
   -- a read that failed
   read_causes : (code : Status) (line : List ℕ) → Failed before.input after.input → Told line status.ReadFault before.sinks.notes after.sinks.notes code → Causes before after code
   read_causes code line fault told = elim told [
     | noted c a k ↦ subst (λ (s : Status). Causes before after s) (sym c) (record { calm = λ r. absurd r; read = λ e. fault; write = λ e. cc; late = tt })
-    | wanting c s ↦ want_causes code c
     | failed c p f ↦ write_causes code c (inr f)
   ]
 
 -- ---- the step of a job that answers frames
 
 module _ (job : FrameJob) (limits : Limits) (kept : Kept) (before after : Streams) where
-  closed : (code : Status) → ((input : List ℕ) → before.input.told ≡ Some input → Halts (pump job limits kept) before after input code) → Causes before after code → Answers (pump job limits kept) before after (Err code)
-  closed code halts causes = record { halts = halts; causes = causes; kept = refl; unread = λ none. cc }
+  closed : (code : Status) → ((input : List ℕ) → before.input.told ≡ Some input → Halts (pump job limits kept) before after input code) → Causes before after code → (code ≡ status.NoMemory → ⊥) →
+      Answers (pump job limits kept) before after (Err code)
+  closed code halts causes never = record { halts = halts; causes = causes; kept = refl; memory = λ e. absurd (never e); unread = λ none. cc }
 
   module _ (st st' : StreamState) (stands : Stands limits st kept) where
     -- an end that needs no note
@@ -108,6 +122,7 @@ module _ (job : FrameJob) (limits : Limits) (kept : Kept) (before after : Stream
         noted done (wrote_none before.sinks after.sinks sinks) (ap (λ s. s.notes.faults) sinks) in
         closed code (λ i source. ends job limits kept st st' stands before after code ended.End i takes output told source)
         (end_causes before after code [] (end_status End kept.refused) (end_is ended.End kept.refused) input output told)
+        (told_apart before after code (end_status End kept.refused) [] before.sinks.notes after.sinks.notes told (end_is ended.End kept.refused).memory)
 
     -- an end that is noted
     pub closed_with : (e : Ended) (s : Stop) (code : Status) → Takes st st' before.input.told after.input.told (told_by e) → after.input.faults ≡ before.input.faults → after.sinks.output ≡ before.sinks.output →
@@ -118,6 +133,7 @@ module _ (job : FrameJob) (limits : Limits) (kept : Kept) (before after : Stream
         subst (λ (c : Status). Told (end_notes (piece_end e) kept.bytes limits.input) c before.sinks.notes after.sinks.notes code) last (subst (λ l. Told l (stop_status s) before.sinks.notes after.sinks.notes code) line told) in
         closed code (λ i source. ends job limits kept st st' stands before after code e i takes output heard source)
         (end_causes before after code (end_notes (piece_end e) kept.bytes limits.input) (end_status (piece_end e) kept.refused) (end_is e kept.refused) input output heard)
+        (told_apart before after code (end_status (piece_end e) kept.refused) (end_notes (piece_end e) kept.bytes limits.input) before.sinks.notes after.sinks.notes heard (end_is e kept.refused).memory)
 
     -- a read that failed
     pub closed_read : (code : Status) → Takes st st' before.input.told after.input.told (Err err.ReadFault) → first_item st'.frame st'.held ≡ None →
@@ -127,25 +143,26 @@ module _ (job : FrameJob) (limits : Limits) (kept : Kept) (before after : Stream
         let fault : Failed before.input after.input = record { rose = cause.1; later = cause.0 } in
         closed code (λ i source. stalls_at job limits kept st st' stands before after code i takes none fault output told source)
         (read_causes before after code (stop_line (stop.ReadFault st'.taken)) fault told)
+        (told_apart before after code status.ReadFault (stop_line (stop.ReadFault st'.taken)) before.sinks.notes after.sinks.notes told (λ e. cc))
 
     module _ (h : Head) (takes : Takes st st' before.input.told after.input.told (Ok (taken.Frame h))) (size : h.length ≡ length st'.body + 6) (ready : IsReadyFrame job) where
       abbrev reply : Reply
       reply = reply_of job kept (record { encoding = h.encoding; body = st'.body })
 
       -- a frame whose answer is written
-      pub went : (verdict : Verdict) → Delivers reply before.sinks after.sinks (Ok verdict) → after.input.faults ≡ before.input.faults → Answers (pump job limits kept) before after (Ok (record { bytes = h.length; verdict = verdict }))
-      went verdict wrote input =
-          subst (λ (v : Verdict). Answers (pump job limits kept) before after (Ok (record { bytes = h.length; verdict = v }))) (sym wrote.1)
-          (goes job limits kept st st' stands before after status.Done h takes size ready wrote.0.0 (record { input = input; output = wrote.0.1; notes = wrote.0.2 }))
+      pub went : (verdict : Verdict) → Delivers reply before.sinks.output after.sinks.output (Ok verdict) → after.sinks.notes ≡ before.sinks.notes → after.input.faults ≡ before.input.faults →
+          Answers (pump job limits kept) before after (Ok (record { bytes = h.length; verdict = verdict }))
+      went verdict wrote notes input =
+          subst (λ (v : Verdict). Answers (pump job limits kept) before after (Ok (record { bytes = h.length; verdict = v }))) (sym wrote.3)
+          (goes job limits kept st st' stands before after status.Done h takes size ready (record { output = wrote.0; notes = noted_none before.sinks.notes after.sinks.notes reply.notes notes wrote.2 })
+          (record { input = input; output = wrote.1; notes = ap (λ (o : Object (List ℕ)). o.faults) notes }))
 
-      -- a frame whose answer is written in part, or finds no memory
-      pub stopped : (code : Status) → Delivers reply before.sinks after.sinks (Err code) → Answers (pump job limits kept) before after (Err code)
-      stopped code d = elim d [
-        | inl b ↦ closed code (λ i source. failed_at (fails job limits kept st st' stands before after code h takes size ready i (λ r. Breaks before.sinks after.sinks (written_of r)) b.1 source) b.0)
-            (break_causes before after code (written_of reply) b.0 b.1)
-        | inr w ↦ closed code (λ i source. wanting_at (fails job limits kept st st' stands before after code h takes size ready i (λ r. after.sinks ≡ before.sinks) w.1 source) w.0)
-            (want_causes before after code w.0)
-      ]
+      -- a frame whose answer is written in part
+      pub stopped : (e : WriteFault) → Delivers reply before.sinks.output after.sinks.output (Err e) → after.sinks.notes ≡ before.sinks.notes → Answers (pump job limits kept) before after (Err status.WriteFault)
+      stopped e wrote notes =
+          let b : Breaks before.sinks after.sinks (written_of reply) = at_output wrote.0 notes wrote.1 in
+          closed status.WriteFault (λ i source. failed_at (fails job limits kept st st' stands before after status.WriteFault h takes size ready i (λ r. Breaks before.sinks after.sinks (written_of r)) b source) refl)
+          (break_causes before after status.WriteFault (written_of reply) refl b) (λ is. cc)
 
 -- ---- the steps of a job over its files
 
@@ -154,7 +171,7 @@ module _ (job : OnceJob) (kept : Kept) (stands : StandsOnce kept) (before after 
   whole = once_pump job kept
 
   closed_once : (code : Status) → ((input : List ℕ) → before.input.told ≡ Some input → Halts whole before after input code) → Causes before after code → Answers whole before after (Err code)
-  closed_once code halts causes = record { halts = halts; causes = causes; kept = refl; unread = λ none. same }
+  closed_once code halts causes = record { halts = halts; causes = causes; kept = refl; memory = λ e. refl; unread = λ none. same }
 
   source_so : (input : List ℕ) → before.input.told ≡ Some input → after.input.told ≡ Some input
   source_so input source = ap (λ o. o.told) same ∙ source
@@ -175,7 +192,7 @@ module _ (job : OnceJob) (kept : Kept) (stands : StandsOnce kept) (before after 
     begins_whole : (input : List ℕ) → Begins (behind Once kept) input (Whole ∷ []) input
     begins_whole input = subst (λ r. Begins r input (Whole ∷ []) input) (sym (once_none kept none)) (inr refl, refl)
 
-    pub went_once : (verdict : Verdict) → Delivers (whole_reply job) before.sinks after.sinks (Ok verdict) → Answers whole before after (Ok (record { bytes = 0; verdict = verdict }))
+    pub went_once : (verdict : Verdict) → DeliversDraft (whole_reply job) before.sinks after.sinks (Ok verdict) → Answers whole before after (Ok (record { bytes = 0; verdict = verdict }))
     went_once verdict wrote = record {
       answers = λ input source. record {
         piece = Whole;
@@ -208,7 +225,7 @@ module _ (job : OnceJob) (kept : Kept) (stands : StandsOnce kept) (before after 
       wrote = wrote;
     }
 
-    pub stopped_once : (code : Status) → Delivers (whole_reply job) before.sinks after.sinks (Err code) → Answers whole before after (Err code)
+    pub stopped_once : (code : Status) → DeliversDraft (whole_reply job) before.sinks after.sinks (Err code) → Answers whole before after (Err code)
     stopped_once code d = elim d [
       | inl b ↦ closed_once code (λ i source. failed_at (fails_once i (λ r. Breaks before.sinks after.sinks (written_of r)) b.1 source) b.0) (break_causes before after code (written_of (whole_reply job)) b.0 b.1)
       | inr w ↦ closed_once code (λ i source. wanting_at (fails_once i (λ r. after.sinks ≡ before.sinks) w.1 source) w.0) (want_causes before after code w.0)

@@ -8,10 +8,11 @@ use Rattle.sbe_base.specs.declared.status.Status.TheVariants as status
 use Rattle.sbe_cli.specs.Words.{command_of}
 use Rattle.sbe_cli.specs.Report.{Outcome, CommandReport, Report, only_noted}
 use Rattle.sbe_cli.specs.Stops.{stop_line, refusal_line, refusal_status, usage_line}
-use Rattle.sbe_cli.specs.Outside.{Object, Desk, Streams, Outside, Failed, Told, noted, wanting, failed}
+use Rattle.sbe_cli.specs.Outside.{Object, Desk, Streams, Outside, Failed, Told, noted, failed}
 use Rattle.sbe_cli.specs.Steps.{PumpState, Opens, JudgedAs, Declines, refuses, fails, wants, IsReported, Drains}
-use Rattle.sbe_cli.specs.Runs.{desk, Known, at_end, at_file, NotesPart, Fronts, HasRead, Runs, CarriesOut}
-use Rattle.sbe_cli.specs.declared.files.FileRefusal.{FileRefusal}
+use Rattle.sbe_cli.specs.Runs.{desk, Known, NamesFile, at_end, at_file, NotesPart, Fronts, HasRead, Runs, CarriesOut}
+use Rattle.sbe_cli.specs.declared.files.FileRole.{FileRole}
+use Rattle.sbe_cli.specs.declared.files.RefusedFile.{RefusedFile}
 use Rattle.sbe_cli.specs.declared.stop.Stop.TheVariants as stop
 use Rattle.sbe_cli.specs.declared.words.Command.{Command}
 use Rattle.sbe_cli.proofs.Reporting.{one_report}
@@ -19,10 +20,20 @@ use Rattle.sbe_cli.proofs.Standing.{whole_part}
 use Rattle.sbe_cli.proofs.Carrying.{carried}
 use Rattle.sbe_cli.proofs.Finishing.{Touched, runs_reported, runs_file, runs_write, runs_wanting, refused_apart, nothing_out}
 
+-- ---- the streams by their parts
+
+abbrev three_streams : Object (List ℕ) → Object (List ℕ) → Object (List ℕ) → Streams
+three_streams i o n = record { input = i; sinks = record { output = o; notes = n } }
+
+same_streams : (a b : Streams) → a.input ≡ b.input → a.sinks.output ≡ b.sinks.output → a.sinks.notes ≡ b.sinks.notes → a ≡ b
+same_streams a b i o n =
+    ap (λ (x : Object (List ℕ)). three_streams x a.sinks.output a.sinks.notes) i ∙ ap (λ (x : Object (List ℕ)). three_streams b.input x a.sinks.notes) o
+    ∙ ap (λ (x : Object (List ℕ)). three_streams b.input b.sinks.output x) n
+
 -- ---- before the items
 
 module _ (words : List (List ℕ)) (old new : Outside) where
-  nothing_noted : (notes : List ℕ) → new.streams.sinks.notes ≡ old.streams.sinks.notes → NotesPart old new notes
+  nothing_noted : (notes : List ℕ) → new.streams.sinks.notes ≡ old.streams.sinks.notes → NotesPart words old new notes
   nothing_noted notes same = inl ([], notes, refl, subst (λ (o : Object (List ℕ)). Appends old.streams.sinks.notes.told o.told []) (sym same) (Appends-nil old.streams.sinks.notes.told))
 
   nothing_fronts : new.streams.sinks.output ≡ old.streams.sinks.output → new.streams.sinks.notes ≡ old.streams.sinks.notes → Fronts words old new
@@ -34,7 +45,7 @@ module _ (words : List (List ℕ)) (old new : Outside) where
 
     -- nothing was done, for want of memory
     pub wanted_early : new.streams.sinks.output ≡ old.streams.sinks.output → new.streams.sinks.notes ≡ old.streams.sinks.notes → Runs words old new status.NoMemory
-    wanted_early output notes = runs_wanting words old new (nothing_fronts output notes) (touched status.NoMemory)
+    wanted_early output notes = runs_wanting words old new (nothing_fronts output notes) (λ reads. same_streams new.streams old.streams input output notes) (touched status.NoMemory)
 
     no_output : new.streams.sinks.output ≡ old.streams.sinks.output → Appends old.streams.sinks.output.told new.streams.sinks.output.told []
     no_output output = subst (λ (o : Object (List ℕ)). Appends old.streams.sinks.output.told o.told []) (sym output) (Appends-nil old.streams.sinks.output.told)
@@ -51,22 +62,23 @@ module _ (words : List (List ℕ)) (old new : Outside) where
         | noted c a k ↦ subst (λ (s : Status). Runs words old new s) (sym c)
             (runs_reported words old new last r (λ contents bytes known. (only_noted line last, is contents bytes known, refl, record { output = no_output output; notes = a }))
             (ap (λ o. o.faults) files, record { input = ap (λ o. o.faults) input; output = ap (λ o. o.faults) output; notes = k }) (λ takes h. absurd (unread h)) (touched last))
-        | wanting c s ↦ subst (λ (x : Status). Runs words old new x) (sym c) (wanted_early output s)
         | failed c p f ↦ subst (λ (s : Status). Runs words old new s) (sym c)
             (runs_write words old new (inr f) (λ contents bytes known. at_end (only_noted line last) (is contents bytes known) (no_output output) p) (line_fronts p) (touched status.WriteFault))
       ]
 
     -- the files failed
-    file_fronts : Failed old.files new.files → new.streams.sinks.output ≡ old.streams.sinks.output → AppendsPart old.streams.sinks.notes.told new.streams.sinks.notes.told (stop_line stop.FileFault) → Fronts words old new
-    file_fronts f output part contents bytes outcome known report = (nothing_out old new outcome output, inr ([], outcome.notes, stop_line stop.FileFault, refl, inl (f, refl), part))
+    file_fronts : (role : FileRole) → NamesFile words role → Failed old.files new.files → new.streams.sinks.output ≡ old.streams.sinks.output →
+        AppendsPart old.streams.sinks.notes.told new.streams.sinks.notes.told (stop_line (stop.FileFault role)) → Fronts words old new
+    file_fronts role named f output part contents bytes outcome known report = (nothing_out old new outcome output, inr ([], outcome.notes, stop_line (stop.FileFault role), refl, inl (f, (role, named, refl)), part))
 
-    pub file_failed : (code : Status) → Failed old.files new.files → new.streams.sinks.output ≡ old.streams.sinks.output → Told (stop_line stop.FileFault) status.FileFault old.streams.sinks.notes new.streams.sinks.notes code → Runs words old new code
-    file_failed code f output told = elim told [
+    pub file_failed : (code : Status) (role : FileRole) → NamesFile words role → Failed old.files new.files → new.streams.sinks.output ≡ old.streams.sinks.output →
+        Told (stop_line (stop.FileFault role)) status.FileFault old.streams.sinks.notes new.streams.sinks.notes code → Runs words old new code
+    file_failed code role named f output told = elim told [
       | noted c a k ↦ subst (λ (s : Status). Runs words old new s) (sym c)
-          (runs_file words old new f (record { input = input; wrote = record { output = no_output output; notes = a } }) (file_fronts f output (whole_part old.streams.sinks.notes.told new.streams.sinks.notes.told (stop_line stop.FileFault) a)) (touched status.FileFault))
-      | wanting c s ↦ subst (λ (x : Status). Runs words old new x) (sym c) (wanted_early output s)
+          (runs_file words old new f (record { role = role; named = named; input = input; wrote = record { output = no_output output; notes = a } })
+          (file_fronts role named f output (whole_part old.streams.sinks.notes.told new.streams.sinks.notes.told (stop_line (stop.FileFault role)) a)) (touched status.FileFault))
       | failed c p g ↦ subst (λ (s : Status). Runs words old new s) (sym c)
-          (runs_write words old new (inr g) (λ contents bytes known. at_file input output p) (file_fronts f output p) (touched status.WriteFault))
+          (runs_write words old new (inr g) (λ contents bytes known. at_file role named input output p) (file_fronts role named f output p) (touched status.WriteFault))
     ]
 
     -- the words are no command
@@ -78,17 +90,17 @@ module _ (words : List (List ℕ)) (old new : Outside) where
 
     -- the command's pump isn't opened
     module _ (command : Command) (is_command : command_of words ≡ Some command) where
-      refused_report : (refusal : FileRefusal) → JudgedAs command (desk old) (Err refusal) → (contents : List ℕ → Option (List ℕ)) (bytes : List ℕ) → Known old contents bytes →
-          Report words contents bytes (only_noted (refusal_line refusal) (refusal_status refusal))
-      refused_report refusal judged contents bytes known =
-          subst (λ (c : Option Command). CommandReport c contents bytes (only_noted (refusal_line refusal) (refusal_status refusal))) (sym is_command) (Err refusal, judged contents known.files, refl)
+      refused_report : (file : RefusedFile) → JudgedAs command (desk old) (Err file) → (contents : List ℕ → Option (List ℕ)) (bytes : List ℕ) → Known old contents bytes →
+          Report words contents bytes (only_noted (refusal_line file) (refusal_status file.why))
+      refused_report file judged contents bytes known =
+          subst (λ (c : Option Command). CommandReport c contents bytes (only_noted (refusal_line file) (refusal_status file.why))) (sym is_command) (Err file, judged contents known.files, refl)
 
       pub declined_early : (code : Status) → new.streams.sinks.output ≡ old.streams.sinks.output → Declines command (desk old) (desk new) code → Runs words old new code
       declined_early code output h = elim h [
-        | refuses refusal judged files told ↦
-            let is = refused_apart refusal in
-            noted_early (refusal_line refusal) (refusal_status refusal) (refused_report refusal judged) output code is.1 is.2 files told
-        | fails f told ↦ file_failed code f output told
+        | refuses file judged files told ↦
+            let is = refused_apart file.why in
+            noted_early (refusal_line file) (refusal_status file.why) (refused_report file judged) output code is.1 is.2 files told
+        | fails role has f told ↦ file_failed code role (command, is_command, has) f output told
         | wants c s ↦ subst (λ (x : Status). Runs words old new x) (sym c) (wanted_early output (ap (λ (d : Desk). d.notes) s))
       ]
 
@@ -106,9 +118,3 @@ pub opened_and_drained : (command : Command) (old mid new : Outside) (pump : Pum
 opened_and_drained command old mid new pump code opens input output files drains =
     let same : mid.streams ≡ old.streams = same_streams mid.streams old.streams input output (ap (λ (d : Desk). d.notes) opens.3) in
     inr (pump.job, opens.0, opens.1, files ∙ ap (λ (d : Desk). d.files) opens.3, subst (λ (s : Streams). Drains pump.job s new.streams code) same drains, opens.4)
-  where
-    streams_of : Object (List ℕ) → Object (List ℕ) → Object (List ℕ) → Streams
-    streams_of i o n = record { input = i; sinks = record { output = o; notes = n } }
-
-    same_streams : (a b : Streams) → a.input ≡ b.input → a.sinks.output ≡ b.sinks.output → a.sinks.notes ≡ b.sinks.notes → a ≡ b
-    same_streams a b i o n = ap (λ (x : Object (List ℕ)). streams_of x a.sinks.output a.sinks.notes) i ∙ ap (λ (x : Object (List ℕ)). streams_of b.input x a.sinks.notes) o ∙ ap (λ (x : Object (List ℕ)). streams_of b.input b.sinks.output x) n

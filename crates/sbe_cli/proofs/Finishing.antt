@@ -12,7 +12,7 @@ use Rattle.sbe_cli.specs.Outside.{Object, Outside, Wrote, Failed, Calm}
 use Rattle.sbe_cli.specs.Steps.{IsStepStatus, IsReported}
 use Rattle.sbe_cli.specs.Runs.{Known, written_in, Reports, StandsAtRead, StandsAtWrite, StandsAtFile, NotesPart, Fronts, HasRead, Runs}
 use Rattle.sbe_cli.specs.declared.files.FileRefusal.{FileRefusal}
-use Rattle.sbe_cli.specs.declared.files.FileRefusal.TheVariants.{Absent, TooLong, NotBuilt, Unread, Broken}
+use Rattle.sbe_cli.specs.declared.files.FileRefusal.TheVariants.{Absent, TooLong, Unread, Broken, SameId, FormDiffers}
 use Rattle.sbe_cli.proofs.Reporting.{one_report}
 use Rattle.sbe_cli.proofs.Standing.{whole_part}
 
@@ -51,11 +51,12 @@ module _ (words : List (List ℕ)) (old new : Outside) where
     read_stands = λ e. absurd (no_fault code status.ReadFault r (λ x. x) e);
     write_stands = λ e. absurd (no_fault code status.WriteFault r (λ x. x) e);
     fronts = reported_fronts code reports;
+    memory = λ takes e. absurd (no_fault code status.NoMemory r (λ x. x) e);
     untouched = touched.untouched;
     unread = touched.unread;
   }
 
-  pub runs_file : Failed old.files new.files → StandsAtFile old.streams new.streams → Fronts words old new → Touched status.FileFault → Runs words old new status.FileFault
+  pub runs_file : Failed old.files new.files → StandsAtFile words old.streams new.streams → Fronts words old new → Touched status.FileFault → Runs words old new status.FileFault
   runs_file failed_so stands fronts touched = record {
     report = λ x. absurd x;
     calm = λ x. absurd x;
@@ -67,6 +68,7 @@ module _ (words : List (List ℕ)) (old new : Outside) where
     read_stands = λ e. cc;
     write_stands = λ e. cc;
     fronts = fronts;
+    memory = λ takes e. cc;
     untouched = touched.untouched;
     unread = touched.unread;
   }
@@ -84,6 +86,7 @@ module _ (words : List (List ℕ)) (old new : Outside) where
     read_stands = λ e. stands;
     write_stands = λ e. cc;
     fronts = fronts;
+    memory = λ takes e. cc;
     untouched = touched.untouched;
     unread = touched.unread;
   }
@@ -101,12 +104,13 @@ module _ (words : List (List ℕ)) (old new : Outside) where
     read_stands = λ e. cc;
     write_stands = λ e. stands;
     fronts = fronts;
+    memory = λ takes e. cc;
     untouched = touched.untouched;
     unread = touched.unread;
   }
 
-  pub runs_wanting : Fronts words old new → Touched status.NoMemory → Runs words old new status.NoMemory
-  runs_wanting fronts touched = record {
+  pub runs_wanting : Fronts words old new → (reads_input (command_of words) ≡ true → new.streams ≡ old.streams) → Touched status.NoMemory → Runs words old new status.NoMemory
+  runs_wanting fronts memory touched = record {
     report = λ x. absurd x;
     calm = λ x. absurd x;
     read = λ takes h. elim h [ inl e ↦ cc | inr e ↦ cc ];
@@ -117,6 +121,7 @@ module _ (words : List (List ℕ)) (old new : Outside) where
     read_stands = λ e. cc;
     write_stands = λ e. cc;
     fronts = fronts;
+    memory = λ takes e. memory takes;
     untouched = touched.untouched;
     unread = touched.unread;
   }
@@ -127,15 +132,11 @@ module _ (words : List (List ℕ)) (old new : Outside) where
 pub refused_apart : (refusal : FileRefusal) → (IsStepStatus (refusal_status refusal) → ⊥) × IsReported (refusal_status refusal) × (HasRead (refusal_status refusal) → ⊥)
 refused_apart Absent = (λ x. x, tt, λ h. elim h [ inl e ↦ cc | inr e ↦ cc ])
 refused_apart TooLong = (λ x. x, tt, λ h. elim h [ inl e ↦ cc | inr e ↦ cc ])
-refused_apart NotBuilt = (λ x. x, tt, λ h. elim h [ inl e ↦ cc | inr e ↦ cc ])
 refused_apart (Unread cause path) = (λ x. x, tt, λ h. elim h [ inl e ↦ cc | inr e ↦ cc ])
 refused_apart (Broken rule path) = (λ x. x, tt, λ h. elim h [ inl e ↦ cc | inr e ↦ cc ])
+refused_apart SameId = (λ x. x, tt, λ h. elim h [ inl e ↦ cc | inr e ↦ cc ])
+refused_apart FormDiffers = (λ x. x, tt, λ h. elim h [ inl e ↦ cc | inr e ↦ cc ])
 
 -- nothing went to the output
 pub nothing_out : (old new : Outside) (outcome : Outcome) → new.streams.sinks.output ≡ old.streams.sinks.output → AppendsPart old.streams.sinks.output.told new.streams.sinks.output.told outcome.output
 nothing_out old new outcome same = ([], outcome.output, refl, subst (λ (o : Object (List ℕ)). Appends old.streams.sinks.output.told o.told []) (sym same) (Appends-nil old.streams.sinks.output.told))
-
--- one line was noted in part, and nothing else was done
-part_noted : (old new : Outside) (line : List ℕ) (outcome : Outcome) → new.streams.sinks.output ≡ old.streams.sinks.output → AppendsPart old.streams.sinks.notes.told new.streams.sinks.notes.told line →
-    outcome.notes ≡ line → AppendsPart old.streams.sinks.output.told new.streams.sinks.output.told outcome.output × NotesPart old new outcome.notes
-part_noted old new line outcome same part is = (nothing_out old new outcome same, inl (subst (AppendsPart old.streams.sinks.notes.told new.streams.sinks.notes.told) (sym is) part))

@@ -1,7 +1,7 @@
 -- The answers to pieces one after another: there is one fold, and it goes on piece by piece. It rests on one fact about each command alone: each piece has exactly one reply.
 use Rattle.std.proofs.Common.{◌≡◌, ℕ, ◌+◌, List, [], ◌∷◌, ◌++◌, length, map, refl, sym, ap, ◌∙◌, subst, arith, append_assoc, length-append}
 use Rattle.std.proofs.lemmas.List.{append-nil}
-use Rattle.sbe_wire.specs.Placed.{IsPlaced}
+use Rattle.dump_lines.specs.Dumped.{AreInOrder}
 use Rattle.open_framing.specs.Pieces.{joined}
 use Rattle.open_framing.specs.Frames.{Item}
 use Rattle.sbe_cli.specs.Splits.{Reading, Frames, Lines, Once, Nothing, Piece, Frame, Line, Whole, piece_bytes, PieceEnd, Splits}
@@ -16,13 +16,13 @@ use Rattle.sbe_cli.specs.declared.job.OnceJob.{OnceJob}
 use Rattle.sbe_cli.specs.declared.job.OnceJob.TheVariants.{Check}
 use Rattle.sbe_cli.specs.declared.job.Verdict.{Verdict}
 use Rattle.sbe_cli.specs.declared.pump.Kept.{Kept}
-use Rattle.sbe_cli.proofs.Dumped.{is_dumped, dumped_once}
+use Rattle.sbe_cli.proofs.Replied.{is_dumped, dumped_once}
 
 -- ---- each piece has exactly one reply: one case a command, in what names a command's job
 
 -- what the replies to frames need
 abbrev pub IsPlacedFrame : FrameJob → Type 0
-IsPlacedFrame (Dump schema) = IsPlaced schema
+IsPlacedFrame (Dump schemas) = AreInOrder schemas
 
 -- what a job's replies need
 abbrev pub IsPlacedJob : Job → Type 0
@@ -30,7 +30,7 @@ IsPlacedJob (jobs.Frames job limits) = IsPlacedFrame job
 IsPlacedJob (jobs.Once job) = Unit {0}
 
 pub frame_placed : (job : FrameJob) → IsReadyFrame job → IsPlacedFrame job
-frame_placed (Dump schema) ready = ready.1
+frame_placed (Dump schemas) ready = ready
 
 pub ready_placed : (job : Job) → IsReady job → IsPlacedJob job
 ready_placed (jobs.Frames job limits) ready = frame_placed job ready
@@ -50,7 +50,7 @@ Suits Nothing piece = ⊥
 
 -- the code's answer is a reply
 pub frame_replied : (job : FrameJob) (kept : Kept) (item : Item) → IsPlacedFrame job → IsFrameReply job kept item (reply_of job kept item)
-frame_replied (Dump schema) kept item placed = (is_dumped schema placed kept.items item, refl)
+frame_replied (Dump schemas) kept item placed = (is_dumped schemas kept.items item placed, refl)
 
 pub whole_replied : (job : OnceJob) → IsWholeReply job (whole_reply job)
 whole_replied (Check schema) = (refl, refl, refl)
@@ -71,8 +71,8 @@ equal_replies a b h k t = ap (λ o. as_reply o a.notes a.verdict) h ∙ ap (λ n
 
 -- there is no other
 frame_once : (job : FrameJob) (kept : Kept) (item : Item) (a b : Reply) → IsPlacedFrame job → IsFrameReply job kept item a → IsFrameReply job kept item b → a ≡ b
-frame_once (Dump schema) kept item a b placed h k =
-    let same = dumped_once schema placed kept.items item a.output b.output a.verdict b.verdict h.0 k.0 in
+frame_once (Dump schemas) kept item a b placed h k =
+    let same = dumped_once schemas kept.items item a.output b.output a.verdict b.verdict placed h.0 k.0 in
     equal_replies a b same.0 (h.1 ∙ sym k.1) same.1
 
 whole_once : (job : OnceJob) (a b : Reply) → IsWholeReply job a → IsWholeReply job b → a ≡ b

@@ -1,60 +1,29 @@
--- A schema is loaded, and judged.
-use Rattle.std.proofs.Common.{◌≡◌, ℕ, ◌≤◌, ◌<◌, Bool, true, false, cond, List, length, Option, Some, Result, Ok, Err, refl, sym, ap, ◌∙◌, subst, arith}
+-- A command's files are loaded, and judged.
+use Rattle.std.proofs.Common.{◌≡◌, ℕ, suc, ◌+◌, ◌≤◌, ◌<◌, Bool, true, false, cond, List, [], ◌∷◌, ◌++◌, length, drop, Option, Some, Result, Ok, Err, refl, sym, ap, ◌∙◌, subst, arith}
 use Rattle.std.proofs.lemmas.Bool.Decides.{nat_tests}
-use Rattle.std.specs.Prelude.{IfOk, nat_lt}
-use Rattle.sbe_wire.specs.Placed.{IsPlaced}
-use Rattle.sbe_cli.specs.Block.{IsSmall}
-use Rattle.sbe_cli.proofs.SmallLemmas.{small_placed}
+use Rattle.std.specs.Prelude.{nat_lt}
 use Rattle.sbe_base.specs.Loads.{Loads as LoadsBytes}
 use Rattle.sbe_types.specs.declared.schema.WireSchema.{WireSchema}
 use Rattle.sbe_base.specs.declared.status.Limits.{Limits}
+use Rattle.dump_lines.specs.Dumped.{AreInOrder}
+use Rattle.dump_lines.specs.declared.schemas.Schemas.{Schemas}
 use Rattle.sbe_cli.specs.Pumps.{IsBounded}
 use Rattle.sbe_cli.specs.Jobs.{JudgesAs, LoadsJob}
+use Rattle.sbe_cli.specs.Judged.{schema_in, file_schema, refused_as, alone, with_one, JoinsFrom, GoesOn, JudgesMore, JudgesSchemas}
+use Rattle.sbe_cli.specs.Files.{Reads, LoadsAs, LoadsChecked, stop_of, JoinsAs, LoadsJoining, JudgedSo, LoadsMore, LoadsSchemas, FailsAt}
 use Rattle.sbe_cli.specs.declared.job.Job.TheVariants as jobs
 use Rattle.sbe_cli.specs.declared.job.FrameJob.TheVariants as frames
 use Rattle.sbe_cli.specs.declared.job.OnceJob.TheVariants as once
 use Rattle.sbe_cli.specs.declared.words.Command.TheVariants as command
-use Rattle.sbe_cli.specs.Files.{ReadsSchema, LoadsFrom, LoadsSchema, Reads, LoadsAs, LoadsChecked}
-use Rattle.sbe_cli.specs.Report.{schema_in, file_schema}
 use Rattle.sbe_cli.specs.declared.files.FileRefusal.{FileRefusal}
-use Rattle.sbe_cli.specs.declared.files.FileRefusal.TheVariants.{Absent, TooLong, NotBuilt, Unread, Broken}
+use Rattle.sbe_cli.specs.declared.files.FileRefusal.TheVariants.{TooLong}
+use Rattle.sbe_cli.specs.declared.files.FileRole.TheVariants as role
+use Rattle.sbe_cli.specs.declared.files.RefusedFile.{RefusedFile}
 use Rattle.sbe_cli.specs.declared.files.LoadStop.{LoadStop}
 use Rattle.sbe_cli.specs.declared.files.LoadStop.TheVariants.{Refused, Fault, NoMemory}
+use Rattle.sbe_cli.specs.declared.files.JobStop.{JobStop}
+use Rattle.sbe_cli.specs.declared.files.JobStop.TheVariants as stop
 use Rattle.sbe_cli.specs.declared.files.TheConstants.{SCHEMA_BYTES}
-
-loaded_by : (file : Option (List ℕ)) (bytes : List ℕ) (r : Result WireSchema LoadStop) → file ≡ Some bytes → length bytes ≤ SCHEMA_BYTES → ReadsSchema bytes r → LoadsFrom file r
-loaded_by file bytes (Ok schema) there within h = (bytes, (there, within), h.0)
-loaded_by file bytes (Err (Refused NotBuilt)) there within h = (bytes, (there, within), h)
-loaded_by file bytes (Err (Refused Absent)) there within h = absurd h
-loaded_by file bytes (Err (Refused TooLong)) there within h = absurd h
-loaded_by file bytes (Err (Refused (Unread cause path))) there within h = absurd h
-loaded_by file bytes (Err (Refused (Broken rule path))) there within h = absurd h
-loaded_by file bytes (Err Fault) there within h = tt
-loaded_by file bytes (Err NoMemory) there within h = tt
-
-pub loaded : (told : Option (List ℕ → Option (List ℕ))) (name bytes : List ℕ) (r : Result WireSchema LoadStop) → LoadsBytes told name SCHEMA_BYTES (Ok tt) bytes → ReadsSchema bytes r → LoadsSchema told name r
-loaded told name bytes r h k contents same =
-    let there = subst (λ t. LoadsBytes t name SCHEMA_BYTES (Ok tt) bytes) same h in
-    loaded_by (contents name) bytes r there.0 there.1 k
-
--- a schema that is read can be dumped under
-pub ready : (bytes : List ℕ) (r : Result WireSchema LoadStop) → ReadsSchema bytes r → IfOk r (λ schema. IsSmall schema × IsPlaced schema)
-ready bytes (Ok schema) h = (h.1, small_placed bytes schema h.0.1)
-ready bytes (Err e) h = tt
-
--- ---- the job of a dump
-
-pub dump_loaded : (told : Option (List ℕ → Option (List ℕ))) (name : List ℕ) (limits : Limits) (schema : WireSchema) → LoadsSchema told name (Ok schema) → IsSmall schema × IsPlaced schema →
-    IsBounded limits → LoadsJob told (command.Dump name limits) (Ok (jobs.Frames (frames.Dump schema) limits))
-dump_loaded told name limits schema h ready bounded = record { judges = λ contents same. (schema, h contents same, refl); sound = (ready, bounded, refl) }
-
-stopped_by : (contents : List ℕ → Option (List ℕ)) (name : List ℕ) (limits : Limits) (stop : LoadStop) → LoadsFrom (contents name) (Err stop) → JudgesAs contents (command.Dump name limits) (Err stop)
-stopped_by contents name limits (Refused refusal) h = h
-stopped_by contents name limits Fault h = tt
-stopped_by contents name limits NoMemory h = tt
-
-pub dump_stopped : (told : Option (List ℕ → Option (List ℕ))) (name : List ℕ) (limits : Limits) (stop : LoadStop) → LoadsSchema told name (Err stop) → LoadsJob told (command.Dump name limits) (Err stop)
-dump_stopped told name limits stop h = record { judges = λ contents same. stopped_by contents name limits stop (h contents same); sound = tt }
 
 -- ---- a schema that is in order
 
@@ -89,10 +58,92 @@ checked_loaded told name bytes r h k contents same =
 pub check_loaded : (told : Option (List ℕ → Option (List ℕ))) (name : List ℕ) (schema : WireSchema) → LoadsChecked told name (Ok schema) → LoadsJob told (command.Check name) (Ok (jobs.Once (once.Check schema)))
 check_loaded told name schema h = record { judges = λ contents same. (schema, h contents same, refl); sound = (tt, tt, refl) }
 
-check_stopped_by : (contents : List ℕ → Option (List ℕ)) (name : List ℕ) (stop : LoadStop) → LoadsAs (file_schema (contents name)) (Err stop) → JudgesAs contents (command.Check name) (Err stop)
-check_stopped_by contents name (Refused refusal) h = h
-check_stopped_by contents name Fault h = tt
-check_stopped_by contents name NoMemory h = tt
+pub check_stopped : (told : Option (List ℕ → Option (List ℕ))) (name : List ℕ) (why : LoadStop) → LoadsChecked told name (Err why) → LoadsJob told (command.Check name) (Err (stop_of role.Schema why))
+check_stopped told name (Refused why) h = record { judges = λ contents same. (why, h contents same, refl); sound = tt }
+check_stopped told name Fault h = record { judges = λ contents same. tt; sound = tt }
+check_stopped told name NoMemory h = record { judges = λ contents same. tt; sound = tt }
 
-pub check_stopped : (told : Option (List ℕ → Option (List ℕ))) (name : List ℕ) (stop : LoadStop) → LoadsChecked told name (Err stop) → LoadsJob told (command.Check name) (Err stop)
-check_stopped told name stop h = record { judges = λ contents same. check_stopped_by contents name stop (h contents same); sound = tt }
+-- ---- several schemas
+
+joined_as : (schemas : Schemas) (r : Result WireSchema LoadStop) (file : Result WireSchema FileRefusal) (why : LoadStop) → r ≡ Err why → LoadsAs file r → JoinsAs schemas file (Err why)
+joined_as schemas r file (Refused why) is h =
+    let found : LoadsAs file (Err (Refused why)) = subst (LoadsAs file) is h in
+    subst (λ f. JoinsFrom schemas f (Err why)) (sym found) refl
+joined_as schemas r file Fault is h = tt
+joined_as schemas r file NoMemory is h = tt
+
+-- a file that isn't read in order doesn't join
+pub not_joined : (told : Option (List ℕ → Option (List ℕ))) (schemas : Schemas) (name : List ℕ) (why : LoadStop) → LoadsChecked told name (Err why) → LoadsJoining told schemas name (Err why)
+not_joined told schemas name why h contents same = joined_as schemas (Err why) (file_schema (contents name)) why refl (h contents same)
+
+-- a schema in order is judged behind the others
+pub judged_joined : (told : Option (List ℕ → Option (List ℕ))) (schemas : Schemas) (name : List ℕ) (schema : WireSchema) (r : Result WireSchema FileRefusal) → LoadsChecked told name (Ok schema) →
+    JoinsFrom schemas (Ok schema) r → (contents : List ℕ → Option (List ℕ)) → told ≡ Some contents → JoinsFrom schemas (file_schema (contents name)) r
+judged_joined told schemas name schema r h joins contents same = subst (λ f. JoinsFrom schemas f r) (sym (h contents same)) joins
+
+-- what is judged from here on is judged from the start
+abbrev pub Onward : Option (List ℕ → Option (List ℕ)) → Schemas → Schemas → ℕ → List (List ℕ) → Type 0
+Onward told start now i also =
+    (contents : List ℕ → Option (List ℕ)) → told ≡ Some contents → (r : Result Schemas RefusedFile) → JudgesMore contents now (suc i) (drop i also) r → JudgesMore contents start 1 also r
+
+pub onward_none : (told : Option (List ℕ → Option (List ℕ))) (start : Schemas) (also : List (List ℕ)) → Onward told start start 0 also
+onward_none told start also contents same r h = h
+
+pub onward_more : (told : Option (List ℕ → Option (List ℕ))) (start now : Schemas) (i : ℕ) (also : List (List ℕ)) (name : List ℕ) (schema : WireSchema) → Onward told start now i also → drop i also ≡ name ∷ drop (i + 1) also →
+    LoadsJoining told now name (Ok schema) → Onward told start (with_one now schema) (i + 1) also
+onward_more told start now i also name schema h front joins contents same r more =
+    let next : suc (i + 1) ≡ suc (suc i) = omega arith in
+    let behind : JudgesMore contents (with_one now schema) (suc (suc i)) (drop (i + 1) also) r = subst (λ n. JudgesMore contents (with_one now schema) n (drop (i + 1) also) r) next more in
+    h contents same r (subst (λ names. JudgesMore contents now (suc i) names r) (sym front) (Ok schema, joins contents same, behind))
+
+pub onward_ends : (told : Option (List ℕ → Option (List ℕ))) (start now : Schemas) (i : ℕ) (also : List (List ℕ)) → Onward told start now i also → drop i also ≡ [] → LoadsMore told start also (Ok now)
+onward_ends told start now i also h none contents same = h contents same (Ok now) (subst (λ names. JudgesMore contents now (suc i) names (Ok now)) (sym none) refl)
+
+pub onward_stops : (told : Option (List ℕ → Option (List ℕ))) (start now : Schemas) (i : ℕ) (also : List (List ℕ)) (name : List ℕ) (why : LoadStop) → Onward told start now i also → drop i also ≡ name ∷ drop (i + 1) also →
+    LoadsJoining told now name (Err why) → LoadsMore told start also (Err (stop_of (role.Also (i + 1)) why))
+onward_stops told start now i also name (Refused why) h front joins contents same =
+    let number : suc i ≡ i + 1 = omega arith in
+    h contents same (Err (refused_as (role.Also (i + 1)) why))
+    (subst (λ names. JudgesMore contents now (suc i) names (Err (refused_as (role.Also (i + 1)) why))) (sym front)
+    (Err why, joins contents same, ap (λ n. Err (refused_as (role.Also n) why)) (sym number)))
+onward_stops told start now i also name Fault h front joins contents same = tt
+onward_stops told start now i also name NoMemory h front joins contents same = tt
+
+pub fails_at : (many i : ℕ) (why : LoadStop) → i < many → FailsAt many (Err (stop_of (role.Also (i + 1)) why))
+fails_at many i (Refused why) h = tt
+fails_at many i Fault h = (omega arith, omega arith)
+fails_at many i NoMemory h = tt
+
+-- the first file isn't taken
+pub first_stopped : (told : Option (List ℕ → Option (List ℕ))) (name : List ℕ) (also : List (List ℕ)) (why : LoadStop) → LoadsChecked told name (Err why) → LoadsSchemas told name also (Err (stop_of role.Schema why))
+first_stopped told name also (Refused why) h contents same =
+    subst (λ f. GoesOn role.Schema f (λ schema. JudgesMore contents (alone schema) 1 also (Err (refused_as role.Schema why))) (Err (refused_as role.Schema why))) (sym (h contents same)) refl
+first_stopped told name also Fault h contents same = tt
+first_stopped told name also NoMemory h contents same = tt
+
+pub first_fails_at : (many : ℕ) (why : LoadStop) → FailsAt many (Err (stop_of role.Schema why))
+first_fails_at many (Refused why) = tt
+first_fails_at many Fault = tt
+first_fails_at many NoMemory = tt
+
+-- behind the first file the others are judged
+pub behind_first : (told : Option (List ℕ → Option (List ℕ))) (name : List ℕ) (also : List (List ℕ)) (schema : WireSchema) (r : Result Schemas JobStop) → LoadsChecked told name (Ok schema) → LoadsMore told (alone schema) also r →
+    LoadsSchemas told name also r
+behind_first told name also schema (Ok all) h more contents same =
+    subst (λ f. GoesOn role.Schema f (λ s. JudgesMore contents (alone s) 1 also (Ok all)) (Ok all)) (sym (h contents same)) (more contents same)
+behind_first told name also schema (Err (stop.Refused file)) h more contents same =
+    subst (λ f. GoesOn role.Schema f (λ s. JudgesMore contents (alone s) 1 also (Err file)) (Err file)) (sym (h contents same)) (more contents same)
+behind_first told name also schema (Err (stop.Fault r)) h more contents same = tt
+behind_first told name also schema (Err stop.NoMemory) h more contents same = tt
+
+-- ---- the job of a dump
+
+pub dump_loaded : (told : Option (List ℕ → Option (List ℕ))) (name : List ℕ) (also : List (List ℕ)) (limits : Limits) (schemas : Schemas) → LoadsSchemas told name also (Ok schemas) → AreInOrder schemas →
+    IsBounded limits → LoadsJob told (command.Dump name also limits) (Ok (jobs.Frames (frames.Dump schemas) limits))
+dump_loaded told name also limits schemas h order bounded = record { judges = λ contents same. (schemas, h contents same, refl); sound = (order, bounded, refl) }
+
+pub dump_stopped : (told : Option (List ℕ → Option (List ℕ))) (name : List ℕ) (also : List (List ℕ)) (limits : Limits) (why : JobStop) → LoadsSchemas told name also (Err why) → FailsAt (length also) (Err why) →
+    LoadsJob told (command.Dump name also limits) (Err why)
+dump_stopped told name also limits (stop.Refused file) h fails = record { judges = λ contents same. h contents same; sound = tt }
+dump_stopped told name also limits (stop.Fault r) h fails = record { judges = λ contents same. tt; sound = fails }
+dump_stopped told name also limits stop.NoMemory h fails = record { judges = λ contents same. tt; sound = tt }

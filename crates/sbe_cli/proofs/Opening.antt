@@ -5,14 +5,14 @@ use Rattle.sbe_cli.specs.Jobs.{LoadsJob}
 use Rattle.sbe_cli.specs.Outside.{Object, Desk, Told}
 use Rattle.sbe_cli.specs.Steps.{Declines, refuses}
 use Rattle.sbe_cli.specs.Stops.{stop_line, stop_status}
-use Rattle.sbe_cli.specs.declared.files.FileRefusal.{FileRefusal}
-use Rattle.sbe_cli.specs.declared.files.LoadStop.TheVariants.{Refused}
+use Rattle.sbe_cli.specs.declared.files.RefusedFile.{RefusedFile}
+use Rattle.sbe_cli.specs.declared.files.JobStop.TheVariants.{Refused}
 use Rattle.sbe_cli.specs.declared.stop.Stop.TheVariants as stop
 use Rattle.sbe_cli.specs.declared.words.Command.{Command}
 
-pub declined : (command : Command) (before after : Desk) (refusal : FileRefusal) (code : Status) → LoadsJob before.files.told command (Err (Refused refusal)) → after.files ≡ before.files →
-    Told (stop_line (stop.Refused refusal)) (stop_status (stop.Refused refusal)) before.notes after.notes code → Declines command before after code
-declined command before after refusal code h same told = refuses refusal h.judges same told
+pub declined : (command : Command) (before after : Desk) (file : RefusedFile) (code : Status) → LoadsJob before.files.told command (Err (Refused file)) → after.files ≡ before.files →
+    Told (stop_line (stop.Refused file)) (stop_status (stop.Refused file)) before.notes after.notes code → Declines command before after code
+declined command before after file code h same told = refuses file h.judges same told
 
 -- an object that tells the same and counts the same
 pub same_object : {T : Type 0} (old new : Object T) → new.told ≡ old.told → new.faults ≡ old.faults → new ≡ old

@@ -105,6 +105,7 @@ module _ (job : Job) (old now new : Streams) (pump pump' : PumpState) where
           let p = h.progress input source in
           record { kept = pump.kept; mid = now; progress = p; calm = h.calm; halts = subst (λ (s : PumpState). Halts s now new p.left code) (pump_is pump h.job_is h.runs) (closes.1.halts p.left p.source) };
       causes = later_causes code h.calm closes.1.causes;
+      memory = λ e. ap (λ (j : Job). is_read (reading_of j)) (sym h.job_is) ∙ closes.1.memory e;
       unread = λ none. closes.1.unread (read_so h none) ∙ h.unread none;
     }
   ]

@@ -11,7 +11,7 @@ use Rattle.sbe_cli.specs.Splits.{Piece, piece_bytes, Begins, Holds, most_taken}
 use Rattle.sbe_cli.specs.Replies.{Written, Reply, reading_of, none_kept, counted, written_of, then_written, Replies}
 use Rattle.sbe_cli.specs.Report.{Outcome, end_notes, closed, JobReport}
 use Rattle.sbe_cli.specs.Stops.{stop_line}
-use Rattle.sbe_cli.specs.Outside.{Object, Streams, Wrote, Breaks, at_output, at_notes, Told, noted, wanting, failed}
+use Rattle.sbe_cli.specs.Outside.{Object, Streams, Wrote, Breaks, at_output, at_notes, Told, noted, failed}
 use Rattle.sbe_cli.specs.Steps.{PumpState, IsReported, Ends, Stalls, Fails, Progress}
 use Rattle.sbe_cli.specs.Runs.{read_line}
 use Rattle.sbe_cli.specs.declared.job.Job.{Job}
@@ -46,7 +46,6 @@ consumed old new input left taken h k e = subst (λ o. Consumes o new taken) (sy
 pub reported_told : (line : List ℕ) (last : Status) (old new : Object (List ℕ)) (code : Status) → Told line last old new code → IsReported code → (code ≡ last) × Appends old.told new.told line × (new.faults ≡ old.faults)
 reported_told line last old new code told r = elim told [
   | noted c a k ↦ (c, a, k)
-  | wanting c s ↦ absurd (subst IsReported c r)
   | failed c p f ↦ absurd (subst IsReported c r)
 ]
 
@@ -54,13 +53,8 @@ reported_told line last old new code told r = elim told [
 pub told_part : (line : List ℕ) (last : Status) (old new : Object (List ℕ)) (code : Status) → Told line last old new code → AppendsPart old.told new.told line
 told_part line last old new code told = elim told [
   | noted c a k ↦ whole_part old.told new.told line a
-  | wanting c s ↦ ([], line, refl, subst (λ (o : Object (List ℕ)). Appends old.told o.told []) (sym s) (none old.told))
   | failed c p f ↦ p
 ]
-  where
-    none : (o : Option (List ℕ)) → Appends o o []
-    none None = tt
-    none (Some x) = sym (append-nil x)
 
 -- ---- fronts of a job's report
 

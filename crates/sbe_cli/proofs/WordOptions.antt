@@ -1,10 +1,13 @@
 -- The number of an option, read pair by pair.
-use Rattle.std.proofs.Common.{◌≡◌, ◌≤◌, ◌<◌, ℕ, true, false, List, [], ◌∷◌, length, get_or, Option, Some, None, is_some, unwrap_or, refl, sym, ap, ◌∙◌, arith, if◌then◌else◌}
+use Rattle.std.proofs.Common.{◌≡◌, ◌≤◌, ◌<◌, ℕ, true, false, cond, ◌&&◌, List, [], ◌∷◌, ◌++◌, length, get_or, Option, Some, None, is_some, unwrap_or, refl, sym, ap, ◌∙◌, arith, if◌then◌else◌, append_assoc}
+use Rattle.std.proofs.lemmas.Bool.{le-leb}
+use Rattle.std.proofs.lemmas.List.{append-nil}
+use Rattle.std.specs.List.{list_all}
 use Rattle.std.specs.Prelude.{String, string_bytes}
 use Rattle.std.specs.declared.alloc.Global.{Global}
 use Rattle.std.specs.Str.{bytes_eq}
 use Rattle.sbe_cli.specs.declared.words.options.NumberRange.{NumberRange}
-use Rattle.sbe_cli.specs.Words.{number_by, number_within, values_of}
+use Rattle.sbe_cli.specs.Words.{is_file_name, names_by, number_by, number_within, values_of}
 use Rattle.sbe_cli.proofs.WordLists.{texts, behind_two, pair_front}
 
 -- the number of an option that had none so far, or this one, and has these values yet
@@ -81,3 +84,24 @@ pub pairs_ended : (range : NumberRange) (given : Option ℕ) (option : List ℕ)
 pairs_ended range given option [] all few so_far = given_at_end range given ∙ so_far
 pairs_ended range given option (word ∷ []) all few so_far = given_at_end range given ∙ so_far
 pairs_ended range given option (word ∷ value ∷ more) all few so_far = absurd (omega arith)
+
+-- ---- all values of an option
+
+pub values_more : (option text value : List ℕ) (words : List (String Global)) (so all : List (List ℕ)) → BeginsPair words text value → bytes_eq text option ≡ true → so ++ values_of option (texts words) ≡ all →
+    (so ++ value ∷ []) ++ values_of option (texts (behind_two words)) ≡ all
+values_more option text value words so all pair same so_far =
+    append_assoc so (value ∷ []) (values_of option (texts (behind_two words))) ∙ sym (ap (λ v. so ++ v) (one_more option text value words pair same)) ∙ so_far
+
+pub values_other : (option text value : List ℕ) (words : List (String Global)) (so all : List (List ℕ)) → BeginsPair words text value → bytes_eq text option ≡ false → so ++ values_of option (texts words) ≡ all →
+    so ++ values_of option (texts (behind_two words)) ≡ all
+values_other option text value words so all pair other so_far = sym (ap (λ v. so ++ v) (no_more option text value words pair other)) ∙ so_far
+
+pub values_ended : (option : List ℕ) (words : List (String Global)) (so all : List (List ℕ)) → length words < 2 → so ++ values_of option (texts words) ≡ all → so ≡ all
+values_ended option [] so all few so_far = sym (append-nil so) ∙ so_far
+values_ended option (word ∷ []) so all few so_far = sym (append-nil so) ∙ so_far
+values_ended option (word ∷ value ∷ more) so all few so_far = absurd (omega arith)
+
+-- ---- names that an option gives
+
+pub names_taken : (most : ℕ) (values : List (List ℕ)) → length values ≤ most → list_all is_file_name values ≡ true → names_by most values ≡ Some values
+names_taken most values few good = ap (λ t. cond (t && list_all is_file_name values) (Some values) None) (le-leb (length values) most few) ∙ ap (λ t. cond t (Some values) None) good

@@ -2,34 +2,15 @@
 use Rattle.std.specs.Prelude.{◌≡◌, ◌≤◌, ℕ, List, Option, Some, Result, Ok, Err, ⊤}
 use Rattle.sbe_base.specs.Causes.{Rose}
 use Rattle.sbe_types.specs.declared.schema.WireSchema.{WireSchema}
-use Rattle.sbe_cli.specs.Block.{IsSmall}
-use Rattle.sbe_cli.specs.Report.{HoldsSchema, HoldsNone, JudgesFile, file_schema}
+use Rattle.sbe_cli.specs.Judged.{file_schema, refused_as, IsWithin, JoinsFrom, JudgesSchemas, JudgesMore}
 use Rattle.sbe_cli.specs.declared.files.FileRefusal.{FileRefusal}
-use Rattle.sbe_cli.specs.declared.files.FileRefusal.TheVariants.{Absent, TooLong, NotBuilt, Unread, Broken}
 use Rattle.sbe_cli.specs.declared.files.LoadStop.{LoadStop}
 use Rattle.sbe_cli.specs.declared.files.LoadStop.TheVariants.{Refused, Fault, NoMemory}
-
--- the schema that the bytes of a file hold, or that they hold none
-abbrev pub ReadsSchema : List ℕ → Result WireSchema LoadStop → Type 0
-ReadsSchema bytes (Ok schema) = HoldsSchema bytes schema × IsSmall schema
-ReadsSchema bytes (Err (Refused NotBuilt)) = HoldsNone bytes
-ReadsSchema bytes (Err (Refused Absent)) = ⊥
-ReadsSchema bytes (Err (Refused TooLong)) = ⊥
-ReadsSchema bytes (Err (Refused (Unread cause path))) = ⊥
-ReadsSchema bytes (Err (Refused (Broken rule path))) = ⊥
-ReadsSchema bytes (Err Fault) = ⊥
-ReadsSchema bytes (Err NoMemory) = ⊤
-
--- what a file is judged as, unless the files failed or memory was wanting
-abbrev pub LoadsFrom : Option (List ℕ) → Result WireSchema LoadStop → Type 0
-LoadsFrom file (Ok schema) = JudgesFile file (Ok schema)
-LoadsFrom file (Err (Refused refusal)) = JudgesFile file (Err refusal)
-LoadsFrom file (Err Fault) = ⊤
-LoadsFrom file (Err NoMemory) = ⊤
-
--- the same of a name, where the files tell what they hold
-abbrev pub LoadsSchema : Option (List ℕ → Option (List ℕ)) → List ℕ → Result WireSchema LoadStop → Type 0
-LoadsSchema told name result = (contents : List ℕ → Option (List ℕ)) → told ≡ Some contents → LoadsFrom (contents name) result
+use Rattle.sbe_cli.specs.declared.files.FileRole.{FileRole}
+use Rattle.sbe_cli.specs.declared.files.RefusedFile.{RefusedFile}
+use Rattle.sbe_cli.specs.declared.files.JobStop.{JobStop}
+use Rattle.sbe_cli.specs.declared.files.JobStop.TheVariants as stop
+use Rattle.dump_lines.specs.declared.schemas.Schemas.{Schemas}
 
 -- what bytes are judged as, unless memory was wanting
 abbrev pub Reads : Result WireSchema FileRefusal → Result WireSchema LoadStop → Type 0
@@ -55,3 +36,51 @@ LoadCause before now (Ok x) = now ≡ before
 LoadCause before now (Err Fault) = (before ≤ now) × Rose before now
 LoadCause before now (Err (Refused refusal)) = now ≡ before
 LoadCause before now (Err NoMemory) = now ≡ before
+
+-- the same stop, of a file in that role
+abbrev pub stop_of : FileRole → LoadStop → JobStop
+stop_of role (Refused why) = stop.Refused (refused_as role why)
+stop_of role Fault = stop.Fault role
+stop_of role NoMemory = stop.NoMemory
+
+-- a fault of the files only where the count rose, and every other answer leaves it
+abbrev pub JobCause : {T : Type 0} → ℕ → ℕ → Result T JobStop → Type 0
+JobCause before now (Ok x) = now ≡ before
+JobCause before now (Err (stop.Fault role)) = (before ≤ now) × Rose before now
+JobCause before now (Err (stop.Refused file)) = now ≡ before
+JobCause before now (Err stop.NoMemory) = now ≡ before
+
+-- ---- several schemas
+
+-- what a further file is judged as, unless the files failed or memory was wanting
+abbrev pub JoinsAs : Schemas → Result WireSchema FileRefusal → Result WireSchema LoadStop → Type 0
+JoinsAs schemas file (Ok schema) = JoinsFrom schemas file (Ok schema)
+JoinsAs schemas file (Err (Refused why)) = JoinsFrom schemas file (Err why)
+JoinsAs schemas file (Err Fault) = ⊤
+JoinsAs schemas file (Err NoMemory) = ⊤
+
+-- the same of a name, where the files tell what they hold
+abbrev pub LoadsJoining : Option (List ℕ → Option (List ℕ)) → Schemas → List ℕ → Result WireSchema LoadStop → Type 0
+LoadsJoining told schemas name result = (contents : List ℕ → Option (List ℕ)) → told ≡ Some contents → JoinsAs schemas (file_schema (contents name)) result
+
+-- what files are judged as, unless they failed or memory was wanting
+abbrev pub JudgedSo : (Result Schemas RefusedFile → Type 0) → Result Schemas JobStop → Type 0
+JudgedSo Judges (Ok schemas) = Judges (Ok schemas)
+JudgedSo Judges (Err (stop.Refused file)) = Judges (Err file)
+JudgedSo Judges (Err (stop.Fault role)) = ⊤
+JudgedSo Judges (Err stop.NoMemory) = ⊤
+
+-- the same of further names behind schemas that are taken, where the files tell what they hold
+abbrev pub LoadsMore : Option (List ℕ → Option (List ℕ)) → Schemas → List (List ℕ) → Result Schemas JobStop → Type 0
+LoadsMore told schemas also result = (contents : List ℕ → Option (List ℕ)) → told ≡ Some contents → JudgedSo (JudgesMore contents schemas 1 also) result
+
+-- the same of all names
+abbrev pub LoadsSchemas : Option (List ℕ → Option (List ℕ)) → List ℕ → List (List ℕ) → Result Schemas JobStop → Type 0
+LoadsSchemas told name also result = (contents : List ℕ → Option (List ℕ)) → told ≡ Some contents → JudgedSo (JudgesSchemas contents name also) result
+
+-- the file that failed is one of so many further ones, or the first
+abbrev pub FailsAt : ℕ → Result Schemas JobStop → Type 0
+FailsAt many (Ok schemas) = ⊤
+FailsAt many (Err (stop.Refused file)) = ⊤
+FailsAt many (Err (stop.Fault role)) = IsWithin many role
+FailsAt many (Err stop.NoMemory) = ⊤

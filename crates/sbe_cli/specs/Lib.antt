@@ -1,12 +1,9 @@
-pub mod Attributes
 pub mod Words
-pub mod Small
-pub mod Line
-pub mod Block
 pub mod Dump
 pub mod Splits
 pub mod Replies
 pub mod Stops
+pub mod Judged
 pub mod Report
 pub mod Rows
 pub mod Outside

@@ -6,7 +6,8 @@ use Rattle.sbe_base.specs.declared.status.Status.TheVariants as status
 use Rattle.open_framing.specs.Frames.{Item}
 use Rattle.frame_stream.specs.Stream.{StreamState, room}
 use Rattle.schema_lines.specs.Lines.{message_lines}
-use Rattle.sbe_cli.specs.Dump.{message_in, dumped_line, dumped_verdict}
+use Rattle.dump_lines.specs.Dumped.{dumped}
+use Rattle.sbe_cli.specs.Dump.{verdict_of}
 use Rattle.sbe_cli.specs.Replies.{Reply, counted_by}
 use Rattle.sbe_cli.specs.Outside.{Streams}
 use Rattle.sbe_cli.specs.Steps.{IsReadyFrame, PumpState, Goes, Closes, opened}
@@ -87,10 +88,10 @@ pub record CanCount (kept : Kept) (tally : Tally) : Type 0 where
 
 -- what the code puts for a frame
 abbrev pub reply_of : FrameJob → Kept → Item → Reply
-reply_of (Dump schema) kept item = record {
-  output = dumped_line schema kept.items (message_in schema item);
+reply_of (Dump schemas) kept item = record {
+  output = (dumped schemas kept.items item).line;
   notes = [];
-  verdict = dumped_verdict (message_in schema item);
+  verdict = verdict_of (dumped schemas kept.items item).is_message;
 }
 
 -- what the code puts for a job over its files

@@ -1,7 +1,7 @@
 -- What each command answers to each piece of its input, and what it has done so far.
 use Rattle.std.specs.Prelude.{◌≡◌, ℕ, ◌+◌, List, [], ◌∷◌, ◌++◌, length}
 use Rattle.schema_lines.specs.Lines.{message_lines}
-use Rattle.sbe_cli.specs.Dump.{IsDumped}
+use Rattle.sbe_cli.specs.Dump.{IsDumpedLine}
 use Rattle.open_framing.specs.Frames.{Item}
 use Rattle.sbe_cli.specs.Splits.{Reading, Frames, Once, Piece, Frame, Line, Whole, piece_bytes}
 use Rattle.sbe_cli.specs.declared.job.Job.{Job}
@@ -32,7 +32,7 @@ reading_of (jobs.Once job) = Once
 
 -- the answer to one frame: one case a command
 abbrev pub IsFrameReply : FrameJob → Kept → Item → Reply → Type 0
-IsFrameReply (Dump schema) kept item reply = IsDumped schema kept.items item reply.output reply.verdict × (reply.notes ≡ [])
+IsFrameReply (Dump schemas) kept item reply = IsDumpedLine schemas kept.items item reply.output reply.verdict × (reply.notes ≡ [])
 
 -- all that a job over its files answers: one case a command
 abbrev pub IsWholeReply : OnceJob → Reply → Type 0

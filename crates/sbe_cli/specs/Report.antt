@@ -1,22 +1,18 @@
 -- What a run writes, and its status: one report for each command line, files and input.
-use Rattle.std.specs.Prelude.{◌≡◌, ◌≤◌, ◌<◌, ℕ, ◌+◌, nat_lt, if◌then◌else◌, Option, Some, None, Result, Ok, Err, List, [], ◌++◌, length, codes, IsUtf8}
+use Rattle.std.specs.Prelude.{◌≡◌, ℕ, ◌+◌, nat_lt, if◌then◌else◌, Option, Some, None, Result, Ok, Err, List, [], ◌++◌, codes}
 use Rattle.sbe_base.specs.declared.status.Status.{Status}
 use Rattle.sbe_base.specs.declared.status.Status.TheVariants as status
 use Rattle.sbe_types.specs.declared.schema.WireSchema.{WireSchema}
-use Rattle.sbe_types.specs.declared.tree.Schema.{Schema}
-use Rattle.json_elements.specs.Reading.{Reading as Reads}
-use Rattle.sbe_schema.specs.Schemas.{schema_of}
-use Rattle.schema_rules.specs.Judging.{Judged}
-use Rattle.schema_rules.specs.Checked.{checked_of}
 use Rattle.open_framing.specs.Lines.{longest_line}
-use Rattle.sbe_cli.specs.Small.{small_schema}
+use Rattle.dump_lines.specs.declared.schemas.Schemas.{Schemas}
 use Rattle.sbe_cli.specs.Splits.{Reading, Piece, PieceEnd, End, EndInside, HeadFault, LineOver, InputLimit, Splits, most_taken}
 use Rattle.sbe_cli.specs.Replies.{Written, reading_of, none_kept, Replies}
 use Rattle.sbe_cli.specs.Stops.{usage_line, fault_line, head_line, at_line, refusal_line, refusal_status}
 use Rattle.sbe_cli.specs.Words.{command_of}
+use Rattle.sbe_cli.specs.Judged.{file_schema, refused_as, JudgesSchemas}
 use Rattle.sbe_cli.specs.declared.files.FileRefusal.{FileRefusal}
-use Rattle.sbe_cli.specs.declared.files.FileRefusal.TheVariants.{Absent, TooLong, NotBuilt, Unread, Broken}
-use Rattle.sbe_cli.specs.declared.files.TheConstants.{SCHEMA_BYTES}
+use Rattle.sbe_cli.specs.declared.files.FileRole.TheVariants as role
+use Rattle.sbe_cli.specs.declared.files.RefusedFile.{RefusedFile}
 use Rattle.sbe_cli.specs.declared.job.Job.{Job}
 use Rattle.sbe_cli.specs.declared.job.Job.TheVariants as jobs
 use Rattle.sbe_cli.specs.declared.job.FrameJob.TheVariants as frames
@@ -33,52 +29,12 @@ pub record Outcome : Type 0 where
 
 -- ---- the files
 
--- the bytes are a text that holds this schema
-abbrev pub HoldsSchema : List ℕ → WireSchema → Type 0
-HoldsSchema bytes schema = IsUtf8 bytes × (small_schema bytes ≡ Some schema)
-
--- The bytes hold no schema of the small form.
-abbrev pub HoldsNone : List ℕ → Type 0
-HoldsNone bytes = IsUtf8 bytes → small_schema bytes ≡ None
-
--- a file of that many bytes at most
-abbrev pub IsFile : Option (List ℕ) → List ℕ → Type 0
-IsFile file bytes = (file ≡ Some bytes) × (length bytes ≤ SCHEMA_BYTES)
-
--- the schema of the small form that a file has, or why it is refused
-abbrev pub JudgesFile : Option (List ℕ) → Result WireSchema FileRefusal → Type 0
-JudgesFile file (Ok schema) = (bytes : List ℕ) × IsFile file bytes × HoldsSchema bytes schema
-JudgesFile file (Err Absent) = file ≡ None
-JudgesFile file (Err TooLong) = (bytes : List ℕ) × (file ≡ Some bytes) × (SCHEMA_BYTES < length bytes)
-JudgesFile file (Err NotBuilt) = (bytes : List ℕ) × IsFile file bytes × HoldsNone bytes
-JudgesFile file (Err (Unread cause path)) = ⊥
-JudgesFile file (Err (Broken rule path)) = ⊥
-
--- the schema that a judgement finds in order, or the rule that is broken, with the path of the element that breaks it
-abbrev pub in_order : Judged WireSchema → Result WireSchema FileRefusal
-in_order (Ok schema) = Ok schema
-in_order (Err broken) = Err (Broken broken.code broken.path)
-
--- the judgement of a tree that is read, or why there is no tree, and where
-abbrev pub tree_in_order : Reads Schema → Result WireSchema FileRefusal
-tree_in_order (Ok tree) = in_order (checked_of tree)
-tree_in_order (Err unread) = Err (Unread unread.cause unread.path)
-
--- The schema that bytes hold: they are read first, and what is read is judged.
-abbrev pub schema_in : List ℕ → Result WireSchema FileRefusal
-schema_in bytes = tree_in_order (schema_of bytes)
-
--- The schema of a file, which is there and isn't too long.
-abbrev pub file_schema : Option (List ℕ) → Result WireSchema FileRefusal
-file_schema None = Err Absent
-file_schema (Some bytes) = if nat_lt SCHEMA_BYTES (length bytes) then Err TooLong else schema_in bytes
-
 -- The job of a command whose files are accepted, or the first refusal of a file.
-abbrev pub Judges : Command → (List ℕ → Option (List ℕ)) → Result Job FileRefusal → Type 0
+abbrev pub Judges : Command → (List ℕ → Option (List ℕ)) → Result Job RefusedFile → Type 0
 Judges (Check name) contents (Ok job) = (schema : WireSchema) × (file_schema (contents name) ≡ Ok schema) × (job ≡ jobs.Once (once.Check schema))
-Judges (Check name) contents (Err refusal) = file_schema (contents name) ≡ Err refusal
-Judges (Dump name limits) contents (Ok job) = (schema : WireSchema) × JudgesFile (contents name) (Ok schema) × (job ≡ jobs.Frames (frames.Dump schema) limits)
-Judges (Dump name limits) contents (Err refusal) = JudgesFile (contents name) (Err refusal)
+Judges (Check name) contents (Err file) = (why : FileRefusal) × (file_schema (contents name) ≡ Err why) × (file ≡ refused_as role.Schema why)
+Judges (Dump name also limits) contents (Ok job) = (schemas : Schemas) × JudgesSchemas contents name also (Ok schemas) × (job ≡ jobs.Frames (frames.Dump schemas) limits)
+Judges (Dump name also limits) contents (Err file) = JudgesSchemas contents name also (Err file)
 
 -- ---- the end
 
@@ -123,14 +79,14 @@ abbrev pub only_noted : List ℕ → Status → Outcome
 only_noted line code = record { output = []; notes = line; status = code }
 
 -- The report of a job, or of the first refusal of its files.
-abbrev pub JudgedReport : Result Job FileRefusal → List ℕ → Outcome → Type 0
+abbrev pub JudgedReport : Result Job RefusedFile → List ℕ → Outcome → Type 0
 JudgedReport (Ok job) input outcome = JobReport job input outcome
-JudgedReport (Err refusal) input outcome = outcome ≡ only_noted (refusal_line refusal) (refusal_status refusal)
+JudgedReport (Err file) input outcome = outcome ≡ only_noted (refusal_line file) (refusal_status file.why)
 
 -- The report of a command, or of words that are none.
 abbrev pub CommandReport : Option Command → (List ℕ → Option (List ℕ)) → List ℕ → Outcome → Type 0
 CommandReport None contents input outcome = outcome ≡ only_noted usage_line status.Usage
-CommandReport (Some command) contents input outcome = (judged : Result Job FileRefusal) × Judges command contents judged × JudgedReport judged input outcome
+CommandReport (Some command) contents input outcome = (judged : Result Job RefusedFile) × Judges command contents judged × JudgedReport judged input outcome
 
 -- The output, the notes and the status for these words, files and input.
 abbrev pub Report : List (List ℕ) → (List ℕ → Option (List ℕ)) → List ℕ → Outcome → Type 0

@@ -26,7 +26,7 @@ ping_line = codes "{\"data\":{},\"fields\":{\"a\":258,\"b\":null},\"groups\":{},
 
 -- The line of a second item that is refused.
 abbrev pub refused_second : List ℕ
-refused_second = codes "{\"refused\":\"F00\",\"item\":1,\"offset\":null,\"path\":\"\",\"detail\":\"\"}\n"
+refused_second = codes "{\"refused\":\"E01\",\"item\":1,\"offset\":null,\"path\":\"\",\"detail\":\"5be0\"}\n"
 
 -- The note where three bytes of a second frame are there.
 abbrev pub ends_inside : List ℕ

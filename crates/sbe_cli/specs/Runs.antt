@@ -11,6 +11,8 @@ use Rattle.sbe_cli.specs.Report.{Outcome, Judges, Report}
 use Rattle.sbe_cli.specs.Stops.{stop_line}
 use Rattle.sbe_cli.specs.Outside.{Desk, Sinks, Streams, Outside, Wrote, Breaks, Failed, Calm}
 use Rattle.sbe_cli.specs.Steps.{IsReady, IsReadAs, JudgedAs, Declines, Drains, IsReported, IsStepStatus}
+use Rattle.sbe_cli.specs.Judged.{HasFile}
+use Rattle.sbe_cli.specs.declared.files.FileRole.{FileRole}
 use Rattle.sbe_cli.specs.declared.job.Job.{Job}
 use Rattle.sbe_cli.specs.declared.pump.Kept.{Kept}
 use Rattle.sbe_cli.specs.declared.stop.Stop.TheVariants as stop
@@ -38,6 +40,10 @@ abbrev pub Reports : List (List ℕ) → Outside → Outside → Status → Type
 Reports words old new code =
     (contents : List ℕ → Option (List ℕ)) (input : List ℕ) → Known old contents input →
     (outcome : Outcome) × Report words contents input outcome × (code ≡ outcome.status) × Wrote old.streams.sinks new.streams.sinks (written_in outcome)
+
+-- the words are a command that has a file in that role
+abbrev pub NamesFile : List (List ℕ) → FileRole → Type 0
+NamesFile words role = (command : Command) × (command_of words ≡ Some command) × HasFile command role
 
 -- ---- what stands after a fault
 
@@ -86,34 +92,36 @@ pub data StandsAtWrite (words : List (List ℕ)) (old new : Outside) (contents :
   at_read : (taken : List ℕ) (written : Written) → Consumes old.streams.input.told new.streams.input.told taken → AllAnswered words contents taken written
       → Appends old.streams.sinks.output.told new.streams.sinks.output.told written.output
       → AppendsPart old.streams.sinks.notes.told new.streams.sinks.notes.told (written.notes ++ read_line taken) → StandsAtWrite words old new contents input
-  at_file : new.streams.input ≡ old.streams.input → new.streams.sinks.output ≡ old.streams.sinks.output
-      → AppendsPart old.streams.sinks.notes.told new.streams.sinks.notes.told (stop_line stop.FileFault) → StandsAtWrite words old new contents input
+  at_file : (role : FileRole) → NamesFile words role → new.streams.input ≡ old.streams.input → new.streams.sinks.output ≡ old.streams.sinks.output
+      → AppendsPart old.streams.sinks.notes.told new.streams.sinks.notes.told (stop_line (stop.FileFault role)) → StandsAtWrite words old new contents input
 
--- The files failed: nothing was read or written but the fault's line.
-pub record StandsAtFile (old new : Streams) : Type 0 where
+-- The files failed at one of the words: nothing was read or written but the fault's line.
+pub record StandsAtFile (words : List (List ℕ)) (old new : Streams) : Type 0 where
+  pub role : FileRole
+  pub named : NamesFile words role
   pub input : new.input ≡ old.input
-  pub wrote : Wrote old.sinks new.sinks (record { output = []; notes = stop_line stop.FileFault })
+  pub wrote : Wrote old.sinks new.sinks (record { output = []; notes = stop_line (stop.FileFault role) })
 
 -- ---- fronts
 
 -- A line that tells a fault of the files, or of the input behind the bytes that it gave. That object failed.
-abbrev pub IsFaultLine : Outside → Outside → List ℕ → Type 0
-IsFaultLine old new line =
-    (Failed old.files new.files × (line ≡ stop_line stop.FileFault))
+abbrev pub IsFaultLine : List (List ℕ) → Outside → Outside → List ℕ → Type 0
+IsFaultLine words old new line =
+    (Failed old.files new.files × ((role : FileRole) × NamesFile words role × (line ≡ stop_line (stop.FileFault role))))
     ⊎ (Failed old.streams.input new.streams.input × ((taken : List ℕ) × Consumes old.streams.input.told new.streams.input.told taken × (line ≡ read_line taken)))
 
 -- notes grew by a front of these, or by a front of them and a front of such a line
-abbrev pub NotesPart : Outside → Outside → List ℕ → Type 0
-NotesPart old new notes =
+abbrev pub NotesPart : List (List ℕ) → Outside → Outside → List ℕ → Type 0
+NotesPart words old new notes =
     AppendsPart old.streams.sinks.notes.told new.streams.sinks.notes.told notes
-    ⊎ ((front : List ℕ) × (back : List ℕ) × (line : List ℕ) × (notes ≡ front ++ back) × IsFaultLine old new line
+    ⊎ ((front : List ℕ) × (back : List ℕ) × (line : List ℕ) × (notes ≡ front ++ back) × IsFaultLine words old new line
     × AppendsPart old.streams.sinks.notes.told new.streams.sinks.notes.told (front ++ line))
 
 -- Output and notes grew by fronts of the report's.
 abbrev pub Fronts : List (List ℕ) → Outside → Outside → Type 0
 Fronts words old new =
     (contents : List ℕ → Option (List ℕ)) (input : List ℕ) (outcome : Outcome) → Known old contents input → Report words contents input outcome →
-    AppendsPart old.streams.sinks.output.told new.streams.sinks.output.told outcome.output × NotesPart old new outcome.notes
+    AppendsPart old.streams.sinks.output.told new.streams.sinks.output.told outcome.output × NotesPart words old new outcome.notes
 
 -- ---- the run
 
@@ -132,10 +140,12 @@ pub record Runs (words : List (List ℕ)) (old new : Outside) (code : Status) : 
   pub read_fault : code ≡ status.ReadFault → Failed old.streams.input new.streams.input
   pub write_fault : code ≡ status.WriteFault → Failed old.streams.sinks.output new.streams.sinks.output ⊎ Failed old.streams.sinks.notes new.streams.sinks.notes
   -- what stands then
-  pub file_stands : code ≡ status.FileFault → StandsAtFile old.streams new.streams
+  pub file_stands : code ≡ status.FileFault → StandsAtFile words old.streams new.streams
   pub read_stands : code ≡ status.ReadFault → (contents : List ℕ → Option (List ℕ)) (input : List ℕ) → Known old contents input → StandsAtRead words old new contents
   pub write_stands : code ≡ status.WriteFault → (contents : List ℕ → Option (List ℕ)) (input : List ℕ) → Known old contents input → StandsAtWrite words old new contents input
   pub fronts : Fronts words old new
+  -- where the words are a command that reads the input, memory is wanting only before anything was read or written
+  pub memory : reads_input (command_of words) ≡ true → code ≡ status.NoMemory → new.streams ≡ old.streams
   -- the source is as it was where the words are no command that reads it, or the run ended before its items
   pub untouched : reads_input (command_of words) ≡ false → new.streams.input ≡ old.streams.input
   pub unread : (IsStepStatus code → ⊥) → new.streams.input ≡ old.streams.input

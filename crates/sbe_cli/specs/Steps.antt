@@ -2,15 +2,16 @@
 use Rattle.std.specs.Prelude.{◌≡◌, ◌≤◌, ◌<◌, ◌⊎◌, ◌==◌, if◌then◌else◌, ℕ, ◌+◌, ◌-◌, Bool, true, false, Option, Some, None, Result, Ok, Err, List, [], ◌∷◌, ◌++◌, length, ⊤}
 use Rattle.sbe_base.specs.declared.status.Status.{Status}
 use Rattle.sbe_base.specs.declared.status.Status.TheVariants as status
-use Rattle.sbe_wire.specs.Placed.{IsPlaced}
-use Rattle.sbe_cli.specs.Block.{IsSmall}
+use Rattle.dump_lines.specs.Dumped.{AreInOrder}
 use Rattle.sbe_cli.specs.Splits.{Reading, Frames, Lines, Once, Nothing, Piece, PieceEnd, End, is_read, most_pieces, Splits, Begins, Holds, most_taken}
 use Rattle.sbe_cli.specs.Replies.{Written, Reply, reading_of, IsReply, none_kept, counted, written_of, Replies}
 use Rattle.sbe_cli.specs.Stops.{stop_line, stop_status}
 use Rattle.sbe_cli.specs.Words.{reads_input}
 use Rattle.sbe_cli.specs.Report.{Judges, end_notes, end_status}
 use Rattle.sbe_cli.specs.Outside.{Streams, Desk, Wrote, Breaks, Failed, Calm, Told}
-use Rattle.sbe_cli.specs.declared.files.FileRefusal.{FileRefusal}
+use Rattle.sbe_cli.specs.Judged.{HasFile}
+use Rattle.sbe_cli.specs.declared.files.FileRole.{FileRole}
+use Rattle.sbe_cli.specs.declared.files.RefusedFile.{RefusedFile}
 use Rattle.sbe_cli.specs.declared.job.Job.{Job}
 use Rattle.sbe_cli.specs.declared.job.Job.TheVariants as jobs
 use Rattle.sbe_cli.specs.declared.job.FrameJob.{FrameJob}
@@ -29,7 +30,7 @@ pub record PumpState : Type 0 where
 
 -- frames can be answered so
 abbrev pub IsReadyFrame : FrameJob → Type 0
-IsReadyFrame (Dump schema) = IsSmall schema × IsPlaced schema
+IsReadyFrame (Dump schemas) = AreInOrder schemas
 
 -- a job that can be carried out
 abbrev pub IsReady : Job → Type 0
@@ -47,14 +48,15 @@ abbrev pub opened : Job → PumpState
 opened job = record { job = job; kept = none_kept; ended = None }
 
 -- the files judge the command so, where they tell what they hold
-abbrev pub JudgedAs : Command → Desk → Result Job FileRefusal → Type 0
+abbrev pub JudgedAs : Command → Desk → Result Job RefusedFile → Type 0
 JudgedAs command before judged = (contents : List ℕ → Option (List ℕ)) → before.files.told ≡ Some contents → Judges command contents judged
 
 -- A file is refused, the files failed, or memory was wanting.
 pub data Declines (command : Command) (before after : Desk) (code : Status) : Type 0 where
-  refuses : (refusal : FileRefusal) → JudgedAs command before (Err refusal) → after.files ≡ before.files
-      → Told (stop_line (stop.Refused refusal)) (stop_status (stop.Refused refusal)) before.notes after.notes code → Declines command before after code
-  fails : Failed before.files after.files → Told (stop_line stop.FileFault) (stop_status stop.FileFault) before.notes after.notes code → Declines command before after code
+  refuses : (file : RefusedFile) → JudgedAs command before (Err file) → after.files ≡ before.files
+      → Told (stop_line (stop.Refused file)) (stop_status (stop.Refused file)) before.notes after.notes code → Declines command before after code
+  fails : (role : FileRole) → HasFile command role → Failed before.files after.files
+      → Told (stop_line (stop.FileFault role)) (stop_status (stop.FileFault role)) before.notes after.notes code → Declines command before after code
   wants : code ≡ status.NoMemory → after ≡ before → Declines command before after code
 
 -- The pump of the command's job, or the status that its files are declined with.
@@ -180,6 +182,8 @@ pub record Closes (old new : PumpState) (before after : Streams) (code : Status)
   pub halts : (input : List ℕ) → before.input.told ≡ Some input → Halts old before after input code
   pub causes : Causes before after code
   pub kept : new ≡ record { job = old.job; kept = old.kept; ended = Some code }
+  -- a job that reads the input never wants memory
+  pub memory : code ≡ status.NoMemory → is_read (reading_of old.job) ≡ false
   pub unread : is_read (reading_of old.job) ≡ false → after.input ≡ before.input
 
 -- A piece is answered, or the pump ends; a pump that has ended answers the same again, and leaves all as it was.
@@ -212,4 +216,5 @@ pub record Course (job : Job) (old new : Streams) (input : List ℕ) (code : Sta
 pub record Drains (job : Job) (old new : Streams) (code : Status) : Type 0 where
   pub course : (input : List ℕ) → old.input.told ≡ Some input → Course job old new input code
   pub causes : Causes old new code
+  pub memory : code ≡ status.NoMemory → is_read (reading_of job) ≡ false
   pub unread : is_read (reading_of job) ≡ false → new.input ≡ old.input

@@ -2,7 +2,8 @@
 use Rattle.std.specs.Prelude.{ℕ, List, [], ◌++◌, codes, decimal}
 use Rattle.json_elements.specs.declared.refusal.Cause.{Cause}
 use Rattle.json_elements.specs.declared.refusal.Cause.TheVariants as cause
-use Rattle.schema_lines.specs.Texts.{json_text}
+use Rattle.tree_json.specs.Values.{text_data}
+use Rattle.tree_json.specs.Plain.{plain_text}
 use Rattle.schema_rules.specs.declared.codes.CCode.{CCode}
 use Rattle.schema_rules.specs.declared.codes.CCode.TheVariants as rule
 use Rattle.sbe_base.specs.declared.status.Status.{Status}
@@ -11,6 +12,9 @@ use Rattle.open_framing.specs.declared.head.HeadErr.{HeadErr}
 use Rattle.open_framing.specs.declared.head.HeadErr.TheVariants.{HeadShort, LengthShort, LengthOver, Encoding}
 use Rattle.sbe_cli.specs.declared.files.FileRefusal.{FileRefusal}
 use Rattle.sbe_cli.specs.declared.files.FileRefusal.TheVariants as file
+use Rattle.sbe_cli.specs.declared.files.FileRole.{FileRole}
+use Rattle.sbe_cli.specs.declared.files.FileRole.TheVariants as role
+use Rattle.sbe_cli.specs.declared.files.RefusedFile.{RefusedFile}
 use Rattle.sbe_cli.specs.declared.stop.Stop.{Stop}
 use Rattle.sbe_cli.specs.declared.stop.Stop.TheVariants.{Usage, FileFault, Refused, ReadFault, EndInside, Head, InputLimit}
 
@@ -18,9 +22,15 @@ use Rattle.sbe_cli.specs.declared.stop.Stop.TheVariants.{Usage, FileFault, Refus
 abbrev pub usage_line : List ℕ
 usage_line = codes "{\"usage\":\"sbe check compat dump build fixcheck tofix tosbe selftest\"}\n"
 
--- The line of a schema that is refused with this code at this path.
-abbrev pub refused_schema : List ℕ → List ℕ → List ℕ
-refused_schema code path = codes "{\"file\":\"schema\",\"refused\":\"" ++ (code ++ (codes "\",\"path\":" ++ (json_text path ++ codes "}\n")))
+-- The name of a file in the notes, by its role.
+abbrev pub role_name : FileRole → List ℕ
+role_name role.Schema = codes "schema"
+role_name (role.Also n) = codes "also" ++ decimal n
+
+-- The line of a file that is refused with this code at this path.
+abbrev pub refused_file : FileRole → List ℕ → List ℕ → List ℕ
+refused_file role code path =
+    codes "{\"file\":\"" ++ (role_name role ++ (codes "\",\"refused\":\"" ++ (code ++ (codes "\",\"path\":" ++ (plain_text (text_data path) ++ codes "}\n")))))
 
 -- the code of why a file holds no schema
 abbrev pub cause_code : Cause → List ℕ
@@ -70,26 +80,32 @@ head_line (LengthOver n) at = fault_line (codes "LengthOver") at n
 head_line (Encoding n) at = fault_line (codes "Encoding") at n
 
 -- The line of a file that is refused.
-abbrev pub refusal_line : FileRefusal → List ℕ
-refusal_line file.Absent = codes "{\"absent\":\"schema\"}\n"
-refusal_line file.TooLong = refused_schema (codes "S06") []
-refusal_line file.NotBuilt = refused_schema (codes "S00") []
-refusal_line (file.Unread cause path) = refused_schema (cause_code cause) path
-refusal_line (file.Broken rule path) = refused_schema (rule_code rule) path
+abbrev pub why_line : FileRole → FileRefusal → List ℕ
+why_line role file.Absent = codes "{\"absent\":\"" ++ (role_name role ++ codes "\"}\n")
+why_line role file.TooLong = refused_file role (codes "S06") []
+why_line role (file.Unread cause path) = refused_file role (cause_code cause) path
+why_line role (file.Broken rule path) = refused_file role (rule_code rule) path
+why_line role file.SameId = refused_file role (codes "X01") []
+why_line role file.FormDiffers = refused_file role (codes "X02") []
+
+-- the same of a file with its role
+abbrev pub refusal_line : RefusedFile → List ℕ
+refusal_line refused = why_line refused.role refused.why
 
 -- The status where a file is refused.
 abbrev pub refusal_status : FileRefusal → Status
 refusal_status file.Absent = status.NoFile
 refusal_status file.TooLong = status.SchemaRefused
-refusal_status file.NotBuilt = status.SchemaRefused
 refusal_status (file.Unread cause path) = status.SchemaRefused
 refusal_status (file.Broken rule path) = status.SchemaRefused
+refusal_status file.SameId = status.SchemaRefused
+refusal_status file.FormDiffers = status.SchemaRefused
 
 -- the line of each stop
 abbrev pub stop_line : Stop → List ℕ
 stop_line Usage = usage_line
-stop_line FileFault = codes "{\"fault\":\"File\",\"file\":\"schema\"}\n"
-stop_line (Refused refusal) = refusal_line refusal
+stop_line (FileFault role) = codes "{\"fault\":\"File\",\"file\":\"" ++ (role_name role ++ codes "\"}\n")
+stop_line (Refused file) = refusal_line file
 stop_line (ReadFault at) = at_line (codes "{\"fault\":\"Read\",\"at\":") at
 stop_line (EndInside held at) = fault_line (codes "EndInside") at held
 stop_line (Head fault at) = head_line fault at
@@ -98,8 +114,8 @@ stop_line (InputLimit limit) = at_line (codes "{\"limit\":\"Input\",\"at\":") li
 -- The status of each stop.
 abbrev pub stop_status : Stop → Status
 stop_status Usage = status.Usage
-stop_status FileFault = status.FileFault
-stop_status (Refused refusal) = refusal_status refusal
+stop_status (FileFault role) = status.FileFault
+stop_status (Refused file) = refusal_status file.why
 stop_status (ReadFault at) = status.ReadFault
 stop_status (EndInside held at) = status.FramingRefused
 stop_status (Head fault at) = status.FramingRefused

@@ -1,5 +1,5 @@
 -- What words say.
-use Rattle.std.specs.Prelude.{◌≡◌, ◌≤◌, ◌^◌, ℕ, Bool, true, false, ◌&&◌, ◌==◌, not, nat_lt, nat_le, if◌then◌else◌, List, [], ◌∷◌, codes, length, take, drop, find, Option, Some, None, option_map, Result, Ok, Err, ⊤}
+use Rattle.std.specs.Prelude.{◌≡◌, ◌≤◌, ◌^◌, ℕ, Bool, true, false, ◌&&◌, ◌==◌, not, nat_lt, nat_le, if◌then◌else◌, List, [], ◌∷◌, codes, length, take, drop, find, Option, Some, None, Result, Ok, Err, ⊤}
 use Rattle.std.specs.Option.{option_and_then}
 use Rattle.std.specs.List.{list_all, list_any}
 use Rattle.std.specs.Str.{bytes_eq, all_ascii_digits}
@@ -13,7 +13,7 @@ use Rattle.sbe_cli.specs.declared.words.forms.Form.{Form}
 use Rattle.sbe_cli.specs.declared.words.forms.Form.TheVariants as form
 use Rattle.sbe_cli.specs.declared.words.forms.TheConstants.{FORMS}
 use Rattle.sbe_cli.specs.declared.words.options.NumberRange.{NumberRange}
-use Rattle.sbe_cli.specs.declared.words.options.TheConstants.{MAX_FRAME, MAX_INPUT, FRAME_RANGE, INPUT_RANGE}
+use Rattle.sbe_cli.specs.declared.words.options.TheConstants.{ALSO, MOST_ALSO, MAX_FRAME, MAX_INPUT, FRAME_RANGE, INPUT_RANGE}
 
 -- ---- one word
 
@@ -69,6 +69,14 @@ limits_from None input = None
 abbrev pub limits_of : List (List ℕ) → Option Limits
 limits_of pairs = limits_from (number_given MAX_FRAME.now FRAME_RANGE pairs) (number_given MAX_INPUT.now INPUT_RANGE pairs)
 
+-- these values, where they are so many at most and each is a file's name
+abbrev pub names_by : ℕ → List (List ℕ) → Option (List (List ℕ))
+names_by most values = if nat_le (length values) most && list_all is_file_name values then Some values else None
+
+-- the names of files that pairs give this option, which may stand so often
+abbrev pub names_given : List ℕ → ℕ → List (List ℕ) → Option (List (List ℕ))
+names_given option most pairs = names_by most (values_of option pairs)
+
 -- ---- forms: a command's word, names of files, and options
 
 -- what words of a form begin with, how many names of files follow, and which options
@@ -80,7 +88,7 @@ pub record FormRow : Type 0 where
 -- the table of forms
 abbrev pub row_of : Form → FormRow
 row_of form.Check = record { word = codes "check"; files = 1; options = [] }
-row_of form.Dump = record { word = codes "dump"; files = 1; options = MAX_FRAME.now ∷ MAX_INPUT.now ∷ [] }
+row_of form.Dump = record { word = codes "dump"; files = 1; options = MAX_FRAME.now ∷ MAX_INPUT.now ∷ ALSO.now ∷ [] }
 
 -- the words have the form of this row, whatever values its options have
 abbrev pub fits : FormRow → List (List ℕ) → Bool
@@ -96,9 +104,15 @@ check_of (word ∷ schema ∷ next ∷ more) = None
 check_of (word ∷ []) = None
 check_of [] = None
 
--- `dump S`, with the limits of its options
+-- a dump of these files, where their names and the limits are there
+abbrev pub dump_from : List ℕ → Option Limits → Option (List (List ℕ)) → Option Command
+dump_from schema None also = None
+dump_from schema (Some limits) None = None
+dump_from schema (Some limits) (Some also) = Some (Dump schema also limits)
+
+-- `dump S`, with further schemas and the limits of its options
 abbrev pub dump_of : List (List ℕ) → Option Command
-dump_of (word ∷ schema ∷ pairs) = option_map (λ limits. Dump schema limits) (limits_of pairs)
+dump_of (word ∷ schema ∷ pairs) = dump_from schema (limits_of pairs) (names_given ALSO.now MOST_ALSO pairs)
 dump_of (word ∷ []) = None
 dump_of [] = None
 
@@ -111,9 +125,9 @@ said_by form.Dump words = dump_of words
 abbrev pub command_of : List (List ℕ) → Option Command
 command_of words = option_and_then (λ form. said_by form words) (find (λ form. fits (row_of form) words) FORMS)
 
--- what was answered is this command, or that there is none, unless memory ran out
-abbrev pub Says : Result Command WordsErr → Option Command → Type 0
-Says (Ok command) said = said ≡ Some command
+-- what was answered is what the words say, or that they say nothing, unless memory ran out
+abbrev pub Says : {T : Type 0} → Result T WordsErr → Option T → Type 0
+Says (Ok x) said = said ≡ Some x
 Says (Err Usage) said = said ≡ None
 Says (Err Memory) said = ⊤
 
@@ -121,9 +135,9 @@ Says (Err Memory) said = ⊤
 abbrev pub reads_input : Option Command → Bool
 reads_input None = false
 reads_input (Some (Check name)) = false
-reads_input (Some (Dump name limits)) = true
+reads_input (Some (Dump name also limits)) = true
 
 -- the limits of a command, where it has some: 64 to 16,777,216 bytes a frame, and 1 to 1,099,511,627,776 bytes in all
 abbrev pub HasLimits : Command → Type 0
 HasLimits (Check schema) = ⊤
-HasLimits (Dump schema limits) = (64 ≤ limits.frame) × (limits.frame ≤ 16_777_216) × (1 ≤ limits.input) × (limits.input ≤ 2 ^ 40)
+HasLimits (Dump schema also limits) = (64 ≤ limits.frame) × (limits.frame ≤ 16_777_216) × (1 ≤ limits.input) × (limits.input ≤ 2 ^ 40)

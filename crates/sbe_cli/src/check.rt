@@ -1,11 +1,11 @@
 ghost use Rattle.std.specs.Prelude.{◌≡◌, ◌++◌, IfOk, OnOk};
 ghost use Rattle.schema_lines.specs.Lines.{message_lines};
-ghost use Rattle.sbe_cli.specs.Files.{LoadCause};
+ghost use Rattle.sbe_cli.specs.Files.{JobCause};
 ghost use Rattle.sbe_cli.specs.Jobs.{LoadsJob};
 ghost use Rattle.sbe_cli.specs.declared.job.Verdict.TheVariants.{Answered};
 ghost use Rattle.sbe_cli.specs.declared.words.Command.TheVariants as command;
 
-use crate::files::LoadStop;
+use crate::files::{FileRole, JobStop};
 use crate::job::{Job, OnceJob, Verdict};
 use crate::schema_file::load_checked;
 use lists::NoMem;
@@ -15,14 +15,14 @@ use schema_lines::put_messages;
 use std::alloc::Global;
 
 /// Loads and judges the schema of a check.
-pub fn load_check<F: Files>(alloc: Global, name: &str, files: &mut F) -> Result<Job, LoadStop>
+pub fn load_check<F: Files>(alloc: Global, name: &str, files: &mut F) -> Result<Job, JobStop>
     ensures kept { F.contents files.new ≡ F.contents files.old }
     ensures loads { LoadsJob (F.contents files.old) (command.Check name.now) result }
-    ensures cause { LoadCause (F.faults files.old) (F.faults files.new) result }
+    ensures cause { JobCause (F.faults files.old) (F.faults files.new) result }
 {
     match load_checked(alloc, files, name) {
         Ok(schema) => Ok(Job::Once(OnceJob::Check { schema })),
-        Err(stop) => Err(stop),
+        Err(stop) => Err(stop.of(FileRole::Schema)),
     }
 }
 

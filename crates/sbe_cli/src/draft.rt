@@ -1,7 +1,7 @@
 ghost use Rattle.std.specs.Prelude.{◌≡◌, []};
 ghost use Rattle.sbe_cli.specs.Outside.{object_of, sinks_of};
 ghost use Rattle.sbe_cli.specs.Replies.{Reply};
-ghost use Rattle.sbe_cli.specs.Drafts.{drafted, Drafts, Writes, Delivers};
+ghost use Rattle.sbe_cli.specs.Drafts.{drafted, Drafts, Writes, DeliversDraft};
 
 use crate::job::Verdict;
 use lists::NoMem;
@@ -44,7 +44,7 @@ pub fn deliver<O: Sink, N: Sink>(
     output: &mut O,
     notes: &mut N,
 ) -> Result<Verdict, Status>
-    ensures { (reply : Reply) → Drafts reply draft.now put → Delivers reply
+    ensures { (reply : Reply) → Drafts reply draft.now put → DeliversDraft reply
         (sinks_of (object_of (O.held output.old) (O.faults output.old)) (object_of (N.held notes.old) (N.faults notes.old)))
         (sinks_of (object_of (O.held output.new) (O.faults output.new)) (object_of (N.held notes.new) (N.faults notes.new)))
         result }

@@ -1,69 +1,58 @@
-ghost use Rattle.std.specs.Prelude.{◌≡◌, ◌++◌, IfOk, OnOk};
-ghost use Rattle.sbe_cli.specs.Block.{IsSmall};
-ghost use Rattle.sbe_cli.specs.Dump.{dumped_line, dumped_verdict, message_in};
-ghost use Rattle.sbe_cli.specs.Files.{LoadCause};
+ghost use Rattle.std.specs.Prelude.{◌≡◌};
+ghost use Rattle.sbe_cli.specs.Drafts.{Delivers};
+ghost use Rattle.sbe_cli.specs.Files.{JobCause};
 ghost use Rattle.sbe_cli.specs.Jobs.{LoadsJob};
-ghost use Rattle.sbe_cli.specs.Pumps.{IsBounded};
+ghost use Rattle.sbe_cli.specs.Outside.{object_of};
+ghost use Rattle.sbe_cli.specs.Pumps.{IsBounded, reply_of};
+ghost use Rattle.sbe_cli.specs.declared.job.FrameJob.TheVariants as frames;
 ghost use Rattle.sbe_cli.specs.declared.words.Command.TheVariants as command;
 
-use crate::block::{DecodeErr, decode};
-use crate::files::{LoadStop, load_schema};
+use crate::dumped::put_dumped;
+use crate::files::JobStop;
 use crate::job::{FrameJob, Job, Verdict};
-use crate::line::{put, put_message, put_refused};
-use lists::NoMem;
-use open_framing::SBE_LITTLE;
-use sbe_base::{Files, Limits};
-use sbe_types::WireSchema;
+use crate::pump::Kept;
+use crate::schemas::load_schemas;
+use crate::words::NameList;
+use dump_lines::Schemas;
+use sbe_base::{Files, Limits, Sink, WriteFault};
 use std::alloc::Global;
 
-/// Loads and judges the schema of a dump.
+/// Loads and judges the schemas of a dump.
 pub fn load_dump<F: Files>(
     alloc: Global,
     name: &str,
+    also: &NameList,
     limits: Limits,
     files: &mut F,
-) -> Result<Job, LoadStop>
+) -> Result<Job, JobStop>
     requires { IsBounded limits }
     ensures kept { F.contents files.new ≡ F.contents files.old }
-    ensures loads { LoadsJob (F.contents files.old) (command.Dump name.now limits) result }
-    ensures cause { LoadCause (F.faults files.old) (F.faults files.new) result }
+    ensures loads { LoadsJob (F.contents files.old) (command.Dump name.now also.now limits) result }
+    ensures cause { JobCause (F.faults files.old) (F.faults files.new) result }
 {
-    match load_schema(alloc, files, name) {
-        Ok(schema) => Ok(Job::Frames {
-            job: FrameJob::Dump { schema },
+    match load_schemas(alloc, name, also, files) {
+        Ok(schemas) => Ok(Job::Frames {
+            job: FrameJob::Dump { schemas },
             limits,
         }),
         Err(stop) => Err(stop),
     }
 }
 
-/// Appends the line of one frame: its message's, or that of a refused item.
-pub fn put_dumped(
-    alloc: Global,
-    schema: &WireSchema,
-    item: u64,
+/// Writes the answer to one frame: the line of its message, or of a refused item. It takes no memory.
+pub fn answer_dumped<O: Sink>(
+    schemas: &Schemas,
+    kept: Kept,
     encoding: u16,
     body: &[u8],
-    line: &mut Vec<u8>,
-) -> Result<Verdict, NoMem>
-    requires { IsSmall schema.now }
-    ensures line { OnOk result (line.new.items ≡ line.old.items ++ dumped_line schema.now item (message_in schema.now (record { encoding = encoding; body = body.now }))) }
-    ensures verdict { IfOk result (λ verdict. verdict ≡ dumped_verdict (message_in schema.now (record { encoding = encoding; body = body.now }))) }
+    output: &mut O,
+) -> Result<Verdict, WriteFault>
+    ensures { Delivers (reply_of (frames.Dump schemas.now) kept (record { encoding = encoding; body = body.now }))
+        (object_of (O.held output.old) (O.faults output.old)) (object_of (O.held output.new) (O.faults output.new)) result }
 {
-    if encoding != SBE_LITTLE {
-        put_refused(line, item)?;
-        return Ok(Verdict::Refused);
-    }
-    match decode(alloc, schema, body) {
-        Ok(msg) => {
-            put_message(line, schema, &msg)?;
-            put(line, b"\n")?;
-            Ok(Verdict::Answered)
-        }
-        Err(DecodeErr::NotBuilt) => {
-            put_refused(line, item)?;
-            Ok(Verdict::Refused)
-        }
-        Err(DecodeErr::Memory) => Err(NoMem),
+    match put_dumped(schemas, kept.items, encoding, body, output) {
+        Ok(true) => Ok(Verdict::Answered),
+        Ok(false) => Ok(Verdict::Refused),
+        Err(fault) => Err(fault),
     }
 }

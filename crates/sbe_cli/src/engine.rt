@@ -28,7 +28,7 @@ pub fn run<F: Files, I: Source, O: Sink, N: Sink>(
 {
     match read_words(alloc, words) {
         Ok(command) => carry_out(alloc, command, files, input, output, notes),
-        Err(WordsErr::Usage) => tell(alloc, Stop::Usage, notes),
+        Err(WordsErr::Usage) => tell(&Stop::Usage, notes),
         Err(WordsErr::Memory) => Status::NoMemory,
     }
 }

@@ -1,19 +1,18 @@
 ghost use Rattle.std.specs.Prelude.{◌≡◌, IfOk};
 ghost use Rattle.frame_stream.specs.Stream.{opened as opened_stream};
-ghost use Rattle.sbe_cli.specs.Outside.{object_of, sinks_of, streams_of};
+ghost use Rattle.sbe_cli.specs.Outside.{object_of, streams_of};
 ghost use Rattle.sbe_cli.specs.Replies.{counted_by};
 ghost use Rattle.sbe_cli.specs.Steps.{IsReadyFrame};
 ghost use Rattle.sbe_cli.specs.Drafts.{Delivers};
 ghost use Rattle.sbe_cli.specs.Pumps.{IsBounded, Stands, CanCount, reply_of, frames_pump, Answers};
 
-use crate::draft::{Draft, deliver};
-use crate::job::{FrameJob, Verdict, put_answer};
+use crate::job::{FrameJob, Verdict, answer_frame};
 use crate::pump::{Kept, Tally, done};
 use crate::stop::{Stop, tell};
 use frame_stream::{FrameStream, StreamErr, Taken};
 use lists::NoMem;
 use open_framing::Head;
-use sbe_base::{Limits, Sink, Source, Status};
+use sbe_base::{Limits, Sink, Source, Status, WriteFault};
 use std::alloc::Global;
 
 /// A job that answers frames, and the frames that are still to come.
@@ -28,9 +27,7 @@ impl FrameWork {
     /// Takes the next frame, and writes its answer; or notes what ends the frames, and answers the status of the run.
     pub fn answer_next<I: Source, O: Sink, N: Sink>(
         &mut self,
-        alloc: Global,
         kept: Kept,
-        draft: &mut Draft,
         input: &mut I,
         output: &mut O,
         notes: &mut N,
@@ -48,47 +45,29 @@ impl FrameWork {
         ensures countable { IfOk result (λ tally. CanCount kept tally) }
     {
         match self.stream.take(input) {
-            Ok(Taken::Frame(head)) => match self.answer(alloc, kept, head, draft, output, notes) {
+            Ok(Taken::Frame(head)) => match self.answer(kept, head, output) {
                 Ok(verdict) => Ok(Tally {
                     bytes: head.length as u64,
                     verdict,
                 }),
-                Err(status) => Err(status),
+                Err(WriteFault) => Err(Status::WriteFault),
             },
             Ok(Taken::End) => Err(done(kept)),
             Ok(Taken::EndInside(held)) => {
-                Err(tell(alloc, Stop::EndInside(held as u64, kept.bytes), notes))
+                Err(tell(&Stop::EndInside(held as u64, kept.bytes), notes))
             }
-            Err(StreamErr::Head(fault)) => Err(tell(alloc, Stop::Head(fault, kept.bytes), notes)),
-            Err(StreamErr::InputLimit) => {
-                Err(tell(alloc, Stop::InputLimit(self.limits.input), notes))
-            }
-            Err(StreamErr::ReadFault) => {
-                Err(tell(alloc, Stop::ReadFault(self.stream.taken()), notes))
-            }
+            Err(StreamErr::Head(fault)) => Err(tell(&Stop::Head(fault, kept.bytes), notes)),
+            Err(StreamErr::InputLimit) => Err(tell(&Stop::InputLimit(self.limits.input), notes)),
+            Err(StreamErr::ReadFault) => Err(tell(&Stop::ReadFault(self.stream.taken()), notes)),
         }
     }
 
     /// Writes the answer to the frame that was taken.
-    fn answer<O: Sink, N: Sink>(
-        &self,
-        alloc: Global,
-        kept: Kept,
-        head: Head,
-        draft: &mut Draft,
-        output: &mut O,
-        notes: &mut N,
-    ) -> Result<Verdict, Status>
-        requires { IsReadyFrame self.now.job }
+    fn answer<O: Sink>(&self, kept: Kept, head: Head, output: &mut O) -> Result<Verdict, WriteFault>
         ensures { Delivers (reply_of self.now.job kept (record { encoding = head.encoding; body = self.now.stream.body }))
-            (sinks_of (object_of (O.held output.old) (O.faults output.old)) (object_of (N.held notes.old) (N.faults notes.old)))
-            (sinks_of (object_of (O.held output.new) (O.faults output.new)) (object_of (N.held notes.new) (N.faults notes.new)))
-            result }
+            (object_of (O.held output.old) (O.faults output.old)) (object_of (O.held output.new) (O.faults output.new)) result }
     {
-        draft.clear();
-        let body = self.stream.frame();
-        let put = put_answer(alloc, &self.job, kept, head.encoding, body, draft);
-        deliver(put, draft, output, notes)
+        answer_frame(&self.job, kept, head.encoding, self.stream.frame(), output)
     }
 }
 

@@ -1,20 +1,20 @@
 ghost use Rattle.std.specs.Prelude.{◌≡◌, []};
 ghost use Rattle.sbe_cli.specs.Words.{HasLimits};
 ghost use Rattle.sbe_cli.specs.Jobs.{LoadsJob};
-ghost use Rattle.sbe_cli.specs.Steps.{IsReadyFrame};
-ghost use Rattle.sbe_cli.specs.Files.{LoadCause};
-ghost use Rattle.sbe_cli.specs.Drafts.{Drafts};
+ghost use Rattle.sbe_cli.specs.Files.{JobCause};
+ghost use Rattle.sbe_cli.specs.Drafts.{Delivers, Drafts};
+ghost use Rattle.sbe_cli.specs.Outside.{object_of};
 ghost use Rattle.sbe_cli.specs.Pumps.{reply_of, whole_reply};
 
 use crate::check::{load_check, put_checked};
 use crate::draft::Draft;
-use crate::dump::{load_dump, put_dumped};
-use crate::files::LoadStop;
+use crate::dump::{answer_dumped, load_dump};
+use crate::files::JobStop;
 use crate::pump::Kept;
 use crate::words::Command;
+use dump_lines::Schemas;
 use lists::NoMem;
-use sbe_base::{Files, Limits};
-use sbe_types::WireSchema;
+use sbe_base::{Files, Limits, Sink, WriteFault};
 use schema_check::Checked;
 use std::alloc::Global;
 
@@ -30,8 +30,8 @@ pub enum Job {
 /// A command that answers frames.
 #[derive(Drop)]
 pub enum FrameJob {
-    /// Prints a line for each frame.
-    Dump { schema: WireSchema },
+    /// Prints a line for each frame, by the schema that its message names.
+    Dump { schemas: Schemas },
 }
 
 /// A command that does one job over its files.
@@ -50,36 +50,35 @@ pub enum Verdict {
 }
 
 /// Loads and judges the files of a command.
-pub fn load_job<F: Files>(alloc: Global, command: Command, files: &mut F) -> Result<Job, LoadStop>
+pub fn load_job<F: Files>(alloc: Global, command: Command, files: &mut F) -> Result<Job, JobStop>
     requires { HasLimits command }
     ensures kept { F.contents files.new ≡ F.contents files.old }
     ensures loads { LoadsJob (F.contents files.old) command result }
-    ensures cause { LoadCause (F.faults files.old) (F.faults files.new) result }
+    ensures cause { JobCause (F.faults files.old) (F.faults files.new) result }
 {
     match command {
         Command::Check { schema } => load_check(alloc, schema.as_str(), files),
-        Command::Dump { schema, limits } => load_dump(alloc, schema.as_str(), limits, files),
+        Command::Dump {
+            schema,
+            also,
+            limits,
+        } => load_dump(alloc, schema.as_str(), &also, limits, files),
     }
 }
 
-/// Puts the answer to a frame into an empty draft.
-pub fn put_answer(
-    alloc: Global,
+/// Writes the answer to a frame. It takes no memory.
+pub fn answer_frame<O: Sink>(
     job: &FrameJob,
     kept: Kept,
     encoding: u16,
     body: &[u8],
-    draft: &mut Draft,
-) -> Result<Verdict, NoMem>
-    requires ready { IsReadyFrame job.now }
-    requires output { draft.old.output.items ≡ [] }
-    requires notes { draft.old.notes.items ≡ [] }
-    ensures { Drafts (reply_of job.now kept (record { encoding = encoding; body = body.now })) draft.new result }
+    output: &mut O,
+) -> Result<Verdict, WriteFault>
+    ensures { Delivers (reply_of job.now kept (record { encoding = encoding; body = body.now }))
+        (object_of (O.held output.old) (O.faults output.old)) (object_of (O.held output.new) (O.faults output.new)) result }
 {
     match job {
-        FrameJob::Dump { schema } => {
-            put_dumped(alloc, schema, kept.items, encoding, body, &mut draft.output)
-        }
+        FrameJob::Dump { schemas } => answer_dumped(schemas, kept, encoding, body, output),
     }
 }
 

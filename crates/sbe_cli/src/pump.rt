@@ -7,7 +7,7 @@ ghost use Rattle.sbe_cli.specs.Steps.{IsReady, Opens, Steps};
 ghost use Rattle.sbe_cli.specs.Pumps.{IsBoundedJob, job_of, IsSoundWork, StandsSo, CanCount, running, Answers, EndsAs, IsOpened};
 
 use crate::draft::Draft;
-use crate::files::LoadStop;
+use crate::files::JobStop;
 use crate::frames::{FrameWork, open_frames};
 use crate::job::{Job, OnceJob, Verdict, load_job};
 use crate::once::answer_once;
@@ -58,7 +58,6 @@ pub enum Work {
 /// One command on its way through its input.
 #[derive(Drop)]
 pub struct Pump {
-    alloc: Global,
     work: Work,
     draft: Draft,
     kept: Kept,
@@ -102,9 +101,9 @@ impl Pump {
     {
         match load_job(alloc, command, files) {
             Ok(job) => begin(alloc, job),
-            Err(LoadStop::Refused(refusal)) => Err(tell(alloc, Stop::Refused(refusal), notes)),
-            Err(LoadStop::Fault) => Err(tell(alloc, Stop::FileFault, notes)),
-            Err(LoadStop::NoMemory) => Err(Status::NoMemory),
+            Err(JobStop::Refused(file)) => Err(tell(&Stop::Refused(file), notes)),
+            Err(JobStop::Fault(role)) => Err(tell(&Stop::FileFault(role), notes)),
+            Err(JobStop::NoMemory) => Err(Status::NoMemory),
         }
     }
 
@@ -124,7 +123,10 @@ impl Pump {
         if let Some(status) = self.ended {
             return Step::Ended(status);
         }
-        match self.work.answer_next(self.alloc, self.kept, &mut self.draft, input, output, notes) {
+        match self
+            .work
+            .answer_next(self.kept, &mut self.draft, input, output, notes)
+        {
             Ok(tally) => {
                 count(&mut self.kept, tally);
                 Step::Went
@@ -155,7 +157,6 @@ impl Work {
     /// Answers the next item, or answers the status of the run that ends here.
     fn answer_next<I: Source, O: Sink, N: Sink>(
         &mut self,
-        alloc: Global,
         kept: Kept,
         draft: &mut Draft,
         input: &mut I,
@@ -174,7 +175,7 @@ impl Work {
         ensures countable { IfOk result (λ tally. CanCount kept tally) }
     {
         match self {
-            Work::Frames(work) => work.answer_next(alloc, kept, draft, input, output, notes),
+            Work::Frames(work) => work.answer_next(kept, input, output, notes),
             Work::Once(job) => answer_once(job, kept, draft, output, notes),
         }
     }
@@ -190,7 +191,6 @@ fn begin(alloc: Global, job: Job) -> Result<Pump, Status>
         return Err(Status::NoMemory);
     };
     Ok(Pump {
-        alloc,
         work,
         draft: Draft::new(alloc),
         kept: Kept {

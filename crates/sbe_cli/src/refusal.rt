@@ -1,16 +1,15 @@
 //! How a refused file is noted.
 
 ghost use Rattle.std.specs.Prelude.{◌≡◌};
-ghost use Rattle.sbe_cli.specs.Line.{Puts};
-ghost use Rattle.sbe_cli.specs.Stops.{cause_code, rule_code, refused_schema, refusal_line, refusal_status};
+ghost use Rattle.tree_json.specs.Writes.{output, Writes};
+ghost use Rattle.sbe_cli.specs.Stops.{cause_code, rule_code, refused_file, refusal_line, refusal_status, role_name, why_line};
+ghost use Rattle.sbe_cli.specs.declared.files.FileRefusal.TheVariants as file;
 
-use crate::files::FileRefusal;
-use crate::line::put;
+use crate::files::{FileRefusal, FileRole, RefusedFile};
 use json_elements::Cause;
-use lists::NoMem;
-use sbe_base::Status;
+use sbe_base::{Sink, Status};
 use schema_check::CCode;
-use schema_lines::put_json_text;
+use tree_json::{Chunk, put_count, put_text};
 
 /// The status of a run that ends at a refused file.
 pub fn refusal_status(refusal: &FileRefusal) -> Status
@@ -19,33 +18,67 @@ pub fn refusal_status(refusal: &FileRefusal) -> Status
     match refusal {
         FileRefusal::Absent => Status::NoFile,
         FileRefusal::TooLong
-        | FileRefusal::NotBuilt
         | FileRefusal::Unread(_, _)
-        | FileRefusal::Broken(_, _) => Status::SchemaRefused,
+        | FileRefusal::Broken(_, _)
+        | FileRefusal::SameId
+        | FileRefusal::FormDiffers => Status::SchemaRefused,
     }
 }
 
-/// Appends the line that a refused file is noted by.
-pub fn put_refusal(out: &mut Vec<u8>, refusal: &FileRefusal) -> Result<(), NoMem>
-    ensures { Puts result out.old.items out.new.items (refusal_line refusal.now) }
+/// Writes the line that a refused file is noted by.
+pub fn put_refusal<N: Sink>(chunk: &mut Chunk, notes: &mut N, file: &RefusedFile)
+    ensures { Writes (output (N.held notes.old) (N.faults notes.old) chunk.old)
+        (output (N.held notes.new) (N.faults notes.new) chunk.new) (refusal_line file.now) }
 {
-    match refusal {
-        FileRefusal::Absent => put(out, b"{\"absent\":\"schema\"}\n"),
-        FileRefusal::TooLong => put_refused(out, "S06", &[]),
-        FileRefusal::NotBuilt => put_refused(out, "S00", &[]),
-        FileRefusal::Unread(cause, path) => put_refused(out, cause_code(*cause), path.as_slice()),
-        FileRefusal::Broken(rule, path) => put_refused(out, rule_code(*rule), path.as_slice()),
+    let role = file.role;
+    match &file.why {
+        FileRefusal::Absent => put_absent(chunk, notes, role),
+        FileRefusal::TooLong => put_refused(chunk, notes, role, "S06", &[]),
+        FileRefusal::Unread(cause, path) => {
+            put_refused(chunk, notes, role, cause_code(*cause), path.as_slice())
+        }
+        FileRefusal::Broken(rule, path) => {
+            put_refused(chunk, notes, role, rule_code(*rule), path.as_slice())
+        }
+        FileRefusal::SameId => put_refused(chunk, notes, role, "X01", &[]),
+        FileRefusal::FormDiffers => put_refused(chunk, notes, role, "X02", &[]),
     }
 }
 
-fn put_refused(out: &mut Vec<u8>, code: &str, path: &[u8]) -> Result<(), NoMem>
-    ensures { Puts result out.old.items out.new.items (refused_schema code.now path.now) }
+/// Writes the name of a file by its role.
+pub fn put_role<N: Sink>(chunk: &mut Chunk, notes: &mut N, role: FileRole)
+    ensures { Writes (output (N.held notes.old) (N.faults notes.old) chunk.old)
+        (output (N.held notes.new) (N.faults notes.new) chunk.new) (role_name role) }
 {
-    put(out, b"{\"file\":\"schema\",\"refused\":\"")?;
-    put(out, code.as_bytes())?;
-    put(out, b"\",\"path\":")?;
-    put_json_text(out, path)?;
-    put(out, b"}\n")
+    match role {
+        FileRole::Schema => chunk.put(notes, b"schema"),
+        FileRole::Also(number) => {
+            chunk.put(notes, b"also");
+            put_count(chunk, notes, number as u64);
+        }
+    }
+}
+
+fn put_absent<N: Sink>(chunk: &mut Chunk, notes: &mut N, role: FileRole)
+    ensures { Writes (output (N.held notes.old) (N.faults notes.old) chunk.old)
+        (output (N.held notes.new) (N.faults notes.new) chunk.new) (why_line role file.Absent) }
+{
+    chunk.put(notes, b"{\"absent\":\"");
+    put_role(chunk, notes, role);
+    chunk.put(notes, b"\"}\n");
+}
+
+fn put_refused<N: Sink>(chunk: &mut Chunk, notes: &mut N, role: FileRole, code: &str, path: &[u8])
+    ensures { Writes (output (N.held notes.old) (N.faults notes.old) chunk.old)
+        (output (N.held notes.new) (N.faults notes.new) chunk.new) (refused_file role code.now path.now) }
+{
+    chunk.put(notes, b"{\"file\":\"");
+    put_role(chunk, notes, role);
+    chunk.put(notes, b"\",\"refused\":\"");
+    chunk.put(notes, code.as_bytes());
+    chunk.put(notes, b"\",\"path\":");
+    put_text(chunk, notes, path);
+    chunk.put(notes, b"}\n");
 }
 
 /// The code of why a file holds no schema.

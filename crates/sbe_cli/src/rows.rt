@@ -3,7 +3,8 @@
 ghost use Rattle.std.specs.Prelude.{◌≡◌, ◌∷◌, ◌++◌, [], ℕ, List, Option, Some, None, codes};
 ghost use Rattle.sbe_base.specs.declared.status.Limits.{Limits};
 ghost use Rattle.sbe_base.specs.declared.status.Status.TheVariants as status;
-ghost use Rattle.sbe_wire.specs.Placed.{IsPlaced};
+ghost use Rattle.dump_lines.specs.Dumped.{AreInOrder};
+ghost use Rattle.sbe_cli.specs.Judged.{alone};
 ghost use Rattle.sbe_wire.specs.Rows.Schemas.{schema7};
 ghost use Rattle.sbe_cli.specs.Splits.{Frames, End, EndInside, InputLimit};
 ghost use Rattle.sbe_cli.specs.Replies.{Replies, none_kept, none_written};
@@ -25,7 +26,7 @@ pub fn no_file()
 
 /// Two frames of 20 bytes, of which the second isn't little-endian.
 pub fn two_frames()
-    ensures { (limits : Limits) → IsPlaced schema7 → Replies (jobs.Frames (frame.Dump schema7) limits) none_kept two_pieces
+    ensures { (limits : Limits) → AreInOrder (alone schema7) → Replies (jobs.Frames (frame.Dump (alone schema7)) limits) none_kept two_pieces
         (record { output = ping_line ++ refused_second; notes = [] }) (record { items = 2; refused = 1; translated = 0; bytes = 40 }) }
 {}
 

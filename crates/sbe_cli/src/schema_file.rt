@@ -1,5 +1,5 @@
 ghost use Rattle.std.specs.Prelude.{◌≡◌};
-ghost use Rattle.sbe_cli.specs.Report.{schema_in};
+ghost use Rattle.sbe_cli.specs.Judged.{schema_in};
 ghost use Rattle.sbe_cli.specs.Files.{LoadCause, LoadsChecked, Reads};
 
 use crate::files::{FileRefusal, LoadStop, SCHEMA_BYTES};

@@ -1,25 +1,24 @@
 ghost use Rattle.std.specs.Prelude.{◌≡◌};
-ghost use Rattle.sbe_cli.specs.Line.{Puts};
+ghost use Rattle.tree_json.specs.Writes.{output, Writes};
 ghost use Rattle.sbe_cli.specs.Outside.{Told, object_of};
 ghost use Rattle.sbe_cli.specs.Stops.{stop_status, stop_line, at_line, head_line, fault_line};
+ghost use Rattle.sbe_cli.specs.declared.stop.Stop.TheVariants as stop;
 
-use crate::files::FileRefusal;
-use crate::line::{put, put_count};
-use crate::refusal::{put_refusal, refusal_status};
-use lists::NoMem;
+use crate::files::{FileRole, RefusedFile};
+use crate::refusal::{put_refusal, put_role, refusal_status};
 use open_framing::HeadErr;
-use sbe_base::{Sink, Status, write_all_to};
-use std::alloc::Global;
+use sbe_base::{Sink, Status, WriteFault};
+use tree_json::{Chunk, put_count};
 
 /// What is noted where a run stops before its end.
 #[derive(Debug, Drop)]
 pub enum Stop {
     /// The words are no command.
     Usage,
-    /// The schema's file couldn't be read.
-    FileFault,
-    /// The schema's file isn't taken.
-    Refused(FileRefusal),
+    /// The file in this role couldn't be read.
+    FileFault(FileRole),
+    /// A file isn't taken.
+    Refused(RefusedFile),
     /// The input failed behind so many bytes.
     ReadFault(u64),
     /// So many bytes of a frame are there, which begins at the second number.
@@ -37,8 +36,8 @@ impl Stop {
     {
         match self {
             Stop::Usage => Status::Usage,
-            Stop::FileFault => Status::FileFault,
-            Stop::Refused(refusal) => refusal_status(refusal),
+            Stop::FileFault(_) => Status::FileFault,
+            Stop::Refused(file) => refusal_status(&file.why),
             Stop::ReadFault(_) => Status::ReadFault,
             Stop::EndInside(_, _) | Stop::Head(_, _) => Status::FramingRefused,
             Stop::InputLimit(_) => Status::InputLimit,
@@ -46,66 +45,76 @@ impl Stop {
     }
 }
 
-/// Notes why the run stops, and answers its status.
-pub fn tell<N: Sink>(alloc: Global, stop: Stop, notes: &mut N) -> Status
-    ensures { Told (stop_line stop) (stop_status stop) (object_of (N.held notes.old) (N.faults notes.old)) (object_of (N.held notes.new) (N.faults notes.new)) result }
+/// Notes why the run stops, and answers its status. It takes no memory.
+pub fn tell<N: Sink>(stop: &Stop, notes: &mut N) -> Status
+    ensures { Told (stop_line stop.now) (stop_status stop.now) (object_of (N.held notes.old) (N.faults notes.old)) (object_of (N.held notes.new) (N.faults notes.new)) result }
 {
-    let mut line = Vec::new(alloc);
-    match put_stop(&mut line, &stop) {
-        Ok(()) => {}
-        Err(_) => return Status::NoMemory,
-    }
-    match write_all_to(notes, line.as_slice()) {
+    let mut chunk = Chunk::new();
+    put_stop(&mut chunk, notes, stop);
+    match chunk.finish(notes) {
         Ok(()) => stop.status(),
-        Err(_) => Status::WriteFault,
+        Err(WriteFault) => Status::WriteFault,
     }
 }
 
-/// Appends the line that a stop is noted by.
-fn put_stop(out: &mut Vec<u8>, stop: &Stop) -> Result<(), NoMem>
-    ensures { Puts result out.old.items out.new.items (stop_line stop.now) }
+/// Writes the line that a stop is noted by.
+fn put_stop<N: Sink>(chunk: &mut Chunk, notes: &mut N, stop: &Stop)
+    ensures { Writes (output (N.held notes.old) (N.faults notes.old) chunk.old)
+        (output (N.held notes.new) (N.faults notes.new) chunk.new) (stop_line stop.now) }
 {
     match stop {
-        Stop::Usage => put(
-            out,
+        Stop::Usage => chunk.put(
+            notes,
             b"{\"usage\":\"sbe check compat dump build fixcheck tofix tosbe selftest\"}\n",
         ),
-        Stop::FileFault => put(out, b"{\"fault\":\"File\",\"file\":\"schema\"}\n"),
-        Stop::Refused(refusal) => put_refusal(out, refusal),
-        Stop::ReadFault(at) => put_at(out, b"{\"fault\":\"Read\",\"at\":", *at),
-        Stop::EndInside(held, at) => put_fault(out, b"EndInside", *at, *held),
-        Stop::Head(fault, at) => put_head_fault(out, *fault, *at),
-        Stop::InputLimit(limit) => put_at(out, b"{\"limit\":\"Input\",\"at\":", *limit),
+        Stop::FileFault(role) => put_file_fault(chunk, notes, *role),
+        Stop::Refused(file) => put_refusal(chunk, notes, file),
+        Stop::ReadFault(at) => put_at(chunk, notes, b"{\"fault\":\"Read\",\"at\":", *at),
+        Stop::EndInside(held, at) => put_fault(chunk, notes, b"EndInside", *at, *held),
+        Stop::Head(fault, at) => put_head_fault(chunk, notes, *fault, *at),
+        Stop::InputLimit(limit) => { put_at(chunk, notes, b"{\"limit\":\"Input\",\"at\":", *limit) }
     }
 }
 
-fn put_at(out: &mut Vec<u8>, front: &[u8], at: u64) -> Result<(), NoMem>
-    ensures { Puts result out.old.items out.new.items (at_line front.now at) }
+fn put_file_fault<N: Sink>(chunk: &mut Chunk, notes: &mut N, role: FileRole)
+    ensures { Writes (output (N.held notes.old) (N.faults notes.old) chunk.old)
+        (output (N.held notes.new) (N.faults notes.new) chunk.new) (stop_line (stop.FileFault role)) }
 {
-    put(out, front)?;
-    put_count(out, at)?;
-    put(out, b"}\n")
+    chunk.put(notes, b"{\"fault\":\"File\",\"file\":\"");
+    put_role(chunk, notes, role);
+    chunk.put(notes, b"\"}\n");
 }
 
-fn put_head_fault(out: &mut Vec<u8>, fault: HeadErr, at: u64) -> Result<(), NoMem>
-    ensures { Puts result out.old.items out.new.items (head_line fault at) }
+fn put_at<N: Sink>(chunk: &mut Chunk, notes: &mut N, front: &[u8], at: u64)
+    ensures { Writes (output (N.held notes.old) (N.faults notes.old) chunk.old)
+        (output (N.held notes.new) (N.faults notes.new) chunk.new) (at_line front.now at) }
+{
+    chunk.put(notes, front);
+    put_count(chunk, notes, at);
+    chunk.put(notes, b"}\n");
+}
+
+fn put_head_fault<N: Sink>(chunk: &mut Chunk, notes: &mut N, fault: HeadErr, at: u64)
+    ensures { Writes (output (N.held notes.old) (N.faults notes.old) chunk.old)
+        (output (N.held notes.new) (N.faults notes.new) chunk.new) (head_line fault at) }
 {
     match fault {
-        HeadErr::HeadShort => put_fault(out, b"HeadShort", at, 0),
-        HeadErr::LengthShort(length) => put_fault(out, b"LengthShort", at, length as u64),
-        HeadErr::LengthOver(length) => put_fault(out, b"LengthOver", at, length as u64),
-        HeadErr::Encoding(encoding) => put_fault(out, b"Encoding", at, encoding as u64),
+        HeadErr::HeadShort => put_fault(chunk, notes, b"HeadShort", at, 0),
+        HeadErr::LengthShort(length) => put_fault(chunk, notes, b"LengthShort", at, length as u64),
+        HeadErr::LengthOver(length) => put_fault(chunk, notes, b"LengthOver", at, length as u64),
+        HeadErr::Encoding(encoding) => put_fault(chunk, notes, b"Encoding", at, encoding as u64),
     }
 }
 
-fn put_fault(out: &mut Vec<u8>, name: &[u8], at: u64, number: u64) -> Result<(), NoMem>
-    ensures { Puts result out.old.items out.new.items (fault_line name.now at number) }
+fn put_fault<N: Sink>(chunk: &mut Chunk, notes: &mut N, name: &[u8], at: u64, number: u64)
+    ensures { Writes (output (N.held notes.old) (N.faults notes.old) chunk.old)
+        (output (N.held notes.new) (N.faults notes.new) chunk.new) (fault_line name.now at number) }
 {
-    put(out, b"{\"framing\":\"")?;
-    put(out, name)?;
-    put(out, b"\",\"at\":")?;
-    put_count(out, at)?;
-    put(out, b",\"number\":")?;
-    put_count(out, number)?;
-    put(out, b"}\n")
+    chunk.put(notes, b"{\"framing\":\"");
+    chunk.put(notes, name);
+    chunk.put(notes, b"\",\"at\":");
+    put_count(chunk, notes, at);
+    chunk.put(notes, b",\"number\":");
+    put_count(chunk, notes, number);
+    chunk.put(notes, b"}\n");
 }

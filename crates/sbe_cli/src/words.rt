@@ -1,11 +1,14 @@
 ghost use Rattle.std.specs.Prelude.{◌≡◌, map, string_bytes, IfOk};
-ghost use Rattle.sbe_cli.specs.Words.{Says, HasLimits, check_of, command_of, dump_of, limits_of, said_by};
+ghost use Rattle.std.specs.List.{list_all};
+ghost use Rattle.sbe_cli.specs.Words.{Says, HasLimits, check_of, command_of, dump_of, is_file_name, limits_of, names_given, said_by, values_of};
 
 mod forms;
 mod options;
 
+use forms::names_file;
 pub use forms::{FORMS, Form, Row};
-use options::{FRAME_RANGE, INPUT_RANGE, MAX_FRAME, MAX_INPUT, number_given};
+use lists::{List, NoMem};
+use options::{ALSO, FRAME_RANGE, INPUT_RANGE, MAX_FRAME, MAX_INPUT, MOST_ALSO, number_given};
 use sbe_base::Limits;
 use std::alloc::Global;
 use std::marker::Model;
@@ -25,7 +28,18 @@ impl Model for Name {
     ghost view = { λ name. string_bytes name.text };
 }
 
+/// Names of files, in the order of the words.
+pub type NameList = List<Name>;
+
 impl Name {
+    /// The name that is this text.
+    fn new(alloc: Global, text: &str) -> Result<Name, NoMem>
+        ensures { IfOk result (λ name. name ≡ text.now) }
+    {
+        let text = String::from_str(alloc, text)?;
+        Ok(Name { text })
+    }
+
     /// The name as text.
     pub fn as_str(&self) -> &str
         ensures { result.now ≡ self.now }
@@ -38,9 +52,15 @@ impl Name {
 #[derive(Drop)]
 pub enum Command {
     /// Prints a line for each message of a schema that is in order.
-    Check { schema: Name },
-    /// Prints a line for each frame of the input.
-    Dump { schema: Name, limits: Limits },
+    Check {
+        schema: Name,
+    },
+    /// Prints a line for each frame of the input, by the schema that its message names.
+    Dump {
+        schema: Name,
+        also: NameList,
+        limits: Limits,
+    },
 }
 
 /// Why words are no command.
@@ -88,10 +108,9 @@ fn read_check(alloc: Global, words: &[String]) -> Result<Command, WordsErr>
     let [_, schema] = words else {
         return Err(WordsErr::Usage);
     };
-    let Ok(text) = String::from_str(alloc, schema.as_str()) else {
+    let Ok(schema) = Name::new(alloc, schema.as_str()) else {
         return Err(WordsErr::Memory);
     };
-    let schema = Name { text };
     Ok(Command::Check { schema })
 }
 
@@ -105,11 +124,18 @@ fn read_dump(alloc: Global, words: &[String]) -> Result<Command, WordsErr>
     let Some(limits) = read_limits(options) else {
         return Err(WordsErr::Usage);
     };
-    let Ok(text) = String::from_str(alloc, schema.as_str()) else {
+    let also = match names_given(alloc, ALSO, MOST_ALSO, options) {
+        Ok(also) => also,
+        Err(e) => return Err(e),
+    };
+    let Ok(schema) = Name::new(alloc, schema.as_str()) else {
         return Err(WordsErr::Memory);
     };
-    let schema = Name { text };
-    Ok(Command::Dump { schema, limits })
+    Ok(Command::Dump {
+        schema,
+        also,
+        limits,
+    })
 }
 
 /// The limits that options give.
@@ -122,4 +148,45 @@ fn read_limits(options: &[String]) -> Option<Limits>
         frame: frame as usize,
         input,
     })
+}
+
+/// The names of files that options give one of them, which may stand so often.
+fn names_given(
+    alloc: Global,
+    option: &str,
+    most: usize,
+    options: &[String],
+) -> Result<NameList, WordsErr>
+    ensures { Says result (names_given option.now most (map (λ word. string_bytes word) options.now)) }
+{
+    let Ok(names) = values_of(alloc, option, options) else {
+        return Err(WordsErr::Memory);
+    };
+    if names.len() <= most && are_file_names(names.as_slice()) {
+        Ok(names)
+    } else {
+        Err(WordsErr::Usage)
+    }
+}
+
+/// Whether each of these may name a file.
+fn are_file_names(names: &[Name]) -> bool
+    ensures { result ≡ list_all is_file_name names.now }
+{
+    names.iter().all(|name| names_file(name.as_str()))
+}
+
+/// All values that options give one of them.
+fn values_of(alloc: Global, option: &str, options: &[String]) -> Result<NameList, NoMem>
+    ensures { IfOk result (λ names. names ≡ values_of option.now (map (λ word. string_bytes word) options.now)) }
+{
+    let mut names = List::new(alloc);
+    let mut left = options;
+    while let [word, value, rest @ ..] = left {
+        if word.as_str() == option {
+            names.push(Name::new(alloc, value.as_str())?)?;
+        }
+        left = rest;
+    }
+    Ok(names)
 }

@@ -70,13 +70,64 @@ fn reads_a_dump(rt: HostRuntime) -> Result<(), Fail> {
     for (texts, frame, input) in rows {
         let command = command_of(rt.alloc(), texts)?;
         match &command {
-            Command::Dump { schema, limits } => {
+            Command::Dump { schema, limits, .. } => {
                 assert_eq!(rt; schema.as_str(), "S");
                 assert_eq!(rt; *limits, Limits { frame, input }, "{texts:?}");
             }
             Command::Check { .. } => assert!(rt; false, "{texts:?}"),
         }
     }
+    Ok(())
+}
+
+#[test]
+fn reads_further_schemas(rt: HostRuntime) -> Result<(), Fail> {
+    let rows: [(&[&str], &[&str]); 3] = [
+        (&["dump", "S", "--also", "T"], &["T"]),
+        (
+            &[
+                "dump",
+                "S",
+                "--also",
+                "T",
+                "--max-frame",
+                "64",
+                "--also",
+                "S",
+            ],
+            &["T", "S"],
+        ),
+        (&["dump", "S", "--also", "-"], &["-"]),
+    ];
+    for (texts, names) in rows {
+        let command = command_of(rt.alloc(), texts)?;
+        match &command {
+            Command::Dump { also, .. } => {
+                assert_eq!(rt; also.len(), names.len(), "{texts:?}");
+                for i in 0..names.len().min(also.len()) {
+                    assert_eq!(rt; also.at(i).as_str(), names[i], "{texts:?}");
+                }
+            }
+            Command::Check { .. } => assert!(rt; false, "{texts:?}"),
+        }
+    }
+    Ok(())
+}
+
+#[test]
+fn takes_fifteen_further_schemas(rt: HostRuntime) -> Result<(), Fail> {
+    let alloc = rt.alloc();
+    let mut texts = vec![in alloc; "dump", "S"]?;
+    for _ in 0..15u32 {
+        texts.push("--also")?;
+        texts.push("T")?;
+    }
+    let fifteen = words_of(alloc, texts.as_slice())?;
+    assert!(rt; read_words(alloc, fifteen.as_slice()).is_ok());
+    texts.push("--also")?;
+    texts.push("T")?;
+    let sixteen = words_of(alloc, texts.as_slice())?;
+    assert!(rt; read_words(alloc, sixteen.as_slice()).is_err());
     Ok(())
 }
 
@@ -120,7 +171,7 @@ fn names_a_file(rt: HostRuntime) -> Result<(), Fail> {
 
 #[test]
 fn refuses_other_words(rt: HostRuntime) -> Result<(), Fail> {
-    let rows: [&[&str]; 52] = [
+    let rows: [&[&str]; 56] = [
         &[],
         &[""],
         &["dump"],
@@ -174,6 +225,10 @@ fn refuses_other_words(rt: HostRuntime) -> Result<(), Fail> {
         &["dump", "S", "--max-frame=", "64"],
         &["dump", "S", "--max\u{2010}frame", "64"],
         &["dump", "S", "-max-frame", "64"],
+        &["dump", "S", "--also"],
+        &["dump", "S", "--also", ""],
+        &["dump", "S", "--also", "--T"],
+        &["check", "S", "--also", "T"],
         &["dump", "S", "--begin", "FIX.4.4"],
         &["dump", "S", "--seq", "1"],
         &["check"],

@@ -1,7 +1,11 @@
-use super::{FRAME, LINE, REFUSED, TWICE, Trial, expect, sample};
+use super::{FRAME, LINE, TWICE, Trial, expect, sample};
 use sbe_base::Status;
 use std::alloc::Global;
 use std::test::Fail;
+
+/// The line of a body of zeros, which names no schema.
+const NO_SCHEMA: &[u8] =
+    b"{\"refused\":\"F02\",\"item\":0,\"offset\":4,\"path\":\"\",\"detail\":\"0\"}\n";
 
 #[test]
 fn keeps_the_limit_of_a_frame(rt: HostRuntime) -> Result<(), Fail> {
@@ -16,7 +20,7 @@ fn keeps_the_limit_of_a_frame(rt: HostRuntime) -> Result<(), Fail> {
     let over = b"{\"framing\":\"LengthOver\",\"at\":0,\"number\":16777216}\n";
     expect(&rt, alloc, &trial, Status::FramingRefused, b"", over)?;
     let rows: [(&str, Status, &[u8], &[u8]); 2] = [
-        ("16777216", Status::SomeRefused, REFUSED, b""),
+        ("16777216", Status::SomeRefused, NO_SCHEMA, b""),
         ("16777215", Status::FramingRefused, b"", over),
     ];
     for (limit, status, output, notes) in rows {
@@ -90,7 +94,7 @@ fn ends_at_the_limit_of_the_input(rt: HostRuntime) -> Result<(), Fail> {
     let mut lines = String::new(alloc);
     for i in 0..256usize {
         let line = format!(in alloc;
-            "{{\"refused\":\"F00\",\"item\":{i},\"offset\":null,\"path\":\"\",\"detail\":\"\"}}\n"
+            "{{\"refused\":\"F02\",\"item\":{i},\"offset\":4,\"path\":\"\",\"detail\":\"0\"}}\n"
         )?;
         lines.push_str(line.as_str())?;
     }

@@ -3,7 +3,7 @@ ghost use Rattle.std.specs.List.{list_all, list_any};
 ghost use Rattle.std.specs.Str.{bytes_eq};
 ghost use Rattle.sbe_cli.specs.Words.{FormRow, fits, row_of, are_options, is_file_name};
 
-use crate::words::options::{MAX_FRAME, MAX_INPUT};
+use crate::words::options::{ALSO, MAX_FRAME, MAX_INPUT};
 use std::marker::Model;
 
 /// A form that words may have.
@@ -11,7 +11,7 @@ use std::marker::Model;
 pub enum Form {
     /// `check S`
     Check,
-    /// `dump S`
+    /// `dump S`, with further schemas
     Dump,
 }
 
@@ -51,7 +51,7 @@ impl Form {
             Form::Dump => Row {
                 word: "dump",
                 files: 1,
-                options: &[MAX_FRAME, MAX_INPUT],
+                options: &[MAX_FRAME, MAX_INPUT, ALSO],
             },
         }
     }
@@ -109,7 +109,7 @@ fn are_file_names(words: &[String]) -> bool
 }
 
 /// Whether a word may name a file.
-fn names_file(word: &str) -> bool
+pub fn names_file(word: &str) -> bool
     ensures { result ≡ is_file_name word.now }
 {
     let bytes = word.as_bytes();

@@ -7,6 +7,12 @@ pub const MAX_FRAME: &str = "--max-frame";
 /// The option for the most bytes of the input.
 pub const MAX_INPUT: &str = "--max-input";
 
+/// The option for a further schema.
+pub const ALSO: &str = "--also";
+
+/// How often it may stand.
+pub const MOST_ALSO: usize = 15;
+
 /// Which numbers an option takes.
 pub struct NumberRange {
     pub least: u64,

@@ -5,4 +5,4 @@ pub returns-in-Ok-clause-loads : goal.returns-in-Ok-clause-loads
 returns-in-Ok-clause-loads g c = check_loaded _ _ c.in-Ok.schema c.in-Ok.ensures.loads
 
 pub returns-in-Err-clause-loads : goal.returns-in-Err-clause-loads
-returns-in-Err-clause-loads g c = check_stopped _ _ c.in-Err.stop c.in-Err.ensures.loads
+returns-in-Err-clause-loads g c = rw c.of.ensures (check_stopped _ _ c.in-Err.stop c.in-Err.ensures.loads)

@@ -1,7 +1,9 @@
 use Rattle.std.proofs.Common.{refl, Err, []}
 use Rattle.json_elements.specs.declared.refusal.Cause.TheVariants.{Xml}
+use Rattle.sbe_cli.specs.Judged.{refused_as}
 use Rattle.sbe_cli.specs.declared.files.FileRefusal.TheVariants.{Unread}
+use Rattle.sbe_cli.specs.declared.files.FileRole.TheVariants as role
 use Rattle.sbe_cli.proofs.rows.xml_schema.Goals as goal
 
 pub returns : goal.returns
-returns c = λ input. (Err (Unread Xml []), refl, refl)
+returns c = λ input. (Err (refused_as role.Schema (Unread Xml [])), (Unread Xml [], refl, refl), refl)

@@ -1,5 +1,5 @@
 use Rattle.std.proofs.Common.{subst}
-use Rattle.sbe_cli.specs.Report.{schema_in}
+use Rattle.sbe_cli.specs.Judged.{schema_in}
 use Rattle.sbe_cli.specs.Files.{Reads}
 use Rattle.sbe_cli.proofs.Loading.{checked_loaded}
 use Rattle.sbe_cli.proofs.schema_file.load_checked.Goals as goal

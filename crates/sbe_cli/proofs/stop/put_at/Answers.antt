@@ -1,5 +1,5 @@
-use Rattle.sbe_cli.proofs.Texts.{then_put}
+use Rattle.tree_json.proofs.Written.{then_writes}
 use Rattle.sbe_cli.proofs.stop.put_at.Goals as goal
 
 pub returns : goal.returns
-returns c = then_put c.in_ok-put.ensures (then_put c.in_ok-put_count.ensures c.put-2.ensures)
+returns g c = then_writes c.put.ensures (then_writes c.put_count.ensures c.put-2.ensures)

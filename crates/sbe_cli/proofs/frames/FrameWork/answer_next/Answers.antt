@@ -8,18 +8,18 @@ use Rattle.sbe_cli.proofs.frames.FrameWork.answer_next.Goals as goal
 pub returns-in-Ok-clause-answers : goal.returns-in-Ok-clause-answers
 returns-in-Ok-clause-answers g c =
     let before : Streams = record { input = record { told = g.I.Source.left c.args.input.now; faults = g.I.Source.faults c.args.input.now }; sinks = record { output = record { told = g.O.Sink.held c.args.output.now; faults = g.O.Sink.faults c.args.output.now }; notes = record { told = g.N.Sink.held c.args.notes.now; faults = g.N.Sink.faults c.args.notes.now } } } in
-    let after : Streams = record { input = record { told = g.I.Source.left c.take.new.input; faults = g.I.Source.faults c.take.new.input }; sinks = record { output = record { told = g.O.Sink.held c.answer.new.output; faults = g.O.Sink.faults c.answer.new.output }; notes = record { told = g.N.Sink.held c.answer.new.notes; faults = g.N.Sink.faults c.answer.new.notes } } } in
+    let after : Streams = record { input = record { told = g.I.Source.left c.take.new.input; faults = g.I.Source.faults c.take.new.input }; sinks = record { output = record { told = g.O.Sink.held c.answer.new.output; faults = g.O.Sink.faults c.answer.new.output }; notes = record { told = g.N.Sink.held c.args.notes.now; faults = g.N.Sink.faults c.args.notes.now } } } in
     let takes = rw c.in-Ok-Frame.field-0-is at (c.in-Ok-Frame.ensures.takes c.requires.stands.runs) in
     let size = (rw c.in-Ok-Frame.field-0-is at c.in-Ok-Frame.ensures.body).0 in
-    went c.args.self.now.job c.args.self.now.limits c.args.kept before after c.args.self.now.stream c.take.new.self c.requires.stands c.in-Ok-Frame.head takes size c.requires.ready c.in-Ok.verdict c.in-Ok.ensures c.in-Ok-Frame.ensures.cause
+    went c.args.self.now.job c.args.self.now.limits c.args.kept before after c.args.self.now.stream c.take.new.self c.requires.stands c.in-Ok-Frame.head takes size c.requires.ready c.in-Ok.verdict c.in-Ok.ensures refl c.in-Ok-Frame.ensures.cause
 
 pub returns-in-Err-clause-answers : goal.returns-in-Err-clause-answers
 returns-in-Err-clause-answers g c =
     let before : Streams = record { input = record { told = g.I.Source.left c.args.input.now; faults = g.I.Source.faults c.args.input.now }; sinks = record { output = record { told = g.O.Sink.held c.args.output.now; faults = g.O.Sink.faults c.args.output.now }; notes = record { told = g.N.Sink.held c.args.notes.now; faults = g.N.Sink.faults c.args.notes.now } } } in
-    let after : Streams = record { input = record { told = g.I.Source.left c.take.new.input; faults = g.I.Source.faults c.take.new.input }; sinks = record { output = record { told = g.O.Sink.held c.answer.new.output; faults = g.O.Sink.faults c.answer.new.output }; notes = record { told = g.N.Sink.held c.answer.new.notes; faults = g.N.Sink.faults c.answer.new.notes } } } in
+    let after : Streams = record { input = record { told = g.I.Source.left c.take.new.input; faults = g.I.Source.faults c.take.new.input }; sinks = record { output = record { told = g.O.Sink.held c.answer.new.output; faults = g.O.Sink.faults c.answer.new.output }; notes = record { told = g.N.Sink.held c.args.notes.now; faults = g.N.Sink.faults c.args.notes.now } } } in
     let takes = rw c.in-Ok-Frame.field-0-is at (c.in-Ok-Frame.ensures.takes c.requires.stands.runs) in
     let size = (rw c.in-Ok-Frame.field-0-is at c.in-Ok-Frame.ensures.body).0 in
-    stopped c.args.self.now.job c.args.self.now.limits c.args.kept before after c.args.self.now.stream c.take.new.self c.requires.stands c.in-Ok-Frame.head takes size c.requires.ready c.in-Err.status c.in-Err.ensures
+    stopped c.args.self.now.job c.args.self.now.limits c.args.kept before after c.args.self.now.stream c.take.new.self c.requires.stands c.in-Ok-Frame.head takes size c.requires.ready c.in-Err.field-0 c.in-Err.ensures refl
 
 pub returns-in-Ok-End-clause-answers : goal.returns-in-Ok-End-clause-answers
 returns-in-Ok-End-clause-answers g c =

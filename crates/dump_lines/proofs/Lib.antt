@@ -1,0 +1,4 @@
+pub mod Written
+pub mod Finding
+pub mod Ways
+pub mod Answered

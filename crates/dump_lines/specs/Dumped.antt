@@ -1,0 +1,111 @@
+-- What a frame is answered. Own profile.
+use Rattle.std.specs.Prelude.{◌≡◌, ◌≢◌, ℕ, ◌==◌, Bool, true, false, if◌then◌else◌, Some, Result, Ok, Err, List, [], ◌∷◌, ◌++◌, codes, decimal}
+use Rattle.std.specs.List.{AllByRecursion}
+use Rattle.sbe_base.specs.declared.stream.WriteFault.{WriteFault}
+use Rattle.sbe_types.specs.declared.kind.Order.{Order}
+use Rattle.sbe_types.specs.declared.kind.Order.TheVariants.{Little, Big}
+use Rattle.sbe_types.specs.declared.schema.WireSchema.{WireSchema}
+use Rattle.sbe_types.specs.declared.message.Msg.{Msg}
+use Rattle.sbe_wire.specs.Faults.{Fault, FirstFault}
+use Rattle.sbe_wire.specs.Lays.{Lays}
+use Rattle.sbe_wire.specs.Reading.{message_of}
+use Rattle.open_framing.specs.Frames.{Item}
+use Rattle.open_framing.specs.declared.head.TheConstants.{SBE_LITTLE, SBE_BIG}
+use Rattle.schema_facts.specs.IsChecked.{IsChecked}
+use Rattle.layout_compile.specs.Writes.{Outlet, Writes}
+use Rattle.serde_json.specs.Written.{compact_text}
+use Rattle.flyweight_view.specs.Seen.{SeenMessage}
+use Rattle.tree_json.specs.Lines.{line_of, message_at}
+use Rattle.dump_lines.specs.Chosen.{schema_for}
+use Rattle.dump_lines.specs.Refused.{refused_line, of_encoding, of_fault, message_meant, IsWay}
+use Rattle.dump_lines.specs.declared.schemas.Schemas.{Schemas}
+
+-- the encoding type of frames whose messages have that byte order
+abbrev pub encoding_of : Order → ℕ
+encoding_of Little = SBE_LITTLE
+encoding_of Big = SBE_BIG
+
+-- ---- the line of a message
+
+-- the line of a message that is seen
+abbrev pub seen_line : SeenMessage → List ℕ
+seen_line seen = compact_text (message_at (Some seen.level) seen.message)
+
+-- what stands before a message: its schema's id, where there are several schemas
+abbrev pub before_message : List WireSchema → ℕ → List ℕ
+before_message [] id = []
+before_message (other ∷ more) id = codes "{\"schema\":" ++ (decimal id ++ codes ",\"message\":")
+
+-- what stands behind it
+abbrev pub behind_message : List WireSchema → List ℕ
+behind_message [] = codes "\n"
+behind_message (other ∷ more) = codes "}\n"
+
+-- the line of a message of one of the schemas
+abbrev pub message_line : Schemas → WireSchema → Msg → List ℕ
+message_line schemas schema m = before_message schemas.also schema.id ++ (line_of schema m ++ behind_message schemas.also)
+
+-- ---- the answer
+
+-- A frame of another encoding type than the schemas' is refused. Else the body is answered by the line of the message that it is, or refused at its first fault.
+pub data IsDumped (schemas : Schemas) (number : ℕ) (item : Item) (line : List ℕ) (is_message : Bool) : Type 0 where
+  other_encoding : item.encoding ≢ encoding_of schemas.first.order → line ≡ refused_line number (of_encoding item.encoding) → is_message ≡ false
+      → IsDumped schemas number item line is_message
+  a_message : item.encoding ≡ encoding_of schemas.first.order → (m : Msg) → Lays (schema_for schemas item.body) m item.body
+      → line ≡ message_line schemas (schema_for schemas item.body) m → is_message ≡ true → IsDumped schemas number item line is_message
+  a_fault : item.encoding ≡ encoding_of schemas.first.order → (fault : Fault) → FirstFault (schema_for schemas item.body) fault item.body
+      → line ≡ refused_line number (of_fault (schema_for schemas item.body) item.body fault) → is_message ≡ false → IsDumped schemas number item line is_message
+
+-- ---- the same by reading
+
+-- a line, and whether it shows a message
+pub record Answer : Type 0 where
+  pub line : List ℕ
+  pub is_message : Bool
+
+-- a refused item
+abbrev pub refusal : List ℕ → Answer
+refusal line = record { line = line; is_message = false }
+
+-- the answer to a body that is read so
+abbrev pub answer_by : Schemas → WireSchema → Item → ℕ → Result Msg Fault → Answer
+answer_by schemas schema item number (Ok m) = record { line = message_line schemas schema m; is_message = true }
+answer_by schemas schema item number (Err fault) = refusal (refused_line number (of_fault schema item.body fault))
+
+-- the answer to a body of the right encoding type
+abbrev pub body_answer : Schemas → WireSchema → Item → ℕ → Answer
+body_answer schemas schema item number = answer_by schemas schema item number (message_of schema item.body)
+
+-- the answer to a frame
+abbrev pub dumped : Schemas → ℕ → Item → Answer
+dumped schemas number item =
+    if item.encoding == encoding_of schemas.first.order
+    then body_answer schemas (schema_for schemas item.body) item number
+    else refusal (refused_line number (of_encoding item.encoding))
+
+-- the answer was written, or a front of it and a write failed
+abbrev pub Answers : Answer → Outlet → Outlet → Result Bool WriteFault → Type 0
+Answers answer before after (Ok is_message) = Writes before after answer.line (Ok tt) × (is_message ≡ answer.is_message)
+Answers answer before after (Err e) = Writes before after answer.line (Err e)
+
+-- ---- schemas in order
+
+-- each of the schemas is in order
+abbrev pub AreInOrder : Schemas → Type 0
+AreInOrder schemas = IsChecked schemas.first × AllByRecursion IsChecked schemas.also
+
+-- ---- laws
+
+-- the reader's answer to each frame is an answer
+abbrev pub IsAnswered : Type 0
+IsAnswered = (schemas : Schemas) (number : ℕ) (item : Item) → AreInOrder schemas → IsDumped schemas number item (dumped schemas number item).line (dumped schemas number item).is_message
+
+-- a frame has no two answers
+abbrev pub IsAnsweredOnce : Type 0
+IsAnsweredOnce =
+    (schemas : Schemas) (number : ℕ) (item : Item) (x y : List ℕ) (p q : Bool) → AreInOrder schemas → IsDumped schemas number item x p → IsDumped schemas number item y q
+    → (x ≡ y) × (p ≡ q)
+
+-- the way of a first fault leads to a part of its message
+abbrev pub FaultsHaveWays : Type 0
+FaultsHaveWays = (schema : WireSchema) (fault : Fault) (body : List ℕ) → FirstFault schema fault body → IsWay schema (message_meant schema body) fault.path

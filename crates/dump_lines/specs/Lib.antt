@@ -1,0 +1,3 @@
+pub mod Chosen
+pub mod Refused
+pub mod Dumped

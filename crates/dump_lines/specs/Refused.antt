@@ -1,0 +1,87 @@
+-- The line of an item that is refused. Own profile.
+use Rattle.std.specs.Prelude.{◌≡◌, ℕ, ◌/◌, ◌%◌, Option, Some, None, List, [], ◌∷◌, ◌++◌, codes, decimal}
+use Rattle.std.specs.Fmt.{signed_decimal}
+use Rattle.std.specs.Result.{result_ok}
+use Rattle.hex.specs.Hex.{encode_lower}
+use Rattle.sbe_types.specs.declared.path.Step.{Step}
+use Rattle.sbe_types.specs.declared.schema.WireSchema.{WireSchema}
+use Rattle.sbe_wire.specs.declared.codes.FCode.{FCode}
+use Rattle.sbe_wire.specs.declared.codes.FCode.TheVariants.{ShortHeader, SchemaId, Template, BlockShort, Truncated, Range, EnumUnknown, SetUnknown, TextByte, Count, Length, Trailing}
+use Rattle.sbe_wire.specs.Faults.{Fault}
+use Rattle.layout_compile.specs.Paths.{IsPathOf, path_text}
+use Rattle.flyweight_view.specs.Heads.{template_told}
+
+-- why an item is refused: a code, the byte of the body where there is one, the way to the part, and a number
+pub record Refused : Type 0 where
+  pub code : List ℕ
+  pub offset : Option ℕ
+  pub path : List ℕ
+  pub detail : List ℕ
+
+-- a place, or null
+abbrev pub offset_text : Option ℕ → List ℕ
+offset_text None = codes "null"
+offset_text (Some at) = decimal at
+
+-- the line up to the path
+abbrev pub front_text : ℕ → List ℕ → Option ℕ → List ℕ
+front_text item code offset =
+    codes "{\"refused\":\"" ++ (code ++ (codes "\",\"item\":" ++ (decimal item ++ (codes ",\"offset\":" ++ (offset_text offset ++ codes ",\"path\":\"")))))
+
+-- the line behind the path
+abbrev pub back_text : List ℕ → List ℕ
+back_text detail = codes "\",\"detail\":\"" ++ (detail ++ codes "\"}\n")
+
+-- the line of an item that is refused, counted from 0
+abbrev pub refused_line : ℕ → Refused → List ℕ
+refused_line item why = front_text item why.code why.offset ++ (why.path ++ back_text why.detail)
+
+-- ---- a frame of another encoding type
+
+-- the four digits to the base 16 of an encoding type
+abbrev pub type_text : ℕ → List ℕ
+type_text encoding = encode_lower (encoding / 256 ∷ encoding % 256 ∷ [])
+
+-- the encoding type isn't that of the schema
+abbrev pub of_encoding : ℕ → Refused
+of_encoding encoding = record { code = codes "E01"; offset = None; path = []; detail = type_text encoding }
+
+-- ---- a body that is no message
+
+-- the code of a fault
+abbrev pub fault_code : FCode → List ℕ
+fault_code ShortHeader = codes "F01"
+fault_code SchemaId = codes "F02"
+fault_code Template = codes "F03"
+fault_code BlockShort = codes "F04"
+fault_code Truncated = codes "F05"
+fault_code Range = codes "F06"
+fault_code EnumUnknown = codes "F07"
+fault_code SetUnknown = codes "F08"
+fault_code TextByte = codes "F09"
+fault_code Count = codes "F10"
+fault_code Length = codes "F11"
+fault_code Trailing = codes "F12"
+
+-- the message that the header of a body names, if it names one of the schema
+abbrev pub message_meant : WireSchema → List ℕ → Option ℕ
+message_meant schema body = result_ok (template_told schema body)
+
+-- the text of a path of that message; without a message there is none
+abbrev pub way_text : WireSchema → Option ℕ → List Step → List ℕ
+way_text schema None steps = []
+way_text schema (Some template) steps = path_text schema template steps
+
+-- the steps lead from the root of that message to one of its parts
+abbrev pub IsWay : WireSchema → Option ℕ → List Step → Type 0
+IsWay schema None steps = Unit {0}
+IsWay schema (Some template) steps = IsPathOf schema template steps
+
+-- a fault, where the header means that message
+abbrev pub of_fault_in : WireSchema → Option ℕ → Fault → Refused
+of_fault_in schema meant fault =
+    record { code = fault_code fault.code; offset = Some fault.offset; path = way_text schema meant fault.path; detail = signed_decimal fault.detail }
+
+-- a fault of a body
+abbrev pub of_fault : WireSchema → List ℕ → Fault → Refused
+of_fault schema body fault = of_fault_in schema (message_meant schema body) fault

@@ -1,0 +1,14 @@
+//! Laws of the answers.
+
+ghost use Rattle.dump_lines.specs.Dumped.{FaultsHaveWays, IsAnswered, IsAnsweredOnce};
+
+/// Each frame has an answer, and only one.
+pub fn each_frame_has_one_answer()
+    ensures some { IsAnswered }
+    ensures once { IsAnsweredOnce }
+{}
+
+/// The path of a body's first fault leads to a part of the message that its header means.
+pub fn faults_have_ways()
+    ensures { FaultsHaveWays }
+{}

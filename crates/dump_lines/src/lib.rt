@@ -1,0 +1,14 @@
+//! The lines that `dump` answers frames with, and the schemas of its run.
+#![tactic(auto)]
+
+mod codes;
+mod laws;
+mod lines;
+mod refused;
+mod schemas;
+
+pub use codes::encoding_of;
+pub use laws::{each_frame_has_one_answer, faults_have_ways};
+pub use lines::{put_before, put_behind};
+pub use refused::{put_encoding, put_fault};
+pub use schemas::Schemas;
