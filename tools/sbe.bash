@@ -6,7 +6,9 @@ _sbe() {
     elif [ "$COMP_CWORD" -eq 2 ]; then
         COMPREPLY=($(compgen -f -- "$word"))
     elif [ "${COMP_WORDS[1]}" = dump ] && [ $((COMP_CWORD % 2)) -eq 1 ]; then
-        COMPREPLY=($(compgen -W "--max-frame --max-input" -- "$word"))
+        COMPREPLY=($(compgen -W "--also --max-frame --max-input" -- "$word"))
+    elif [ "$before" = --also ]; then
+        COMPREPLY=($(compgen -f -- "$word"))
     fi
 }
 complete -o filenames -F _sbe sbe
