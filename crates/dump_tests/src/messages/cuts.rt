@@ -1,0 +1,293 @@
+//! Bodies cut short: each prefix in a frame of its own, and each prefix of a frame.
+
+use super::File;
+use super::files::{BRIDGE, EVENT, MIX, SIX, TAILS};
+use crate::trial::{Trial, expect, sample};
+use sbe_base::Status;
+use std::alloc::Global;
+use std::process::Abort;
+use std::test::Fail;
+
+/// A body, and what a dump writes for its prefixes in frames of their own, from the empty one to the whole.
+#[derive(Clone, Copy)]
+struct Cut {
+    schema: File,
+    encoding: &'static [u8],
+    body: &'static [u8],
+    lines: &'static str,
+}
+
+/// Two entries, one with a nested group and data.
+const NEST_CUT: Cut = Cut {
+    schema: SIX,
+    encoding: b"\xeb\x50",
+    body: b"\x00\x00\x05\x00\x07\x00\x00\x00\x01\x00\x02\x00\x01\x01\x00\x02\x00\x07\x08\x02\x00\x68\x69\x02\x02\x00\x00\x00\x01\x00\x41",
+    lines: r#"{"refused":"F01","item":0,"offset":0,"path":"","detail":"0"}
+{"refused":"F01","item":1,"offset":0,"path":"","detail":"1"}
+{"refused":"F01","item":2,"offset":0,"path":"","detail":"2"}
+{"refused":"F01","item":3,"offset":0,"path":"","detail":"3"}
+{"refused":"F01","item":4,"offset":0,"path":"","detail":"4"}
+{"refused":"F01","item":5,"offset":0,"path":"","detail":"5"}
+{"refused":"F01","item":6,"offset":0,"path":"","detail":"6"}
+{"refused":"F01","item":7,"offset":0,"path":"","detail":"7"}
+{"refused":"F05","item":8,"offset":8,"path":"legs","detail":"4"}
+{"refused":"F05","item":9,"offset":8,"path":"legs","detail":"4"}
+{"refused":"F05","item":10,"offset":8,"path":"legs","detail":"4"}
+{"refused":"F05","item":11,"offset":8,"path":"legs","detail":"4"}
+{"refused":"F05","item":12,"offset":12,"path":"legs[0]","detail":"1"}
+{"refused":"F05","item":13,"offset":13,"path":"legs[0].subs","detail":"4"}
+{"refused":"F05","item":14,"offset":13,"path":"legs[0].subs","detail":"4"}
+{"refused":"F05","item":15,"offset":13,"path":"legs[0].subs","detail":"4"}
+{"refused":"F05","item":16,"offset":13,"path":"legs[0].subs","detail":"4"}
+{"refused":"F05","item":17,"offset":17,"path":"legs[0].subs[0]","detail":"1"}
+{"refused":"F05","item":18,"offset":18,"path":"legs[0].subs[1]","detail":"1"}
+{"refused":"F05","item":19,"offset":19,"path":"legs[0].note","detail":"2"}
+{"refused":"F05","item":20,"offset":19,"path":"legs[0].note","detail":"2"}
+{"refused":"F05","item":21,"offset":19,"path":"legs[0].note","detail":"4"}
+{"refused":"F05","item":22,"offset":19,"path":"legs[0].note","detail":"4"}
+{"refused":"F05","item":23,"offset":23,"path":"legs[1]","detail":"1"}
+{"refused":"F05","item":24,"offset":24,"path":"legs[1].subs","detail":"4"}
+{"refused":"F05","item":25,"offset":24,"path":"legs[1].subs","detail":"4"}
+{"refused":"F05","item":26,"offset":24,"path":"legs[1].subs","detail":"4"}
+{"refused":"F05","item":27,"offset":24,"path":"legs[1].subs","detail":"4"}
+{"refused":"F05","item":28,"offset":28,"path":"legs[1].note","detail":"2"}
+{"refused":"F05","item":29,"offset":28,"path":"legs[1].note","detail":"2"}
+{"refused":"F05","item":30,"offset":28,"path":"legs[1].note","detail":"3"}
+{"data":{},"fields":{},"groups":{"legs":[{"data":{"note":"hi"},"fields":{"q":1},"groups":{"subs":[{"data":{},"fields":{"s":7},"groups":{}},{"data":{},"fields":{"s":8},"groups":{}}]}},{"data":{"note":"A"},"fields":{"q":2},"groups":{"subs":[]}}]},"template":"Nest","version":0}
+"#,
+};
+
+/// Fields of several kinds, and a group.
+const ORDER_CUT: Cut = Cut {
+    schema: BRIDGE,
+    encoding: b"\xeb\x50",
+    body: b"\x1e\x00\x04\x00\x0a\x00\x00\x00\x4f\x52\x44\x30\x30\x30\x30\x31\x47\x45\x4d\x34\x00\x00\x00\x00\x31\x07\x00\x00\x00\x32\xde\x26\x00\x00\x00\x00\x00\x00\x09\x00\x01\x00\x46\x49\x52\x4d\x00\x00\x00\x00\x01",
+    lines: r#"{"refused":"F01","item":0,"offset":0,"path":"","detail":"0"}
+{"refused":"F01","item":1,"offset":0,"path":"","detail":"1"}
+{"refused":"F01","item":2,"offset":0,"path":"","detail":"2"}
+{"refused":"F01","item":3,"offset":0,"path":"","detail":"3"}
+{"refused":"F01","item":4,"offset":0,"path":"","detail":"4"}
+{"refused":"F01","item":5,"offset":0,"path":"","detail":"5"}
+{"refused":"F01","item":6,"offset":0,"path":"","detail":"6"}
+{"refused":"F01","item":7,"offset":0,"path":"","detail":"7"}
+{"refused":"F05","item":8,"offset":8,"path":"","detail":"30"}
+{"refused":"F05","item":9,"offset":8,"path":"","detail":"30"}
+{"refused":"F05","item":10,"offset":8,"path":"","detail":"30"}
+{"refused":"F05","item":11,"offset":8,"path":"","detail":"30"}
+{"refused":"F05","item":12,"offset":8,"path":"","detail":"30"}
+{"refused":"F05","item":13,"offset":8,"path":"","detail":"30"}
+{"refused":"F05","item":14,"offset":8,"path":"","detail":"30"}
+{"refused":"F05","item":15,"offset":8,"path":"","detail":"30"}
+{"refused":"F05","item":16,"offset":8,"path":"","detail":"30"}
+{"refused":"F05","item":17,"offset":8,"path":"","detail":"30"}
+{"refused":"F05","item":18,"offset":8,"path":"","detail":"30"}
+{"refused":"F05","item":19,"offset":8,"path":"","detail":"30"}
+{"refused":"F05","item":20,"offset":8,"path":"","detail":"30"}
+{"refused":"F05","item":21,"offset":8,"path":"","detail":"30"}
+{"refused":"F05","item":22,"offset":8,"path":"","detail":"30"}
+{"refused":"F05","item":23,"offset":8,"path":"","detail":"30"}
+{"refused":"F05","item":24,"offset":8,"path":"","detail":"30"}
+{"refused":"F05","item":25,"offset":8,"path":"","detail":"30"}
+{"refused":"F05","item":26,"offset":8,"path":"","detail":"30"}
+{"refused":"F05","item":27,"offset":8,"path":"","detail":"30"}
+{"refused":"F05","item":28,"offset":8,"path":"","detail":"30"}
+{"refused":"F05","item":29,"offset":8,"path":"","detail":"30"}
+{"refused":"F05","item":30,"offset":8,"path":"","detail":"30"}
+{"refused":"F05","item":31,"offset":8,"path":"","detail":"30"}
+{"refused":"F05","item":32,"offset":8,"path":"","detail":"30"}
+{"refused":"F05","item":33,"offset":8,"path":"","detail":"30"}
+{"refused":"F05","item":34,"offset":8,"path":"","detail":"30"}
+{"refused":"F05","item":35,"offset":8,"path":"","detail":"30"}
+{"refused":"F05","item":36,"offset":8,"path":"","detail":"30"}
+{"refused":"F05","item":37,"offset":8,"path":"","detail":"30"}
+{"refused":"F05","item":38,"offset":38,"path":"Parties","detail":"4"}
+{"refused":"F05","item":39,"offset":38,"path":"Parties","detail":"4"}
+{"refused":"F05","item":40,"offset":38,"path":"Parties","detail":"4"}
+{"refused":"F05","item":41,"offset":38,"path":"Parties","detail":"4"}
+{"refused":"F05","item":42,"offset":42,"path":"Parties[0]","detail":"9"}
+{"refused":"F05","item":43,"offset":42,"path":"Parties[0]","detail":"9"}
+{"refused":"F05","item":44,"offset":42,"path":"Parties[0]","detail":"9"}
+{"refused":"F05","item":45,"offset":42,"path":"Parties[0]","detail":"9"}
+{"refused":"F05","item":46,"offset":42,"path":"Parties[0]","detail":"9"}
+{"refused":"F05","item":47,"offset":42,"path":"Parties[0]","detail":"9"}
+{"refused":"F05","item":48,"offset":42,"path":"Parties[0]","detail":"9"}
+{"refused":"F05","item":49,"offset":42,"path":"Parties[0]","detail":"9"}
+{"refused":"F05","item":50,"offset":42,"path":"Parties[0]","detail":"9"}
+{"data":{},"fields":{"ClOrdID":"ORD00001","Symbol":"GEM4","Side":"Buy","OrderQty":{"mantissa":7,"exponent":0},"OrdType":"Limit","Price":{"mantissa":9950,"exponent":-2}},"groups":{"Parties":[{"data":{},"fields":{"PartyID":"FIRM","PartyRole":1},"groups":{}}]},"template":"Order","version":0}
+"#,
+};
+
+/// Two groups and two data parts.
+const TAIL_CUT: Cut = Cut {
+    schema: TAILS,
+    encoding: b"\xeb\x50",
+    body: b"\x01\x00\x01\x00\x15\x00\x00\x00\x07\x02\x00\x00\x00\x02\x05\xaa\x06\xbb\x01\x00\x00\x00\x00\x00\x02\x00\x00\xcc\x01\x41\x02\x42\x43\x02\x00\x00\x00\x7a\x7b",
+    lines: r#"{"refused":"F01","item":0,"offset":0,"path":"","detail":"0"}
+{"refused":"F01","item":1,"offset":0,"path":"","detail":"1"}
+{"refused":"F01","item":2,"offset":0,"path":"","detail":"2"}
+{"refused":"F01","item":3,"offset":0,"path":"","detail":"3"}
+{"refused":"F01","item":4,"offset":0,"path":"","detail":"4"}
+{"refused":"F01","item":5,"offset":0,"path":"","detail":"5"}
+{"refused":"F01","item":6,"offset":0,"path":"","detail":"6"}
+{"refused":"F01","item":7,"offset":0,"path":"","detail":"7"}
+{"refused":"F05","item":8,"offset":8,"path":"","detail":"1"}
+{"refused":"F05","item":9,"offset":9,"path":"w","detail":"5"}
+{"refused":"F05","item":10,"offset":9,"path":"w","detail":"5"}
+{"refused":"F05","item":11,"offset":9,"path":"w","detail":"5"}
+{"refused":"F05","item":12,"offset":9,"path":"w","detail":"5"}
+{"refused":"F05","item":13,"offset":9,"path":"w","detail":"5"}
+{"refused":"F05","item":14,"offset":14,"path":"w[0]","detail":"2"}
+{"refused":"F05","item":15,"offset":14,"path":"w[0]","detail":"2"}
+{"refused":"F05","item":16,"offset":16,"path":"w[1]","detail":"2"}
+{"refused":"F05","item":17,"offset":16,"path":"w[1]","detail":"2"}
+{"refused":"F05","item":18,"offset":18,"path":"f","detail":"7"}
+{"refused":"F05","item":19,"offset":18,"path":"f","detail":"7"}
+{"refused":"F05","item":20,"offset":18,"path":"f","detail":"7"}
+{"refused":"F05","item":21,"offset":18,"path":"f","detail":"7"}
+{"refused":"F05","item":22,"offset":18,"path":"f","detail":"7"}
+{"refused":"F05","item":23,"offset":18,"path":"f","detail":"7"}
+{"refused":"F05","item":24,"offset":18,"path":"f","detail":"7"}
+{"refused":"F05","item":25,"offset":25,"path":"f[0]","detail":"1"}
+{"refused":"F05","item":26,"offset":26,"path":"f[0].t","detail":"1"}
+{"refused":"F05","item":27,"offset":27,"path":"f[1]","detail":"1"}
+{"refused":"F05","item":28,"offset":28,"path":"f[1].t","detail":"1"}
+{"refused":"F05","item":29,"offset":28,"path":"f[1].t","detail":"2"}
+{"refused":"F05","item":30,"offset":30,"path":"short","detail":"1"}
+{"refused":"F05","item":31,"offset":30,"path":"short","detail":"3"}
+{"refused":"F05","item":32,"offset":30,"path":"short","detail":"3"}
+{"refused":"F05","item":33,"offset":33,"path":"few","detail":"4"}
+{"refused":"F05","item":34,"offset":33,"path":"few","detail":"4"}
+{"refused":"F05","item":35,"offset":33,"path":"few","detail":"4"}
+{"refused":"F05","item":36,"offset":33,"path":"few","detail":"4"}
+{"refused":"F05","item":37,"offset":33,"path":"few","detail":"6"}
+{"refused":"F05","item":38,"offset":33,"path":"few","detail":"6"}
+{"data":{"short":"BC","few":"z{"},"fields":{"n":7},"groups":{"w":[{"data":{},"fields":{"x":5},"groups":{}},{"data":{},"fields":{"x":6},"groups":{}}],"f":[{"data":{"t":""},"fields":{},"groups":{}},{"data":{"t":"A"},"fields":{},"groups":{}}]},"template":"Tail","version":0}
+"#,
+};
+
+/// A message of a later version, of which some prefixes are messages too.
+const EVENT_CUT: Cut = Cut {
+    schema: EVENT,
+    encoding: b"\xeb\x50",
+    body: b"\x04\x00\x01\x00\x08\x00\x02\x00\x35\x07\x09\x00\x01\x00\x41",
+    lines: r#"{"refused":"F01","item":0,"offset":0,"path":"","detail":"0"}
+{"refused":"F01","item":1,"offset":0,"path":"","detail":"1"}
+{"refused":"F01","item":2,"offset":0,"path":"","detail":"2"}
+{"refused":"F01","item":3,"offset":0,"path":"","detail":"3"}
+{"refused":"F01","item":4,"offset":0,"path":"","detail":"4"}
+{"refused":"F01","item":5,"offset":0,"path":"","detail":"5"}
+{"refused":"F01","item":6,"offset":0,"path":"","detail":"6"}
+{"refused":"F01","item":7,"offset":0,"path":"","detail":"7"}
+{"refused":"F05","item":8,"offset":8,"path":"","detail":"4"}
+{"refused":"F05","item":9,"offset":8,"path":"","detail":"4"}
+{"refused":"F05","item":10,"offset":8,"path":"","detail":"4"}
+{"refused":"F05","item":11,"offset":8,"path":"","detail":"4"}
+{"data":{},"fields":{"e":53,"k":7},"groups":{},"template":"Ev","version":2}
+{"data":{},"fields":{"e":53,"k":7},"groups":{},"template":"Ev","version":2}
+{"data":{},"fields":{"e":53,"k":7},"groups":{},"template":"Ev","version":2}
+{"data":{},"fields":{"e":53,"k":7},"groups":{},"template":"Ev","version":2}
+"#,
+};
+
+/// Big endian fields.
+const MIX_CUT: Cut = Cut {
+    schema: MIX,
+    encoding: b"\x5b\xe0",
+    body: b"\x00\x0e\x00\x01\x00\x0c\x00\x00\xff\xff\xff\x85\xfe\x05\x41\x42\x00\x00\x00\x01\x00\x02",
+    lines: r#"{"refused":"F01","item":0,"offset":0,"path":"","detail":"0"}
+{"refused":"F01","item":1,"offset":0,"path":"","detail":"1"}
+{"refused":"F01","item":2,"offset":0,"path":"","detail":"2"}
+{"refused":"F01","item":3,"offset":0,"path":"","detail":"3"}
+{"refused":"F01","item":4,"offset":0,"path":"","detail":"4"}
+{"refused":"F01","item":5,"offset":0,"path":"","detail":"5"}
+{"refused":"F01","item":6,"offset":0,"path":"","detail":"6"}
+{"refused":"F01","item":7,"offset":0,"path":"","detail":"7"}
+{"refused":"F05","item":8,"offset":8,"path":"","detail":"14"}
+{"refused":"F05","item":9,"offset":8,"path":"","detail":"14"}
+{"refused":"F05","item":10,"offset":8,"path":"","detail":"14"}
+{"refused":"F05","item":11,"offset":8,"path":"","detail":"14"}
+{"refused":"F05","item":12,"offset":8,"path":"","detail":"14"}
+{"refused":"F05","item":13,"offset":8,"path":"","detail":"14"}
+{"refused":"F05","item":14,"offset":8,"path":"","detail":"14"}
+{"refused":"F05","item":15,"offset":8,"path":"","detail":"14"}
+{"refused":"F05","item":16,"offset":8,"path":"","detail":"14"}
+{"refused":"F05","item":17,"offset":8,"path":"","detail":"14"}
+{"refused":"F05","item":18,"offset":8,"path":"","detail":"14"}
+{"refused":"F05","item":19,"offset":8,"path":"","detail":"14"}
+{"refused":"F05","item":20,"offset":8,"path":"","detail":"14"}
+{"refused":"F05","item":21,"offset":8,"path":"","detail":"14"}
+{"data":{},"fields":{"px":{"mantissa":-123,"exponent":-2},"fl":["A","B"],"nm":"AB","ar":[1,2]},"groups":{},"template":"Mix","version":0}
+"#,
+};
+
+const CUTS: [Cut; 5] = [NEST_CUT, ORDER_CUT, TAIL_CUT, EVENT_CUT, MIX_CUT];
+
+/// Adds a frame of these bytes to the input.
+fn push_frame(input: &mut Vec<u8>, encoding: &[u8], body: &[u8]) -> Result<(), Fail> {
+    let Ok(length) = u32::try_from(body.len().saturating_add(6)) else {
+        return Err(Fail::new("too long"));
+    };
+    input.extend_from_slice(&length.to_be_bytes())?;
+    input.extend_from_slice(encoding)?;
+    input.extend_from_slice(body)?;
+    Ok(())
+}
+
+/// Asserts what a dump writes for every prefix of a body.
+fn expect_prefixes(rt: &impl Abort, alloc: Global, cut: &Cut) -> Result<(), Fail> {
+    let schema = cut.schema.text(alloc)?;
+    let mut input = Vec::new(alloc);
+    for end in 0..cut.body.len() {
+        push_frame(&mut input, cut.encoding, &cut.body[..end])?;
+    }
+    push_frame(&mut input, cut.encoding, cut.body)?;
+    let trial = Trial {
+        schema: schema.as_bytes(),
+        input: input.as_slice(),
+        ..sample()
+    };
+    expect(
+        rt,
+        alloc,
+        &trial,
+        Status::SomeRefused,
+        cut.lines.as_bytes(),
+        b"",
+    )
+}
+
+/// Asserts that every proper prefix of a body's frame ends inside it.
+fn expect_ends_inside(rt: &impl Abort, alloc: Global, cut: &Cut) -> Result<(), Fail> {
+    let schema = cut.schema.text(alloc)?;
+    let mut frame = Vec::new(alloc);
+    push_frame(&mut frame, cut.encoding, cut.body)?;
+    for held in 1..frame.len() {
+        let trial = Trial {
+            schema: schema.as_bytes(),
+            input: &frame.as_slice()[..held],
+            ..sample()
+        };
+        let notes = format!(in alloc;
+            "{{\"framing\":\"EndInside\",\"at\":0,\"number\":{held}}}\n"
+        )?;
+        expect(
+            rt,
+            alloc,
+            &trial,
+            Status::FramingRefused,
+            b"",
+            notes.as_bytes(),
+        )?;
+    }
+    Ok(())
+}
+
+#[test]
+fn answers_each_prefix_of_a_body(rt: HostRuntime) -> Result<(), Fail> {
+    let alloc = rt.alloc();
+    for cut in CUTS {
+        expect_prefixes(&rt, alloc, &cut)?;
+        expect_ends_inside(&rt, alloc, &cut)?;
+    }
+    Ok(())
+}

@@ -1,0 +1,109 @@
+//! What the tests give a run, and how it ends.
+
+use sbe_base::{MemFiles, MemSink, MemSource, Status};
+use sbe_cli::run;
+use std::alloc::Global;
+use std::process::Abort;
+use std::test::Fail;
+
+const PING: &[u8] = b"{\"messageSchema\":{\"package\":\"demo\",\"id\":7,\"version\":0,\"content\":[
+    {\"types\":{\"content\":[{\"composite\":{\"name\":\"messageHeader\",\"content\":[
+        {\"type\":{\"name\":\"blockLength\",\"primitiveType\":\"uint16\"}},
+        {\"type\":{\"name\":\"templateId\",\"primitiveType\":\"uint16\"}},
+        {\"type\":{\"name\":\"schemaId\",\"primitiveType\":\"uint16\"}},
+        {\"type\":{\"name\":\"version\",\"primitiveType\":\"uint16\"}}]}}]}},
+    {\"message\":{\"name\":\"Ping\",\"id\":1,\"content\":[
+        {\"field\":{\"name\":\"a\",\"id\":1001,\"type\":\"uint16\"}},
+        {\"field\":{\"name\":\"b\",\"id\":1002,\"type\":\"int32\",\"presence\":\"optional\"}}]}}]}}";
+
+/// A Ping whose a is 258 and whose b is null.
+pub(crate) const FRAME: &[u8] =
+    b"\x00\x00\x00\x14\xeb\x50\x06\x00\x01\x00\x07\x00\x00\x00\x02\x01\x00\x00\x00\x80";
+
+/// The same twice.
+pub(crate) const TWICE: &[u8] =
+    b"\x00\x00\x00\x14\xeb\x50\x06\x00\x01\x00\x07\x00\x00\x00\x02\x01\x00\x00\x00\x80\x00\x00\x00\x14\xeb\x50\x06\x00\x01\x00\x07\x00\x00\x00\x02\x01\x00\x00\x00\x80";
+
+pub(crate) const LINE: &[u8] =
+    b"{\"data\":{},\"fields\":{\"a\":258,\"b\":null},\"groups\":{},\"template\":\"Ping\",\"version\":0}\n";
+
+/// What a run is given, and which calls of each object fail.
+#[derive(Clone, Copy)]
+pub(crate) struct Trial<'a> {
+    pub(crate) words: &'a [&'a str],
+    pub(crate) schema: &'a [u8],
+    pub(crate) input: &'a [u8],
+    pub(crate) piece: usize,
+    pub(crate) load: &'a [u64],
+    pub(crate) read: &'a [u64],
+    pub(crate) output: &'a [u64],
+    pub(crate) notes: &'a [u64],
+}
+
+/// The sample's words, schema and frame, with nothing failing.
+pub(crate) fn sample<'a>() -> Trial<'a> {
+    Trial {
+        words: &["dump", "ping.json"],
+        schema: PING,
+        input: FRAME,
+        piece: 7,
+        load: &[],
+        read: &[],
+        output: &[],
+        notes: &[],
+    }
+}
+
+/// How a run ended, what it wrote, and how many bytes the input has left.
+#[derive(Drop)]
+pub(crate) struct Outcome {
+    pub(crate) status: Status,
+    pub(crate) output: MemSink,
+    pub(crate) notes: MemSink,
+    pub(crate) left: usize,
+}
+
+/// Runs a trial, whose output has room for so many bytes.
+pub(crate) fn run_trial(alloc: Global, trial: &Trial, room: usize) -> Result<Outcome, Fail> {
+    let mut words = Vec::new(alloc);
+    for word in trial.words {
+        words.push(String::from_str(alloc, *word)?)?;
+    }
+    let mut files = MemFiles::new(alloc, trial.load)?;
+    files.put("ping.json", trial.schema)?;
+    let piece = trial.piece.max(1);
+    let mut input = MemSource::new(alloc, trial.input, piece, trial.read)?;
+    let mut output = MemSink::new(alloc, room, trial.output)?;
+    let mut notes = MemSink::new(alloc, 1024, trial.notes)?;
+    let status = run(
+        alloc,
+        words.as_slice(),
+        &mut files,
+        &mut input,
+        &mut output,
+        &mut notes,
+    );
+    let left = input.left().len();
+    Ok(Outcome {
+        status,
+        output,
+        notes,
+        left,
+    })
+}
+
+/// Runs a trial, and asserts its status and what it wrote.
+pub(crate) fn expect(
+    rt: &impl Abort,
+    alloc: Global,
+    trial: &Trial,
+    status: Status,
+    output: &[u8],
+    notes: &[u8],
+) -> Result<(), Fail> {
+    let ended = run_trial(alloc, trial, 32_768)?;
+    assert_eq!(rt; ended.status, status);
+    assert_eq!(rt; ended.output.bytes(), output);
+    assert_eq!(rt; ended.notes.bytes(), notes);
+    Ok(())
+}
