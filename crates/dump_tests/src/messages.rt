@@ -10,8 +10,8 @@ mod members;
 mod together;
 mod versions;
 
-use crate::trial::{Trial, expect, sample};
 use files::TYPES;
+use run_trials::{Trial, expect, sample};
 use sbe_base::Status;
 use std::alloc::Global;
 use std::process::Abort;

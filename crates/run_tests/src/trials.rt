@@ -1,122 +1,16 @@
-mod checks;
 mod faults;
 mod limits;
-mod rules;
-mod several;
 
-use sbe_base::{MemFiles, MemSink, MemSource, Status};
-use sbe_cli::run;
+use run_trials::{FRAME, LINE, PING, TWICE, Trial, expect, run_trial, sample};
+use sbe_base::Status;
 use std::alloc::Global;
-use std::process::Abort;
 use std::test::Fail;
-
-const PING: &[u8] = b"{\"messageSchema\":{\"package\":\"demo\",\"id\":7,\"version\":0,\"content\":[
-    {\"types\":{\"content\":[{\"composite\":{\"name\":\"messageHeader\",\"content\":[
-        {\"type\":{\"name\":\"blockLength\",\"primitiveType\":\"uint16\"}},
-        {\"type\":{\"name\":\"templateId\",\"primitiveType\":\"uint16\"}},
-        {\"type\":{\"name\":\"schemaId\",\"primitiveType\":\"uint16\"}},
-        {\"type\":{\"name\":\"version\",\"primitiveType\":\"uint16\"}}]}}]}},
-    {\"message\":{\"name\":\"Ping\",\"id\":1,\"content\":[
-        {\"field\":{\"name\":\"a\",\"id\":1001,\"type\":\"uint16\"}},
-        {\"field\":{\"name\":\"b\",\"id\":1002,\"type\":\"int32\",\"presence\":\"optional\"}}]}}]}}";
-
-/// A Ping whose a is 258 and whose b is null.
-const FRAME: &[u8] =
-    b"\x00\x00\x00\x14\xeb\x50\x06\x00\x01\x00\x07\x00\x00\x00\x02\x01\x00\x00\x00\x80";
-
-/// The same twice.
-const TWICE: &[u8] =
-    b"\x00\x00\x00\x14\xeb\x50\x06\x00\x01\x00\x07\x00\x00\x00\x02\x01\x00\x00\x00\x80\x00\x00\x00\x14\xeb\x50\x06\x00\x01\x00\x07\x00\x00\x00\x02\x01\x00\x00\x00\x80";
-
-const LINE: &[u8] =
-    b"{\"data\":{},\"fields\":{\"a\":258,\"b\":null},\"groups\":{},\"template\":\"Ping\",\"version\":0}\n";
 
 /// The line of a body of 10 bytes, which has no room for a block of 6.
 const REFUSED: &[u8] =
     b"{\"refused\":\"F05\",\"item\":0,\"offset\":8,\"path\":\"\",\"detail\":\"6\"}\n";
 
 const USAGE: &[u8] = b"{\"usage\":\"sbe check compat dump build fixcheck tofix tosbe selftest\"}\n";
-
-/// What a run is given, and which calls of each object fail.
-#[derive(Clone, Copy)]
-struct Trial<'a> {
-    words: &'a [&'a str],
-    schema: &'a [u8],
-    input: &'a [u8],
-    piece: usize,
-    load: &'a [u64],
-    read: &'a [u64],
-    output: &'a [u64],
-    notes: &'a [u64],
-}
-
-/// The sample's words, schema and frame, with nothing failing.
-fn sample<'a>() -> Trial<'a> {
-    Trial {
-        words: &["dump", "ping.json"],
-        schema: PING,
-        input: FRAME,
-        piece: 7,
-        load: &[],
-        read: &[],
-        output: &[],
-        notes: &[],
-    }
-}
-
-/// How a run ended, what it wrote, and how many bytes the input has left.
-#[derive(Drop)]
-struct Outcome {
-    status: Status,
-    output: MemSink,
-    notes: MemSink,
-    left: usize,
-}
-
-/// Runs a trial, whose output has room for so many bytes.
-fn run_trial(alloc: Global, trial: &Trial, room: usize) -> Result<Outcome, Fail> {
-    let mut words = Vec::new(alloc);
-    for word in trial.words {
-        words.push(String::from_str(alloc, *word)?)?;
-    }
-    let mut files = MemFiles::new(alloc, trial.load)?;
-    files.put("ping.json", trial.schema)?;
-    let piece = trial.piece.max(1);
-    let mut input = MemSource::new(alloc, trial.input, piece, trial.read)?;
-    let mut output = MemSink::new(alloc, room, trial.output)?;
-    let mut notes = MemSink::new(alloc, 1024, trial.notes)?;
-    let status = run(
-        alloc,
-        words.as_slice(),
-        &mut files,
-        &mut input,
-        &mut output,
-        &mut notes,
-    );
-    let left = input.left().len();
-    Ok(Outcome {
-        status,
-        output,
-        notes,
-        left,
-    })
-}
-
-/// Runs a trial, and asserts its status and what it wrote.
-fn expect(
-    rt: &impl Abort,
-    alloc: Global,
-    trial: &Trial,
-    status: Status,
-    output: &[u8],
-    notes: &[u8],
-) -> Result<(), Fail> {
-    let ended = run_trial(alloc, trial, 32_768)?;
-    assert_eq!(rt; ended.status, status);
-    assert_eq!(rt; ended.output.bytes(), output);
-    assert_eq!(rt; ended.notes.bytes(), notes);
-    Ok(())
-}
 
 #[test]
 fn answers_frames(rt: HostRuntime) -> Result<(), Fail> {

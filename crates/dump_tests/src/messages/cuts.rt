@@ -2,7 +2,7 @@
 
 use super::File;
 use super::files::{BRIDGE, EVENT, MIX, SIX, TAILS};
-use crate::trial::{Trial, expect, sample};
+use run_trials::{Trial, expect, sample};
 use sbe_base::Status;
 use std::alloc::Global;
 use std::process::Abort;

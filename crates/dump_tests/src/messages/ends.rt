@@ -2,7 +2,7 @@
 
 use super::files::{BRIDGE, SIX};
 use super::{File, Row};
-use crate::trial::{FRAME, LINE, TWICE, Trial, expect, run_trial, sample};
+use run_trials::{FRAME, LINE, TWICE, Trial, expect, run_trial, sample};
 use sbe_base::Status;
 use std::alloc::Global;
 use std::process::Abort;

@@ -1,7 +1,7 @@
 //! Groups of many entries of one byte.
 
 use super::files::ENTRIES;
-use crate::trial::{Trial, run_trial, sample};
+use run_trials::{Trial, run_trial, sample};
 use sbe_base::Status;
 use std::alloc::Global;
 use std::process::Abort;

@@ -1,4 +1,4 @@
-use super::{FRAME, LINE, PING, TWICE, Trial, expect, run_trial, sample};
+use run_trials::{FRAME, LINE, PING, TWICE, Trial, expect, run_trial, sample};
 use sbe_base::{MemFiles, MemSink, MemSource, Status};
 use sbe_cli::{Pump, Step, read_words};
 use std::test::Fail;

@@ -1,4 +1,4 @@
-use super::{FRAME, LINE, TWICE, Trial, expect, sample};
+use run_trials::{FRAME, LINE, TWICE, Trial, expect, sample};
 use sbe_base::Status;
 use std::alloc::Global;
 use std::test::Fail;

@@ -1,6 +1,6 @@
 //! Several schemas in one run.
 
-use super::PING;
+use run_trials::PING;
 use sbe_base::{MemFiles, MemSink, MemSource, Status};
 use sbe_cli::run;
 use std::alloc::Global;

@@ -1,6 +1,6 @@
 //! One schema for each rule that it breaks, with the code and the element's path.
 
-use super::{Trial, expect, sample};
+use run_trials::{Trial, expect, sample};
 use sbe_base::Status;
 use std::alloc::Global;
 use std::test::Fail;

@@ -1,4 +1,5 @@
-//! What the tests give a run, and how it ends.
+//! What the tests of runs give a run, and how it ends.
+#![tactic(auto)]
 
 use sbe_base::{MemFiles, MemSink, MemSource, Status};
 use sbe_cli::run;
@@ -6,7 +7,9 @@ use std::alloc::Global;
 use std::process::Abort;
 use std::test::Fail;
 
-const PING: &[u8] = b"{\"messageSchema\":{\"package\":\"demo\",\"id\":7,\"version\":0,\"content\":[
+/// A schema with one message of two fields, whose id is 7.
+pub const PING: &[u8] =
+    b"{\"messageSchema\":{\"package\":\"demo\",\"id\":7,\"version\":0,\"content\":[
     {\"types\":{\"content\":[{\"composite\":{\"name\":\"messageHeader\",\"content\":[
         {\"type\":{\"name\":\"blockLength\",\"primitiveType\":\"uint16\"}},
         {\"type\":{\"name\":\"templateId\",\"primitiveType\":\"uint16\"}},
@@ -17,31 +20,32 @@ const PING: &[u8] = b"{\"messageSchema\":{\"package\":\"demo\",\"id\":7,\"versio
         {\"field\":{\"name\":\"b\",\"id\":1002,\"type\":\"int32\",\"presence\":\"optional\"}}]}}]}}";
 
 /// A Ping whose a is 258 and whose b is null.
-pub(crate) const FRAME: &[u8] =
+pub const FRAME: &[u8] =
     b"\x00\x00\x00\x14\xeb\x50\x06\x00\x01\x00\x07\x00\x00\x00\x02\x01\x00\x00\x00\x80";
 
 /// The same twice.
-pub(crate) const TWICE: &[u8] =
+pub const TWICE: &[u8] =
     b"\x00\x00\x00\x14\xeb\x50\x06\x00\x01\x00\x07\x00\x00\x00\x02\x01\x00\x00\x00\x80\x00\x00\x00\x14\xeb\x50\x06\x00\x01\x00\x07\x00\x00\x00\x02\x01\x00\x00\x00\x80";
 
-pub(crate) const LINE: &[u8] =
+/// The line of that frame.
+pub const LINE: &[u8] =
     b"{\"data\":{},\"fields\":{\"a\":258,\"b\":null},\"groups\":{},\"template\":\"Ping\",\"version\":0}\n";
 
 /// What a run is given, and which calls of each object fail.
 #[derive(Clone, Copy)]
-pub(crate) struct Trial<'a> {
-    pub(crate) words: &'a [&'a str],
-    pub(crate) schema: &'a [u8],
-    pub(crate) input: &'a [u8],
-    pub(crate) piece: usize,
-    pub(crate) load: &'a [u64],
-    pub(crate) read: &'a [u64],
-    pub(crate) output: &'a [u64],
-    pub(crate) notes: &'a [u64],
+pub struct Trial<'a> {
+    pub words: &'a [&'a str],
+    pub schema: &'a [u8],
+    pub input: &'a [u8],
+    pub piece: usize,
+    pub load: &'a [u64],
+    pub read: &'a [u64],
+    pub output: &'a [u64],
+    pub notes: &'a [u64],
 }
 
 /// The sample's words, schema and frame, with nothing failing.
-pub(crate) fn sample<'a>() -> Trial<'a> {
+pub fn sample<'a>() -> Trial<'a> {
     Trial {
         words: &["dump", "ping.json"],
         schema: PING,
@@ -56,15 +60,15 @@ pub(crate) fn sample<'a>() -> Trial<'a> {
 
 /// How a run ended, what it wrote, and how many bytes the input has left.
 #[derive(Drop)]
-pub(crate) struct Outcome {
-    pub(crate) status: Status,
-    pub(crate) output: MemSink,
-    pub(crate) notes: MemSink,
-    pub(crate) left: usize,
+pub struct Outcome {
+    pub status: Status,
+    pub output: MemSink,
+    pub notes: MemSink,
+    pub left: usize,
 }
 
 /// Runs a trial, whose output has room for so many bytes.
-pub(crate) fn run_trial(alloc: Global, trial: &Trial, room: usize) -> Result<Outcome, Fail> {
+pub fn run_trial(alloc: Global, trial: &Trial, room: usize) -> Result<Outcome, Fail> {
     let mut words = Vec::new(alloc);
     for word in trial.words {
         words.push(String::from_str(alloc, *word)?)?;
@@ -93,7 +97,7 @@ pub(crate) fn run_trial(alloc: Global, trial: &Trial, room: usize) -> Result<Out
 }
 
 /// Runs a trial, and asserts its status and what it wrote.
-pub(crate) fn expect(
+pub fn expect(
     rt: &impl Abort,
     alloc: Global,
     trial: &Trial,
