@@ -1,6 +1,6 @@
 -- The way of a first fault leads to a part of its message.
-use Rattle.std.proofs.Common.{◌≡◌, ◌⊎◌, inl, inr, ◌≤◌, ◌+◌, ℕ, zero, suc, ℤ, Bool, true, false, cond, List, [], ◌∷◌, ◌++◌, length, take, drop, Option, Some, None, Result, Ok, Err, refl, sym, ap, ◌∙◌, subst, arith, length-append}
-use Rattle.std.specs.Prelude.{slice_get, map, codes, is_some, pos, nat_le, ◌==◌}
+use Rattle.std.proofs.Common.{◌≡◌, inl, inr, ◌+◌, ℕ, zero, suc, ℤ, Bool, true, false, cond, List, [], ◌∷◌, ◌++◌, length, take, Option, Some, None, Result, Ok, Err, refl, sym, ap, ◌∙◌, subst, arith, length-append}
+use Rattle.std.specs.Prelude.{slice_get, map, codes, is_some, nat_le, ◌==◌}
 use Rattle.std.specs.Option.{option_map, option_and_then, IsSome}
 use Rattle.std.specs.Result.{result_ok}
 use Rattle.std.proofs.lemmas.Bool.Decides.{nat_tests}
@@ -23,15 +23,15 @@ use Rattle.sbe_types.specs.declared.schema.Level.{Level, Level', out-Level, Row_
 use Rattle.sbe_types.specs.declared.schema.WireSchema.{WireSchema}
 use Rattle.sbe_types.specs.declared.message.GroupVal.{GroupVal}
 use Rattle.sbe_wire.specs.declared.codes.FCode.{FCode}
-use Rattle.sbe_wire.specs.Faults.{Fault, fault_at, shifted, under, ElementsFault, LeafFault, KindFault, RowFault, FieldsFault, BlockFault, DataFault, EachFault, TimesFault, DimensionFault, EntryFault, TailFault, GroupsFault, GroupFault, Heading, HeadingLays, HeadingFault, FirstFault, message_named}
+use Rattle.sbe_wire.specs.Faults.{Fault, fault_at, shifted, under, ElementsFault, LeafFault, KindFault, RowFault, FieldsFault, BlockFault, DataFault, EachFault, TimesFault, DimensionFault, EntryFault, TailFault, GroupsFault, GroupFault, Heading, HeadingLays, HeadingFault, message_named}
 use Rattle.sbe_wire.specs.Lays.{DataLays, GroupsLay}
 use Rattle.sbe_types.specs.Places.{end_past}
-use Rattle.sbe_wire.specs.Versions.{acting, is_known, floor}
+use Rattle.sbe_wire.specs.Versions.{acting, is_known}
 use Rattle.sbe_wire.proofs.Messages.{named_is}
 use Rattle.layout_compile.specs.Heads.{header_width}
 use Rattle.layout_compile.specs.Paths.{Inside, in_level, in_group, in_kind, in_nothing, NamedPart, field_part, group_part, data_part, member_part, level_parts, parts_inside, to_part, path_from, IsPathOf}
 use Rattle.layout_compile.proofs.Items.{long_map, get_behind}
-use Rattle.flyweight_view.specs.Heads.{head_number, found_told, named_told, template_told}
+use Rattle.flyweight_view.specs.Heads.{head_number, found_told, named_told}
 use Rattle.dump_lines.specs.Refused.{message_meant, IsWay}
 use Rattle.dump_lines.specs.Dumped.{FaultsHaveWays}
 

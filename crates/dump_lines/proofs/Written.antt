@@ -1,5 +1,5 @@
 -- Texts that go to a sink by way of a chunk, and one after another.
-use Rattle.std.proofs.Common.{◌≡◌, ℕ, false, List, [], ◌++◌, Option, Result}
+use Rattle.std.proofs.Common.{◌≡◌, ℕ, false, List, [], Option, Result}
 use Rattle.std.specs.Prelude.{OnOk, OnErr}
 use Rattle.std.specs.Io.KnownBytes.{Appends}
 use Rattle.sbe_base.specs.Causes.{AppendsPart, HasCause}

@@ -1,5 +1,5 @@
 -- Which of a run's schemas a body is read by. Own profile.
-use Rattle.std.specs.Prelude.{◌≡◌, ℕ, ◌==◌, Bool, Option, Some, None, List, ◌∷◌, find, codes, unwrap_or}
+use Rattle.std.specs.Prelude.{ℕ, ◌==◌, Bool, List, ◌∷◌, find, codes, unwrap_or}
 use Rattle.std.specs.Option.{option_map_or}
 use Rattle.sbe_types.specs.declared.schema.WireSchema.{WireSchema}
 use Rattle.layout_compile.specs.Heads.{header_number}

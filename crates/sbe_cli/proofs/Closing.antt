@@ -1,5 +1,5 @@
 -- What a step answers: its status, and the counts of faults.
-use Rattle.std.proofs.Common.{◌≡◌, ◌⊎◌, inl, inr, ℕ, ◌+◌, ◌<◌, Bool, true, false, cond, List, [], ◌∷◌, length, Option, Some, None, Ok, Err, refl, sym, ap, ◌∙◌, subst, arith}
+use Rattle.std.proofs.Common.{◌≡◌, ◌⊎◌, inl, inr, ℕ, ◌+◌, ◌<◌, Bool, true, false, cond, List, [], ◌∷◌, length, Some, None, Ok, Err, refl, sym, ap, ◌∙◌, subst, arith}
 use Rattle.std.specs.Prelude.{nat_lt}
 use Rattle.std.specs.Io.KnownBytes.{Appends}
 use Rattle.std.proofs.KnownBytes.{Appends-nil}
@@ -18,18 +18,14 @@ use Rattle.sbe_cli.specs.Splits.{Once, Whole, End, Splits, Begins}
 use Rattle.sbe_cli.specs.Replies.{Written, Reply, counted_by, written_of}
 use Rattle.sbe_cli.specs.Report.{end_notes, end_status, done_status}
 use Rattle.sbe_cli.specs.Stops.{stop_line, stop_status}
-use Rattle.sbe_cli.specs.Outside.{Object, Sinks, Streams, Wrote, Breaks, at_output, at_notes, Failed, Told, noted, failed}
-use Rattle.sbe_cli.specs.Steps.{PumpState, IsReadyFrame, behind, IsStepStatus, Goes, Fails, Halts, ended_at, failed_at, wanting_at, Causes, Closes, Steps}
+use Rattle.sbe_cli.specs.Outside.{Object, Sinks, Streams, Breaks, at_output, at_notes, Failed, Told, noted, failed}
+use Rattle.sbe_cli.specs.Steps.{PumpState, IsReadyFrame, behind, IsStepStatus, Fails, Halts, ended_at, failed_at, wanting_at, Causes}
 use Rattle.sbe_cli.specs.Drafts.{Delivers, DeliversDraft}
-use Rattle.sbe_cli.specs.Pumps.{Stands, StandsOnce, CanCount, reply_of, whole_reply, running, once_pump, Answers, EndsAs}
-use Rattle.sbe_cli.specs.declared.job.Job.{Job}
+use Rattle.sbe_cli.specs.Pumps.{Stands, StandsOnce, CanCount, reply_of, whole_reply, once_pump, Answers}
 use Rattle.sbe_cli.specs.declared.job.FrameJob.{FrameJob}
 use Rattle.sbe_cli.specs.declared.job.OnceJob.{OnceJob}
 use Rattle.sbe_cli.specs.declared.job.Verdict.{Verdict}
 use Rattle.sbe_cli.specs.declared.pump.Kept.{Kept}
-use Rattle.sbe_cli.specs.declared.pump.Step.{Step}
-use Rattle.sbe_cli.specs.declared.pump.Step.TheVariants.{Went}
-use Rattle.sbe_cli.specs.declared.pump.Tally.{Tally}
 use Rattle.sbe_cli.specs.declared.stop.Stop.{Stop}
 use Rattle.sbe_cli.specs.declared.stop.Stop.TheVariants as stop
 use Rattle.sbe_cli.proofs.Folding.{whole_replied}

@@ -10,7 +10,7 @@ use Rattle.sbe_cli.specs.Report.{Outcome}
 use Rattle.sbe_cli.specs.Stops.{refusal_status}
 use Rattle.sbe_cli.specs.Outside.{Object, Outside, Wrote, Failed, Calm}
 use Rattle.sbe_cli.specs.Steps.{IsStepStatus, IsReported}
-use Rattle.sbe_cli.specs.Runs.{Known, written_in, Reports, StandsAtRead, StandsAtWrite, StandsAtFile, NotesPart, Fronts, HasRead, Runs}
+use Rattle.sbe_cli.specs.Runs.{Known, written_in, Reports, StandsAtRead, StandsAtWrite, StandsAtFile, Fronts, HasRead, Runs}
 use Rattle.sbe_cli.specs.declared.files.FileRefusal.{FileRefusal}
 use Rattle.sbe_cli.specs.declared.files.FileRefusal.TheVariants.{Absent, TooLong, Unread, Broken, SameId, FormDiffers}
 use Rattle.sbe_cli.proofs.Reporting.{one_report}

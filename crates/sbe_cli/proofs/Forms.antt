@@ -1,5 +1,5 @@
 -- Whether two schemas are of one form is decided.
-use Rattle.std.proofs.Common.{◌≡◌, ◌⊎◌, inl, inr, ℕ, zero, suc, ◌+◌, Bool, true, false, ℤ, if◌then◌else◌, List, [], ◌∷◌, map, Option, Some, None, refl, sym, ap, ◌∙◌, subst}
+use Rattle.std.proofs.Common.{◌≡◌, inl, inr, ℕ, zero, suc, ◌+◌, Bool, true, false, ℤ, if◌then◌else◌, List, [], ◌∷◌, map, Option, Some, None, refl, sym, ap, ◌∙◌, subst}
 use mathlib.Core.Former.{Count}
 use Rattle.sbe_types.specs.declared.kind.Primitive.{Primitive}
 use Rattle.sbe_types.specs.declared.kind.Primitive.TheVariants as prim
@@ -17,7 +17,7 @@ use Rattle.sbe_types.specs.declared.kind.Kind.{Kind, Leaf, Enum, Set, Const, Com
 use Rattle.sbe_types.specs.declared.kind.Member.{Member}
 use Rattle.sbe_types.specs.declared.schema.WireSchema.{WireSchema}
 use Rattle.sbe_types.specs.Places.{width, is_const, begin_of, place_of, end_past, member_place}
-use Rattle.schema_check.specs.Forms.{SameMembers, SameForm, IsLike, AreLike}
+use Rattle.schema_check.specs.Forms.{SameForm, IsLike, AreLike}
 use Rattle.sbe_cli.proofs.Deciding.{Decided, Apart, numbers, through, pairs, lists, options, integers, both, and}
 
 -- ---- words

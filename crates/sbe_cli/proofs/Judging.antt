@@ -1,7 +1,7 @@
 -- The files of a dump: they are judged in one way, and what is judged in order is so.
-use Rattle.std.proofs.Common.{◌≡◌, ◌⊎◌, inl, inr, ℕ, suc, ◌+◌, ◌<◌, Bool, true, false, cond, List, [], ◌∷◌, ◌++◌, length, drop, Option, Some, None, Result, Ok, Err, refl, sym, ap, ◌∙◌, subst, arith}
-use Rattle.std.specs.Prelude.{nat_lt, slice_get}
-use Rattle.std.specs.List.{AllByRecursion, list_any}
+use Rattle.std.proofs.Common.{◌≡◌, inl, inr, ℕ, suc, Bool, true, false, cond, List, [], ◌∷◌, ◌++◌, length, Option, Some, None, Result, Ok, Err, refl, sym, ap, ◌∙◌, subst}
+use Rattle.std.specs.Prelude.{nat_lt}
+use Rattle.std.specs.List.{AllByRecursion}
 use Rattle.json_elements.specs.Reading.{Reading as Reads}
 use Rattle.sbe_types.specs.declared.schema.WireSchema.{WireSchema}
 use Rattle.sbe_types.specs.declared.tree.Schema.{Schema}
@@ -10,7 +10,6 @@ use Rattle.sbe_schema.specs.Schemas.{schema_of}
 use Rattle.sbe_schema.proofs.SchemaInForm.{file_yields}
 use Rattle.schema_rules.specs.Judging.{Judged}
 use Rattle.schema_rules.specs.Checked.{checked_of}
-use Rattle.schema_check.specs.Forms.{SameForm}
 use Rattle.schema_facts.specs.IsChecked.{IsChecked}
 use Rattle.schema_facts.proofs.WholeChecked.{schema_checked}
 use Rattle.dump_lines.specs.Dumped.{AreInOrder}
@@ -22,7 +21,6 @@ use Rattle.sbe_cli.specs.declared.files.FileRole.TheVariants as role
 use Rattle.sbe_cli.specs.declared.files.FileRole.{FileRole}
 use Rattle.sbe_cli.specs.declared.files.RefusedFile.{RefusedFile}
 use Rattle.sbe_cli.specs.declared.files.TheConstants.{SCHEMA_BYTES}
-use Rattle.sbe_cli.proofs.Deciding.{Decided}
 use Rattle.sbe_cli.proofs.Forms.{form_decided}
 
 -- ---- a file's schema is a checked one

@@ -1,5 +1,5 @@
 -- A command's files are loaded, and judged.
-use Rattle.std.proofs.Common.{◌≡◌, ℕ, suc, ◌+◌, ◌≤◌, ◌<◌, Bool, true, false, cond, List, [], ◌∷◌, ◌++◌, length, drop, Option, Some, Result, Ok, Err, refl, sym, ap, ◌∙◌, subst, arith}
+use Rattle.std.proofs.Common.{◌≡◌, ℕ, suc, ◌+◌, ◌≤◌, ◌<◌, Bool, true, false, cond, List, [], ◌∷◌, length, drop, Option, Some, Result, Ok, Err, refl, sym, ap, ◌∙◌, subst, arith}
 use Rattle.std.proofs.lemmas.Bool.Decides.{nat_tests}
 use Rattle.std.specs.Prelude.{nat_lt}
 use Rattle.sbe_base.specs.Loads.{Loads as LoadsBytes}
@@ -8,9 +8,9 @@ use Rattle.sbe_base.specs.declared.status.Limits.{Limits}
 use Rattle.dump_lines.specs.Dumped.{AreInOrder}
 use Rattle.dump_lines.specs.declared.schemas.Schemas.{Schemas}
 use Rattle.sbe_cli.specs.Pumps.{IsBounded}
-use Rattle.sbe_cli.specs.Jobs.{JudgesAs, LoadsJob}
-use Rattle.sbe_cli.specs.Judged.{schema_in, file_schema, refused_as, alone, with_one, JoinsFrom, GoesOn, JudgesMore, JudgesSchemas}
-use Rattle.sbe_cli.specs.Files.{Reads, LoadsAs, LoadsChecked, stop_of, JoinsAs, LoadsJoining, JudgedSo, LoadsMore, LoadsSchemas, FailsAt}
+use Rattle.sbe_cli.specs.Jobs.{LoadsJob}
+use Rattle.sbe_cli.specs.Judged.{schema_in, file_schema, refused_as, alone, with_one, JoinsFrom, GoesOn, JudgesMore}
+use Rattle.sbe_cli.specs.Files.{Reads, LoadsAs, LoadsChecked, stop_of, JoinsAs, LoadsJoining, LoadsMore, LoadsSchemas, FailsAt}
 use Rattle.sbe_cli.specs.declared.job.Job.TheVariants as jobs
 use Rattle.sbe_cli.specs.declared.job.FrameJob.TheVariants as frames
 use Rattle.sbe_cli.specs.declared.job.OnceJob.TheVariants as once

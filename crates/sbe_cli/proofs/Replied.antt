@@ -1,5 +1,5 @@
 -- The answer of `dump` to a frame: there is one, and the code writes it.
-use Rattle.std.proofs.Common.{◌≡◌, ℕ, Bool, true, false, List, [], Result, Ok, Err, refl, sym, ap, ◌∙◌}
+use Rattle.std.proofs.Common.{◌≡◌, ℕ, Bool, List, Ok, Err, refl, sym, ap, ◌∙◌}
 use Rattle.sbe_base.specs.declared.stream.WriteFault.{WriteFault}
 use Rattle.open_framing.specs.Frames.{Item}
 use Rattle.layout_compile.specs.Writes.{Outlet}

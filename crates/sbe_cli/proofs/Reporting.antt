@@ -1,6 +1,5 @@
 -- There is one report for each command line, files and input.
-use Rattle.std.proofs.Common.{◌≡◌, ℕ, ◌≤◌, ◌<◌, arith, Bool, true, false, List, length, Option, Some, None, Result, Ok, Err, refl, sym, ap, ◌∙◌, subst}
-use Rattle.std.specs.Prelude.{nat_lt}
+use Rattle.std.proofs.Common.{◌≡◌, ℕ, List, Option, Some, None, Result, Ok, Err, refl, sym, ap, ◌∙◌, subst}
 use Rattle.sbe_types.specs.declared.schema.WireSchema.{WireSchema}
 use Rattle.open_framing.specs.Heads.{IsBytes}
 use Rattle.sbe_cli.specs.Splits.{Piece, PieceEnd}

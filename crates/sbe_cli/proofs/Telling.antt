@@ -1,9 +1,9 @@
 -- A line that went to the notes by way of a chunk.
-use Rattle.std.proofs.Common.{◌≡◌, ℕ, false, List, [], ◌++◌, Option, Ok, Err, refl}
+use Rattle.std.proofs.Common.{◌≡◌, ℕ, false, List, [], Option, Ok, Err, refl}
 use Rattle.sbe_base.specs.declared.stream.WriteFault.{WriteFault}
 use Rattle.sbe_base.specs.declared.status.Status.{Status}
 use Rattle.sbe_base.specs.declared.status.Status.TheVariants as status
-use Rattle.tree_json.specs.Writes.{Gathered, Writes, output, Origin, Finishes}
+use Rattle.tree_json.specs.Writes.{Gathered, Writes, output, Finishes}
 use Rattle.tree_json.proofs.Written.{starts}
 use Rattle.sbe_cli.specs.Outside.{Object, Told, noted, failed}
 

@@ -1,5 +1,5 @@
 -- What stands inside a pump, and what the calls below its steps give.
-use Rattle.std.specs.Prelude.{◌≡◌, ◌≤◌, ◌<◌, ℕ, ◌+◌, ◌-◌, ◌^◌, Option, Some, None, Result, Ok, Err, List, [], ⊤}
+use Rattle.std.specs.Prelude.{◌≡◌, ◌≤◌, ◌<◌, ◌+◌, ◌-◌, ◌^◌, Option, Some, None, Result, Ok, Err, [], ⊤}
 use Rattle.sbe_base.specs.declared.status.Limits.{Limits}
 use Rattle.sbe_base.specs.declared.status.Status.{Status}
 use Rattle.sbe_base.specs.declared.status.Status.TheVariants as status
@@ -11,7 +11,6 @@ use Rattle.sbe_cli.specs.Dump.{verdict_of}
 use Rattle.sbe_cli.specs.Replies.{Reply, counted_by}
 use Rattle.sbe_cli.specs.Outside.{Streams}
 use Rattle.sbe_cli.specs.Steps.{IsReadyFrame, PumpState, Goes, Closes, opened}
-use Rattle.sbe_cli.specs.declared.frames.FrameWork.{FrameWork}
 use Rattle.sbe_cli.specs.declared.job.Job.{Job}
 use Rattle.sbe_cli.specs.declared.job.Job.TheVariants as jobs
 use Rattle.sbe_cli.specs.declared.job.FrameJob.{FrameJob}

@@ -1,4 +1,4 @@
-use Rattle.std.proofs.Common.{[], subst}
+use Rattle.std.proofs.Common.{subst}
 use Rattle.layout_compile.specs.Writes.{Writes, outlet_of}
 use Rattle.layout_compile.proofs.WriteSteps.{writes_more, writes_part}
 use Rattle.dump_lines.specs.Refused.{back_text}

@@ -1,6 +1,6 @@
 use Rattle.std.proofs.Common.{refl, arith}
 use Rattle.sbe_cli.specs.Outside.{Streams}
-use Rattle.sbe_cli.proofs.Closing.{went_once, stopped_once, done_once}
+use Rattle.sbe_cli.proofs.Closing.{went_once, stopped_once}
 use Rattle.sbe_cli.proofs.once.answer_once.Goals as goal
 
 pub returns-in-Ok-clause-answers : goal.returns-in-Ok-clause-answers

@@ -1,6 +1,6 @@
-use Rattle.std.proofs.Common.{◌≡◌, true, false}
+use Rattle.std.proofs.Common.{true, false}
 use Rattle.dump_lines.specs.Chosen.{has_id}
-use Rattle.dump_lines.proofs.Finding.{id_same, id_differs, first_passes, some_pass, none_pass, others_pass}
+use Rattle.dump_lines.proofs.Finding.{id_differs, some_pass, none_pass, others_pass}
 use Rattle.dump_lines.proofs.schemas.Schemas.has_id.Goals as goal
 
 pub returns-in-Some : goal.returns-in-Some

@@ -1,7 +1,5 @@
-use Rattle.std.proofs.Common.{◌≡◌, Some, None, sym, subst}
-use Rattle.std.specs.Prelude.{find}
 use Rattle.dump_lines.specs.Chosen.{has_id}
-use Rattle.dump_lines.proofs.Finding.{id_same, id_differs, first_found, other_found, none_found}
+use Rattle.dump_lines.proofs.Finding.{id_differs, other_found, none_found}
 use Rattle.dump_lines.proofs.schemas.Schemas.with_id.Goals as goal
 
 pub returns-in-Some : goal.returns-in-Some
