@@ -16,3 +16,4 @@ pub mod PathParts
 pub mod PathSteps
 pub mod KeyRows
 pub mod Computing
+pub mod Small

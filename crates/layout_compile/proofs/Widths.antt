@@ -21,7 +21,7 @@ rows_narrow : (n : _) (row : Row_of-Member n) (e : ℕ) → IsNarrowRow e row �
 rows_narrow n end_of-Member e h = tt
 rows_narrow n (more_of-Member name offset kind rest) e h = (h.0, h.1, rows_narrow _ rest _ h.2)
 
-abbrev row_in : Kind → (n : Count) × Row_of-Member n
+abbrev pub row_in : Kind → (n : Count) × Row_of-Member n
 row_in (Comp' _ row) = (_, row)
 row_in _ = (_, end_of-Member)
 
