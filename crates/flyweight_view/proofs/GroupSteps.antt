@@ -1,5 +1,5 @@
 -- The groups of a level, one behind another.
-use Rattle.std.proofs.Common.{◌≡◌, ◌≤◌, ◌<◌, ◌+◌, ℕ, List, ◌∷◌, length, drop, Option, Some, Result, refl, sym, ap, ◌∙◌, subst, arith}
+use Rattle.std.proofs.Common.{◌≡◌, ◌≤◌, ◌<◌, ◌+◌, ℕ, List, [], ◌∷◌, length, drop, Option, Some, Result, refl, sym, ap, ◌∙◌, subst, arith}
 use Rattle.std.specs.Prelude.{IsOk, slice_get}
 use Rattle.std.specs.Option.{option_map}
 use Rattle.std.proofs.lemmas.Option.{get_or_from_slice_get, slice_get_within}
@@ -38,6 +38,18 @@ pub none_left : (l : Layer) (s : Spot) → length (out-Level l.level.now).groups
 unfolding each_read
 none_left l s most = ap (λ gs. rest_of (each_read (groups_by l.mode) 0 gs (drop s.at l.body.now))) (all_dropped (out-Level l.level.now).groups s.next most)
 
+-- no more groups stand there, and nothing is seen
+never_more : (gs : List Group) → gs ≡ [] → (vs ws : List GroupVal) → groups_seen gs vs ≡ groups_seen gs ws
+never_more gs none vs ws = ap (λ z. groups_seen z vs) none ∙ sym (ap (λ z. groups_seen z ws) none)
+
+pub last_stands : (l : Layer) (s : Spot) (row_end at : ℕ) → length (out-Level l.level.now).groups ≤ s.next + 1 → at ≤ length l.body.now → row_end ≡ group_number l.layout.now l.number (s.next + 1) → StandThere l (behind_of s row_end at)
+unfolding each_read
+last_stands l s row_end at most near number = record {
+  child = number;
+  near = near;
+  reads = subst (λ gs. IsOk (each_read (groups_by l.mode) 0 gs (drop at l.body.now))) (sym (all_dropped (out-Level l.level.now).groups (s.next + 1) most)) refl;
+}
+
 module _ (l : Layer) (s : Spot) (g : Group) (layer : IsLayer l) (stand : StandThere l s) (there : slice_get (out-Level l.level.now).groups s.next ≡ Some g) where
   abbrev groups : List Group
   groups = (out-Level l.level.now).groups
@@ -53,7 +65,7 @@ module _ (l : Layer) (s : Spot) (g : Group) (layer : IsLayer l) (stand : StandTh
   more : s.next < length groups
   more = slice_get_within groups s.next g there
 
-  from : GroupsFrom l.layout.now l.number s.next s.child
+  pub from : GroupsFrom l.layout.now l.number s.next s.child
   from =
       let own : groups_here l.layout.now l.number ≡ groups = ap groups_in layer.level_is in
       from_number l.layout.now l.number s.next s.child (level_within l.layout.now l.number l.level.now layer.level_is) (omega (arith, more, ap length own)) stand.child
@@ -78,6 +90,15 @@ module _ (l : Layer) (s : Spot) (g : Group) (layer : IsLayer l) (stand : StandTh
   module _ (o : Option Dim) (told : groups_by l.mode g (drop s.at body) ≡ group_entered (inner_of l s.child (out-Group g).level) s.at o) where
     pub entered_there : IsOk (group_entered (inner_of l s.child (out-Group g).level) s.at o)
     entered_there = subst (λ (r : Result (GroupVal × List ℕ) Fault). IsOk r) told group_read_there
+
+    -- where it is the last one, the place behind it tells nothing
+    pub last_seen : length groups ≤ s.next + 1 → (row_end at : ℕ) → groups_left l s ≡ option_map (entries_seen (inner_of l s.child (out-Group g).level)) o ∷ groups_left l (behind_of s row_end at)
+    last_seen most row_end at =
+        let none = all_dropped groups (s.next + 1) most in
+        ap (λ gs. groups_seen gs (items_of (each_read (groups_by l.mode) 0 gs (drop s.at body)))) groups_are
+        ∙ ap (groups_seen (g ∷ others)) first_group.items
+        ∙ ap (λ xs. entries_in (out-Group g).level first_group.x ∷ xs) (never_more others none (items_of (each_read (groups_by l.mode) 0 others first_group.rest)) (items_of (groups_at l (behind_of s row_end at))))
+        ∙ ap (λ o. o ∷ groups_left l (behind_of s row_end at)) (seen_entered (inner_of l s.child (out-Group g).level) s.at o first_group.x first_group.rest (sym told ∙ first_group.first))
 
     module _ (row_end at : ℕ) (rest : rest_of (group_entered (inner_of l s.child (out-Group g).level) s.at o) ≡ drop at body) where
       rest_is : first_group.rest ≡ drop at body

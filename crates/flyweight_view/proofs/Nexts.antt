@@ -1,5 +1,5 @@
 -- The entries of a group, one behind another.
-use Rattle.std.proofs.Common.{◌≡◌, ◌≤◌, ◌<◌, ◌+◌, ◌-◌, ◌*◌, ℕ, zero, suc, List, [], ◌∷◌, length, drop, Result, Ok, Err, sym, ap, ◌∙◌, subst, arith, length-drop}
+use Rattle.std.proofs.Common.{◌≡◌, ◌≤◌, ◌<◌, ◌+◌, ◌-◌, ◌*◌, ℕ, zero, suc, List, ◌∷◌, length, drop, Result, Ok, Err, refl, sym, ap, ◌∙◌, subst, arith, length-drop}
 use Rattle.std.specs.Prelude.{IsOk, map, true, ◌&&◌, ◌==◌}
 use Rattle.std.proofs.lemmas.Bool.Decides.{nat_tests}
 use Rattle.layout_compile.proofs.Items.{long_map}
@@ -12,16 +12,14 @@ use Rattle.group_codec.specs.declared.dim.Dim.{Dim}
 use Rattle.flyweight_view.specs.declared.layer.Layer.{Layer}
 use Rattle.flyweight_view.specs.declared.mode.Mode.{Mode}
 use Rattle.flyweight_view.specs.declared.plan.Plan.TheVariants as plan
-use Rattle.flyweight_view.specs.Cursor.{placed, skim, entries_read, steps_told}
-use Rattle.flyweight_view.specs.Layers.{blocks_read, blocks_at, entries_seen, IsLayer, LieThere}
+use Rattle.flyweight_view.specs.Cursor.{entries_read}
+use Rattle.flyweight_view.specs.Layers.{blocks_at, entries_seen, IsLayer, LieThere}
 use Rattle.flyweight_view.specs.Lefts.{items_of, rest_of}
 use Rattle.flyweight_view.specs.Planned.{block_of, IsSeen}
 use Rattle.flyweight_view.specs.Seen.{seen_level}
-use Rattle.flyweight_view.proofs.Cursor.{Leaves, leaves_times, times_walked}
 use Rattle.flyweight_view.proofs.LevelsReady.{level_ready}
-use Rattle.flyweight_view.proofs.Lefts.{First, times_next, times_one, times_many, ok_from, ok_there, read_there}
-use Rattle.flyweight_view.proofs.Tails.{entry_parts, IsFlat, flat_end}
-use Rattle.flyweight_view.proofs.Walks.{entry_leaves, tail_leaves}
+use Rattle.flyweight_view.proofs.Lefts.{First, times_next, times_many}
+use Rattle.flyweight_view.proofs.Tails.{entry_parts, IsFlat, flat_entry, flat_end}
 
 some_first : {X : Type 0} (p : Reader X) (n : ℕ) (b : List ℕ) → 0 < n → IsOk (times_read p 0 n b) → First p (times_read p 0 n) (times_read p 0 (n - 1)) b
 some_first p zero b h ok = absurd (omega arith)
@@ -41,13 +39,13 @@ flat_is mode level h =
     let parts : length (out-Level level).parts ≡ 0 = grind (arith, nat_tests) in
     record { groups = groups; parts = parts }
 
--- one entry alone
-abbrev pub one_of : Dim → Dim
-one_of d = record { block = d.block; count = 1; after = d.after }
-
 -- the entries behind the first one
 abbrev pub others_of : Dim → ℕ → Dim
 others_of d behind = record { block = d.block; count = d.count - 1; after = behind }
+
+-- no entries
+abbrev pub none_of : Dim → Dim
+none_of d = record { block = d.block; count = 0; after = d.after }
 
 module _ (l : Layer) (d : Dim) (lie : LieThere l d) where
   abbrev entry : Reader Block
@@ -76,16 +74,15 @@ module _ (l : Layer) (d : Dim) (lie : LieThere l d) where
           reads = (next.rest, (own_block (entry here) (next.x, next.rest) next.first).0);
         }
 
-    pub one_lies : LieThere l (one_of d)
-    one_lies = record {
-      reaches = λ more. lie.reaches some;
-      near = lie.near;
-      reads = ok_from (times_read entry 0 1 here) (next.x ∷ [], next.rest) (times_one entry here next.rest next.x next.first);
-    }
+    -- the place behind it
+    pub first_flat : IsFlat l.mode l.level.now → (rest_of (entry here) ≡ drop (d.after + d.block) l.body.now) × (d.after + d.block ≤ length l.body.now)
+    first_flat flat =
+        let ends = flat_entry l.mode l.level.now d.block l.body.now d.after (next.x, next.rest) flat lie.near next.first in
+        (ap rest_of next.first ∙ ends.0, ends.1)
 
-    module _ (behind : ℕ) (told : rest_of (blocks_at l (one_of d)) ≡ drop behind l.body.now) where
+    module _ (behind : ℕ) (told : rest_of (entry here) ≡ drop behind l.body.now) where
       rest_is : next.rest ≡ drop behind l.body.now
-      rest_is = sym (ap rest_of (times_one entry here next.rest next.x next.first)) ∙ told
+      rest_is = sym (ap rest_of next.first) ∙ told
 
       pub others_lie : behind ≤ length l.body.now → LieThere l (others_of d behind)
       others_lie near = record {
@@ -101,23 +98,32 @@ module _ (l : Layer) (d : Dim) (lie : LieThere l d) where
           ∙ ap (λ (b : Block). see b ∷ map see (items_of (times_read entry 0 (d.count - 1) next.rest))) (sym (own_block (entry here) (next.x, next.rest) next.first).1)
           ∙ ap (λ b. see (block_of (entry here)) ∷ map see (items_of (times_read entry 0 (d.count - 1) b))) rest_is
 
+      pub others_rests : rest_of (blocks_at l d) ≡ rest_of (blocks_at l (others_of d behind))
+      others_rests = next.rests ∙ ap (λ b. rest_of (times_read entry 0 (d.count - 1) b)) rest_is
+
+    -- where it is the last one
+    pub last_lies : d.count ≡ 1 → LieThere l (none_of d)
+    unfolding times_read
+    last_lies one = record {
+      reaches = λ more. absurd (omega (arith, more));
+      near = lie.near;
+      reads = refl;
+    }
+
+    pub last_seen : d.count ≡ 1 → entries_seen l d ≡ seen_level l.level.now (block_of (entry here)) ∷ entries_seen l (none_of d)
+    unfolding times_read
+    last_seen one =
+        let see = seen_level l.level.now in
+        let none : d.count - 1 ≡ 0 = omega (arith, one) in
+        ap (map see) next.items
+        ∙ ap (λ (b : Block). see b ∷ map see (items_of (times_read entry 0 (d.count - 1) next.rest))) (sym (own_block (entry here) (next.x, next.rest) next.first).1)
+        ∙ ap (λ n. see (block_of (entry here)) ∷ map see (items_of (times_read entry 0 n next.rest))) none
+
   -- ---- the place behind them
 
-  leaves : Leaves (blocks_read l d)
-  leaves = leaves_times entry 0 d.count (entry_leaves l.mode l.level.now d.block (tail_leaves l.mode l.level.now))
-
-  pub end_told : (next : ℕ) → Ok next ≡ steps_told (skim entry l.body.now) 0 d.count d.after → (rest_of (blocks_at l d) ≡ drop next l.body.now) × (next ≤ length l.body.now)
-  end_told next told =
-      read_there (blocks_read l d) l.body.now d.after next lie.near leaves lie.reads
-      (told ∙ sym (times_walked entry 0 d.count l.body.now d.after lie.near (entry_leaves l.mode l.level.now d.block (tail_leaves l.mode l.level.now))))
-
-  pub end_never : (f : Fault) → Err f ≡ steps_told (skim entry l.body.now) 0 d.count d.after → ⊥
-  end_never f told =
-      let r = ok_there (blocks_at l d) lie.reads in
-      apart (told ∙ sym (times_walked entry 0 d.count l.body.now d.after lie.near (entry_leaves l.mode l.level.now d.block (tail_leaves l.mode l.level.now))) ∙ ap (placed (length l.body.now) d.after) r.1)
-    where
-      apart : {g : Fault} {n : ℕ} → ◌≡◌ {A = Result ℕ Fault} (Err g) (Ok n) → ⊥
-      apart e = cc
+  pub none_behind : d.count ≡ 0 → rest_of (blocks_at l d) ≡ here
+  unfolding times_read
+  none_behind none = ap (λ n. rest_of (times_read entry 0 n here)) none
 
   pub end_flat : IsFlat l.mode l.level.now → (rest_of (blocks_at l d) ≡ drop (d.after + d.count * d.block) l.body.now) × (d.after + d.count * d.block ≤ length l.body.now)
   end_flat flat = flat_end l.mode l.level.now d.block d.count l.body.now d.after flat lie.near lie.reads

@@ -20,7 +20,7 @@ use Rattle.sbe_wire.proofs.Combine.{ok_is}
 use Rattle.var_data.specs.declared.data.DataErr.{DataErr}
 use Rattle.var_data.specs.declared.data.DataErr.TheVariants as bad
 use Rattle.var_data.specs.Ranges.{data_range}
-use Rattle.layout_compile.proofs.Items.{drop_at, long_map}
+use Rattle.layout_compile.proofs.Items.{drop_at, all_dropped, long_map}
 use Rattle.flyweight_view.specs.declared.layer.Layer.{Layer}
 use Rattle.flyweight_view.specs.declared.mode.Mode.{Mode}
 use Rattle.flyweight_view.specs.Cursor.{placed, range_answer}
@@ -141,6 +141,17 @@ module _ (l : Layer) (i at : ℕ) (part : DataField) (line : LineUp l i at) (the
         ∙ ap (map bytes_in) first_part.items
         ∙ ap (λ b. bytes_in first_part.x ∷ map bytes_in (items_of (each_read (parts_by l.mode) 0 others b))) rest_is
         ∙ ap (λ o. o ∷ parts_left l (i + 1) (range_end at range)) (entered_seen range first_part.x first_part.rest (sym told ∙ first_part.first))
+
+    pub parts_rests : rest_of (parts_at l i at) ≡ rest_of (parts_at l (i + 1) (range_end at range))
+    parts_rests =
+        ap (λ ps. rest_of (each_read (parts_by l.mode) 0 ps (drop at body))) parts_are
+        ∙ first_part.rests
+        ∙ ap (λ b. rest_of (each_read (parts_by l.mode) 0 others b)) rest_is
+
+-- behind the last part
+pub none_left : (l : Layer) (i at : ℕ) → length (out-Level l.level.now).parts ≤ i → rest_of (parts_at l i at) ≡ drop at l.body.now
+unfolding each_read
+none_left l i at most = ap (λ ps. rest_of (each_read (parts_by l.mode) 0 ps (drop at l.body.now))) (all_dropped (out-Level l.level.now).parts i most)
 
 -- ---- the parts that are left
 

@@ -102,7 +102,7 @@ module _ (mode : Mode) where
     pub groups : length (out-Level level).groups ≡ 0
     pub parts : length (out-Level level).parts ≡ 0
 
-  flat_entry : (level : Level) (k : ℕ) (body : List ℕ) (at : ℕ) (r : Block × List ℕ) → IsFlat level → at ≤ length body → entries_read mode level k (drop at body) ≡ Ok r → (r.1 ≡ drop (at + k) body) × (at + k ≤ length body)
+  pub flat_entry : (level : Level) (k : ℕ) (body : List ℕ) (at : ℕ) (r : Block × List ℕ) → IsFlat level → at ≤ length body → entries_read mode level k (drop at body) ≡ Ok r → (r.1 ≡ drop (at + k) body) × (at + k ≤ length body)
   flat_entry level k body at r flat near h =
       let e = entry_parts (tail_read mode.order mode.known mode.version level) mode.order mode.known mode.version (out-Level level).fields k (drop at body) r h in
       let t = tail_parts level (drop k (drop at body)) e.t r.1 e.reads in

@@ -19,10 +19,10 @@ use Rattle.flyweight_view.specs.declared.plan.Span.{Span}
 use Rattle.flyweight_view.specs.Groups.{groups_by, groups_at, groups_left, StandThere}
 use Rattle.flyweight_view.specs.Layers.{IsLayer}
 use Rattle.flyweight_view.specs.Lefts.{items_of, rest_of, groups_seen}
-use Rattle.flyweight_view.specs.Parts.{parts_by, parts_left, LineUp}
+use Rattle.flyweight_view.specs.Parts.{parts_at, parts_by, parts_left, LineUp}
 use Rattle.flyweight_view.specs.Planned.{fields_of, groups_of, parts_of, tail_of, block_of, block_told, IsPlan, IsSeen}
 use Rattle.flyweight_view.specs.Seen.{Seen, bytes_in, entries_in, group_seen}
-use Rattle.flyweight_view.proofs.Lefts.{ok_from, each_many}
+use Rattle.flyweight_view.proofs.Lefts.{ok_from, each_many, none_there}
 use Rattle.flyweight_view.proofs.Tails.{EntryParts, entry_parts, TailParts, tail_parts}
 
 -- the level of a plan, in the body of a span
@@ -89,6 +89,9 @@ module _ (s : Span) (p : Plan) (seen : IsSeen s p) where
       pub parts_line : at ≤ length s.body.now → LineUp (layer_of s x) 0 at
       parts_line near = record { near = near; reads = ok_from _ (parts, rest) parts_are }
 
+      pub parts_rest : rest_of (parts_at (layer_of s x) 0 at) ≡ rest
+      parts_rest = ap rest_of parts_are
+
       pub parts_first : parts_left (layer_of s x) 0 at ≡ map bytes_in parts
       parts_first = ap (λ (r : Result (List DataVal × List ℕ) Fault). map bytes_in (items_of r)) parts_are
 
@@ -127,6 +130,14 @@ module _ (s : Span) (p : Plan) (seen : IsSeen s p) where
   no_parts members is =
       let none = subst (λ (q : Plan). tail_of s.mode q (drop (s.at + s.size) s.body.now) ≡ Ok ((groups, parts), rest)) is tail_reads in
       ap (λ (z : Tail × List ℕ). map bytes_in z.0.1) (ok_is none)
+
+  -- ---- where there are none
+
+  pub without_groups : (x : Layer) → p ≡ plan.Level x.layout x.number x.level → (out-Level x.level.now).groups ≡ [] → [] ≡ groups_seen (groups_of p) groups
+  without_groups x is none = sym (ap (λ gs. groups_seen gs groups) (ap groups_of is ∙ none))
+
+  pub without_parts : (x : Layer) → p ≡ plan.Level x.layout x.number x.level → (out-Level x.level.now).parts ≡ [] → [] ≡ map bytes_in parts
+  without_parts x is none = sym (ap (map bytes_in) (none_there parts (parts_many ∙ ap length (ap parts_of is ∙ none))))
 
   -- ---- by their numbers
 

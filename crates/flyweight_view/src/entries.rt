@@ -1,12 +1,13 @@
 // Views of the entries of a group.
-ghost use Rattle.std.specs.Prelude.{◌≡◌, ◌<◌, ◌∷◌, length, drop};
+ghost use Rattle.std.specs.Prelude.{◌≡◌, ◌<◌, length, drop};
 ghost use Rattle.flyweight_view.specs.Cursor.{entries_read};
 ghost use Rattle.flyweight_view.specs.Layers.{entries_seen, IsLayer, LieThere};
 ghost use Rattle.flyweight_view.specs.Planned.{block_of};
 ghost use Rattle.flyweight_view.specs.Seen.{seen_level};
 
 use crate::block::BlockView;
-use crate::layer::{Layer, entries_end};
+use crate::ends::others_of;
+use crate::layer::Layer;
 use crate::plan::{Plan, Span};
 use group_codec::Dim;
 use std::marker::Model;
@@ -71,7 +72,7 @@ impl<'a> Iterator for EntriesView<'a> {
             return None;
         }
         let entry = first_entry(&self.layer, self.left);
-        self.left = behind_first(&self.layer, self.left);
+        self.left = others_of(&self.layer, self.left);
         Some(entry)
     }
 }
@@ -90,25 +91,4 @@ fn first_entry<'a>(layer: &Layer<'a>, left: Dim) -> BlockView<'a>
         size: left.block as usize,
     };
     BlockView::new(span, Plan::Level(layer.layout, layer.number, layer.level))
-}
-
-/// The entries behind the first one.
-fn behind_first(layer: &Layer<'_>, left: Dim) -> Dim
-    requires layer { IsLayer layer.now }
-    requires lie { LieThere layer.now left }
-    requires some { 0 < left.count }
-    ensures lie { LieThere layer.now result }
-    ensures seen { entries_seen layer.now left ≡ seen_level layer.now.level.now (block_of (entries_read layer.now.mode layer.now.level.now left.block (drop left.after layer.now.body.now))) ∷ entries_seen layer.now result }
-{
-    let first = Dim {
-        block: left.block,
-        count: 1,
-        after: left.after,
-    };
-    let behind = entries_end(layer, first);
-    Dim {
-        block: left.block,
-        count: left.count - 1,
-        after: behind,
-    }
 }

@@ -1,23 +1,19 @@
 // Views of the groups of a block.
-ghost use Rattle.std.specs.Prelude.{◌≡◌, ◌≤◌, ◌<◌, ◌+◌, ◌∷◌, length, drop, slice_get, Some, IfSome, IsOk};
+ghost use Rattle.std.specs.Prelude.{◌≡◌, ◌<◌, [], ◌∷◌, length, slice_get, Some, IfSome};
 ghost use Rattle.std.specs.Option.{option_map};
 ghost use Rattle.sbe_types.specs.declared.message.Block.{out-Block};
-ghost use Rattle.sbe_types.specs.declared.schema.Group.{out-Group};
-ghost use Rattle.sbe_types.specs.declared.schema.Level.{out-Level};
-ghost use Rattle.layout_compile.specs.Parts.{dim_at};
-ghost use Rattle.flyweight_view.specs.Groups.{group_entered, groups_at, groups_by, groups_left, StandThere};
+ghost use Rattle.flyweight_view.specs.Groups.{groups_left, StandThere};
 ghost use Rattle.flyweight_view.specs.Layers.{entries_seen, IsLayer, LieThere};
-ghost use Rattle.flyweight_view.specs.Lefts.{groups_seen, rest_of};
+ghost use Rattle.flyweight_view.specs.Lefts.{groups_seen};
 ghost use Rattle.flyweight_view.specs.Planned.{block_of, block_told, groups_of, IsSeen};
 ghost use Rattle.flyweight_view.specs.Seen.{group_seen};
 
+use crate::ends::open_group;
 use crate::entries::EntriesView;
-use crate::found::Found;
-use crate::layer::{Layer, entries_end};
+use crate::layer::Layer;
 use crate::plan::{Plan, Span};
-use crate::walk::{first_child, walk_dim};
+use crate::walk::first_child;
 use group_codec::Dim;
-use sbe_types::Group;
 use std::marker::Model;
 
 /// The next group of a level: its number there, the number of its entries' level, and where it begins.
@@ -31,7 +27,7 @@ pub(crate) struct Spot {
 /// The groups of a block that are left, each found behind the one before it. It lends from the body.
 #[derive(Drop)]
 pub struct GroupsView<'a> {
-    /// None in a composite, which has no groups.
+    /// None where there are no groups, as in a composite.
     layer: Option<Layer<'a>>,
     spot: Spot,
 }
@@ -58,6 +54,20 @@ impl<'a> Model for GroupsView<'a> {
 }
 
 impl<'a> GroupsView<'a> {
+    /// No group.
+    fn empty() -> GroupsView<'a>
+        ensures { result ≡ [] }
+    {
+        GroupsView {
+            layer: None,
+            spot: Spot {
+                next: 0,
+                child: 0,
+                at: 0,
+            },
+        }
+    }
+
     /// The groups of a level from the next one on.
     fn over(layer: Layer<'a>, spot: Spot) -> GroupsView<'a>
         requires layer { IsLayer layer }
@@ -77,7 +87,7 @@ impl<'a> GroupsView<'a> {
     {
         match self.layer {
             Some(layer) => {
-                let step = step_group(&layer, self.spot);
+                let step = open_group(&layer, self.spot);
                 self.spot = step.behind;
                 entries_over(&step.inner, step.dim)
             }
@@ -93,6 +103,9 @@ pub(crate) fn groups_in<'a>(span: &Span<'a>, plan: &Plan<'a>) -> GroupsView<'a>
 {
     match *plan {
         Plan::Level(layout, number, level) => {
+            if level.groups.is_empty() {
+                return GroupsView::empty();
+            }
             let layer = Layer {
                 layout,
                 number,
@@ -107,14 +120,7 @@ pub(crate) fn groups_in<'a>(span: &Span<'a>, plan: &Plan<'a>) -> GroupsView<'a>
             };
             GroupsView::over(layer, spot)
         }
-        Plan::Members(_) => GroupsView {
-            layer: None,
-            spot: Spot {
-                next: 0,
-                child: 0,
-                at: 0,
-            },
-        },
+        Plan::Members(_) => GroupsView::empty(),
     }
 }
 
@@ -129,103 +135,6 @@ pub(crate) fn group_of<'a>(span: &Span<'a>, plan: &Plan<'a>, i: usize) -> Option
         let _passed = groups.next_group();
     }
     groups.next_group()
-}
-
-/// The place behind the groups of a level, of which the first one is given.
-pub(crate) fn groups_end(layer: &Layer<'_>, spot: Spot) -> usize
-    requires layer { IsLayer layer.now }
-    requires stand { StandThere layer.now spot }
-    requires first { spot.next ≡ 0 }
-    ensures rest { rest_of (groups_at layer.now spot) ≡ drop result layer.now.body.now }
-    ensures within { result ≤ length layer.now.body.now }
-{
-    let mut spot = spot;
-    for _ in 0..layer.level.groups.len() {
-        spot = step_group(layer, spot).behind;
-    }
-    spot.at
-}
-
-/// A group of a level: the level of its entries, their dimension, and where the next group begins.
-#[derive(Clone, Copy)]
-struct NextGroup<'a> {
-    inner: Layer<'a>,
-    dim: Option<Dim>,
-    behind: Spot,
-}
-
-/// The next group of a level.
-fn step_group<'a>(layer: &Layer<'a>, spot: Spot) -> NextGroup<'a>
-    requires layer { IsLayer layer.now }
-    requires stand { StandThere layer.now spot }
-    requires more { spot.next < length (out-Level layer.now.level.now).groups }
-    ensures inner { IsLayer result.inner }
-    ensures lie { IfSome result.dim (λ d. LieThere result.inner d) }
-    ensures stand { StandThere layer.now result.behind }
-    ensures next { result.behind.next ≡ spot.next + 1 }
-    ensures seen { groups_left layer.now spot ≡ option_map (entries_seen result.inner) result.dim ∷ groups_left layer.now result.behind }
-    ensures rest { rest_of (groups_at layer.now spot) ≡ rest_of (groups_at layer.now result.behind) }
-{
-    let group = layer.level.groups.at(spot.next);
-    let inner = Layer {
-        layout: layer.layout,
-        number: spot.child,
-        level: &group.level,
-        mode: layer.mode,
-        body: layer.body,
-    };
-    let dim = dim_there(&inner, group, spot.at);
-    let at = group_end(&inner, dim, spot.at);
-    let child = layer.layout.row(spot.child).end;
-    NextGroup {
-        inner,
-        dim,
-        behind: Spot {
-            next: spot.next + 1,
-            child,
-            at,
-        },
-    }
-}
-
-/// The dimension of a group that begins at a place, of whose entries the level is given. None where it is absent.
-fn dim_there(layer: &Layer<'_>, group: &Group, at: usize) -> Option<Dim>
-    requires layer { IsLayer layer.now }
-    requires level { layer.now.level.now ≡ (out-Group group.now).level }
-    requires dim { dim_at layer.now.layout.now layer.now.number ≡ Some (out-Group group.now).dim }
-    requires at { at ≤ length layer.now.body.now }
-    requires read { IsOk (groups_by layer.now.mode group.now (drop at layer.now.body.now)) }
-    ensures told { groups_by layer.now.mode group.now (drop at layer.now.body.now) ≡ group_entered layer.now at result }
-    ensures lie { IfSome result (λ d. LieThere layer.now d) }
-{
-    let row = layer.layout.row(layer.number);
-    if row.since > layer.mode.version {
-        return None;
-    }
-    let least = layer.layout.floor(layer.number, layer.mode.version);
-    let mut found = Found::new();
-    match &row.dim {
-        Some(dim) => match walk_dim(layer.mode.order, dim, least, layer.body, at, &mut found) {
-            Some(dim) => Some(dim),
-            None => unreachable!(),
-        },
-        None => unreachable!(),
-    }
-}
-
-/// The place behind a group that begins at a place, by its dimension.
-fn group_end(layer: &Layer<'_>, dim: Option<Dim>, at: usize) -> usize
-    requires layer { IsLayer layer.now }
-    requires lie { IfSome dim (λ d. LieThere layer.now d) }
-    requires at { at ≤ length layer.now.body.now }
-    requires read { IsOk (group_entered layer.now at dim) }
-    ensures rest { rest_of (group_entered layer.now at dim) ≡ drop result layer.now.body.now }
-    ensures within { result ≤ length layer.now.body.now }
-{
-    match dim {
-        Some(dim) => entries_end(layer, dim),
-        None => at,
-    }
 }
 
 /// The entries of a group, by its dimension.

@@ -2,6 +2,7 @@
 #![tactic(auto)]
 
 mod block;
+mod ends;
 mod entries;
 mod fields;
 mod found;

@@ -1,15 +1,17 @@
 // Views of the data parts of a block.
-ghost use Rattle.std.specs.Prelude.{◌≡◌, ◌≤◌, ◌<◌, ◌+◌, ◌∷◌, length, map, drop, slice_get, Some, IfSome, IsOk};
+ghost use Rattle.std.specs.Prelude.{◌≡◌, ◌≤◌, ◌<◌, ◌+◌, [], ◌∷◌, length, map, drop, slice_get, Some, IfSome, IsOk};
 ghost use Rattle.std.specs.Option.{option_map};
 ghost use Rattle.sbe_types.specs.declared.message.Block.{out-Block};
 ghost use Rattle.sbe_types.specs.declared.schema.Level.{out-Level};
 ghost use Rattle.schema_facts.specs.Measured.{IsSmall};
 ghost use Rattle.flyweight_view.specs.Layers.{IsLayer};
-ghost use Rattle.flyweight_view.specs.Parts.{part_entered, parts_by, parts_left, range_bytes, range_end, IsRange, LineUp};
+ghost use Rattle.flyweight_view.specs.Lefts.{rest_of};
+ghost use Rattle.flyweight_view.specs.Parts.{part_entered, parts_at, parts_by, parts_left, range_bytes, range_end, IsRange, LineUp};
 ghost use Rattle.flyweight_view.specs.Planned.{block_of, block_told, parts_of, IsSeen};
 ghost use Rattle.flyweight_view.specs.Seen.{bytes_in};
 
-use crate::groups::{Spot, groups_end};
+use crate::ends::groups_end;
+use crate::groups::Spot;
 use crate::layer::Layer;
 use crate::mode::Mode;
 use crate::plan::{Plan, Span};
@@ -21,7 +23,7 @@ use var_data::read_data_of;
 /// The data parts of a block that are left, each found behind the one before it. It lends from the body.
 #[derive(Drop)]
 pub struct PartsView<'a> {
-    /// None in a composite, which has no data.
+    /// None where there is no data, as in a composite.
     layer: Option<Layer<'a>>,
     next: usize,
     at: usize,
@@ -43,6 +45,17 @@ impl<'a> Model for PartsView<'a> {
 }
 
 impl<'a> PartsView<'a> {
+    /// No data part.
+    fn empty() -> PartsView<'a>
+        ensures { result ≡ [] }
+    {
+        PartsView {
+            layer: None,
+            next: 0,
+            at: 0,
+        }
+    }
+
     /// The data parts of a level, of which the first one begins at a place.
     fn over(layer: Layer<'a>, at: usize) -> PartsView<'a>
         requires layer { IsLayer layer }
@@ -80,6 +93,9 @@ pub(crate) fn parts_in<'a>(span: &Span<'a>, plan: &Plan<'a>) -> PartsView<'a>
 {
     match *plan {
         Plan::Level(layout, number, level) => {
+            if level.parts.is_empty() {
+                return PartsView::empty();
+            }
             let layer = Layer {
                 layout,
                 number,
@@ -95,11 +111,7 @@ pub(crate) fn parts_in<'a>(span: &Span<'a>, plan: &Plan<'a>) -> PartsView<'a>
             let at = groups_end(&layer, spot);
             PartsView::over(layer, at)
         }
-        Plan::Members(_) => PartsView {
-            layer: None,
-            next: 0,
-            at: 0,
-        },
+        Plan::Members(_) => PartsView::empty(),
     }
 }
 
@@ -116,6 +128,20 @@ pub(crate) fn data_of<'a>(span: &Span<'a>, plan: &Plan<'a>, i: usize) -> Option<
     parts.next_part()
 }
 
+/// The place behind the data parts of a level, of which the first one begins at a place.
+pub(crate) fn parts_end(layer: &Layer<'_>, at: usize) -> usize
+    requires layer { IsLayer layer.now }
+    requires line { LineUp layer.now 0 at }
+    ensures rest { rest_of (parts_at layer.now 0 at) ≡ drop result layer.now.body.now }
+    ensures within { result ≤ length layer.now.body.now }
+{
+    let mut at = at;
+    for i in 0..layer.level.parts.len() {
+        at = behind_range(next_range(layer, i, at), at);
+    }
+    at
+}
+
 /// Where the bytes of data part `i` of a level lie, which begins at a place. None where it is absent.
 fn next_range(layer: &Layer<'_>, i: usize, at: usize) -> Option<(usize, usize)>
     requires layer { IsLayer layer.now }
@@ -124,6 +150,7 @@ fn next_range(layer: &Layer<'_>, i: usize, at: usize) -> Option<(usize, usize)>
     ensures range { IfSome result (λ r. IsRange layer.now.body.now r) }
     ensures line { LineUp layer.now (i + 1) (range_end at result) }
     ensures seen { parts_left layer.now i at ≡ option_map (range_bytes layer.now.body.now) result ∷ parts_left layer.now (i + 1) (range_end at result) }
+    ensures rest { rest_of (parts_at layer.now i at) ≡ rest_of (parts_at layer.now (i + 1) (range_end at result)) }
 {
     part_range(layer.mode, layer.level.parts.at(i), layer.body, at)
 }

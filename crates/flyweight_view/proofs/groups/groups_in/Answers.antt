@@ -15,8 +15,8 @@ over-requires-clause-stand c =
     let x : Layer = record { layout = c.in-Level.layout; number = c.in-Level.number; level = c.in-Level.level; mode = s.mode; body = s.body } in
     first_stands s c.args.plan.now c.requires x c.in-Level.is c.first_child.result c.first_child.ensures
 
-pub returns-in-Level : goal.returns-in-Level
-returns-in-Level c =
+pub returns-else-is_empty : goal.returns-else-is_empty
+returns-else-is_empty c =
     let s = c.args.span.now in
     let x : Layer = record { layout = c.in-Level.layout; number = c.in-Level.number; level = c.in-Level.level; mode = s.mode; body = s.body } in
     c.over.ensures ∙ first_left s c.args.plan.now c.requires x c.in-Level.is c.first_child.result

@@ -1,4 +1,4 @@
-use Rattle.flyweight_view.proofs.PartsTold.{part_read, parts_go, parts_seen, end_within}
+use Rattle.flyweight_view.proofs.PartsTold.{part_read, parts_go, parts_seen, parts_rests, end_within}
 use Rattle.flyweight_view.proofs.parts.next_range.Goals as goal
 
 pub part_range-requires-clause-read : goal.part_range-requires-clause-read
@@ -11,3 +11,6 @@ returns-clause-line c =
 
 pub returns-clause-seen : goal.returns-clause-seen
 returns-clause-seen c = parts_seen c.args.layer.now c.args.i c.args.at c.at.result.now c.requires.line c.at.ensures c.part_range.result c.part_range.ensures.told
+
+pub returns-clause-rest : goal.returns-clause-rest
+returns-clause-rest c = parts_rests c.args.layer.now c.args.i c.args.at c.at.result.now c.requires.line c.at.ensures c.part_range.result c.part_range.ensures.told

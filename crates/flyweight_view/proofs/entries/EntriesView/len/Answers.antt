@@ -1,4 +1,4 @@
-use Rattle.std.proofs.Common.{◌≡◌, length, ap, arith}
+use Rattle.std.proofs.Common.{length, ap, arith}
 use Rattle.flyweight_view.proofs.Nexts.{entries_many}
 use Rattle.flyweight_view.proofs.entries.EntriesView.len.Goals as goal
 

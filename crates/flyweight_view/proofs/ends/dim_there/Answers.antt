@@ -13,7 +13,7 @@ use Rattle.flyweight_view.specs.Told.{fault_of}
 use Rattle.flyweight_view.proofs.GroupsTold.{group_gone, group_told, group_never, lie_there}
 use Rattle.flyweight_view.proofs.LevelsReady.{row_since}
 use Rattle.flyweight_view.proofs.Opens.{group_dim, level_within}
-use Rattle.flyweight_view.proofs.groups.dim_there.Goals as goal
+use Rattle.flyweight_view.proofs.ends.dim_there.Goals as goal
 
 pub returns-then-row-layer-clause-told : goal.returns-then-row-layer-clause-told
 returns-then-row-layer-clause-told c =

@@ -1,0 +1,261 @@
+// What lies behind the entries and groups of a body that was walked. Nothing is judged again.
+ghost use Rattle.std.specs.Prelude.{◌≡◌, ◌≤◌, ◌<◌, ◌+◌, ◌∷◌, ◌&&◌, ◌==◌, length, drop, IfSome, IsOk};
+ghost use Rattle.std.specs.Option.{option_map};
+ghost use Rattle.sbe_types.specs.declared.schema.Group.{out-Group};
+ghost use Rattle.sbe_types.specs.declared.schema.Level.{out-Level};
+ghost use Rattle.layout_compile.specs.Parts.{dim_at};
+ghost use Rattle.flyweight_view.specs.Cursor.{entries_read};
+ghost use Rattle.flyweight_view.specs.Groups.{group_entered, groups_at, groups_by, groups_left, StandThere};
+ghost use Rattle.flyweight_view.specs.Layers.{blocks_at, entries_seen, IsLayer, LieThere};
+ghost use Rattle.flyweight_view.specs.Lefts.{rest_of};
+ghost use Rattle.flyweight_view.specs.Planned.{block_of};
+ghost use Rattle.flyweight_view.specs.Seen.{seen_level};
+
+use crate::found::Found;
+use crate::groups::Spot;
+use crate::layer::Layer;
+use crate::parts::parts_end;
+use crate::walk::{first_child, walk_dim};
+use group_codec::Dim;
+use sbe_types::{Group, Level};
+
+/// A group of a level: the level of its entries, their dimension, and where the next group begins.
+#[derive(Clone, Copy)]
+pub(crate) struct NextGroup<'a> {
+    pub(crate) inner: Layer<'a>,
+    pub(crate) dim: Option<Dim>,
+    pub(crate) behind: Spot,
+}
+
+// ---- entries
+
+/// The entries behind the first one. Behind the last one no place is looked for.
+#[inline(always)]
+pub(crate) fn others_of(layer: &Layer<'_>, left: Dim) -> Dim
+    requires layer { IsLayer layer.now }
+    requires lie { LieThere layer.now left }
+    requires some { 0 < left.count }
+    ensures lie { LieThere layer.now result }
+    ensures seen { entries_seen layer.now left ≡ seen_level layer.now.level.now (block_of (entries_read layer.now.mode layer.now.level.now left.block (drop left.after layer.now.body.now))) ∷ entries_seen layer.now result }
+{
+    if left.count == 1 {
+        return Dim {
+            block: left.block,
+            count: 0,
+            after: left.after,
+        };
+    }
+    behind_first(layer, left)
+}
+
+/// The place behind entries that lie one behind another. Without groups and data it is known at once.
+#[cycle(ends)]
+fn entries_end(layer: &Layer<'_>, dim: Dim) -> usize
+    requires layer { IsLayer layer.now }
+    requires lie { LieThere layer.now dim }
+    ensures rest { rest_of (blocks_at layer.now dim) ≡ drop result layer.now.body.now }
+    ensures within { result ≤ length layer.now.body.now }
+{
+    if is_flat(layer.level) {
+        return dim.after + dim.count as usize * dim.block as usize;
+    }
+    let mut left = dim;
+    for _ in 0..dim.count {
+        left = behind_first(layer, left);
+    }
+    left.after
+}
+
+/// The entries behind the first one.
+#[cycle(ends)]
+fn behind_first(layer: &Layer<'_>, left: Dim) -> Dim
+    requires layer { IsLayer layer.now }
+    requires lie { LieThere layer.now left }
+    requires some { 0 < left.count }
+    ensures lie { LieThere layer.now result }
+    ensures count { result.count + 1 ≡ left.count }
+    ensures seen { entries_seen layer.now left ≡ seen_level layer.now.level.now (block_of (entries_read layer.now.mode layer.now.level.now left.block (drop left.after layer.now.body.now))) ∷ entries_seen layer.now result }
+    ensures rest { rest_of (blocks_at layer.now left) ≡ rest_of (blocks_at layer.now result) }
+{
+    let behind = entry_end(layer, left);
+    Dim {
+        block: left.block,
+        count: left.count - 1,
+        after: behind,
+    }
+}
+
+/// The place behind the first one of some entries.
+#[cycle(ends)]
+fn entry_end(layer: &Layer<'_>, left: Dim) -> usize
+    requires layer { IsLayer layer.now }
+    requires lie { LieThere layer.now left }
+    requires some { 0 < left.count }
+    ensures rest { rest_of (entries_read layer.now.mode layer.now.level.now left.block (drop left.after layer.now.body.now)) ≡ drop result layer.now.body.now }
+    ensures within { result ≤ length layer.now.body.now }
+{
+    if is_flat(layer.level) {
+        return left.after + left.block as usize;
+    }
+    let spot = Spot {
+        next: 0,
+        child: first_child(layer.layout, layer.number),
+        at: left.after + left.block as usize,
+    };
+    let at = groups_end(layer, spot);
+    parts_end(layer, at)
+}
+
+/// Whether a level has neither groups nor data.
+#[inline(always)]
+fn is_flat(level: &Level) -> bool
+    ensures { result ≡ (length (out-Level level.now).groups == 0) && (length (out-Level level.now).parts == 0) }
+{
+    level.groups.is_empty() && level.parts.is_empty()
+}
+
+// ---- groups
+
+/// The next group of a level. Behind the last one no place is looked for.
+#[inline(always)]
+pub(crate) fn open_group<'a>(layer: &Layer<'a>, spot: Spot) -> NextGroup<'a>
+    requires layer { IsLayer layer.now }
+    requires stand { StandThere layer.now spot }
+    requires more { spot.next < length (out-Level layer.now.level.now).groups }
+    ensures inner { IsLayer result.inner }
+    ensures lie { IfSome result.dim (λ d. LieThere result.inner d) }
+    ensures stand { StandThere layer.now result.behind }
+    ensures next { result.behind.next ≡ spot.next + 1 }
+    ensures seen { groups_left layer.now spot ≡ option_map (entries_seen result.inner) result.dim ∷ groups_left layer.now result.behind }
+{
+    if spot.next + 1 < layer.level.groups.len() {
+        return step_group(layer, spot);
+    }
+    last_group(layer, spot)
+}
+
+/// The last group of a level. It tells of no place behind it.
+#[inline(always)]
+fn last_group<'a>(layer: &Layer<'a>, spot: Spot) -> NextGroup<'a>
+    requires layer { IsLayer layer.now }
+    requires stand { StandThere layer.now spot }
+    requires last { spot.next + 1 ≡ length (out-Level layer.now.level.now).groups }
+    ensures inner { IsLayer result.inner }
+    ensures lie { IfSome result.dim (λ d. LieThere result.inner d) }
+    ensures stand { StandThere layer.now result.behind }
+    ensures next { result.behind.next ≡ spot.next + 1 }
+    ensures seen { groups_left layer.now spot ≡ option_map (entries_seen result.inner) result.dim ∷ groups_left layer.now result.behind }
+{
+    let group = layer.level.groups.at(spot.next);
+    let inner = Layer {
+        layout: layer.layout,
+        number: spot.child,
+        level: &group.level,
+        mode: layer.mode,
+        body: layer.body,
+    };
+    let dim = dim_there(&inner, group, spot.at);
+    let child = layer.layout.row(spot.child).end;
+    NextGroup {
+        inner,
+        dim,
+        behind: Spot {
+            next: spot.next + 1,
+            child,
+            at: spot.at,
+        },
+    }
+}
+
+/// The place behind the groups of a level, of which the first one is given.
+#[cycle(ends)]
+pub(crate) fn groups_end(layer: &Layer<'_>, spot: Spot) -> usize
+    requires layer { IsLayer layer.now }
+    requires stand { StandThere layer.now spot }
+    requires first { spot.next ≡ 0 }
+    ensures rest { rest_of (groups_at layer.now spot) ≡ drop result layer.now.body.now }
+    ensures within { result ≤ length layer.now.body.now }
+{
+    let mut spot = spot;
+    for _ in 0..layer.level.groups.len() {
+        spot = step_group(layer, spot).behind;
+    }
+    spot.at
+}
+
+/// The next group of a level.
+#[cycle(ends)]
+fn step_group<'a>(layer: &Layer<'a>, spot: Spot) -> NextGroup<'a>
+    requires layer { IsLayer layer.now }
+    requires stand { StandThere layer.now spot }
+    requires more { spot.next < length (out-Level layer.now.level.now).groups }
+    ensures inner { IsLayer result.inner }
+    ensures lie { IfSome result.dim (λ d. LieThere result.inner d) }
+    ensures stand { StandThere layer.now result.behind }
+    ensures next { result.behind.next ≡ spot.next + 1 }
+    ensures seen { groups_left layer.now spot ≡ option_map (entries_seen result.inner) result.dim ∷ groups_left layer.now result.behind }
+    ensures rest { rest_of (groups_at layer.now spot) ≡ rest_of (groups_at layer.now result.behind) }
+{
+    let group = layer.level.groups.at(spot.next);
+    let inner = Layer {
+        layout: layer.layout,
+        number: spot.child,
+        level: &group.level,
+        mode: layer.mode,
+        body: layer.body,
+    };
+    let dim = dim_there(&inner, group, spot.at);
+    let at = group_end(&inner, dim, spot.at);
+    let child = layer.layout.row(spot.child).end;
+    NextGroup {
+        inner,
+        dim,
+        behind: Spot {
+            next: spot.next + 1,
+            child,
+            at,
+        },
+    }
+}
+
+/// The dimension of a group that begins at a place, of whose entries the level is given. None where it is absent.
+#[inline(always)]
+fn dim_there(layer: &Layer<'_>, group: &Group, at: usize) -> Option<Dim>
+    requires layer { IsLayer layer.now }
+    requires level { layer.now.level.now ≡ (out-Group group.now).level }
+    requires dim { dim_at layer.now.layout.now layer.now.number ≡ Some (out-Group group.now).dim }
+    requires at { at ≤ length layer.now.body.now }
+    requires read { IsOk (groups_by layer.now.mode group.now (drop at layer.now.body.now)) }
+    ensures told { groups_by layer.now.mode group.now (drop at layer.now.body.now) ≡ group_entered layer.now at result }
+    ensures lie { IfSome result (λ d. LieThere layer.now d) }
+{
+    let row = layer.layout.row(layer.number);
+    if row.since > layer.mode.version {
+        return None;
+    }
+    let least = layer.layout.floor(layer.number, layer.mode.version);
+    let mut found = Found::new();
+    match &row.dim {
+        Some(dim) => match walk_dim(layer.mode.order, dim, least, layer.body, at, &mut found) {
+            Some(dim) => Some(dim),
+            None => unreachable!(),
+        },
+        None => unreachable!(),
+    }
+}
+
+/// The place behind a group that begins at a place, by its dimension.
+#[cycle(ends)]
+fn group_end(layer: &Layer<'_>, dim: Option<Dim>, at: usize) -> usize
+    requires layer { IsLayer layer.now }
+    requires lie { IfSome dim (λ d. LieThere layer.now d) }
+    requires at { at ≤ length layer.now.body.now }
+    requires read { IsOk (group_entered layer.now at dim) }
+    ensures rest { rest_of (group_entered layer.now at dim) ≡ drop result layer.now.body.now }
+    ensures within { result ≤ length layer.now.body.now }
+{
+    match dim {
+        Some(dim) => entries_end(layer, dim),
+        None => at,
+    }
+}
