@@ -22,3 +22,4 @@ pub mod GroupsTold
 pub mod PartsTold
 pub mod GroupSteps
 pub mod TailsSeen
+pub mod AtOnce

@@ -6,6 +6,7 @@ ghost use Rattle.flyweight_view.specs.Fields.{field_told, fields_told, AreFieldR
 
 use crate::found::Found;
 use crate::kinds::judge_part;
+use crate::looks::shows_at_once;
 use crate::mode::Mode;
 use layout_compile::FieldRow;
 use sbe_types::Field;
@@ -35,6 +36,8 @@ pub(crate) fn judge_fields(
 }
 
 /// Judges field `i`, where it is alive and no constant.
+#[inline(always)]
+#[tactic(auto, using(crate::proofs::AtOnce::part_looks))]
 fn judge_field(
     mode: Mode,
     row: &FieldRow,
@@ -53,12 +56,9 @@ fn judge_field(
         return true;
     }
     let begin = row.place as usize;
-    judge_part(
-        mode,
-        &field.kind,
-        i,
-        at + begin,
-        &block[begin..row.end as usize],
-        out,
-    )
+    let part = &block[begin..row.end as usize];
+    if shows_at_once(mode, &field.kind, part) {
+        return true;
+    }
+    judge_part(mode, &field.kind, i, at + begin, part, out)
 }

@@ -11,6 +11,7 @@ ghost use Rattle.flyweight_view.specs.Told.{fault_of, judged, piece};
 ghost use Rattle.flyweight_view.specs.Kinds.{answered, kind_told, leaf_answer, leaf_told, member_told, members_told, part_told, IsReady, IsLeafFault};
 
 use crate::found::Found;
+use crate::looks::{shows_at_once, shows_leaf};
 use crate::mode::Mode;
 use crate::numbers::{set_number, shows_enum, shows_set};
 use layout_compile::{begin_of, end_behind, width_of};
@@ -91,6 +92,7 @@ fn judge_members(
 
 /// Judges member `i` of a composite, behind members that end at `end`.
 #[cycle(kind)]
+#[tactic(auto, using(crate::proofs::AtOnce::part_looks))]
 fn judge_member(
     mode: Mode,
     member: &Member,
@@ -111,21 +113,34 @@ fn judge_member(
         Kind::Leaf(_) | Kind::Enum(_, _) | Kind::Set(_, _) | Kind::Comp(_) => {
             let begin = begin_of(end, member.offset) as usize;
             let behind = begin + width_of(&member.kind) as usize;
-            judge_part(
-                mode,
-                &member.kind,
-                i,
-                at + begin,
-                &bytes[begin..behind],
-                out,
-            )
+            let part = &bytes[begin..behind];
+            if shows_at_once(mode, &member.kind, part) {
+                return true;
+            }
+            judge_part(mode, &member.kind, i, at + begin, part, out)
         }
     }
 }
 
 /// Judges a number, a text or an array.
-#[tactic(auto, using(crate::proofs::LeafTold::leaf_shown))]
+#[inline(always)]
+#[tactic(auto, using(crate::proofs::AtOnce::leaf_good))]
 fn judge_leaf(order: Order, leaf: &Leaf, at: usize, bytes: &[u8], out: &mut Found) -> bool
+    requires order { IsLeafInOrder leaf.now }
+    requires wide { length bytes.now ≡ width (LeafKind leaf.now) }
+    requires near { at + length bytes.now < 2 ^ 64 }
+    ensures told { judged result out.new ≡ leaf_told order leaf.now (piece at bytes.now) }
+    ensures low { result ≡ false → length out.new.path ≤ 1 }
+{
+    if shows_leaf(order, leaf, bytes) {
+        return true;
+    }
+    judge_each(order, leaf, at, bytes, out)
+}
+
+/// Judges a number, a text or an array, one element or byte after another.
+#[tactic(auto, using(crate::proofs::LeafTold::leaf_shown))]
+fn judge_each(order: Order, leaf: &Leaf, at: usize, bytes: &[u8], out: &mut Found) -> bool
     requires order { IsLeafInOrder leaf.now }
     requires wide { length bytes.now ≡ width (LeafKind leaf.now) }
     requires near { at + length bytes.now < 2 ^ 64 }

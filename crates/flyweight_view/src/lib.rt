@@ -10,6 +10,7 @@ mod groups;
 mod header;
 mod kinds;
 mod layer;
+mod looks;
 mod mode;
 mod numbers;
 mod parts;

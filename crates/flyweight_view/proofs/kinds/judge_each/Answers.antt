@@ -1,7 +1,7 @@
 use Rattle.std.proofs.Common.{◌≡◌, false, sym, ap, ◌∙◌, rules}
 use Rattle.sbe_types.specs.LeafBad.{told}
 use Rattle.flyweight_view.proofs.LeafTold.{leaf_fault_in}
-use Rattle.flyweight_view.proofs.kinds.judge_leaf.Goals as goal
+use Rattle.flyweight_view.proofs.kinds.judge_each.Goals as goal
 
 pub tell_leaf-requires : goal.tell_leaf-requires
 tell_leaf-requires c =
