@@ -112,6 +112,14 @@ tail_refused mode level body at f near went =
     ap (λ r. r >>= (λ m. parts_told mode (length (out-Level level).fields + length (out-Level level).groups) (map part_row (out-Level level).parts) body m)) went
     ∙ sym (tail_walked mode level body at near)
 
+-- a level without groups and data ends where its block does
+pub tail_flat : (mode : Mode) (level : Level) (body : List ℕ) (at : ℕ) → at ≤ length body → (out-Level level).groups ≡ [] → (out-Level level).parts ≡ [] → Ok at ≡ skim (tail_read mode.order mode.known mode.version level) body at
+tail_flat mode level body at near no_groups no_parts =
+    let fields = length (out-Level level).fields in
+    sym (tail_walked mode level body at near
+    ∙ ap (λ gs. groups_told mode fields gs body at >>= (λ m. parts_told mode (fields + length gs) (map part_row (out-Level level).parts) body m)) no_groups
+    ∙ ap (λ ps. parts_told mode (fields + 0) (map part_row ps) body at) no_parts)
+
 -- ---- a group
 
 open_group : (mode : Mode) (g : Group) → group_read mode.order mode.known mode.version g ≡ group_read mode.order mode.known mode.version (Group' (out-Group g).dim (out-Group g).level)

@@ -11,11 +11,10 @@ ghost use Rattle.flyweight_view.specs.Lefts.{rest_of};
 ghost use Rattle.flyweight_view.specs.Planned.{block_of};
 ghost use Rattle.flyweight_view.specs.Seen.{seen_level};
 
-use crate::found::Found;
 use crate::groups::Spot;
 use crate::layer::Layer;
 use crate::parts::parts_end;
-use crate::walk::{first_child, walk_dim};
+use crate::walk::{find_dim, first_child};
 use group_codec::Dim;
 use sbe_types::{Group, Level};
 
@@ -108,7 +107,7 @@ fn entry_end(layer: &Layer<'_>, left: Dim) -> usize
 
 /// Whether a level has neither groups nor data.
 #[inline(always)]
-fn is_flat(level: &Level) -> bool
+pub(crate) fn is_flat(level: &Level) -> bool
     ensures { result ≡ (length (out-Level level.now).groups == 0) && (length (out-Level level.now).parts == 0) }
 {
     level.groups.is_empty() && level.parts.is_empty()
@@ -234,9 +233,8 @@ fn dim_there(layer: &Layer<'_>, group: &Group, at: usize) -> Option<Dim>
         return None;
     }
     let least = layer.layout.floor(layer.number, layer.mode.version);
-    let mut found = Found::new();
     match &row.dim {
-        Some(dim) => match walk_dim(layer.mode.order, dim, least, layer.body, at, &mut found) {
+        Some(dim) => match find_dim(layer.mode.order, dim, least, layer.body, at) {
             Some(dim) => Some(dim),
             None => unreachable!(),
         },

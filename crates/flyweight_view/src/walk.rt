@@ -1,6 +1,8 @@
 // The levels of a body: their entries, groups and data.
 ghost use Rattle.std.specs.Prelude.{◌≡◌, ◌≤◌, ◌<◌, ◌+◌, ◌*◌, ◌^◌, ℕ, List, Some, length, IfSome, IfNone};
 ghost use Rattle.std.specs.List.{AllByRecursion};
+ghost use Rattle.std.specs.Option.{option_map};
+ghost use Rattle.std.specs.Result.{result_ok};
 ghost use Rattle.sbe_types.specs.declared.kind.Member.{Member};
 ghost use Rattle.sbe_types.specs.declared.limits.TheConstants.{PART_LIMIT};
 ghost use Rattle.sbe_types.specs.declared.schema.Group.{out-Group};
@@ -18,6 +20,7 @@ ghost use Rattle.flyweight_view.specs.Cursor.{skim, entries_read, groups_told, s
 ghost use Rattle.flyweight_view.specs.Ready.{IsReadySchema};
 ghost use Rattle.flyweight_view.specs.Told.{went};
 
+use crate::ends::is_flat;
 use crate::fields::judge_fields;
 use crate::found::Found;
 use crate::mode::Mode;
@@ -65,6 +68,9 @@ pub(crate) fn walk_entry(
         out,
     ) {
         return None;
+    }
+    if is_flat(level) {
+        return Some(behind);
     }
     walk_tail(layout, mode, n, level, body, behind, out)
 }
@@ -251,6 +257,33 @@ pub(crate) fn walk_dim(
             out.tell(FCode::Count, at + row.count.place as usize, count as i128);
             None
         }
+    }
+}
+
+/// The dimension of a group whose entries have at least so many bytes in their blocks, if one lies there.
+#[inline(always)]
+pub(crate) fn find_dim(
+    order: Order,
+    row: &DimRow,
+    least: u32,
+    body: &[u8],
+    at: usize,
+) -> Option<Dim>
+    requires row { IsDimRow row.now }
+    requires at { at ≤ length body.now }
+    ensures told { (dim : List Member) → DimIs row.now dim → option_map (λ d. (d.block, d.count)) result ≡ result_ok (dim_told order dim least body.now at) }
+    ensures reaches { IfSome result (λ d. 0 < d.count → least ≤ d.block) }
+    ensures after { IfSome result (λ d. d.after ≡ at + row.now.width) }
+    ensures within { IfSome result (λ d. d.after ≤ length body.now) }
+{
+    match read_dim_row(order, row, body, at) {
+        Ok(dim) => {
+            if dim.count == 0 || dim.block >= least {
+                return Some(dim);
+            }
+            None
+        }
+        Err(_) => None,
     }
 }
 

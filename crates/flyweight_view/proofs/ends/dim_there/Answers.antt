@@ -9,8 +9,7 @@ use Rattle.sbe_wire.specs.Reading.{then_read, nothing, times_read}
 use Rattle.sbe_wire.specs.Versions.{floor}
 use Rattle.schema_facts.specs.Levels.{fields_in}
 use Rattle.flyweight_view.specs.Cursor.{entries_read}
-use Rattle.flyweight_view.specs.Told.{fault_of}
-use Rattle.flyweight_view.proofs.GroupsTold.{group_gone, group_told, group_never, lie_there}
+use Rattle.flyweight_view.proofs.GroupsTold.{group_gone, group_told, group_never, lie_there, some_told, none_told}
 use Rattle.flyweight_view.proofs.LevelsReady.{row_since}
 use Rattle.flyweight_view.proofs.Opens.{group_dim, level_within}
 use Rattle.flyweight_view.proofs.ends.dim_there.Goals as goal
@@ -32,26 +31,27 @@ unreachable-requires c =
     let since = row_since l.layout.now l.number row l.level.now c.row-row.ensures c.requires.layer.level_is in
     let dim = group_dim l.layout.now l.number row c.in-Some.dim g c.row-row.ensures c.in-Some.is c.requires.dim in
     let floors = c.floor-least.ensures ∙ ap (λ o. floor l.mode.version (fields_in o)) c.requires.layer.level_is in
-    group_never l.mode g l.body.now c.args.at row.since c.floor-least.result (fault_of c.walk_dim.new.out) (since ∙ ap (λ (v : Level). (out-Level v).since) c.requires.level) c.if-row-layer.false
-    (floors ∙ ap (λ (v : Level). floor l.mode.version (out-Level v).fields) c.requires.level) (c.in-None-walk_dim.ensures.told (out-Group g).dim dim) c.requires.read
+    let bad = none_told _ (c.in-None-find_dim.ensures.told (out-Group g).dim dim) in
+    group_never l.mode g l.body.now c.args.at row.since c.floor-least.result bad.0 (since ∙ ap (λ (v : Level). (out-Level v).since) c.requires.level) c.if-row-layer.false
+    (floors ∙ ap (λ (v : Level). floor l.mode.version (out-Level v).fields) c.requires.level) (sym bad.1) c.requires.read
 
 pub returns-clause-told : goal.returns-clause-told
 returns-clause-told c =
     let l = c.args.layer.now in
     let g = c.args.group.now in
-    let d = c.in-Some-walk_dim.dim in
+    let d = c.in-Some-find_dim.dim in
     let row = c.row-row.result.now in
     let since = row_since l.layout.now l.number row l.level.now c.row-row.ensures c.requires.layer.level_is in
     let dim = group_dim l.layout.now l.number row c.in-Some.dim g c.row-row.ensures c.in-Some.is c.requires.dim in
     let floors = c.floor-least.ensures ∙ ap (λ o. floor l.mode.version (fields_in o)) c.requires.layer.level_is in
     group_told l.mode g l.body.now c.args.at row.since c.floor-least.result d (since ∙ ap (λ (v : Level). (out-Level v).since) c.requires.level) c.if-row-layer.false
-    (floors ∙ ap (λ (v : Level). floor l.mode.version (out-Level v).fields) c.requires.level) (c.in-Some-walk_dim.ensures.told (out-Group g).dim dim)
-    (c.in-Some-walk_dim.ensures.after ∙ ap (λ w. c.args.at + w) dim.width) c.requires.read
+    (floors ∙ ap (λ (v : Level). floor l.mode.version (out-Level v).fields) c.requires.level) (sym (some_told _ (d.block, d.count) (c.in-Some-find_dim.ensures.told (out-Group g).dim dim)))
+    (c.in-Some-find_dim.ensures.after ∙ ap (λ w. c.args.at + w) dim.width) c.requires.read
     ∙ ap (λ (v : Level). then_read (times_read (entries_read l.mode v d.block) 0 d.count) (λ es. nothing (groupval.Entries es)) (drop d.after l.body.now)) (sym c.requires.level)
 
 pub returns-clause-lie : goal.returns-clause-lie
 returns-clause-lie c =
     let l = c.args.layer.now in
-    let d = c.in-Some-walk_dim.dim in
+    let d = c.in-Some-find_dim.dim in
     let floors = c.floor-least.ensures ∙ ap (λ o. floor l.mode.version (fields_in o)) c.requires.layer.level_is in
-    lie_there l c.args.at c.floor-least.result d (subst (λ (r : Result (GroupVal × List ℕ) Fault). IsOk r) (returns-clause-told c) c.requires.read) floors c.in-Some-walk_dim.ensures.reaches c.in-Some-walk_dim.ensures.within
+    lie_there l c.args.at c.floor-least.result d (subst (λ (r : Result (GroupVal × List ℕ) Fault). IsOk r) (returns-clause-told c) c.requires.read) floors c.in-Some-find_dim.ensures.reaches c.in-Some-find_dim.ensures.within

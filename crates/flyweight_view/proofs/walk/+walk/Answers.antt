@@ -10,7 +10,9 @@ use Rattle.layout_compile.proofs.GroupWalk.{GroupsFrom, groups_begin}
 use Rattle.flyweight_view.specs.Cursor.{skim, entries_read, groups_told, steps_told}
 use Rattle.flyweight_view.specs.Told.{fault_of}
 use Rattle.flyweight_view.proofs.LevelsReady.{level_ready, row_parts, row_since, parts_small, parts_few, group_shallow}
-use Rattle.flyweight_view.proofs.Opens.{steps_more, steps_err, entry_rows, entry_told, tail_told, tail_refused, group_dead, group_told, group_dim, groups_next, child_here, child_next, item_at, level_within}
+use Rattle.flyweight_view.proofs.Opens.{steps_more, steps_err, entry_rows, entry_told, tail_told, tail_flat, tail_refused, group_dead, group_told, group_dim, groups_next, child_here, child_next, item_at, level_within}
+use Rattle.flyweight_view.proofs.Lefts.{none_there}
+use Rattle.flyweight_view.proofs.Nexts.{flat_is}
 use Rattle.flyweight_view.proofs.walk.+walk.Goals as goal
 
 -- ---- entries
@@ -48,6 +50,15 @@ walk_entry-returns-then-not-judge_fields-clause-told t c =
     let same : c.args.at + c.args.block - c.args.at ≡ c.args.block = omega arith in
     entry_told c.args.layout.now c.args.n c.row.result.now c.args.level.now c.requires.schema c.row.ensures c.requires.level c.args.mode c.args.body.now c.args.at c.requires.at
     c.args.block c.as_slice-rows.result.now c.as_slice.result.now _ (Err (fault_of c.judge_fields.new.out)) (omega arith) c.as_slice-rows.ensures.value c.as_slice.ensures
+    (ap (λ k. take k (drop c.args.at c.args.body.now)) same) c.if-not-judge_fields.ensures.told
+
+pub walk_entry-returns-then-is_flat-clause-told : goal.walk_entry-returns-then-is_flat-clause-told
+walk_entry-returns-then-is_flat-clause-told t c =
+    let same : c.args.at + c.args.block - c.args.at ≡ c.args.block = omega arith in
+    let flat = flat_is c.args.mode c.args.level.now (sym c.if-is_flat.ensures) in
+    tail_flat c.args.mode c.args.level.now c.args.body.now (c.args.at + c.args.block) (omega arith) (none_there (out-Level c.args.level.now).groups flat.groups) (none_there (out-Level c.args.level.now).parts flat.parts)
+    ∙ entry_told c.args.layout.now c.args.n c.row.result.now c.args.level.now c.requires.schema c.row.ensures c.requires.level c.args.mode c.args.body.now c.args.at c.requires.at
+    c.args.block c.as_slice-rows.result.now c.as_slice.result.now _ (Ok tt) (omega arith) c.as_slice-rows.ensures.value c.as_slice.ensures
     (ap (λ k. take k (drop c.args.at c.args.body.now)) same) c.if-not-judge_fields.ensures.told
 
 pub walk_entry-returns-clause-told : goal.walk_entry-returns-clause-told
