@@ -51,6 +51,7 @@ pub fn read_dim(layout: &Layout, group: usize, bytes: &[u8], at: usize) -> Resul
 }
 
 /// The same by the dimension's row.
+#[inline(always)]
 pub fn read_dim_row(order: Order, row: &DimRow, bytes: &[u8], at: usize) -> Result<Dim, DimErr>
     requires row { IsDimRow row.now }
     requires at { at ≤ length bytes.now }

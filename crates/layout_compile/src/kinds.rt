@@ -9,6 +9,7 @@ use sbe_types::{Kind, List, Member, MemberList};
 /// How many bytes a value of the kind takes; a constant takes none. It needs a kind whose parts end
 /// within 1,048,576 bytes.
 #[cycle(width)]
+#[inline(always)]
 pub fn width_of(kind: &Kind) -> u32
     requires { IsNarrow kind.now }
     ensures { result ≡ width kind.now }
@@ -51,6 +52,7 @@ pub(crate) fn end_of(members: &List<Member>) -> u32
 
 /// Where the parts end when one more is added.
 #[cycle(width)]
+#[inline(always)]
 pub fn end_behind(end: u32, offset: Option<u32>, kind: &Kind) -> u32
     requires narrow { IsNarrow kind.now }
     requires within { EndsWithin end offset kind.now }

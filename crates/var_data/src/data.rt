@@ -54,6 +54,7 @@ pub fn read_data(
 }
 
 /// The same by the type of the length number.
+#[inline(always)]
 pub fn read_data_of(
     order: Order,
     leaf: &Leaf,
@@ -76,6 +77,7 @@ pub fn read_data_of(
 }
 
 /// Data of so many bytes whose bytes begin at a place.
+#[inline(always)]
 fn range_behind(
     leaf: &Leaf,
     size: u32,
