@@ -14,18 +14,20 @@ ghost use Rattle.schema_facts.specs.CheckedLevels.{groups_deep};
 ghost use Rattle.schema_facts.specs.Levels.{all_nodes, level_at};
 ghost use Rattle.schema_facts.specs.Measured.{IsSmall};
 ghost use Rattle.layout_compile.specs.Parts.{dim_at};
-ghost use Rattle.layout_compile.specs.Rowed.{DimIs};
+ghost use Rattle.layout_compile.specs.Rowed.{DimIs, RowFor};
 ghost use Rattle.group_codec.specs.Dims.{IsDimRow};
 ghost use Rattle.flyweight_view.specs.Cursor.{skim, entries_read, groups_told, steps_told, data_told, parts_told, dim_told, dim_went};
+ghost use Rattle.flyweight_view.specs.Layers.{IsLayer};
 ghost use Rattle.flyweight_view.specs.Ready.{IsReadySchema};
 ghost use Rattle.flyweight_view.specs.Told.{went};
 
 use crate::ends::is_flat;
 use crate::fields::judge_fields;
 use crate::found::Found;
+use crate::layer::Layer;
 use crate::mode::Mode;
 use group_codec::{Dim, DimErr, read_dim_row};
-use layout_compile::{DimRow, Layout, PartRow};
+use layout_compile::{DimRow, Layout, LevelRow, PartRow};
 use sbe_types::{Group, Level, Order, Step};
 use sbe_wire::FCode;
 use var_data::{DataErr, read_data_of};
@@ -210,6 +212,16 @@ pub(crate) fn walk_entries(
     ensures within { IfSome result (λ next. next ≤ length body.now) }
     ensures low { IfNone result (length out.new.path ≤ 2 * groups_deep level.now + 7) }
 {
+    if is_flat(level) {
+        let layer = Layer {
+            layout,
+            number: n,
+            level,
+            mode,
+            body,
+        };
+        return walk_blocks(&layer, dim, out);
+    }
     let mut at = dim.after;
     for i in 0..dim.count {
         match walk_entry(layout, mode, n, level, dim.block, body, at, out) {
@@ -221,6 +233,70 @@ pub(crate) fn walk_entries(
         }
     }
     Some(at)
+}
+
+/// Walks the entries of a group without groups and data from behind its dimension on.
+fn walk_blocks(layer: &Layer<'_>, dim: Dim, out: &mut Found) -> Option<usize>
+    requires layer { IsLayer layer.now }
+    requires groups { length (out-Level layer.now.level.now).groups ≡ 0 }
+    requires parts { length (out-Level layer.now.level.now).parts ≡ 0 }
+    requires reaches { 0 < dim.count → floor layer.now.mode.version (out-Level layer.now.level.now).fields ≤ dim.block }
+    requires at { dim.after ≤ length layer.now.body.now }
+    ensures told { went result out.new ≡ steps_told (skim (entries_read layer.now.mode layer.now.level.now dim.block) layer.now.body.now) 0 dim.count dim.after }
+    ensures within { IfSome result (λ next. next ≤ length layer.now.body.now) }
+    ensures low { IfNone result (length out.new.path ≤ 7) }
+{
+    let row = layer.layout.row(layer.number);
+    let mut at = dim.after;
+    for i in 0..dim.count {
+        match walk_block(layer, row, dim.block, at, out) {
+            Some(next) => at = next,
+            None => {
+                out.under(Step::Entry(i));
+                return None;
+            }
+        }
+    }
+    Some(at)
+}
+
+/// Walks an entry of a level without groups and data, by the level's row.
+#[inline(always)]
+fn walk_block(
+    layer: &Layer<'_>,
+    row: &LevelRow,
+    block: u32,
+    at: usize,
+    out: &mut Found,
+) -> Option<usize>
+    requires layer { IsLayer layer.now }
+    requires row { RowFor layer.now.layout.now layer.now.number row.now }
+    requires groups { length (out-Level layer.now.level.now).groups ≡ 0 }
+    requires parts { length (out-Level layer.now.level.now).parts ≡ 0 }
+    requires reaches { floor layer.now.mode.version (out-Level layer.now.level.now).fields ≤ block }
+    requires at { at ≤ length layer.now.body.now }
+    ensures told { went result out.new ≡ skim (entries_read layer.now.mode layer.now.level.now block) layer.now.body.now at }
+    ensures within { IfSome result (λ next. next ≤ length layer.now.body.now) }
+    ensures low { IfNone result (length out.new.path ≤ 6) }
+{
+    let size = block as usize;
+    if layer.body.len() - at < size {
+        out.tell(FCode::Truncated, at, block as i128);
+        return None;
+    }
+    let rows = row.fields.as_slice();
+    let behind = at + size;
+    if !judge_fields(
+        layer.mode,
+        rows,
+        layer.level.fields.as_slice(),
+        at,
+        &layer.body[at..behind],
+        out,
+    ) {
+        return None;
+    }
+    Some(behind)
 }
 
 /// Reads the dimension of a group whose entries have at least so many bytes in their blocks.

@@ -17,6 +17,12 @@ use Rattle.flyweight_view.proofs.walk.+walk.Goals as goal
 
 -- ---- entries
 
+pub walk_entries-walk_blocks-requires-clause-groups : goal.walk_entries-walk_blocks-requires-clause-groups
+walk_entries-walk_blocks-requires-clause-groups t c = (flat_is c.args.mode c.args.level.now (sym c.if-is_flat.ensures)).groups
+
+pub walk_entries-walk_blocks-requires-clause-parts : goal.walk_entries-walk_blocks-requires-clause-parts
+walk_entries-walk_blocks-requires-clause-parts t c = (flat_is c.args.mode c.args.level.now (sym c.if-is_flat.ensures)).parts
+
 pub walk_entries-returns-in-None-clause-told : goal.walk_entries-returns-in-None-clause-told
 walk_entries-returns-in-None-clause-told t c =
     let step = skim (entries_read c.args.mode c.args.level.now c.args.dim.block) c.args.body.now in

@@ -1,0 +1,25 @@
+use Rattle.std.proofs.Common.{Err, ap, ◌∙◌}
+use Rattle.flyweight_view.specs.Cursor.{skim, entries_read}
+use Rattle.flyweight_view.specs.Told.{fault_of}
+use Rattle.flyweight_view.proofs.Opens.{steps_more, steps_err, level_within}
+use Rattle.flyweight_view.proofs.walk.walk_blocks.Goals as goal
+
+pub row-row-requires : goal.row-row-requires
+row-row-requires c = level_within c.args.layer.now.layout.now c.args.layer.now.number c.args.layer.now.level.now c.requires.layer.level_is
+
+pub returns-in-None-clause-told : goal.returns-in-None-clause-told
+returns-in-None-clause-told c =
+    let l = c.args.layer.now in
+    let step = skim (entries_read l.mode l.level.now c.args.dim.block) l.body.now in
+    ap (λ f. Err (fault_of f)) c.under.ensures
+    ∙ steps_err step c.loop-i.i c.args.dim.count c.loop-i.at (fault_of c.walk_block.new.out) c.loop-i-test.true c.in-None.ensures.told
+    ∙ c.loop-i.invariant.told
+
+pub loop-i-preserved : goal.loop-i-preserved
+loop-i-preserved c =
+    let l = c.args.layer.now in
+    let step = skim (entries_read l.mode l.level.now c.args.dim.block) l.body.now in
+    record {
+      near = c.in-Some.ensures.within;
+      told = steps_more step c.loop-i.i c.args.dim.count c.loop-i.at c.in-Some.next c.loop-i-test.true c.in-Some.ensures.told ∙ c.loop-i.invariant.told;
+    }
