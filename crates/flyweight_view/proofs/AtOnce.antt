@@ -1,7 +1,6 @@
 -- Values that one look at their bytes shows.
-use Rattle.std.proofs.Common.{◌≡◌, ◌≤◌, ◌<◌, ◌+◌, ℕ, Bool, true, false, cond, List, [], ◌∷◌, length, drop, Option, Some, None, Result, Ok, Err, ℤ, pos, negsuc, refl, sym, ap, ◌∙◌, subst, arith}
-use Rattle.std.specs.Prelude.{◌||◌, ◌&&◌, not, nat_le, int_le, ◌==◌}
-use Rattle.std.proofs.lemmas.Bool.{leb-true}
+use Rattle.std.proofs.Common.{◌≡◌, ◌≤◌, ℕ, Bool, true, false, cond, List, Some, None, Result, Ok, Err, ℤ, pos, negsuc, refl, ap, ◌∙◌, subst, arith}
+use Rattle.std.specs.Prelude.{◌||◌, ◌&&◌, not, nat_le}
 use Rattle.std.proofs.lemmas.Bool.Decides.{nat_tests}
 use Rattle.sbe_types.specs.declared.kind.Kind.{Kind, Leaf, Enum}
 use Rattle.sbe_types.specs.declared.kind.Leaf.{Leaf as LeafOf}
@@ -16,14 +15,14 @@ use Rattle.sbe_types.specs.LeafBad.{shape_bad, leaf_bad, text_bad, unshown}
 use Rattle.sbe_types.specs.Numbers.{number_of}
 use Rattle.sbe_types.specs.Shown.{admits, is_null, is_listed, shown_number}
 use Rattle.sbe_types.specs.Shows.{is_ranged}
-use Rattle.sbe_types.proofs.BadLemmas.{text_from, encoded_good}
+use Rattle.sbe_types.proofs.BadLemmas.{encoded_good}
 use Rattle.schema_rules.specs.Ranges.{is_number_of}
 use Rattle.schema_facts.specs.InOrder.{IsLeafInOrder, IsShapeOf}
 use Rattle.sbe_wire.specs.declared.codes.FCode.TheVariants as code
 use Rattle.sbe_wire.specs.Faults.{Fault}
 use Rattle.sbe_wire.specs.Reading.{inside, value_read}
 use Rattle.flyweight_view.specs.declared.mode.Mode.{Mode}
-use Rattle.flyweight_view.specs.Told.{Piece, piece, settled}
+use Rattle.flyweight_view.specs.Told.{piece, settled}
 use Rattle.flyweight_view.specs.Kinds.{answered, leaf_answer, leaf_told, kind_told, part_told}
 use Rattle.flyweight_view.proofs.KindTold.{leaf_is, enum_is}
 use Rattle.flyweight_view.proofs.LeafTold.{leaf_shown}

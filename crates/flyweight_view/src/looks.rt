@@ -75,11 +75,8 @@ fn is_text(leaf: &Leaf, bytes: &[u8]) -> bool
     let low = as_byte(leaf.low);
     let high = as_byte(leaf.high);
     for byte in bytes {
-        if *byte == 0 {
-            return true;
-        }
         if !is_between(leaf, low, high, *byte) {
-            return false;
+            return *byte == 0;
         }
     }
     true
