@@ -105,11 +105,10 @@ impl Chunk {
         ensures { Writes (output (O.held sink.old) (O.faults sink.old) self.old)
             (output (O.held sink.new) (O.faults sink.new) self.new) (comma_if later ++ key_text name.now) }
     {
-        let quote: &[u8] = if later { b",\"" } else { b"\"" };
-        if name.len() + 4 <= self.left() {
-            self.add_between(quote, name, b"\":");
+        if later {
+            self.put_between(sink, b",\"", name, b"\":");
         } else {
-            put_between(self, sink, quote, name, b"\":");
+            self.put_between(sink, b"\"", name, b"\":");
         }
     }
 
@@ -119,10 +118,20 @@ impl Chunk {
         ensures { Writes (output (O.held sink.old) (O.faults sink.old) self.old)
             (output (O.held sink.new) (O.faults sink.new) self.new) (codes "\"" ++ (bytes.now ++ codes "\"")) }
     {
-        if bytes.len() + 2 <= self.left() {
-            self.add_between(b"\"", bytes, b"\"");
+        self.put_between(sink, b"\"", bytes, b"\"");
+    }
+
+    /// Writes bytes between a few others.
+    #[inline(always)]
+    fn put_between<O: Sink>(&mut self, sink: &mut O, before: &[u8], bytes: &[u8], behind: &[u8])
+        requires { length before.now + length behind.now ≤ CHUNK_BYTES }
+        ensures { Writes (output (O.held sink.old) (O.faults sink.old) self.old)
+            (output (O.held sink.new) (O.faults sink.new) self.new) (before.now ++ (bytes.now ++ behind.now)) }
+    {
+        if bytes.len() + (before.len() + behind.len()) <= self.left() {
+            self.add_between(before, bytes, behind);
         } else {
-            put_between(self, sink, b"\"", bytes, b"\"");
+            put_each(self, sink, before, bytes, behind);
         }
     }
 
@@ -155,7 +164,7 @@ impl Chunk {
 
 /// Writes bytes between others, piece by piece.
 #[inline(never)]
-fn put_between<O: Sink>(chunk: &mut Chunk, sink: &mut O, before: &[u8], bytes: &[u8], behind: &[u8])
+fn put_each<O: Sink>(chunk: &mut Chunk, sink: &mut O, before: &[u8], bytes: &[u8], behind: &[u8])
     ensures { Writes (output (O.held sink.old) (O.faults sink.old) chunk.old)
         (output (O.held sink.new) (O.faults sink.new) chunk.new) (before.now ++ (bytes.now ++ behind.now)) }
 {
