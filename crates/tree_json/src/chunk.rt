@@ -4,6 +4,7 @@ ghost use Rattle.tree_json.specs.declared.chunk.TheConstants.{CHUNK_BYTES};
 ghost use Rattle.tree_json.specs.Plain.{key_text};
 ghost use Rattle.tree_json.specs.Writes.{output, Writes, Finishes, Tried};
 
+use crate::places::place;
 use sbe_base::{Sink, WriteFault, write_all_to};
 use std::marker::Model;
 
@@ -66,9 +67,7 @@ impl Chunk {
         requires { length self.old.bytes + length bytes.now ≤ CHUNK_BYTES }
         ensures { self.new ≡ record self.old { bytes = self.old.bytes ++ bytes.now } }
     {
-        let end = self.len + bytes.len();
-        self.room[self.len..end].copy_from_slice(bytes);
-        self.len = end;
+        self.len = place(&mut self.room, self.len, bytes);
     }
 
     /// What it has gathered.

@@ -49,6 +49,7 @@ pub fn put_shown<O: Sink>(chunk: &mut Chunk, sink: &mut O, order: Order, kind: &
 
 /// Writes the members of a composite, as an object.
 #[cycle(kind)]
+#[inline(never)]
 fn put_members<O: Sink>(
     chunk: &mut Chunk,
     sink: &mut O,
@@ -100,6 +101,7 @@ fn set_number(order: Order, prim: Prim, bytes: &[u8]) -> u64
 }
 
 /// Writes a single number, a text or an array.
+#[inline(always)]
 fn put_leaf<O: Sink>(chunk: &mut Chunk, sink: &mut O, order: Order, leaf: &Leaf, bytes: &[u8])
     requires order { IsLeafInOrder leaf.now }
     requires wide { length bytes.now ≡ width (LeafKind leaf.now) }
@@ -127,6 +129,7 @@ fn is_character(leaf: &Leaf) -> bool
 }
 
 /// Writes a single number, or null.
+#[inline(always)]
 fn put_one<O: Sink>(chunk: &mut Chunk, sink: &mut O, leaf: &Leaf, number: &i128)
     ensures { Writes (output (O.held sink.old) (O.faults sink.old) chunk.old)
         (output (O.held sink.new) (O.faults sink.new) chunk.new) (plain_text (single_shown leaf.now number.now)) }
@@ -139,6 +142,7 @@ fn put_one<O: Sink>(chunk: &mut Chunk, sink: &mut O, leaf: &Leaf, number: &i128)
 }
 
 /// Writes the number of an enum, or null.
+#[inline(never)]
 fn put_listed<O: Sink>(chunk: &mut Chunk, sink: &mut O, leaf: &Leaf, names: &[Named], number: &i128)
     ensures { Writes (output (O.held sink.old) (O.faults sink.old) chunk.old)
         (output (O.held sink.new) (O.faults sink.new) chunk.new) (plain_text (enum_shown leaf.now names.now number.now)) }
@@ -164,6 +168,7 @@ fn put_text_in<O: Sink>(chunk: &mut Chunk, sink: &mut O, leaf: &Leaf, bytes: &[u
 }
 
 /// Writes the elements of an array.
+#[inline(never)]
 fn put_array<O: Sink>(chunk: &mut Chunk, sink: &mut O, order: Order, leaf: &Leaf, bytes: &[u8])
     requires { length bytes.now ≡ prim_width leaf.now.prim * leaf.now.length }
     ensures { Writes (output (O.held sink.old) (O.faults sink.old) chunk.old)

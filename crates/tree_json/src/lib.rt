@@ -6,6 +6,7 @@ mod chunk;
 mod kinds;
 mod laws;
 mod line;
+mod places;
 mod sets;
 #[cfg(test)]
 mod tests;

@@ -16,6 +16,7 @@ use sbe_types::Named;
 
 /// Writes a set: an array of the names of its choices in the schema's order, or its number where a
 /// bit is no choice.
+#[inline(never)]
 pub fn put_set<O: Sink>(chunk: &mut Chunk, sink: &mut O, names: &[Named], bits: u64)
     ensures { Writes (output (O.held sink.old) (O.faults sink.old) chunk.old)
         (output (O.held sink.new) (O.faults sink.new) chunk.new) (plain_text (set_data names.now bits)) }

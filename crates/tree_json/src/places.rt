@@ -1,0 +1,57 @@
+// Bytes at a place of a room that holds them. A few bytes are two copies of one size, which may overlap.
+ghost use Rattle.std.specs.Prelude.{◌≡◌, ◌+◌, ◌≤◌, length, take};
+ghost use Rattle.json.specs.Filled.{Placed};
+
+use std::simd::Simd;
+
+/// Copies bytes to a place, and tells the place behind them.
+#[inline(always)]
+pub(crate) fn place(room: &mut [u8], at: usize, bytes: &[u8]) -> usize
+    requires { at + length bytes.now ≤ length room.old }
+    ensures { Placed room.old room.new at bytes.now result }
+{
+    match bytes.len() {
+        0 => at,
+        1 => place_front::<1>(room, at, bytes),
+        2..=3 => place_ends::<2>(room, at, bytes),
+        4..=7 => place_ends::<4>(room, at, bytes),
+        8..=15 => place_ends::<8>(room, at, bytes),
+        16..=32 => place_ends::<16>(room, at, bytes),
+        _ => place_many(room, at, bytes),
+    }
+}
+
+/// Copies the first bytes to a place.
+#[inline(always)]
+fn place_front<const N: usize>(room: &mut [u8], at: usize, bytes: &[u8]) -> usize
+    requires enough { N ≤ length bytes.now }
+    requires within { at + N ≤ length room.old }
+    ensures { Placed room.old room.new at (take N bytes.now) result }
+{
+    Simd::<u8, N>::from_slice(bytes).copy_to_slice(&mut room[at..]);
+    at + N
+}
+
+/// Copies the first bytes and the last to a place.
+#[inline(always)]
+fn place_ends<const N: usize>(room: &mut [u8], at: usize, bytes: &[u8]) -> usize
+    requires enough { N ≤ length bytes.now }
+    requires covered { length bytes.now ≤ N + N }
+    requires within { at + length bytes.now ≤ length room.old }
+    ensures { Placed room.old room.new at bytes.now result }
+{
+    let last = bytes.len() - N;
+    place_front::<N>(room, at, bytes);
+    place_front::<N>(room, at + last, &bytes[last..])
+}
+
+/// Copies any number of bytes to a place.
+#[inline(always)]
+fn place_many(room: &mut [u8], at: usize, bytes: &[u8]) -> usize
+    requires { at + length bytes.now ≤ length room.old }
+    ensures { Placed room.old room.new at bytes.now result }
+{
+    let end = at + bytes.len();
+    room[at..end].copy_from_slice(bytes);
+    end
+}
