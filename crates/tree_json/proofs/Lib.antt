@@ -14,3 +14,5 @@ pub mod MembersShown
 pub mod Depth
 pub mod Views
 pub mod ViewSteps
+pub mod Lanes
+pub mod Fronts

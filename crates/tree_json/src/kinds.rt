@@ -15,8 +15,9 @@ ghost use Rattle.tree_json.specs.Shown.{single_shown, enum_shown, text_shown, el
 ghost use Rattle.tree_json.specs.Writes.{output, Writes};
 
 use crate::chunk::Chunk;
+use crate::runs::plain_front;
 use crate::sets::put_set;
-use crate::texts::put_text;
+use crate::texts::{put_plain, put_text};
 use crate::values::{put_comma, put_constant, put_enum, put_null, put_number, put_single};
 use field_values::before_zero;
 use layout_compile::{begin_of, end_behind};
@@ -155,7 +156,20 @@ fn put_listed<O: Sink>(chunk: &mut Chunk, sink: &mut O, leaf: &Leaf, names: &[Na
 }
 
 /// Writes the text before the first 00: null where it is empty and the leaf optional.
+#[tactic(auto, using(crate::proofs::Fronts::front_written))]
 fn put_text_in<O: Sink>(chunk: &mut Chunk, sink: &mut O, leaf: &Leaf, bytes: &[u8])
+    ensures { Writes (output (O.held sink.old) (O.faults sink.old) chunk.old)
+        (output (O.held sink.new) (O.faults sink.new) chunk.new) (plain_text (text_shown leaf.now bytes.now)) }
+{
+    match plain_front(bytes) {
+        Some(text) => put_plain(chunk, sink, text),
+        None => put_any_text(chunk, sink, leaf, bytes),
+    }
+}
+
+/// Writes the text before the first 00, whatever its bytes: null where it is empty and the leaf optional.
+#[inline(never)]
+fn put_any_text<O: Sink>(chunk: &mut Chunk, sink: &mut O, leaf: &Leaf, bytes: &[u8])
     ensures { Writes (output (O.held sink.old) (O.faults sink.old) chunk.old)
         (output (O.held sink.new) (O.faults sink.new) chunk.new) (plain_text (text_shown leaf.now bytes.now)) }
 {

@@ -7,6 +7,7 @@ mod kinds;
 mod laws;
 mod line;
 mod places;
+mod runs;
 mod sets;
 #[cfg(test)]
 mod tests;

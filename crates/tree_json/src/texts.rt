@@ -9,6 +9,7 @@ ghost use Rattle.tree_json.specs.Plain.{plain_text, is_plain_byte};
 ghost use Rattle.tree_json.specs.Writes.{output, Writes};
 
 use crate::chunk::Chunk;
+use crate::runs::plain_run;
 use sbe_base::Sink;
 
 const HEX_DIGITS: &[u8; 16] = b"0123456789abcdef";
@@ -45,7 +46,7 @@ pub fn put_string<O: Sink>(chunk: &mut Chunk, sink: &mut O, bytes: &[u8])
 fn is_plain(bytes: &[u8]) -> bool
     ensures { result ≡ list_all is_plain_byte bytes.now }
 {
-    bytes.iter().all(|b| *b >= b' ' && *b <= b'~' && !(*b == b'"' || *b == b'\\'))
+    plain_run(bytes) == bytes.len()
 }
 
 /// Whether each byte is from 20 to 7e.
@@ -57,7 +58,7 @@ fn is_printable(bytes: &[u8]) -> bool
 
 /// Writes bytes that stand for themselves between quotes.
 #[inline(always)]
-fn put_plain<O: Sink>(chunk: &mut Chunk, sink: &mut O, bytes: &[u8])
+pub(crate) fn put_plain<O: Sink>(chunk: &mut Chunk, sink: &mut O, bytes: &[u8])
     requires { list_all is_plain_byte bytes.now ≡ true }
     ensures { Writes (output (O.held sink.old) (O.faults sink.old) chunk.old)
         (output (O.held sink.new) (O.faults sink.new) chunk.new) (plain_text (string bytes.now)) }

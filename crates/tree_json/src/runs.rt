@@ -1,0 +1,87 @@
+// How many bytes of a text stand for themselves in a string of JSON.
+ghost use Rattle.std.specs.Prelude.{◌≡◌, ◌+◌, ◌≤◌, ◌<◌, true, length, take, drop, IfSome};
+ghost use Rattle.std.specs.List.{prefix_len, list_all};
+ghost use Rattle.field_values.specs.Told.{before_zero};
+ghost use Rattle.tree_json.specs.Plain.{is_plain_byte, first_set};
+
+use std::simd::prelude::*;
+
+const LANES: usize = 8;
+
+/// The text before the first 00, where it has bytes and each of them is printable and stands for itself.
+#[inline(always)]
+#[tactic(auto, using(crate::proofs::Fronts::run_is_front, crate::proofs::Lanes::run_passes))]
+pub(crate) fn plain_front(bytes: &[u8]) -> Option<&[u8]>
+    ensures front { IfSome result (λ text. text.now ≡ before_zero bytes.now) }
+    ensures plain { IfSome result (λ text. list_all is_plain_byte text.now ≡ true) }
+    ensures some { IfSome result (λ text. 0 < length text.now) }
+{
+    let run = plain_run(bytes);
+    if run == 0 {
+        return None;
+    }
+    if run < bytes.len() && bytes[run] != 0 {
+        return None;
+    }
+    Some(&bytes[..run])
+}
+
+/// How many bytes, from the first, are printable and stand for themselves.
+#[inline(always)]
+pub(crate) fn plain_run(bytes: &[u8]) -> usize
+    ensures { result ≡ prefix_len is_plain_byte bytes.now }
+{
+    let mut at = 0;
+    while bytes.len() - at >= LANES {
+        let run = lane_run(bytes, at);
+        at += run;
+        if run < LANES {
+            return at;
+        }
+    }
+    at + short_run(&bytes[at..])
+}
+
+/// The same, byte by byte.
+#[inline(always)]
+fn short_run(bytes: &[u8]) -> usize
+    ensures { result ≡ prefix_len is_plain_byte bytes.now }
+{
+    let mut at = 0;
+    while at < bytes.len() && is_plain(bytes[at]) {
+        at += 1;
+    }
+    at
+}
+
+/// Whether a byte is printable, and stands for itself.
+#[inline(always)]
+fn is_plain(b: u8) -> bool
+    ensures { result ≡ is_plain_byte b }
+{
+    b >= b' ' && b <= b'~' && !(b == b'"' || b == b'\\')
+}
+
+/// How many of eight bytes, from the first, are printable and stand for themselves.
+#[inline(always)]
+fn lane_run(bytes: &[u8], at: usize) -> usize
+    requires { at + LANES ≤ length bytes.now }
+    ensures { result ≡ prefix_len is_plain_byte (take LANES (drop at bytes.now)) }
+{
+    let lanes = u8x8::from_slice(&bytes[at..]);
+    let outside = lanes.simd_lt(u8x8::splat(b' ')) | lanes.simd_gt(u8x8::splat(b'~'));
+    let escaped = lanes.simd_eq(u8x8::splat(b'"')) | lanes.simd_eq(u8x8::splat(b'\\'));
+    first_set((outside | escaped).to_bitmask())
+}
+
+/// The place of the lowest bit of eight that is set, or 8.
+#[inline(always)]
+fn first_set(mask: u64) -> usize
+    ensures { result ≡ first_set mask LANES }
+{
+    if mask == 0 {
+        LANES
+    } else {
+        mask.trailing_zeros() as usize
+    }
+}
