@@ -9,6 +9,6 @@ mod schemas;
 
 pub use codes::encoding_of;
 pub use laws::{each_frame_has_one_answer, faults_have_ways};
-pub use lines::{put_before, put_behind};
+pub use lines::put_message;
 pub use refused::{put_encoding, put_fault};
 pub use schemas::Schemas;

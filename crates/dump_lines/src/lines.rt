@@ -1,33 +1,55 @@
+ghost use Rattle.std.specs.Prelude.{◌++◌};
 ghost use Rattle.layout_compile.specs.Writes.{Writes, outlet_of};
-ghost use Rattle.dump_lines.specs.Dumped.{before_message, behind_message};
+ghost use Rattle.tree_json.specs.Writes.{output, Writes as Puts};
+ghost use Rattle.dump_lines.specs.Dumped.{before_message, behind_message, seen_line};
 
 use crate::schemas::Schemas;
-use sbe_base::{Sink, WriteFault, write_all_to};
-use tree_json::{Chunk, put_count};
+use flyweight_view::MsgView;
+use sbe_base::{Sink, WriteFault};
+use tree_json::{Chunk, put_count, put_line};
 
-/// Writes what stands before a message.
-pub fn put_before<O: Sink>(sink: &mut O, schemas: &Schemas, id: u32) -> Result<(), WriteFault>
+/// Writes the line of a message of a schema with that id.
+///
+/// # Errors
+///
+/// Where a write fails; the sink then holds a front of the line.
+pub fn put_message<O: Sink>(
+    sink: &mut O,
+    schemas: &Schemas,
+    id: u32,
+    view: &MsgView<'_>,
+) -> Result<(), WriteFault>
     ensures { Writes (outlet_of (O.held sink.old) (O.faults sink.old)) (outlet_of (O.held sink.new) (O.faults sink.new))
-        (before_message schemas.now.also id) result }
+        (before_message schemas.now.also id ++ (seen_line view.now ++ behind_message schemas.now.also)) result }
 {
-    if schemas.also.is_empty() {
-        return Ok(());
-    }
     let mut chunk = Chunk::new();
-    chunk.put(sink, b"{\"schema\":");
-    put_count(&mut chunk, sink, id as u64);
-    chunk.put(sink, b",\"message\":");
+    put_before(&mut chunk, sink, schemas, id);
+    put_line(&mut chunk, sink, view);
+    put_behind(&mut chunk, sink, schemas);
     chunk.finish(sink)
 }
 
-/// Writes what stands behind a message.
-pub fn put_behind<O: Sink>(sink: &mut O, schemas: &Schemas) -> Result<(), WriteFault>
-    ensures { Writes (outlet_of (O.held sink.old) (O.faults sink.old)) (outlet_of (O.held sink.new) (O.faults sink.new))
-        (behind_message schemas.now.also) result }
+/// Writes what stands before a message.
+fn put_before<O: Sink>(chunk: &mut Chunk, sink: &mut O, schemas: &Schemas, id: u32)
+    ensures { Puts (output (O.held sink.old) (O.faults sink.old) chunk.old)
+        (output (O.held sink.new) (O.faults sink.new) chunk.new) (before_message schemas.now.also id) }
 {
     if schemas.also.is_empty() {
-        write_all_to(sink, b"\n")
+        return;
+    }
+    chunk.put(sink, b"{\"schema\":");
+    put_count(chunk, sink, id as u64);
+    chunk.put(sink, b",\"message\":");
+}
+
+/// Writes what stands behind a message.
+fn put_behind<O: Sink>(chunk: &mut Chunk, sink: &mut O, schemas: &Schemas)
+    ensures { Puts (output (O.held sink.old) (O.faults sink.old) chunk.old)
+        (output (O.held sink.new) (O.faults sink.new) chunk.new) (behind_message schemas.now.also) }
+{
+    if schemas.also.is_empty() {
+        chunk.put(sink, b"\n");
     } else {
-        write_all_to(sink, b"}\n")
+        chunk.put(sink, b"}\n");
     }
 }

@@ -1,12 +1,11 @@
-ghost use Rattle.std.specs.Prelude.{ℕ, ◌++◌};
-ghost use Rattle.layout_compile.specs.Writes.{Writes, outlet_of};
-ghost use Rattle.dump_lines.specs.Dumped.{Answers, body_answer, before_message, behind_message, dumped, seen_line};
+ghost use Rattle.std.specs.Prelude.{ℕ};
+ghost use Rattle.layout_compile.specs.Writes.{outlet_of};
+ghost use Rattle.dump_lines.specs.Dumped.{Answers, body_answer, dumped};
 
-use dump_lines::{Schemas, encoding_of, put_before, put_behind, put_encoding, put_fault};
-use flyweight_view::{MsgView, validate};
+use dump_lines::{Schemas, encoding_of, put_encoding, put_fault, put_message};
+use flyweight_view::validate;
 use layout_compile::Layout;
 use sbe_base::{Sink, WriteFault};
-use tree_json::line_of;
 
 /// Writes the answer to one frame, and tells whether it is a message. It takes no memory.
 ///
@@ -45,7 +44,7 @@ fn put_body<O: Sink>(
 {
     let _schema = layout.schema();
     match validate(layout, body) {
-        Ok(view) => match put_message(sink, schemas, layout, &view) {
+        Ok(view) => match put_message(sink, schemas, layout.id(), &view) {
             Ok(()) => Ok(true),
             Err(fault) => Err(fault),
         },
@@ -54,19 +53,4 @@ fn put_body<O: Sink>(
             Err(fault) => Err(fault),
         },
     }
-}
-
-/// Writes the line of a message.
-fn put_message<O: Sink>(
-    sink: &mut O,
-    schemas: &Schemas,
-    layout: &Layout,
-    view: &MsgView<'_>,
-) -> Result<(), WriteFault>
-    ensures { Writes (outlet_of (O.held sink.old) (O.faults sink.old)) (outlet_of (O.held sink.new) (O.faults sink.new))
-        (before_message schemas.now.also layout.now.id ++ (seen_line view.now ++ behind_message schemas.now.also)) result }
-{
-    put_before(sink, schemas, layout.id())?;
-    line_of(view, sink)?;
-    put_behind(sink, schemas)
 }

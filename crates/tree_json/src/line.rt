@@ -23,11 +23,20 @@ pub fn line_of<O: Sink>(view: &MsgView<'_>, sink: &mut O) -> Result<(), WriteFau
     ensures part { OnErr result (AppendsPart (O.held sink.old) (O.held sink.new) (compact_text (message_at (Some view.now.level) view.now.message))) }
     ensures cause { HasCause (O.faults sink.old) (O.faults sink.new) result }
 {
+    let mut chunk = Chunk::new();
+    put_line(&mut chunk, sink, view);
+    chunk.finish(sink)
+}
+
+/// Writes the line of a message by way of a chunk, without its line end.
+pub fn put_line<O: Sink>(chunk: &mut Chunk, sink: &mut O, view: &MsgView<'_>)
+    ensures { Writes (output (O.held sink.old) (O.faults sink.old) chunk.old)
+        (output (O.held sink.new) (O.faults sink.new) chunk.new)
+        (compact_text (message_at (Some view.now.level) view.now.message)) }
+{
     // A checked schema's names stand for themselves.
     let _schema = view.schema();
-    let mut chunk = Chunk::new();
-    put_message(&mut chunk, sink, view);
-    chunk.finish(sink)
+    put_message(chunk, sink, view);
 }
 
 /// Writes a message.

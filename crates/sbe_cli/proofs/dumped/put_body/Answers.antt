@@ -6,11 +6,11 @@ put_fault-requires g c = way_there c.args.layout.now c.args.body.now c.in-Err.re
 
 pub returns-in-Ok-put_message : goal.returns-in-Ok-put_message
 returns-in-Ok-put_message g c = λ encoding.
-    message_written c.args.schemas.now c.args.layout.now c.args.item (record { encoding = encoding; body = c.args.body.now }) c.in-Ok.view c.schema-schema.ensures.order.placed c.in-Ok.ensures.lies c.in-Ok.ensures.level _ _ c.in-Ok-put_message.ensures
+    message_written c.args.schemas.now c.args.layout.now c.args.item (record { encoding = encoding; body = c.args.body.now }) c.in-Ok.view c.schema-schema.ensures.order.placed c.in-Ok.ensures.lies c.in-Ok.ensures.level _ _ (rw c.id.ensures at c.in-Ok-put_message.ensures)
 
 pub returns-in-Err-put_message : goal.returns-in-Err-put_message
 returns-in-Err-put_message g c = λ encoding.
-    message_broken c.args.schemas.now c.args.layout.now c.args.item (record { encoding = encoding; body = c.args.body.now }) c.in-Ok.view c.schema-schema.ensures.order.placed c.in-Ok.ensures.lies c.in-Ok.ensures.level _ _ _ c.in-Err-put_message.ensures
+    message_broken c.args.schemas.now c.args.layout.now c.args.item (record { encoding = encoding; body = c.args.body.now }) c.in-Ok.view c.schema-schema.ensures.order.placed c.in-Ok.ensures.lies c.in-Ok.ensures.level _ _ _ (rw c.id.ensures at c.in-Err-put_message.ensures)
 
 pub returns-in-Ok-put_fault : goal.returns-in-Ok-put_fault
 returns-in-Ok-put_fault g c = λ encoding.

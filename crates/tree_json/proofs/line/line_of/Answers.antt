@@ -1,8 +1,6 @@
 use Rattle.std.proofs.Common.{[]}
 use Rattle.tree_json.specs.Writes.{Origin}
-use Rattle.tree_json.proofs.Checked.{checked_is_plain}
-use Rattle.tree_json.proofs.Views.{line_text}
-use Rattle.tree_json.proofs.Written.{starts, ended, retold}
+use Rattle.tree_json.proofs.Written.{starts, ended}
 use Rattle.tree_json.proofs.line.line_of.Goals as goal
 
 pub returns : goal.returns
@@ -10,7 +8,6 @@ returns g c =
     let base = g.O.Sink.held c.args.sink.now in
     let faults = g.O.Sink.faults c.args.sink.now in
     let origin : Origin = record { held = base; faults = faults } in
-    let text = line_text c.schema-schema.result.now c.args.view.now.level c.args.view.now.message (checked_is_plain c.schema-schema.result.now c.schema-schema.ensures.order) c.schema-schema.ensures.level in
-    let written = (retold text c.put_message.ensures).more origin [] (starts base faults c.new-chunk.result c.new-chunk.ensures) in
+    let written = c.put_line.ensures.more origin [] (starts base faults c.new-chunk.result c.new-chunk.ensures) in
     let all = ended c.finish.result base (g.O.Sink.held c.finish.new.sink) faults (g.O.Sink.faults c.finish.new.sink) _ (c.finish.ensures.ends origin _ written) in
     record { ok = all.0; part = all.1; cause = all.2 }
