@@ -1,4 +1,4 @@
-ghost use Rattle.std.specs.Prelude.{◌≡◌};
+ghost use Rattle.std.specs.Prelude.{◌≡◌, ◌<◌, pos};
 ghost use Rattle.std.specs.Option.{option_map};
 ghost use Rattle.serde_json.specs.Data.{null, number, unsigned};
 ghost use Rattle.serde_json.specs.Written.{comma_if};
@@ -22,8 +22,36 @@ pub fn put_null<O: Sink>(chunk: &mut Chunk, sink: &mut O)
 }
 
 /// Writes an integer.
-#[tactic(auto, using(crate::proofs::Numbers::number_is))]
 pub fn put_number<O: Sink>(chunk: &mut Chunk, sink: &mut O, n: &i128)
+    ensures { Writes (output (O.held sink.old) (O.faults sink.old) chunk.old)
+        (output (O.held sink.new) (O.faults sink.new) chunk.new) (plain_text (number_data n.now)) }
+{
+    if *n >= 0 && *n < 100 {
+        put_small(chunk, sink, *n as u8);
+    } else {
+        put_any_number(chunk, sink, n);
+    }
+}
+
+/// Writes a number of at most two digits.
+#[inline(always)]
+#[tactic(auto, using(crate::proofs::Numbers::one_digit, crate::proofs::Numbers::two_digits))]
+fn put_small<O: Sink>(chunk: &mut Chunk, sink: &mut O, n: u8)
+    requires { n < 100 }
+    ensures { Writes (output (O.held sink.old) (O.faults sink.old) chunk.old)
+        (output (O.held sink.new) (O.faults sink.new) chunk.new) (plain_text (number_data (pos n))) }
+{
+    if n < 10 {
+        chunk.put(sink, &[b'0' + n]);
+    } else {
+        chunk.put(sink, &[b'0' + n / 10, b'0' + n % 10]);
+    }
+}
+
+/// Writes an integer of any number of digits.
+#[inline(never)]
+#[tactic(auto, using(crate::proofs::Numbers::number_is))]
+fn put_any_number<O: Sink>(chunk: &mut Chunk, sink: &mut O, n: &i128)
     ensures { Writes (output (O.held sink.old) (O.faults sink.old) chunk.old)
         (output (O.held sink.new) (O.faults sink.new) chunk.new) (plain_text (number_data n.now)) }
 {
