@@ -41,6 +41,10 @@ fn put_parts<O: Sink>(chunk: &mut Chunk, sink: &mut O, block: &BlockView<'_>)
         (entries_text false (zipped part_entry block.now.parts (out-Block block.now.block).parts)) }
 {
     let (_, _, count) = block.counts();
+    if count == 0 {
+        chunk.put(sink, b"}");
+        return;
+    }
     let mut parts = block.parts();
     let mut later = false;
     for i in 0..count {
@@ -124,6 +128,10 @@ fn put_groups<O: Sink>(chunk: &mut Chunk, sink: &mut O, block: &BlockView<'_>)
         (entries_text false (zipped group_entry block.now.groups (out-Block block.now.block).groups)) }
 {
     let (_, count, _) = block.counts();
+    if count == 0 {
+        chunk.put(sink, b"}");
+        return;
+    }
     let mut groups = block.groups();
     let mut later = false;
     for i in 0..count {

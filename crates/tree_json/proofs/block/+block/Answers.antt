@@ -63,7 +63,7 @@ put_groups-returns g t c =
     let groups = c.args.block.now.groups in
     let none = view_over entries_entry c.loop-i.later c.loop-i.i groups c.loop-i.groups (omega (arith, ap (λ r. r.1) c.counts-count.ensures)) in
     let whole = ap (λ vs. entries_text false (zipped entries_entry groups vs)) c.groups-groups.ensures.seen ∙ ap (entries_text false) (groups_are groups (out-Block c.args.block.now.block).groups) in
-    retold (ends_so so_far.0 _ _ _ none so_far.2 ∙ whole) (then_writes so_far.1 c.put.ensures)
+    retold (ends_so so_far.0 _ _ _ none so_far.2 ∙ whole) (then_writes so_far.1 c.put-2.ensures)
 
 pub put_entries-loop-entry-init : goal.put_entries-loop-entry-init
 put_entries-loop-entry-init g t c =

@@ -35,4 +35,4 @@ returns g c =
     let parts = c.args.block.now.parts in
     let none = view_over bytes_entry c.loop-i.later c.loop-i.i parts c.loop-i.parts (omega (arith, ap (λ r. r.2) c.counts-count.ensures)) in
     let whole = ap (λ vs. entries_text false (zipped bytes_entry parts vs)) c.parts-parts.ensures.seen ∙ ap (entries_text false) (parts_are parts (out-Block c.args.block.now.block).parts) in
-    retold (ends_so so_far.0 _ _ _ none so_far.2 ∙ whole) (then_writes so_far.1 c.put.ensures)
+    retold (ends_so so_far.0 _ _ _ none so_far.2 ∙ whole) (then_writes so_far.1 c.put-2.ensures)
