@@ -1,5 +1,5 @@
 // Blocks of a message, as JSON.
-ghost use Rattle.std.specs.Prelude.{◌≡◌, ◌≤◌, ◌<◌, ◌++◌, false, length, slice_get, Some};
+ghost use Rattle.std.specs.Prelude.{◌≡◌, ◌≤◌, ◌<◌, ◌++◌, codes, false, length, slice_get, Some};
 ghost use Rattle.std.specs.Option.{option_map, IsSome};
 ghost use Rattle.serde_json.specs.Written.{comma_if};
 ghost use Rattle.sbe_types.specs.declared.message.Block.{out-Block};
@@ -24,33 +24,31 @@ pub(crate) fn put_front<O: Sink>(chunk: &mut Chunk, sink: &mut O, block: &BlockV
     ensures { Writes (output (O.held sink.old) (O.faults sink.old) chunk.old)
         (output (O.held sink.new) (O.faults sink.new) chunk.new) (seen_front block.now) }
 {
-    chunk.put(sink, b"{\"data\":{");
     put_parts(chunk, sink, block);
-    chunk.put(sink, b",\"fields\":{");
     put_fields(chunk, sink, block);
-    chunk.put(sink, b",\"groups\":{");
     put_groups(chunk, sink, block);
 }
 
 // ---- data parts
 
-/// Writes the data parts of a block that are there, with the bracket behind them.
+/// Writes the data parts of a block that are there, from its first bracket to that before its fields.
 fn put_parts<O: Sink>(chunk: &mut Chunk, sink: &mut O, block: &BlockView<'_>)
     ensures { Writes (output (O.held sink.old) (O.faults sink.old) chunk.old)
         (output (O.held sink.new) (O.faults sink.new) chunk.new)
-        (entries_text false (zipped part_entry block.now.parts (out-Block block.now.block).parts)) }
+        (codes "{\"data\":{" ++ (entries_text false (zipped part_entry block.now.parts (out-Block block.now.block).parts) ++ codes ",\"fields\":{")) }
 {
     let (_, _, count) = block.counts();
     if count == 0 {
-        chunk.put(sink, b"}");
+        chunk.put(sink, b"{\"data\":{},\"fields\":{");
         return;
     }
+    chunk.put(sink, b"{\"data\":{");
     let mut parts = block.parts();
     let mut later = false;
     for i in 0..count {
         later = put_part(chunk, sink, later, block.data_name(i), parts.next_part());
     }
-    chunk.put(sink, b"}");
+    chunk.put(sink, b"},\"fields\":{");
 }
 
 /// Writes a data part behind its name, unless it is absent, and tells whether a member stands now.
@@ -120,18 +118,19 @@ fn put_field<O: Sink>(
 
 // ---- groups
 
-/// Writes the groups of a block that are there, with the bracket behind them.
+/// Writes the groups of a block that are there, behind its fields, with the bracket behind them.
 #[cycle(block)]
 fn put_groups<O: Sink>(chunk: &mut Chunk, sink: &mut O, block: &BlockView<'_>)
     ensures { Writes (output (O.held sink.old) (O.faults sink.old) chunk.old)
         (output (O.held sink.new) (O.faults sink.new) chunk.new)
-        (entries_text false (zipped group_entry block.now.groups (out-Block block.now.block).groups)) }
+        (codes ",\"groups\":{" ++ entries_text false (zipped group_entry block.now.groups (out-Block block.now.block).groups)) }
 {
     let (_, count, _) = block.counts();
     if count == 0 {
-        chunk.put(sink, b"}");
+        chunk.put(sink, b",\"groups\":{}");
         return;
     }
+    chunk.put(sink, b",\"groups\":{");
     let mut groups = block.groups();
     let mut later = false;
     for i in 0..count {

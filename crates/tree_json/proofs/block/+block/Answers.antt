@@ -1,11 +1,11 @@
-use Rattle.std.proofs.Common.{◌≡◌, [], ◌∷◌, ◌++◌, refl, ap, sym, subst, ◌∙◌, arith, length}
-use Rattle.std.specs.Prelude.{false, slice_get}
+use Rattle.std.proofs.Common.{◌≡◌, [], ◌∷◌, ◌++◌, refl, ap, sym, subst, ◌∙◌, arith, length, append_assoc}
+use Rattle.std.specs.Prelude.{codes, false, slice_get}
 use Rattle.std.specs.Option.{option_map}
 use Rattle.serde_json.specs.Written.{comma_if}
 use Rattle.sbe_types.specs.declared.message.Block.{out-Block}
 use Rattle.tree_json.specs.Deep.{deepest, deepest_in}
 use Rattle.tree_json.specs.Values.{zipped}
-use Rattle.tree_json.specs.Lines.{group_name, items_by}
+use Rattle.tree_json.specs.Lines.{group_name, group_entry, items_by, part_entry}
 use Rattle.tree_json.specs.Plain.{entry_text, entries_text, plain_items}
 use Rattle.tree_json.specs.Views.{entries_entry, entries_data, seen_data}
 use Rattle.tree_json.proofs.Written.{then_writes, retold, writes_nothing}
@@ -18,7 +18,9 @@ use Rattle.tree_json.proofs.block.+block.Goals as goal
 
 pub put_front-returns : goal.put_front-returns
 put_front-returns g t c =
-    then_writes c.put.ensures (then_writes c.put_parts.ensures (then_writes c.put-2.ensures (then_writes c.put_fields.ensures (then_writes c.put-3.ensures c.put_groups.ensures))))
+    let p = entries_text false (zipped part_entry c.args.block.now.parts (out-Block c.args.block.now.block).parts) in
+    retold (ap (λ s. codes "{\"data\":{" ++ s) (append_assoc p (codes ",\"fields\":{") _))
+    (then_writes c.put_parts.ensures (then_writes c.put_fields.ensures c.put_groups.ensures))
 
 pub put_entry-returns : goal.put_entry-returns
 put_entry-returns g t c =
@@ -57,13 +59,19 @@ put_groups-loop-i-preserved g t c =
       written = (_, then_writes so_far.written.1 one, rw c.put_group-later.ensures.later (goes_on so_far.written.0 _ _ _ _ next so_far.written.2));
     }
 
+pub put_groups-returns-then-count-eq0 : goal.put_groups-returns-then-count-eq0
+put_groups-returns-then-count-eq0 g t c =
+    let groups = c.args.block.now.groups in
+    let none = view_over group_entry false 0 groups (out-Block c.args.block.now.block).groups (omega (arith, c.if-count-eq0.true, ap (λ r. r.1) c.counts-count.ensures)) in
+    retold (ap (λ s. codes ",\"groups\":{" ++ s) none) c.put.ensures
+
 pub put_groups-returns : goal.put_groups-returns
 put_groups-returns g t c =
     let so_far = c.loop-i.invariant.written in
     let groups = c.args.block.now.groups in
     let none = view_over entries_entry c.loop-i.later c.loop-i.i groups c.loop-i.groups (omega (arith, ap (λ r. r.1) c.counts-count.ensures)) in
     let whole = ap (λ vs. entries_text false (zipped entries_entry groups vs)) c.groups-groups.ensures.seen ∙ ap (entries_text false) (groups_are groups (out-Block c.args.block.now.block).groups) in
-    retold (ends_so so_far.0 _ _ _ none so_far.2 ∙ whole) (then_writes so_far.1 c.put-2.ensures)
+    then_writes c.put-2.ensures (retold (ends_so so_far.0 _ _ _ none so_far.2 ∙ whole) (then_writes so_far.1 c.put-3.ensures))
 
 pub put_entries-loop-entry-init : goal.put_entries-loop-entry-init
 put_entries-loop-entry-init g t c =

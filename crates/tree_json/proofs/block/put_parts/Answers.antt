@@ -1,4 +1,5 @@
-use Rattle.std.proofs.Common.{[], refl, ap, sym, ◌∙◌, arith, length}
+use Rattle.std.proofs.Common.{append_assoc, ◌++◌, [], refl, ap, sym, ◌∙◌, arith, length}
+use Rattle.std.specs.Prelude.{codes}
 use Rattle.std.specs.Prelude.{false, slice_get}
 use Rattle.std.specs.Option.{option_map}
 use Rattle.sbe_types.specs.declared.message.Block.{out-Block}
@@ -35,4 +36,6 @@ returns g c =
     let parts = c.args.block.now.parts in
     let none = view_over bytes_entry c.loop-i.later c.loop-i.i parts c.loop-i.parts (omega (arith, ap (λ r. r.2) c.counts-count.ensures)) in
     let whole = ap (λ vs. entries_text false (zipped bytes_entry parts vs)) c.parts-parts.ensures.seen ∙ ap (entries_text false) (parts_are parts (out-Block c.args.block.now.block).parts) in
-    retold (ends_so so_far.0 _ _ _ none so_far.2 ∙ whole) (then_writes so_far.1 c.put-2.ensures)
+    let text = ends_so so_far.0 (codes "}") _ _ none so_far.2 ∙ whole in
+    let rest = sym (append_assoc so_far.0 (codes "}") (codes ",\"fields\":{")) ∙ ap (λ t. t ++ codes ",\"fields\":{") text in
+    then_writes c.put-2.ensures (retold rest (then_writes so_far.1 c.put-3.ensures))
