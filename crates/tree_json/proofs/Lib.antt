@@ -16,3 +16,4 @@ pub mod Views
 pub mod ViewSteps
 pub mod Lanes
 pub mod Fronts
+pub mod Valid

@@ -2,6 +2,7 @@
 use Rattle.std.specs.Prelude.{◌≡◌, ℕ, List, ⊤}
 use Rattle.std.specs.List.{AllByRecursion}
 use Rattle.sbe_types.specs.declared.kind.Kind.{Kind, Leaf, Enum, Set, Const, Comp', Row_of-Member, end_of-Member, more_of-Member}
+use Rattle.sbe_types.specs.declared.kind.Named.{Named}
 use Rattle.sbe_types.specs.declared.schema.Field.{Field}
 use Rattle.sbe_types.specs.declared.schema.DataField.{DataField}
 use Rattle.sbe_types.specs.declared.schema.Group.{Group, Group'}
@@ -53,6 +54,10 @@ abbrev mutual
 -- all names of a schema's messages are plain
 abbrev pub HasPlainNames : WireSchema → Type 0
 HasPlainNames schema = AllByRecursion IsPlainLevel schema.messages
+
+-- valid values or choices whose names have their form
+abbrev pub AreNamed : List Named → Type 0
+AreNamed values = AllByRecursion (λ (v : Named). IsName v.name) values
 
 -- The law: a name of a schema stands for itself.
 abbrev pub NamesStand : Type 0

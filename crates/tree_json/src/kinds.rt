@@ -9,7 +9,8 @@ ghost use Rattle.sbe_types.specs.Places.{width, is_const, begin_of as begins_at,
 ghost use Rattle.sbe_types.specs.Shows.{ShowsLeaf};
 ghost use Rattle.schema_rules.specs.TypeRules.{is_set_primitive};
 ghost use Rattle.schema_facts.specs.InOrder.{IsKindInOrder, IsLeafInOrder};
-ghost use Rattle.tree_json.specs.Values.{value_data, is_character};
+ghost use Rattle.tree_json.specs.Values.{value_data, enum_data, is_character};
+ghost use Rattle.tree_json.specs.Names.{AreNamed};
 ghost use Rattle.tree_json.specs.Plain.{plain_text, shown_text};
 ghost use Rattle.tree_json.specs.Shown.{single_shown, enum_shown, text_shown, element_shown, elements_shown, WritesShown};
 ghost use Rattle.tree_json.specs.Writes.{output, Writes};
@@ -18,7 +19,7 @@ use crate::chunk::Chunk;
 use crate::runs::plain_front;
 use crate::sets::put_set;
 use crate::texts::{put_plain, put_text};
-use crate::values::{put_comma, put_constant, put_enum, put_null, put_number, put_single};
+use crate::values::{name_of, put_comma, put_constant, put_null, put_number, put_single};
 use field_values::before_zero;
 use layout_compile::{begin_of, end_behind};
 use sbe_base::Sink;
@@ -142,16 +143,31 @@ fn put_one<O: Sink>(chunk: &mut Chunk, sink: &mut O, leaf: &Leaf, number: &i128)
     }
 }
 
-/// Writes the number of an enum, or null.
+/// Writes the number of an enum, or null. It needs names in form.
 #[inline(never)]
 fn put_listed<O: Sink>(chunk: &mut Chunk, sink: &mut O, leaf: &Leaf, names: &[Named], number: &i128)
+    requires { AreNamed names.now }
     ensures { Writes (output (O.held sink.old) (O.faults sink.old) chunk.old)
         (output (O.held sink.new) (O.faults sink.new) chunk.new) (plain_text (enum_shown leaf.now names.now number.now)) }
 {
     if leaf.is_null(*number) {
         put_null(chunk, sink);
     } else {
-        put_enum(chunk, sink, names, number);
+        put_valid(chunk, sink, names, number);
+    }
+}
+
+/// Writes the name of an enum's number as it stands, or the number where no valid value has it.
+#[inline(always)]
+#[tactic(auto, using(crate::proofs::Valid::name_written, crate::proofs::Valid::number_written))]
+fn put_valid<O: Sink>(chunk: &mut Chunk, sink: &mut O, names: &[Named], number: &i128)
+    requires { AreNamed names.now }
+    ensures { Writes (output (O.held sink.old) (O.faults sink.old) chunk.old)
+        (output (O.held sink.new) (O.faults sink.new) chunk.new) (plain_text (enum_data names.now number.now)) }
+{
+    match name_of(names, number) {
+        Some(name) => chunk.put_in_quotes(sink, name),
+        None => put_number(chunk, sink, number),
     }
 }
 

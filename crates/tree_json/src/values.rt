@@ -104,7 +104,7 @@ pub fn put_comma<O: Sink>(chunk: &mut Chunk, sink: &mut O, later: bool)
 }
 
 /// The name of the first valid value of that number.
-fn name_of<'a>(names: &'a [Named], n: &i128) -> Option<&'a [u8]>
+pub(crate) fn name_of<'a>(names: &'a [Named], n: &i128) -> Option<&'a [u8]>
     ensures { option_map (λ name. name.now) result ≡ name_of names.now n.now }
 {
     for named in names {
