@@ -64,6 +64,19 @@ pub fn put_count<O: Sink>(chunk: &mut Chunk, sink: &mut O, n: u64)
     ensures { Writes (output (O.held sink.old) (O.faults sink.old) chunk.old)
         (output (O.held sink.new) (O.faults sink.new) chunk.new) (plain_text (number (unsigned n))) }
 {
+    if n < 100 {
+        put_small(chunk, sink, n as u8);
+    } else {
+        put_any_count(chunk, sink, n);
+    }
+}
+
+/// Writes a count of any number of digits.
+#[inline(never)]
+fn put_any_count<O: Sink>(chunk: &mut Chunk, sink: &mut O, n: u64)
+    ensures { Writes (output (O.held sink.old) (O.faults sink.old) chunk.old)
+        (output (O.held sink.new) (O.faults sink.new) chunk.new) (plain_text (number (unsigned n))) }
+{
     let mut buffer = Buffer::new();
     chunk.put(sink, buffer.format(n).as_bytes());
 }
