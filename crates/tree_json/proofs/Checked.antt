@@ -15,6 +15,11 @@ use Rattle.schema_facts.specs.InOrder.{IsKindInOrder, IsKindFrom, AreKindsFrom, 
 use Rattle.schema_facts.specs.Levels.{Node, nodes, nodes_below, nodes_of, nodes_from}
 use Rattle.schema_facts.specs.CheckedLevels.{HasNames, HasKinds, group_name}
 use Rattle.tree_json.specs.Names.{HasPlainMembers, ArePlainMembers, IsPlainField, IsPlainPart, IsPlainLevel, ArePlainGroups, IsPlainGroup, CheckedIsPlain}
+use Rattle.std.specs.Prelude.{◌≡◌, slice_get}
+use Rattle.sbe_types.specs.declared.schema.WireSchema.{WireSchema}
+use Rattle.schema_facts.specs.IsChecked.{IsChecked}
+use Rattle.schema_facts.proofs.LevelForms.{all_of_message}
+use Rattle.tree_json.specs.Plain.{IsPlainName}
 use Rattle.tree_json.proofs.Plainly.{names_stand}
 
 all_front : {A : Type 0} (P : A → Type 0) (xs ys : List A) → AllByRecursion P (xs ++ ys) → AllByRecursion P xs
@@ -82,3 +87,11 @@ messages_plain t (level ∷ rest) named kinds =
 
 pub checked_is_plain : CheckedIsPlain
 checked_is_plain schema h = messages_plain 0 schema.messages h.names h.kinds.levels
+
+own_named : (t : ℕ) (dim : Option (List Member)) (level : Level) → AllByRecursion Named (nodes t dim level) → IsName (out-Level level).name
+unfolding nodes
+own_named t dim (Level' name id semantic since block_length fields n groups parts) h = h.0.own
+
+-- the name of a message stands for itself
+pub template_is_plain : (schema : WireSchema) (i : ℕ) (level : Level) → IsChecked schema → slice_get schema.messages i ≡ Some level → IsPlainName (out-Level level).name
+template_is_plain schema i level h is = names_stand (out-Level level).name (own_named _ None level (all_of_message Named 0 i schema.messages level h.names is))

@@ -3,12 +3,12 @@ ghost use Rattle.std.specs.Io.KnownBytes.{Appends};
 ghost use Rattle.sbe_base.specs.Causes.{AppendsPart, HasCause};
 ghost use Rattle.serde_json.specs.Written.{compact_text};
 ghost use Rattle.tree_json.specs.Lines.{message_at};
-ghost use Rattle.tree_json.specs.Plain.{plain_text};
+ghost use Rattle.tree_json.specs.Plain.{plain_text, IsPlainName};
+ghost use Rattle.sbe_types.specs.declared.schema.Level.{out-Level};
 ghost use Rattle.tree_json.specs.Writes.{output, Writes};
 
 use crate::block::put_front;
 use crate::chunk::Chunk;
-use crate::texts::put_string;
 use crate::values::put_count;
 use flyweight_view::MsgView;
 use sbe_base::{Sink, WriteFault};
@@ -39,15 +39,16 @@ pub fn put_line<O: Sink>(chunk: &mut Chunk, sink: &mut O, view: &MsgView<'_>)
     put_message(chunk, sink, view);
 }
 
-/// Writes a message.
+/// Writes a message. It needs a template's name that stands for itself.
 fn put_message<O: Sink>(chunk: &mut Chunk, sink: &mut O, view: &MsgView<'_>)
+    requires { IsPlainName (out-Level view.now.level).name }
     ensures { Writes (output (O.held sink.old) (O.faults sink.old) chunk.old)
         (output (O.held sink.new) (O.faults sink.new) chunk.new)
         (plain_text (message_at (Some view.now.level) view.now.message)) }
 {
     put_front(chunk, sink, &view.root());
     chunk.put(sink, b",\"template\":");
-    put_string(chunk, sink, view.name());
+    chunk.put_in_quotes(sink, view.name());
     chunk.put(sink, b",\"version\":");
     put_count(chunk, sink, view.version() as u64);
     chunk.put(sink, b"}");
