@@ -17,3 +17,4 @@ pub mod ViewSteps
 pub mod Lanes
 pub mod Fronts
 pub mod Valid
+pub mod Gathered

@@ -136,13 +136,14 @@ impl Chunk {
 
     /// Gathers bytes between others, for all of which it has room.
     #[inline(always)]
+    #[tactic(auto, using(crate::proofs::Gathered::three_placed))]
     fn add_between(&mut self, before: &[u8], bytes: &[u8], behind: &[u8])
         requires { length self.old.bytes + (length before.now + (length bytes.now + length behind.now)) ≤ CHUNK_BYTES }
         ensures { self.new ≡ record self.old { bytes = self.old.bytes ++ (before.now ++ (bytes.now ++ behind.now)) } }
     {
-        self.add(before);
-        self.add(bytes);
-        self.add(behind);
+        let at = place(&mut self.room, self.len, before);
+        let then = place(&mut self.room, at, bytes);
+        self.len = place(&mut self.room, then, behind);
     }
 
     /// Writes what is gathered, and tells whether a write has failed.

@@ -10,14 +10,34 @@ pub(crate) fn place(room: &mut [u8], at: usize, bytes: &[u8]) -> usize
     requires { at + length bytes.now ≤ length room.old }
     ensures { Placed room.old room.new at bytes.now result }
 {
-    match bytes.len() {
-        0 => at,
-        1 => place_front::<1>(room, at, bytes),
-        2..=3 => place_ends::<2>(room, at, bytes),
-        4..=7 => place_ends::<4>(room, at, bytes),
-        8..=15 => place_ends::<8>(room, at, bytes),
-        16..=32 => place_ends::<16>(room, at, bytes),
-        _ => place_many(room, at, bytes),
+    let count = bytes.len();
+    if count >= 8 {
+        place_long(room, at, bytes)
+    } else if count >= 4 {
+        place_ends::<4>(room, at, bytes)
+    } else if count >= 2 {
+        place_ends::<2>(room, at, bytes)
+    } else if count == 1 {
+        place_front::<1>(room, at, bytes)
+    } else {
+        at
+    }
+}
+
+/// Copies eight bytes or more to a place.
+#[inline(always)]
+fn place_long(room: &mut [u8], at: usize, bytes: &[u8]) -> usize
+    requires enough { 8 ≤ length bytes.now }
+    requires within { at + length bytes.now ≤ length room.old }
+    ensures { Placed room.old room.new at bytes.now result }
+{
+    let count = bytes.len();
+    if count <= 16 {
+        place_ends::<8>(room, at, bytes)
+    } else if count <= 32 {
+        place_ends::<16>(room, at, bytes)
+    } else {
+        place_many(room, at, bytes)
     }
 }
 
