@@ -1,5 +1,5 @@
 -- The values of a message as JSON data. From RFC 8259, Values; which JSON stands for which value is own profile.
-use Rattle.std.specs.Prelude.{ℕ, ◌&&◌, ◌==◌, nat_le, nat_lt, Bool, true, false, is_some, if◌then◌else◌, List, [], ◌∷◌, ℤ, pos, negsuc, int_le, codes, Option, Some, None}
+use Rattle.std.specs.Prelude.{ℕ, ◌+◌, ◌/◌, ◌%◌, ◌&&◌, ◌==◌, nat_le, nat_lt, Bool, true, false, is_some, if◌then◌else◌, List, [], ◌∷◌, ℤ, pos, negsuc, int_le, codes, Option, Some, None}
 use Rattle.std.specs.Option.{option_map, option_map_or}
 use Rattle.std.specs.List.{list_all}
 use Rattle.std.specs.Ordering.{int_eq}
@@ -58,6 +58,10 @@ text_data bytes = if list_all is_printable bytes then string bytes else hex byte
 -- an integer
 abbrev pub number_data : ℤ → Data
 number_data n = number (of_integer n)
+
+-- the last four digits of a number
+abbrev pub last_four : ℕ → List ℕ
+last_four n = (48 + n / 10 / 10 / 10 % 10) ∷ (48 + n / 10 / 10 % 10) ∷ (48 + n / 10 % 10) ∷ (48 + n % 10) ∷ []
 
 -- a char as a string of one character where it is printable, else as its number
 abbrev pub char_data : ℤ → Data

@@ -1,8 +1,8 @@
-ghost use Rattle.std.specs.Prelude.{◌≡◌, ◌<◌, pos};
+ghost use Rattle.std.specs.Prelude.{◌≡◌, ◌<◌, ◌+◌, pos};
 ghost use Rattle.std.specs.Option.{option_map};
 ghost use Rattle.serde_json.specs.Data.{null, number, unsigned};
 ghost use Rattle.serde_json.specs.Written.{comma_if};
-ghost use Rattle.tree_json.specs.Values.{number_data, char_data, single_data, enum_data, name_of, constant_data};
+ghost use Rattle.tree_json.specs.Values.{number_data, char_data, single_data, enum_data, name_of, constant_data, last_four};
 ghost use Rattle.tree_json.specs.Plain.{plain_text};
 ghost use Rattle.tree_json.specs.Writes.{output, Writes};
 
@@ -28,6 +28,8 @@ pub fn put_number<O: Sink>(chunk: &mut Chunk, sink: &mut O, n: &i128)
 {
     if *n >= 0 && *n < 100 {
         put_small(chunk, sink, *n as u8);
+    } else if *n >= 0 && *n < 100_000_000 {
+        put_middle(chunk, sink, *n as u32);
     } else {
         put_any_number(chunk, sink, n);
     }
@@ -48,6 +50,69 @@ fn put_small<O: Sink>(chunk: &mut Chunk, sink: &mut O, n: u8)
     }
 }
 
+/// Writes a number of at most eight digits.
+#[inline(never)]
+#[tactic(auto, using(crate::proofs::Numbers::digits_behind))]
+fn put_middle<O: Sink>(chunk: &mut Chunk, sink: &mut O, n: u32)
+    requires { n < 100_000_000 }
+    ensures { Writes (output (O.held sink.old) (O.faults sink.old) chunk.old)
+        (output (O.held sink.new) (O.faults sink.new) chunk.new) (plain_text (number_data (pos n))) }
+{
+    if n < 10_000 {
+        put_short(chunk, sink, n as u16);
+    } else {
+        put_short(chunk, sink, (n / 10_000) as u16);
+        put_four(chunk, sink, (n % 10_000) as u16);
+    }
+}
+
+/// Writes a number of at most four digits.
+#[inline(always)]
+#[tactic(auto, using(crate::proofs::Numbers::three_digits, crate::proofs::Numbers::four_digits))]
+fn put_short<O: Sink>(chunk: &mut Chunk, sink: &mut O, n: u16)
+    requires { n < 10_000 }
+    ensures { Writes (output (O.held sink.old) (O.faults sink.old) chunk.old)
+        (output (O.held sink.new) (O.faults sink.new) chunk.new) (plain_text (number_data (pos n))) }
+{
+    if n < 100 {
+        put_small(chunk, sink, n as u8);
+    } else if n < 1_000 {
+        chunk.put(
+            sink,
+            &[digit(n / 10 / 10), digit(n / 10 % 10), digit(n % 10)],
+        );
+    } else {
+        put_four(chunk, sink, n);
+    }
+}
+
+/// Writes four digits.
+#[inline(always)]
+fn put_four<O: Sink>(chunk: &mut Chunk, sink: &mut O, n: u16)
+    requires { n < 10_000 }
+    ensures { Writes (output (O.held sink.old) (O.faults sink.old) chunk.old)
+        (output (O.held sink.new) (O.faults sink.new) chunk.new) (last_four n) }
+{
+    chunk.put(
+        sink,
+        &[
+            digit(n / 10 / 10 / 10 % 10),
+            digit(n / 10 / 10 % 10),
+            digit(n / 10 % 10),
+            digit(n % 10),
+        ],
+    );
+}
+
+/// A digit to the base 10.
+#[inline(always)]
+fn digit(n: u16) -> u8
+    requires { n < 10 }
+    ensures { result ≡ 48 + n }
+{
+    b'0' + n as u8
+}
+
 /// Writes an integer of any number of digits.
 #[inline(never)]
 #[tactic(auto, using(crate::proofs::Numbers::number_is))]
@@ -66,6 +131,8 @@ pub fn put_count<O: Sink>(chunk: &mut Chunk, sink: &mut O, n: u64)
 {
     if n < 100 {
         put_small(chunk, sink, n as u8);
+    } else if n < 100_000_000 {
+        put_middle(chunk, sink, n as u32);
     } else {
         put_any_count(chunk, sink, n);
     }
