@@ -1,5 +1,5 @@
 -- How many bytes stand for themselves, by the lanes of a load.
-use Rattle.std.proofs.Common.{◌≡◌, ℕ, ◌+◌, ◌-◌, ◌%◌, ◌^◌, ◌<◌, ◌≤◌, eqb, cond, suc, ◌&&◌, ◌∷◌, Bool, true, false, not, List, [], ◌++◌, map, length, take, drop, get_or, Fits, w8, refl, sym, ap, ap₂, ◌∙◌, subst, arith, length-take-le, length-drop, take-append-drop, ◌≢◌, inl, inr}
+use Rattle.std.proofs.Common.{◌≡◌, ℕ, ◌+◌, ◌%◌, ◌^◌, ◌<◌, ◌≤◌, eqb, cond, suc, ◌&&◌, ◌∷◌, Bool, true, false, not, List, [], map, length, take, drop, get_or, Fits, w8, refl, sym, ap, ap₂, ◌∙◌, arith, length-take-le, length-drop, take-append-drop, ◌≢◌, inl, inr}
 use Rattle.std.proofs.lemmas.Bool.{agree_below, agree_below_at, cases_eq, eq-eqb, ne_eqb, cond-true, cond-false}
 use Rattle.std.proofs.lemmas.Simd.{map-map, mask_l-mod, length-chunk, chunk-fits, first_set_mask_l, zip2-map}
 use Rattle.std.proofs.lemmas.List.{length-map, drop-drop}

@@ -4,7 +4,6 @@ use Rattle.std.specs.Prelude.{codes}
 use Rattle.std.specs.Option.{option_map_or}
 use Rattle.serde_json.specs.Data.{string}
 use Rattle.std.specs.Ordering.{int_eq}
-use Rattle.json.specs.Print.{escape}
 use Rattle.sbe_types.specs.declared.kind.Named.{Named}
 use Rattle.sbe_types.specs.InForm.{IsName}
 use Rattle.tree_json.specs.Names.{AreNamed}

@@ -1,6 +1,5 @@
 use Rattle.std.proofs.Common.{ℕ, List, ap, sym, ◌++◌, ◌∙◌}
 use Rattle.std.specs.Prelude.{codes}
-use Rattle.sbe_types.specs.declared.schema.Level.{out-Level}
 use Rattle.tree_json.proofs.Written.{then_writes, retold}
 use Rattle.tree_json.proofs.Blocks.{message_is}
 use Rattle.tree_json.proofs.line.put_message.Goals as goal

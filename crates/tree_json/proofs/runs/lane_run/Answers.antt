@@ -1,7 +1,6 @@
 use Rattle.std.proofs.Common.{ℕ, ltb, cond, bit_or, refl, arith}
-use Rattle.std.proofs.lemmas.Simd.{zip2_splat, zip2_splat_left, zip2-map, length-chunk}
-use Rattle.std.proofs.Common.{ap₂, ◌∙◌}
-use lib.Lanes.{chunk, zip2}
+use Rattle.std.proofs.lemmas.Simd.{zip2_splat, zip2_splat_left, length-chunk}
+use lib.Lanes.{chunk}
 use Rattle.tree_json.specs.Plain.{is_plain_byte}
 use Rattle.tree_json.proofs.Lanes.{lanes_run, joined}
 use Rattle.tree_json.proofs.runs.lane_run.Goals as goal

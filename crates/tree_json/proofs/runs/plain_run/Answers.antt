@@ -3,7 +3,7 @@ use Rattle.std.specs.List.{prefix_len}
 use Rattle.std.proofs.lemmas.List.{take_rest}
 use Rattle.std.proofs.lemmas.List.Sums.{prefix_len-le-length}
 use Rattle.tree_json.specs.Plain.{is_plain_byte}
-use Rattle.tree_json.proofs.Lanes.{run_behind, run_stops}
+use Rattle.tree_json.proofs.Lanes.{run_behind}
 use Rattle.tree_json.proofs.runs.plain_run.Goals as goal
 
 pub loop-at-preserved : goal.loop-at-preserved
