@@ -13,6 +13,7 @@ use sbe_types::Field;
 
 /// Judges the fields of a block that begins at a place of the body. Where one shows no value, `out` tells the
 /// first fault.
+#[inline(always)]
 pub(crate) fn judge_fields(
     mode: Mode,
     rows: &[FieldRow],
