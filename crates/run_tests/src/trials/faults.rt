@@ -136,11 +136,10 @@ fn answers_the_frames_before_a_fault(rt: HostRuntime) -> Result<(), Fail> {
 #[test]
 fn takes_nothing_behind_a_failed_answer(rt: HostRuntime) -> Result<(), Fail> {
     let alloc = rt.alloc();
-    let rows: [(&[u64], usize, &[u8], usize); 4] = [
+    let rows: [(&[u64], usize, &[u8], usize); 3] = [
         (&[1], 32_768, b"", 20),
         (&[], 10, &LINE[..10], 20),
-        (&[2], 32_768, &LINE[..81], 20),
-        (&[3], 32_768, LINE, 0),
+        (&[2], 32_768, LINE, 0),
     ];
     for piece in 1..22usize {
         for (output, room, written, left) in rows {
