@@ -85,9 +85,9 @@ fn prints_a_line_for_each_message(rt: HostRuntime) -> Result<(), Fail> {
             schema: schema.as_bytes(),
             ..check()
         };
-        expect(&rt, alloc, &trial, Status::Done, output, b"")?;
+        expect(alloc, &trial, Status::Done, output, b"")?;
     }
-    expect(&rt, alloc, &check(), Status::Done, PING_LINE, b"")
+    expect(alloc, &check(), Status::Done, PING_LINE, b"")
 }
 
 /// The files that can't be read, with their codes and paths.
@@ -138,7 +138,7 @@ fn refuses_files_that_hold_no_schema(rt: HostRuntime) -> Result<(), Fail> {
     ];
     for (schema, notes) in rows {
         let trial = Trial { schema, ..check() };
-        expect(&rt, alloc, &trial, Status::SchemaRefused, b"", notes)?;
+        expect(alloc, &trial, Status::SchemaRefused, b"", notes)?;
     }
     let long = vec![in alloc; b' '; 1_048_577]?;
     let trial = Trial {
@@ -146,7 +146,7 @@ fn refuses_files_that_hold_no_schema(rt: HostRuntime) -> Result<(), Fail> {
         ..check()
     };
     let notes = b"{\"file\":\"schema\",\"refused\":\"S06\",\"path\":\"\"}\n";
-    expect(&rt, alloc, &trial, Status::SchemaRefused, b"", notes)
+    expect(alloc, &trial, Status::SchemaRefused, b"", notes)
 }
 
 /// The schemas that break a rule, with its code and the element's path.
@@ -194,7 +194,7 @@ fn refuses_schemas_that_break_a_rule(rt: HostRuntime) -> Result<(), Fail> {
             schema: schema.as_bytes(),
             ..check()
         };
-        expect(&rt, alloc, &trial, Status::SchemaRefused, b"", notes)?;
+        expect(alloc, &trial, Status::SchemaRefused, b"", notes)?;
     }
     Ok(())
 }
@@ -239,7 +239,7 @@ fn ends_a_check_early(rt: HostRuntime) -> Result<(), Fail> {
         ),
     ];
     for (trial, status, notes) in rows {
-        expect(&rt, alloc, &trial, status, b"", notes)?;
+        expect(alloc, &trial, status, b"", notes)?;
     }
     Ok(())
 }

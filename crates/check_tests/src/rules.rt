@@ -318,14 +318,7 @@ fn names_the_rule_that_is_broken(rt: HostRuntime) -> Result<(), Fail> {
             ..sample()
         };
         let note = note_of(alloc, row.code, row.path)?;
-        expect(
-            &rt,
-            alloc,
-            &trial,
-            Status::SchemaRefused,
-            b"",
-            note.as_bytes(),
-        )?;
+        expect(alloc, &trial, Status::SchemaRefused, b"", note.as_bytes())?;
     }
     Ok(())
 }
@@ -345,7 +338,7 @@ fn takes_a_constant_by_its_own_reference(rt: HostRuntime) -> Result<(), Fail> {
         ..sample()
     };
     let line = b"{\"message\":\"Ping\",\"id\":1,\"block\":2,\"groups\":0,\"data\":0}\n";
-    expect(&rt, alloc, &trial, Status::Done, line, b"")
+    expect(alloc, &trial, Status::Done, line, b"")
 }
 
 /// The last of 512 messages is refused by its place.
@@ -367,12 +360,5 @@ fn finds_an_unknown_type_in_the_last_message(rt: HostRuntime) -> Result<(), Fail
         ..sample()
     };
     let note = note_of(alloc, "C02", "messages/m511.x")?;
-    expect(
-        &rt,
-        alloc,
-        &trial,
-        Status::SchemaRefused,
-        b"",
-        note.as_bytes(),
-    )
+    expect(alloc, &trial, Status::SchemaRefused, b"", note.as_bytes())
 }

@@ -10,41 +10,23 @@ mod members;
 mod together;
 mod versions;
 
-use files::TYPES;
 use run_trials::{Trial, expect, sample};
+use sample_schemas::SchemaFile;
 use sbe_base::Status;
 use std::alloc::Global;
-use std::process::Abort;
 use std::test::Fail;
-
-/// A schema file in two pieces, between which the shared types stand.
-#[derive(Clone, Copy)]
-struct File {
-    before: &'static str,
-    behind: &'static str,
-}
-
-impl File {
-    /// The whole file.
-    fn text(&self, alloc: Global) -> Result<String, Fail> {
-        let mut text = String::from_str(alloc, self.before)?;
-        text.push_str(TYPES)?;
-        text.push_str(self.behind)?;
-        Ok(text)
-    }
-}
 
 /// Frames of at most one message, and the line that a dump of them writes; no line where it is empty.
 #[derive(Clone, Copy)]
 struct Row {
-    schema: File,
+    schema: SchemaFile,
     frames: &'static [u8],
     line: &'static str,
     status: Status,
 }
 
 /// Asserts what a dump of each row's frames writes.
-fn expect_rows(rt: &impl Abort, alloc: Global, rows: &[Row]) -> Result<(), Fail> {
+fn expect_rows(alloc: Global, rows: &[Row]) -> Result<(), Fail> {
     for row in rows {
         let schema = row.schema.text(alloc)?;
         let trial = Trial {
@@ -56,7 +38,7 @@ fn expect_rows(rt: &impl Abort, alloc: Global, rows: &[Row]) -> Result<(), Fail>
         if !row.line.is_empty() {
             output.push_str("\n")?;
         }
-        expect(rt, alloc, &trial, row.status, output.as_bytes(), b"")?;
+        expect(alloc, &trial, row.status, output.as_bytes(), b"")?;
     }
     Ok(())
 }

@@ -5,16 +5,17 @@ mod files;
 use crate::outline::add_layout;
 use files::{
     BRIDGE, DATA, DEEP, ENTRIES, EVENT, FIVE, LATER_DATA, LATER_ENTRIES, LATER_EVENT, MIX, ORDER,
-    Row, SIX, TYPES,
+    Row, SIX,
 };
 use layout_compile::{Layout, compile};
+use sample_schemas::TYPES;
 use sbe_schema::read_schema;
 use schema_check::check;
 use std::alloc::Global;
 use std::test::Fail;
 
 fn layout_of(alloc: Global, file: &Row) -> Result<Layout, Fail> {
-    let text = format!(in alloc; "{}{TYPES}{}", file.before, file.behind)?;
+    let text = file.file.text(alloc)?;
     let schema = read_schema(alloc, text.as_bytes())?;
     let checked = check(alloc, schema)?;
     Ok(compile(alloc, &checked)?)
@@ -70,7 +71,7 @@ fn the_last_of_256_fields_has_its_place(rt: HostRuntime) -> Result<(), Fail> {
     }
     let text = format!(in alloc;
         "{}{TYPES}]}}}},{{\"message\":{{\"name\":\"Wide\",\"id\":1,\"content\":[{}]}}}}]}}}}",
-        ORDER.before,
+        ORDER.file.before,
         fields.as_str()
     )?;
     let checked = check(alloc, read_schema(alloc, text.as_bytes())?)?;

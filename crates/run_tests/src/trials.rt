@@ -16,13 +16,13 @@ const USAGE: &[u8] = b"{\"usage\":\"sbe check compat dump build fixcheck tofix t
 fn answers_frames(rt: HostRuntime) -> Result<(), Fail> {
     let alloc = rt.alloc();
     let mut trial = sample();
-    expect(&rt, alloc, &trial, Status::Done, LINE, b"")?;
+    expect(alloc, &trial, Status::Done, LINE, b"")?;
     trial.input = b"";
-    expect(&rt, alloc, &trial, Status::Done, b"", b"")?;
+    expect(alloc, &trial, Status::Done, b"", b"")?;
     trial.input = FRAME;
     for piece in 1..22usize {
         trial.piece = piece;
-        expect(&rt, alloc, &trial, Status::Done, LINE, b"")?;
+        expect(alloc, &trial, Status::Done, LINE, b"")?;
     }
     let short_block =
         b"\x00\x00\x00\x13\xeb\x50\x06\x00\x01\x00\x07\x00\x00\x00\x02\x01\x00\x00\x00";
@@ -42,7 +42,7 @@ fn answers_frames(rt: HostRuntime) -> Result<(), Fail> {
     ];
     for (input, output) in rows {
         trial.input = input;
-        expect(&rt, alloc, &trial, Status::SomeRefused, output, b"")?;
+        expect(alloc, &trial, Status::SomeRefused, output, b"")?;
     }
     Ok(())
 }
@@ -59,7 +59,7 @@ fn refuses_in_order(rt: HostRuntime) -> Result<(), Fail> {
 {\"refused\":\"F01\",\"item\":1,\"offset\":0,\"path\":\"\",\"detail\":\"1\"}
 {\"data\":{},\"fields\":{\"a\":65534,\"b\":5},\"groups\":{},\"template\":\"Ping\",\"version\":0}
 ";
-    expect(&rt, alloc, &trial, Status::SomeRefused, output, b"")
+    expect(alloc, &trial, Status::SomeRefused, output, b"")
 }
 
 #[test]
@@ -69,14 +69,7 @@ fn ends_inside_a_frame(rt: HostRuntime) -> Result<(), Fail> {
     for cut in 1..20usize {
         trial.input = &FRAME[..cut];
         let notes = format!(in alloc; "{{\"framing\":\"EndInside\",\"at\":0,\"number\":{cut}}}\n")?;
-        expect(
-            &rt,
-            alloc,
-            &trial,
-            Status::FramingRefused,
-            b"",
-            notes.as_bytes(),
-        )?;
+        expect(alloc, &trial, Status::FramingRefused, b"", notes.as_bytes())?;
     }
     Ok(())
 }
@@ -113,12 +106,12 @@ fn names_faulty_heads(rt: HostRuntime) -> Result<(), Fail> {
     ];
     for (input, notes) in rows {
         trial.input = input;
-        expect(&rt, alloc, &trial, Status::FramingRefused, b"", notes)?;
+        expect(alloc, &trial, Status::FramingRefused, b"", notes)?;
     }
     trial.input =
         b"\x00\x00\x00\x14\xeb\x50\x06\x00\x01\x00\x07\x00\x00\x00\x02\x01\x00\x00\x00\x80\x00\x01\x00\x01\xeb\x50";
     let notes = b"{\"framing\":\"LengthOver\",\"at\":20,\"number\":65537}\n";
-    expect(&rt, alloc, &trial, Status::FramingRefused, LINE, notes)
+    expect(alloc, &trial, Status::FramingRefused, LINE, notes)
 }
 
 #[test]
@@ -136,12 +129,12 @@ fn refuses_schemas(rt: HostRuntime) -> Result<(), Fail> {
     ];
     for (schema, notes) in rows {
         trial.schema = schema;
-        expect(&rt, alloc, &trial, Status::SchemaRefused, b"", notes)?;
+        expect(alloc, &trial, Status::SchemaRefused, b"", notes)?;
     }
     let long = vec![in alloc; b' '; 1_048_577]?;
     trial.schema = long.as_slice();
     let too_long = b"{\"file\":\"schema\",\"refused\":\"S06\",\"path\":\"\"}\n";
-    expect(&rt, alloc, &trial, Status::SchemaRefused, b"", too_long)
+    expect(alloc, &trial, Status::SchemaRefused, b"", too_long)
 }
 
 #[test]
@@ -158,12 +151,12 @@ fn refuses_words(rt: HostRuntime) -> Result<(), Fail> {
     ];
     for words in rows {
         let trial = Trial { words, ..sample() };
-        expect(&rt, alloc, &trial, Status::Usage, b"", USAGE)?;
+        expect(alloc, &trial, Status::Usage, b"", USAGE)?;
     }
     let trial = Trial {
         words: &["dump", "other.json"],
         ..sample()
     };
     let absent = b"{\"absent\":\"schema\"}\n";
-    expect(&rt, alloc, &trial, Status::NoFile, b"", absent)
+    expect(alloc, &trial, Status::NoFile, b"", absent)
 }

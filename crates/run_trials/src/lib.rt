@@ -4,7 +4,6 @@
 use sbe_base::{MemFiles, MemSink, MemSource, Status};
 use sbe_cli::run;
 use std::alloc::Global;
-use std::process::Abort;
 use std::test::Fail;
 
 /// A schema with one message of two fields, whose id is 7.
@@ -96,9 +95,8 @@ pub fn run_trial(alloc: Global, trial: &Trial, room: usize) -> Result<Outcome, F
     })
 }
 
-/// Runs a trial, and asserts its status and what it wrote.
+/// Runs a trial. The test fails unless its status and what it wrote are these.
 pub fn expect(
-    rt: &impl Abort,
     alloc: Global,
     trial: &Trial,
     status: Status,
@@ -106,8 +104,20 @@ pub fn expect(
     notes: &[u8],
 ) -> Result<(), Fail> {
     let ended = run_trial(alloc, trial, 32_768)?;
-    assert_eq!(rt; ended.status, status);
-    assert_eq!(rt; ended.output.bytes(), output);
-    assert_eq!(rt; ended.notes.bytes(), notes);
-    Ok(())
+    if ended.status != status {
+        return Err(Fail::new(format_args!("the status is {:?}", ended.status)));
+    }
+    expect_bytes("output", ended.output.bytes(), output)?;
+    expect_bytes("notes", ended.notes.bytes(), notes)
+}
+
+/// The test fails unless these bytes are the wanted ones.
+fn expect_bytes(name: &str, found: &[u8], wanted: &[u8]) -> Result<(), Fail> {
+    if found == wanted {
+        return Ok(());
+    }
+    match str::from_utf8(found) {
+        Ok(text) => Err(Fail::new(format_args!("the {name} is {text}"))),
+        Err(_) => Err(Fail::new(format_args!("the {name} has {} bytes", found.len()))),
+    }
 }

@@ -1,7 +1,8 @@
 //! Blocks of fields: what their values read as, and their first faults.
 
-use super::files::{KINDS, MIX, SIX};
+use super::files::KINDS;
 use super::{Row, expect_rows};
+use sample_schemas::{MIX, SIX};
 use sbe_base::Status;
 use std::test::Fail;
 
@@ -280,14 +281,14 @@ const NUMBERS: [Row; 8] = [
 #[test]
 fn prints_blocks(rt: HostRuntime) -> Result<(), Fail> {
     let alloc = rt.alloc();
-    expect_rows(&rt, alloc, &SIMPLE)?;
-    expect_rows(&rt, alloc, &MIXED)?;
-    expect_rows(&rt, alloc, &OCTETS)
+    expect_rows(alloc, &SIMPLE)?;
+    expect_rows(alloc, &MIXED)?;
+    expect_rows(alloc, &OCTETS)
 }
 
 #[test]
 fn prints_values(rt: HostRuntime) -> Result<(), Fail> {
     let alloc = rt.alloc();
-    expect_rows(&rt, alloc, &TEXTS)?;
-    expect_rows(&rt, alloc, &NUMBERS)
+    expect_rows(alloc, &TEXTS)?;
+    expect_rows(alloc, &NUMBERS)
 }

@@ -1,17 +1,16 @@
 //! Bodies cut short: each prefix in a frame of its own, and each prefix of a frame.
 
-use super::File;
-use super::files::{BRIDGE, EVENT, MIX, SIX, TAILS};
+use super::files::TAILS;
 use run_trials::{Trial, expect, sample};
+use sample_schemas::{BRIDGE, EVENT, MIX, SIX, SchemaFile};
 use sbe_base::Status;
 use std::alloc::Global;
-use std::process::Abort;
 use std::test::Fail;
 
 /// A body, and what a dump writes for its prefixes in frames of their own, from the empty one to the whole.
 #[derive(Clone, Copy)]
 struct Cut {
-    schema: File,
+    schema: SchemaFile,
     encoding: &'static [u8],
     body: &'static [u8],
     lines: &'static str,
@@ -234,7 +233,7 @@ fn push_frame(input: &mut Vec<u8>, encoding: &[u8], body: &[u8]) -> Result<(), F
 }
 
 /// Asserts what a dump writes for every prefix of a body.
-fn expect_prefixes(rt: &impl Abort, alloc: Global, cut: &Cut) -> Result<(), Fail> {
+fn expect_prefixes(alloc: Global, cut: &Cut) -> Result<(), Fail> {
     let schema = cut.schema.text(alloc)?;
     let mut input = Vec::new(alloc);
     for end in 0..cut.body.len() {
@@ -247,7 +246,6 @@ fn expect_prefixes(rt: &impl Abort, alloc: Global, cut: &Cut) -> Result<(), Fail
         ..sample()
     };
     expect(
-        rt,
         alloc,
         &trial,
         Status::SomeRefused,
@@ -257,7 +255,7 @@ fn expect_prefixes(rt: &impl Abort, alloc: Global, cut: &Cut) -> Result<(), Fail
 }
 
 /// Asserts that every proper prefix of a body's frame ends inside it.
-fn expect_ends_inside(rt: &impl Abort, alloc: Global, cut: &Cut) -> Result<(), Fail> {
+fn expect_ends_inside(alloc: Global, cut: &Cut) -> Result<(), Fail> {
     let schema = cut.schema.text(alloc)?;
     let mut frame = Vec::new(alloc);
     push_frame(&mut frame, cut.encoding, cut.body)?;
@@ -270,14 +268,7 @@ fn expect_ends_inside(rt: &impl Abort, alloc: Global, cut: &Cut) -> Result<(), F
         let notes = format!(in alloc;
             "{{\"framing\":\"EndInside\",\"at\":0,\"number\":{held}}}\n"
         )?;
-        expect(
-            rt,
-            alloc,
-            &trial,
-            Status::FramingRefused,
-            b"",
-            notes.as_bytes(),
-        )?;
+        expect(alloc, &trial, Status::FramingRefused, b"", notes.as_bytes())?;
     }
     Ok(())
 }
@@ -286,8 +277,8 @@ fn expect_ends_inside(rt: &impl Abort, alloc: Global, cut: &Cut) -> Result<(), F
 fn answers_each_prefix_of_a_body(rt: HostRuntime) -> Result<(), Fail> {
     let alloc = rt.alloc();
     for cut in CUTS {
-        expect_prefixes(&rt, alloc, &cut)?;
-        expect_ends_inside(&rt, alloc, &cut)?;
+        expect_prefixes(alloc, &cut)?;
+        expect_ends_inside(alloc, &cut)?;
     }
     Ok(())
 }

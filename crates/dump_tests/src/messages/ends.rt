@@ -1,11 +1,10 @@
 //! How runs end that dump under a schema of several messages.
 
-use super::files::{BRIDGE, SIX};
-use super::{File, Row};
+use super::Row;
 use run_trials::{FRAME, LINE, TWICE, Trial, expect, run_trial, sample};
+use sample_schemas::{BRIDGE, SIX};
 use sbe_base::Status;
 use std::alloc::Global;
-use std::process::Abort;
 use std::test::Fail;
 
 /// What a run is given beside the schema of six messages, and how it ends.
@@ -176,7 +175,7 @@ const FAULTS: [End; 5] = [
 ];
 
 /// Asserts how each run ends.
-fn expect_ends(rt: &impl Abort, alloc: Global, ends: &[End]) -> Result<(), Fail> {
+fn expect_ends(alloc: Global, ends: &[End]) -> Result<(), Fail> {
     let schema = SIX.text(alloc)?;
     for end in ends {
         let trial = Trial {
@@ -189,7 +188,7 @@ fn expect_ends(rt: &impl Abort, alloc: Global, ends: &[End]) -> Result<(), Fail>
             output: end.write,
             ..sample()
         };
-        expect(rt, alloc, &trial, end.status, end.output, end.notes)?;
+        expect(alloc, &trial, end.status, end.output, end.notes)?;
     }
     Ok(())
 }
@@ -197,8 +196,8 @@ fn expect_ends(rt: &impl Abort, alloc: Global, ends: &[End]) -> Result<(), Fail>
 #[test]
 fn ends_runs_of_six_messages(rt: HostRuntime) -> Result<(), Fail> {
     let alloc = rt.alloc();
-    expect_ends(&rt, alloc, &STOPS)?;
-    expect_ends(&rt, alloc, &FAULTS)?;
+    expect_ends(alloc, &STOPS)?;
+    expect_ends(alloc, &FAULTS)?;
     let schema = SIX.text(alloc)?;
     let trial = Trial {
         schema: schema.as_bytes(),
@@ -235,7 +234,7 @@ const WHOLE: [Row; 3] = [
 ];
 
 /// Asserts that a message is read the same in pieces of every size.
-fn expect_in_pieces(rt: &impl Abort, alloc: Global, row: &Row) -> Result<(), Fail> {
+fn expect_in_pieces(alloc: Global, row: &Row) -> Result<(), Fail> {
     let schema = row.schema.text(alloc)?;
     let line = format!(in alloc; "{}\n", row.line)?;
     for piece in 1..row.frames.len() {
@@ -245,7 +244,7 @@ fn expect_in_pieces(rt: &impl Abort, alloc: Global, row: &Row) -> Result<(), Fai
             piece,
             ..sample()
         };
-        expect(rt, alloc, &trial, Status::Done, line.as_bytes(), b"")?;
+        expect(alloc, &trial, Status::Done, line.as_bytes(), b"")?;
     }
     Ok(())
 }
@@ -253,7 +252,7 @@ fn expect_in_pieces(rt: &impl Abort, alloc: Global, row: &Row) -> Result<(), Fai
 #[test]
 fn reads_pieces_of_every_size(rt: HostRuntime) -> Result<(), Fail> {
     for row in WHOLE {
-        expect_in_pieces(&rt, rt.alloc(), &row)?;
+        expect_in_pieces(rt.alloc(), &row)?;
     }
     Ok(())
 }
@@ -275,12 +274,12 @@ fn prints_the_largest_frame(rt: HostRuntime) -> Result<(), Fail> {
         ..sample()
     };
     let over = b"{\"framing\":\"LengthOver\",\"at\":0,\"number\":16777216}\n";
-    expect(&rt, alloc, &short, Status::FramingRefused, b"", over)?;
+    expect(alloc, &short, Status::FramingRefused, b"", over)?;
     let long = Trial {
         words: &["dump", "ping.json", "--max-frame", "16777216"],
         ..short
     };
     let line =
         b"{\"data\":{},\"fields\":{\"a\":258,\"b\":null},\"groups\":{},\"template\":\"Ping\",\"version\":1}\n";
-    expect(&rt, alloc, &long, Status::Done, line, b"")
+    expect(alloc, &long, Status::Done, line, b"")
 }

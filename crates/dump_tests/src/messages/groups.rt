@@ -1,7 +1,8 @@
 //! Groups, groups within their entries, and data.
 
-use super::files::{SIX, TAILS};
+use super::files::TAILS;
 use super::{Row, expect_rows};
+use sample_schemas::SIX;
 use sbe_base::Status;
 use std::test::Fail;
 
@@ -270,13 +271,13 @@ const DEEPER: [Row; 6] = [
 #[test]
 fn prints_groups(rt: HostRuntime) -> Result<(), Fail> {
     let alloc = rt.alloc();
-    expect_rows(&rt, alloc, &GROUPS)?;
-    expect_rows(&rt, alloc, &NESTED)
+    expect_rows(alloc, &GROUPS)?;
+    expect_rows(alloc, &NESTED)
 }
 
 #[test]
 fn prints_other_tails(rt: HostRuntime) -> Result<(), Fail> {
     let alloc = rt.alloc();
-    expect_rows(&rt, alloc, &TAILED)?;
-    expect_rows(&rt, alloc, &DEEPER)
+    expect_rows(alloc, &TAILED)?;
+    expect_rows(alloc, &DEEPER)
 }

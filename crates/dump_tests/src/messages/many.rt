@@ -1,7 +1,7 @@
 //! Groups of many entries of one byte.
 
-use super::files::ENTRIES;
 use run_trials::{Trial, run_trial, sample};
+use sample_schemas::ENTRIES;
 use sbe_base::Status;
 use std::alloc::Global;
 use std::process::Abort;

@@ -140,12 +140,12 @@ const PARTS: [Row; 8] = [
 #[test]
 fn prints_listed_values(rt: HostRuntime) -> Result<(), Fail> {
     let alloc = rt.alloc();
-    expect_rows(&rt, alloc, &LISTED)
+    expect_rows(alloc, &LISTED)
 }
 
 #[test]
 fn prints_arrays_and_composites(rt: HostRuntime) -> Result<(), Fail> {
     let alloc = rt.alloc();
-    expect_rows(&rt, alloc, &LISTS)?;
-    expect_rows(&rt, alloc, &PARTS)
+    expect_rows(alloc, &LISTS)?;
+    expect_rows(alloc, &PARTS)
 }

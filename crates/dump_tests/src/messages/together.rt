@@ -1,6 +1,6 @@
 //! Several schemas of many messages in one run.
 
-use super::files::{BRIDGE, DATA, ENTRIES, EVENT, LATER_EVENT, MIX, SIX};
+use sample_schemas::{BRIDGE, DATA, ENTRIES, EVENT, LATER_EVENT, MIX, SIX};
 use sbe_base::{MemFiles, MemSink, MemSource, Status};
 use sbe_cli::run;
 use std::alloc::Global;

@@ -1,7 +1,7 @@
 //! Messages of other versions than the schema's.
 
-use super::files::{BRIDGE, DATA, ENTRIES, EVENT, FIVE, LATER_DATA, LATER_ENTRIES, LATER_EVENT};
 use super::{Row, expect_rows};
+use sample_schemas::{BRIDGE, DATA, ENTRIES, EVENT, FIVE, LATER_DATA, LATER_ENTRIES, LATER_EVENT};
 use sbe_base::Status;
 use std::test::Fail;
 
@@ -240,13 +240,13 @@ const ORDERS: [Row; 10] = [
 #[test]
 fn prints_other_versions(rt: HostRuntime) -> Result<(), Fail> {
     let alloc = rt.alloc();
-    expect_rows(&rt, alloc, &EVENTS)?;
-    expect_rows(&rt, alloc, &OWED)
+    expect_rows(alloc, &EVENTS)?;
+    expect_rows(alloc, &OWED)
 }
 
 #[test]
 fn prints_entries_and_orders(rt: HostRuntime) -> Result<(), Fail> {
     let alloc = rt.alloc();
-    expect_rows(&rt, alloc, &GAINED)?;
-    expect_rows(&rt, alloc, &ORDERS)
+    expect_rows(alloc, &GAINED)?;
+    expect_rows(alloc, &ORDERS)
 }

@@ -1,35 +1,20 @@
 //! Schema files, and the outlines of their layouts.
 
-/// The types that the files share: a header, a dimension, a type of data, and a price.
-pub const TYPES: &str = r#"
-    {"composite":{"name":"messageHeader","content":[
-        {"type":{"name":"blockLength","primitiveType":"uint16"}},
-        {"type":{"name":"templateId","primitiveType":"uint16"}},
-        {"type":{"name":"schemaId","primitiveType":"uint16"}},
-        {"type":{"name":"version","primitiveType":"uint16"}}]}},
-    {"composite":{"name":"groupSizeEncoding","content":[
-        {"type":{"name":"blockLength","primitiveType":"uint16"}},
-        {"type":{"name":"numInGroup","primitiveType":"uint16"}}]}},
-    {"composite":{"name":"varData16","content":[
-        {"type":{"name":"length","primitiveType":"uint16"}},
-        {"type":{"name":"varData","primitiveType":"uint8","length":0}}]}},
-    {"composite":{"name":"Price","content":[
-        {"type":{"name":"mantissa","primitiveType":"int32"}},
-        {"type":{"name":"exponent","primitiveType":"int8"}}]}}"#;
+use sample_schemas::SchemaFile;
 
-/// A file in pieces around the shared types, and the outline of its layout.
+/// A schema file, and the outline of its layout.
 #[derive(Clone, Copy)]
 pub struct Row {
-    pub before: &'static str,
-    pub behind: &'static str,
+    pub file: SchemaFile,
     pub outline: &'static str,
 }
 
 /// A message with a constant, an array, a stated offset, groups and data, some of them of later versions; and a message of one
 /// number, whose id is the smaller one.
 pub const ORDER: Row = Row {
-    before: r#"{"messageSchema":{"package":"demo","id":77,"version":2,"content":[{"types":{"content":["#,
-    behind: r#",
+    file: SchemaFile {
+        before: r#"{"messageSchema":{"package":"demo","id":77,"version":2,"content":[{"types":{"content":["#,
+        behind: r#",
     {"type":{"name":"Three","primitiveType":"uint16","length":3}},
     {"type":{"name":"Four","primitiveType":"uint8","presence":"constant","text":4}}]}},
     {"message":{"name":"Order","id":20,"content":[
@@ -47,6 +32,7 @@ pub const ORDER: Row = Row {
             {"field":{"name":"amount","id":9,"type":"uint32"}}]}},
         {"data":{"name":"memo","id":10,"type":"varData16","sinceVersion":2}}]}},
     {"message":{"name":"Ping","id":10,"content":[{"field":{"name":"n","id":11,"type":"uint8"}}]}}]}}"#,
+    },
     outline: r#"schema 77 version 2 Little header 8
 message 0 id 20 level 0
 message 1 id 10 level 4
@@ -82,8 +68,9 @@ data 1 note since 0 length U16
 /// Six groups around one another, a composite four deep, and a field that ends at the largest place, which a header with a number
 /// of four bytes can tell.
 pub const DEEP: Row = Row {
-    before: r#"{"messageSchema":{"package":"demo","id":1,"byteOrder":"bigEndian","headerType":"wideHeader","content":[{"types":{"content":["#,
-    behind: r#",
+    file: SchemaFile {
+        before: r#"{"messageSchema":{"package":"demo","id":1,"byteOrder":"bigEndian","headerType":"wideHeader","content":[{"types":{"content":["#,
+        behind: r#",
     {"composite":{"name":"wideHeader","content":[
         {"type":{"name":"blockLength","primitiveType":"uint32"}},
         {"type":{"name":"templateId","primitiveType":"uint16"}},
@@ -103,6 +90,7 @@ pub const DEEP: Row = Row {
         {"group":{"name":"f","id":8,"content":[
             {"field":{"name":"x","id":9,"type":"uint8"}}]}}]}}]}}]}}]}}]}},
         {"group":{"name":"g","id":10,"content":[{"field":{"name":"y","id":11,"type":"Four"}}]}}]}}]}}"#,
+    },
     outline: r#"schema 1 version 0 Big header 10
 message 0 id 1 level 0
 level 0 Deep since 0 block 1048576 floors 1048576 1048576 1048576 least 1048584 1048584 1048584
@@ -135,18 +123,8 @@ level 7 g since 0 block 9 floors 9 9 9 least 9 9 9
 "#,
 };
 
-/// Six messages: numbers, one with a null of its own, groups, a dimension with padding, data in a nested group.
 pub const SIX: Row = Row {
-    before: r#"{"messageSchema":{"package":"demo","id":7,"content":[{"types":{"content":["#,
-    behind: r#",
-    {"type":{"name":"Odd","primitiveType":"int8","presence":"optional","nullValue":127}},
-    {"composite":{"name":"groupSize8","content":[{"type":{"name":"blockLength","primitiveType":"uint16"}},{"type":{"name":"numInGroup","primitiveType":"uint8","offset":7}}]}}]}},
-    {"message":{"name":"Ping","id":1,"content":[{"field":{"name":"a","id":1001,"type":"uint16"}},{"field":{"name":"b","id":1002,"type":"int32","presence":"optional"}}]}},
-    {"message":{"name":"Nul","id":2,"content":[{"field":{"name":"n","id":1003,"type":"Odd"}}]}},
-    {"message":{"name":"One","id":3,"content":[{"field":{"name":"u","id":1004,"type":"uint8"}}]}},
-    {"message":{"name":"Grp","id":4,"content":[{"group":{"name":"g","id":2001,"dimensionType":"groupSize8","content":[{"field":{"name":"x","id":1005,"type":"uint8"}}]}}]}},
-    {"message":{"name":"Nest","id":5,"content":[{"group":{"name":"legs","id":2002,"content":[{"field":{"name":"q","id":1006,"type":"uint8"}},{"group":{"name":"subs","id":2003,"content":[{"field":{"name":"s","id":1007,"type":"uint8"}}]}},{"data":{"name":"note","id":2004,"type":"varData16"}}]}}]}},
-    {"message":{"name":"Big","id":6,"content":[{"group":{"name":"h","id":2005,"content":[{"field":{"name":"x","id":1008,"type":"uint32"}}]}}]}}]}}"#,
+    file: sample_schemas::SIX,
     outline: r#"schema 7 version 0 Little header 8
 message 0 id 1 level 0
 message 1 id 2 level 1
@@ -191,12 +169,8 @@ data 0 note since 0 length U16
 "#,
 };
 
-/// A number of which one value is admitted.
 pub const FIVE: Row = Row {
-    before: r#"{"messageSchema":{"package":"demo","id":11,"content":[{"types":{"content":["#,
-    behind: r#",
-    {"type":{"name":"Only","primitiveType":"uint8","minValue":5,"maxValue":5}}]}},
-    {"message":{"name":"Five","id":1,"content":[{"field":{"name":"u","id":1001,"type":"Only"}}]}}]}}"#,
+    file: sample_schemas::FIVE,
     outline: r#"schema 11 version 0 Little header 8
 message 0 id 1 level 0
 level 0 Five since 0 block 1 floors 1 1 1 least 1 1 1
@@ -205,12 +179,8 @@ level 0 Five since 0 block 1 floors 1 1 1 least 1 1 1
 "#,
 };
 
-/// An enum and a number.
 pub const EVENT: Row = Row {
-    before: r#"{"messageSchema":{"package":"demo","id":8,"content":[{"types":{"content":["#,
-    behind: r#",
-    {"enum":{"name":"Side","encodingType":"char","content":[{"validValue":{"name":"Buy","text":"1"}},{"validValue":{"name":"Sell","text":"2"}}]}}]}},
-    {"message":{"name":"Ev","id":1,"content":[{"field":{"name":"e","id":1001,"type":"Side"}},{"field":{"name":"k","id":1002,"type":"uint8"}}]}}]}}"#,
+    file: sample_schemas::EVENT,
     outline: r#"schema 8 version 0 Little header 8
 message 0 id 1 level 0
 level 0 Ev since 0 block 2 floors 2 2 2 least 2 2 2
@@ -220,12 +190,8 @@ level 0 Ev since 0 block 2 floors 2 2 2 least 2 2 2
 "#,
 };
 
-/// The same at a later version: a valid value, a field and data more.
 pub const LATER_EVENT: Row = Row {
-    before: r#"{"messageSchema":{"package":"demo","id":8,"version":2,"content":[{"types":{"content":["#,
-    behind: r#",
-    {"enum":{"name":"Side","encodingType":"char","content":[{"validValue":{"name":"Buy","text":"1"}},{"validValue":{"name":"Sell","text":"2"}},{"validValue":{"name":"Short","text":"5"}}]}}]}},
-    {"message":{"name":"Ev","id":1,"content":[{"field":{"name":"e","id":1001,"type":"Side"}},{"field":{"name":"k","id":1002,"type":"uint8"}},{"field":{"name":"z","id":1003,"type":"uint16","sinceVersion":1}},{"data":{"name":"memo","id":1004,"type":"varData16","sinceVersion":2}}]}}]}}"#,
+    file: sample_schemas::LATER_EVENT,
     outline: r#"schema 8 version 2 Little header 8
 message 0 id 1 level 0
 level 0 Ev since 0 block 4 floors 2 4 4 least 2 4 6
@@ -238,11 +204,8 @@ data 0 memo since 2 length U16
 "#,
 };
 
-/// Data alone.
 pub const DATA: Row = Row {
-    before: r#"{"messageSchema":{"package":"demo","id":9,"content":[{"types":{"content":["#,
-    behind: r#"]}},
-    {"message":{"name":"Ow","id":1,"content":[{"data":{"name":"d","id":1001,"type":"varData16"}}]}}]}}"#,
+    file: sample_schemas::DATA,
     outline: r#"schema 9 version 0 Little header 8
 message 0 id 1 level 0
 level 0 Ow since 0 block 0 floors 0 0 0 least 2 2 2
@@ -252,11 +215,8 @@ data 0 d since 0 length U16
 "#,
 };
 
-/// The same with a group of a later version before the data.
 pub const LATER_DATA: Row = Row {
-    before: r#"{"messageSchema":{"package":"demo","id":9,"version":1,"content":[{"types":{"content":["#,
-    behind: r#"]}},
-    {"message":{"name":"Ow","id":1,"content":[{"group":{"name":"g","id":1002,"sinceVersion":1,"content":[{"field":{"name":"x","id":1003,"type":"uint8"}}]}},{"data":{"name":"d","id":1001,"type":"varData16"}}]}}]}}"#,
+    file: sample_schemas::LATER_DATA,
     outline: r#"schema 9 version 1 Little header 8
 message 0 id 1 level 0
 level 0 Ow since 0 block 0 floors 0 0 0 least 2 6 6
@@ -270,11 +230,8 @@ data 0 d since 0 length U16
 "#,
 };
 
-/// A group whose entries have one number.
 pub const ENTRIES: Row = Row {
-    before: r#"{"messageSchema":{"package":"demo","id":14,"content":[{"types":{"content":["#,
-    behind: r#"]}},
-    {"message":{"name":"Ne","id":1,"content":[{"group":{"name":"g","id":1001,"content":[{"field":{"name":"x","id":1002,"type":"uint8"}}]}}]}}]}}"#,
+    file: sample_schemas::ENTRIES,
     outline: r#"schema 14 version 0 Little header 8
 message 0 id 1 level 0
 level 0 Ne since 0 block 0 floors 0 0 0 least 4 4 4
@@ -286,11 +243,8 @@ level 1 g since 0 block 1 floors 1 1 1 least 1 1 1
 "#,
 };
 
-/// The same where the entries gained data.
 pub const LATER_ENTRIES: Row = Row {
-    before: r#"{"messageSchema":{"package":"demo","id":14,"version":1,"content":[{"types":{"content":["#,
-    behind: r#"]}},
-    {"message":{"name":"Ne","id":1,"content":[{"group":{"name":"g","id":1001,"content":[{"field":{"name":"x","id":1002,"type":"uint8"}},{"data":{"name":"t","id":1003,"type":"varData16","sinceVersion":1}}]}}]}}]}}"#,
+    file: sample_schemas::LATER_ENTRIES,
     outline: r#"schema 14 version 1 Little header 8
 message 0 id 1 level 0
 level 0 Ne since 0 block 0 floors 0 0 0 least 4 4 4
@@ -304,14 +258,8 @@ data 0 t since 1 length U16
 "#,
 };
 
-/// Big endian: a composite, a set, a text and an array.
 pub const MIX: Row = Row {
-    before: r#"{"messageSchema":{"package":"demo","id":12,"byteOrder":"bigEndian","content":[{"types":{"content":["#,
-    behind: r#",
-    {"set":{"name":"Flags","encodingType":"uint8","content":[{"choice":{"name":"A","text":0}},{"choice":{"name":"B","text":2}}]}},
-    {"type":{"name":"Text4","primitiveType":"char","length":4}},
-    {"type":{"name":"Two","primitiveType":"uint16","length":2}}]}},
-    {"message":{"name":"Mix","id":1,"content":[{"field":{"name":"px","id":1001,"type":"Price"}},{"field":{"name":"fl","id":1002,"type":"Flags"}},{"field":{"name":"nm","id":1003,"type":"Text4","presence":"optional"}},{"field":{"name":"ar","id":1004,"type":"Two"}}]}}]}}"#,
+    file: sample_schemas::MIX,
     outline: r#"schema 12 version 0 Big header 8
 message 0 id 1 level 0
 level 0 Mix since 0 block 14 floors 14 14 14 least 14 14 14
@@ -323,19 +271,8 @@ level 0 Mix since 0 block 14 floors 14 14 14 least 14 14 14
 "#,
 };
 
-/// Decimals with a constant exponent, texts, enums, groups and data, of four messages.
 pub const BRIDGE: Row = Row {
-    before: r#"{"messageSchema":{"package":"demo","id":10,"content":[{"types":{"content":["#,
-    behind: r#",
-    {"composite":{"name":"Dec2","content":[{"type":{"name":"mantissa","primitiveType":"int64"}},{"type":{"name":"exponent","primitiveType":"int8","presence":"constant","text":-2}}]}},
-    {"composite":{"name":"Qty0","content":[{"type":{"name":"mantissa","primitiveType":"int32"}},{"type":{"name":"exponent","primitiveType":"int8","presence":"constant","text":0}}]}},
-    {"type":{"name":"Str8","primitiveType":"char","length":8}},
-    {"enum":{"name":"OrdTypeEnum","encodingType":"char","content":[{"validValue":{"name":"Market","text":"1"}},{"validValue":{"name":"Limit","text":"2"}}]}},
-    {"enum":{"name":"Side","encodingType":"char","content":[{"validValue":{"name":"Buy","text":"1"}},{"validValue":{"name":"Sell","text":"2"}}]}}]}},
-    {"message":{"name":"Px","id":1,"semanticType":"U3","content":[{"field":{"name":"price","id":44,"type":"Dec2"}}]}},
-    {"message":{"name":"Rd","id":2,"semanticType":"U1","content":[{"data":{"name":"raw","id":96,"type":"varData16"}}]}},
-    {"message":{"name":"Gr","id":3,"semanticType":"U2","content":[{"group":{"name":"lines","id":146,"content":[{"field":{"name":"sym","id":55,"type":"Str8"}}]}}]}},
-    {"message":{"name":"Order","id":4,"semanticType":"D","content":[{"field":{"name":"ClOrdID","id":11,"type":"Str8"}},{"field":{"name":"Symbol","id":55,"type":"Str8"}},{"field":{"name":"Side","id":54,"type":"Side"}},{"field":{"name":"OrderQty","id":38,"type":"Qty0"}},{"field":{"name":"OrdType","id":40,"type":"OrdTypeEnum"}},{"field":{"name":"Price","id":44,"type":"Dec2","presence":"optional"}},{"group":{"name":"Parties","id":453,"content":[{"field":{"name":"PartyID","id":448,"type":"Str8"}},{"field":{"name":"PartyRole","id":452,"type":"uint8"}}]}}]}}]}}"#,
+    file: sample_schemas::BRIDGE,
     outline: r#"schema 10 version 0 Little header 8
 message 0 id 1 level 0
 message 1 id 2 level 1

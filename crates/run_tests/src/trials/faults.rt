@@ -11,18 +11,18 @@ fn tells_faults(rt: HostRuntime) -> Result<(), Fail> {
         ..sample()
     };
     let file = b"{\"fault\":\"File\",\"file\":\"schema\"}\n";
-    expect(&rt, alloc, &load, Status::FileFault, b"", file)?;
+    expect(alloc, &load, Status::FileFault, b"", file)?;
     let read = Trial {
         read: &[2],
         ..sample()
     };
     let at = b"{\"fault\":\"Read\",\"at\":6}\n";
-    expect(&rt, alloc, &read, Status::ReadFault, b"", at)?;
+    expect(alloc, &read, Status::ReadFault, b"", at)?;
     let output = Trial {
         output: &[1],
         ..sample()
     };
-    expect(&rt, alloc, &output, Status::WriteFault, b"", b"")
+    expect(alloc, &output, Status::WriteFault, b"", b"")
 }
 
 /// The line of each stop can't be noted.
@@ -56,7 +56,7 @@ fn ends_where_a_note_fails(rt: HostRuntime) -> Result<(), Fail> {
             notes: &[1],
             ..trial
         };
-        expect(&rt, alloc, &silent, Status::WriteFault, b"", b"")?;
+        expect(alloc, &silent, Status::WriteFault, b"", b"")?;
     }
     Ok(())
 }
@@ -79,7 +79,7 @@ fn ends_at_each_failing_call(rt: HostRuntime) -> Result<(), Fail> {
             read: &calls,
             ..sample()
         };
-        expect(&rt, alloc, &trial, Status::ReadFault, output, notes)?;
+        expect(alloc, &trial, Status::ReadFault, output, notes)?;
     }
     let later = Trial {
         load: &[2],
@@ -88,7 +88,7 @@ fn ends_at_each_failing_call(rt: HostRuntime) -> Result<(), Fail> {
         notes: &[1],
         ..sample()
     };
-    expect(&rt, alloc, &later, Status::Done, LINE, b"")
+    expect(alloc, &later, Status::Done, LINE, b"")
 }
 
 /// The source fails once the first of two frames was taken, in pieces of each size.
@@ -127,7 +127,7 @@ fn answers_the_frames_before_a_fault(rt: HostRuntime) -> Result<(), Fail> {
             read: &calls,
             ..sample()
         };
-        expect(&rt, alloc, &trial, Status::ReadFault, LINE, notes)?;
+        expect(alloc, &trial, Status::ReadFault, LINE, notes)?;
     }
     Ok(())
 }

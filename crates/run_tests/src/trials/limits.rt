@@ -18,7 +18,7 @@ fn keeps_the_limit_of_a_frame(rt: HostRuntime) -> Result<(), Fail> {
         ..sample()
     };
     let over = b"{\"framing\":\"LengthOver\",\"at\":0,\"number\":16777216}\n";
-    expect(&rt, alloc, &trial, Status::FramingRefused, b"", over)?;
+    expect(alloc, &trial, Status::FramingRefused, b"", over)?;
     let rows: [(&str, Status, &[u8], &[u8]); 2] = [
         ("16777216", Status::SomeRefused, NO_SCHEMA, b""),
         ("16777215", Status::FramingRefused, b"", over),
@@ -29,7 +29,7 @@ fn keeps_the_limit_of_a_frame(rt: HostRuntime) -> Result<(), Fail> {
             words: &words,
             ..trial
         };
-        expect(&rt, alloc, &given, status, output, notes)?;
+        expect(alloc, &given, status, output, notes)?;
     }
     Ok(())
 }
@@ -69,7 +69,7 @@ fn keeps_the_limit_of_the_input(rt: HostRuntime) -> Result<(), Fail> {
             input,
             ..sample()
         };
-        expect(&rt, alloc, &trial, status, output, notes)?;
+        expect(alloc, &trial, status, output, notes)?;
     }
     Ok(())
 }
@@ -111,7 +111,7 @@ fn ends_at_the_limit_of_the_input(rt: HostRuntime) -> Result<(), Fail> {
             piece: 1_048_576,
             ..sample()
         };
-        expect(&rt, alloc, &trial, status, lines.as_bytes(), notes)?;
+        expect(alloc, &trial, status, lines.as_bytes(), notes)?;
     }
     Ok(())
 }
@@ -126,5 +126,5 @@ fn refuses_so_many_zeros(rt: HostRuntime) -> Result<(), Fail> {
         ..sample()
     };
     let short = b"{\"framing\":\"LengthShort\",\"at\":0,\"number\":0}\n";
-    expect(&rt, alloc, &trial, Status::FramingRefused, b"", short)
+    expect(alloc, &trial, Status::FramingRefused, b"", short)
 }
