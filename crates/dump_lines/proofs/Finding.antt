@@ -1,11 +1,13 @@
 -- The first item of a list that passes.
-use Rattle.std.proofs.Common.{◌≡◌, ◌≤◌, ◌<◌, ◌+◌, ℕ, Bool, true, false, cond, List, [], ◌∷◌, length, drop, get_or, Some, None, refl, sym, ap, ◌∙◌, arith}
+use Rattle.std.proofs.Common.{◌≡◌, ◌≤◌, ◌<◌, ◌+◌, ℕ, Bool, true, false, cond, List, [], ◌∷◌, length, drop, get_or, Option, Some, None, refl, sym, ap, ◌∙◌, arith}
 use Rattle.std.specs.Prelude.{◌==◌, ◌||◌, find, unwrap_or}
 use Rattle.std.specs.List.{list_any}
+use Rattle.std.specs.Option.{option_map_or}
 use Rattle.std.proofs.lemmas.Bool.Decides.{nat_tests}
 use Rattle.sbe_types.specs.declared.schema.WireSchema.{WireSchema}
 use Rattle.layout_compile.proofs.Items.{drop_is, all_dropped}
-use Rattle.dump_lines.specs.Chosen.{has_id}
+use Rattle.dump_lines.specs.Chosen.{has_id, schema_with}
+use Rattle.dump_lines.specs.declared.schemas.Schemas.{Schemas}
 
 pub id_same : (schema : WireSchema) (n id : ℕ) → n ≡ schema.id → n ≡ id → has_id id schema ≡ true
 id_same schema n id is same =
@@ -41,6 +43,24 @@ none_found p x xs missed none = sym (ap (λ t. unwrap_or (cond t (Some x) (find 
 
 pub first_found : {X : Type 0} (p : X → Bool) (x : X) (xs : List X) → p x ≡ true → x ≡ unwrap_or (find p (x ∷ xs)) x
 first_found p x xs hit = sym (ap (λ t. unwrap_or (cond t (Some x) (find p xs)) x) hit)
+
+-- one item alone
+
+pub no_items : {X : Type 0} (xs : List X) → length xs ≡ 0 → xs ≡ []
+no_items [] h = refl
+no_items (x ∷ xs) h = absurd (omega (arith, h))
+
+alone_found : {X : Type 0} (p : X → Bool) (x : X) (xs : List X) → xs ≡ [] → x ≡ unwrap_or (find p (x ∷ xs)) x
+alone_found p x xs h = by (p x) refl
+  where
+    by : (t : Bool) → p x ≡ t → x ≡ unwrap_or (find p (x ∷ xs)) x
+    by true e = first_found p x xs e
+    by false e = none_found p x xs e (ap (find p) h)
+
+-- one schema alone is that of every body
+pub lone_schema : (schemas : Schemas) (id : Option ℕ) → schemas.also ≡ [] → schemas.first ≡ option_map_or (schema_with schemas) id schemas.first
+lone_schema schemas None h = refl
+lone_schema schemas (Some id) h = alone_found (has_id id) schemas.first schemas.also h
 
 -- whether one passes
 

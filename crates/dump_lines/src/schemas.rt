@@ -54,6 +54,9 @@ impl Schemas {
     pub fn schema_for(&self, body: &[u8]) -> &Layout
         ensures { result.now ≡ schema_for self.now body.now }
     {
+        if self.also.is_empty() {
+            return &self.first;
+        }
         match self.first.schema_id(body) {
             Some(id) => self.with_id(id),
             None => &self.first,

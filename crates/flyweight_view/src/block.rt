@@ -62,6 +62,7 @@ impl<'a> BlockView<'a> {
     }
 
     /// How many fields, groups and data parts it has; a composite has its members as fields, and no more.
+    #[inline(always)]
     pub fn counts(&self) -> (usize, usize, usize)
         ensures { result ≡ (length self.now.fields, length self.now.groups, length self.now.parts) }
     {
@@ -73,6 +74,7 @@ impl<'a> BlockView<'a> {
     }
 
     /// The name of field `i`. It needs a field in range.
+    #[inline(always)]
     pub fn name(&self, i: usize) -> &'a [u8]
         requires { i < length self.now.fields }
         ensures { option_map (λ f. f.name) (slice_get self.now.fields i) ≡ Some result.now }
@@ -141,6 +143,7 @@ impl<'a> BlockView<'a> {
     }
 
     /// Field `i` with its bytes as they lie on the wire, none where it is absent. It needs a field in range.
+    #[inline(always)]
     pub fn field(&self, i: usize) -> Option<FieldBytes<'a>>
         requires { i < length self.now.fields }
         ensures kind { IfSome result (λ f. option_map (λ p. p.kind) (slice_get self.now.fields i) ≡ Some f.kind.now) }

@@ -14,7 +14,7 @@ use crate::found::Found;
 use crate::looks::{shows_at_once, shows_leaf};
 use crate::mode::Mode;
 use crate::numbers::{set_number, shows_enum, shows_set};
-use layout_compile::{begin_of, end_behind, width_of};
+use layout_compile::{begin_of, end_behind};
 use sbe_types::{
     Kind, Leaf, LeafCause, LeafFault, LeafShape, List, Member, NamedList, Order, Prim, Step,
     get_num, leaf_judge,
@@ -81,16 +81,17 @@ fn judge_members(
     let mut end = 0;
     let mut i = 0u32;
     for member in members.as_slice() {
-        if !judge_member(mode, member, i, end, at, bytes, out) {
+        let behind = end_behind(end, member.offset, &member.kind);
+        if !judge_member(mode, member, i, end, behind, at, bytes, out) {
             return false;
         }
-        end = end_behind(end, member.offset, &member.kind);
+        end = behind;
         i += 1;
     }
     true
 }
 
-/// Judges member `i` of a composite, behind members that end at `end`.
+/// Judges member `i` of a composite, which stands behind members that end at `end` and itself ends at `behind`.
 #[cycle(kind)]
 #[tactic(auto, using(crate::proofs::AtOnce::part_looks))]
 fn judge_member(
@@ -98,11 +99,13 @@ fn judge_member(
     member: &Member,
     i: u32,
     end: u32,
+    behind: u32,
     at: usize,
     bytes: &[u8],
     out: &mut Found,
 ) -> bool
     requires ready { IsReady member.now.kind }
+    requires behind { behind ≡ end_past end member.now.offset member.now.kind }
     requires within { is_const member.now.kind ≡ false → begin_of end member.now.offset + width member.now.kind ≤ length bytes.now }
     requires near { at + length bytes.now < 2 ^ 64 }
     ensures told { judged result out.new ≡ member_told mode (piece at bytes.now) end i member.now }
@@ -112,8 +115,7 @@ fn judge_member(
         Kind::Const(_) => true,
         Kind::Leaf(_) | Kind::Enum(_, _) | Kind::Set(_, _) | Kind::Comp(_) => {
             let begin = begin_of(end, member.offset) as usize;
-            let behind = begin + width_of(&member.kind) as usize;
-            let part = &bytes[begin..behind];
+            let part = &bytes[begin..behind as usize];
             if shows_at_once(mode, &member.kind, part) {
                 return true;
             }

@@ -42,6 +42,7 @@ pub(crate) struct Slot<'a> {
 }
 
 /// How many fields a block has.
+#[inline(always)]
 pub(crate) fn count_fields(plan: &Plan<'_>) -> usize
     ensures { result ≡ length (fields_of plan.now) }
 {
@@ -52,6 +53,7 @@ pub(crate) fn count_fields(plan: &Plan<'_>) -> usize
 }
 
 /// How many groups a block has.
+#[inline(always)]
 pub(crate) fn count_groups(plan: &Plan<'_>) -> usize
     ensures { result ≡ length (groups_of plan.now) }
 {
@@ -62,6 +64,7 @@ pub(crate) fn count_groups(plan: &Plan<'_>) -> usize
 }
 
 /// How many data parts a block has.
+#[inline(always)]
 pub(crate) fn count_parts(plan: &Plan<'_>) -> usize
     ensures { result ≡ length (parts_of plan.now) }
 {
@@ -72,6 +75,7 @@ pub(crate) fn count_parts(plan: &Plan<'_>) -> usize
 }
 
 /// Field `i` of a block.
+#[inline(always)]
 pub(crate) fn slot_of<'a>(span: &Span<'a>, plan: &Plan<'a>, i: usize) -> Slot<'a>
     requires seen { IsSeen span.now plan.now }
     requires field { i < length (fields_of plan.now) }
@@ -84,6 +88,7 @@ pub(crate) fn slot_of<'a>(span: &Span<'a>, plan: &Plan<'a>, i: usize) -> Slot<'a
 }
 
 /// Field `i` of a level's block.
+#[inline(always)]
 fn level_slot<'a>(
     span: &Span<'a>,
     layout: &Layout,
@@ -103,6 +108,7 @@ fn level_slot<'a>(
 }
 
 /// The row of field `i` of a level.
+#[inline(always)]
 fn field_row<'a>(
     span: &Span<'_>,
     layout: &'a Layout,
@@ -121,6 +127,7 @@ fn field_row<'a>(
 }
 
 /// A field of a block by its row.
+#[inline(always)]
 fn row_slot<'a>(span: &Span<'a>, field: &'a Field, row: &FieldRow) -> Slot<'a>
     requires row { IsFieldRow span.now.mode.version span.now.size field.now row.now }
     requires near { span.now.at + span.now.size ≤ length span.now.body.now }
@@ -143,6 +150,7 @@ fn row_slot<'a>(span: &Span<'a>, field: &'a Field, row: &FieldRow) -> Slot<'a>
 }
 
 /// A field without bytes.
+#[inline(always)]
 fn bare_slot(alive: bool, kind: &Kind) -> Slot<'_>
     ensures kind { result.kind.now ≡ kind.now }
     ensures alive { result.alive ≡ alive }
@@ -187,6 +195,7 @@ fn is_constant(kind: &Kind) -> bool
 }
 
 /// The name of field `i` of a block.
+#[inline(always)]
 pub(crate) fn name_of<'a>(plan: &Plan<'a>, i: usize) -> &'a [u8]
     requires { i < length (fields_of plan.now) }
     ensures { option_map (λ f. f.name) (slice_get (fields_of plan.now) i) ≡ Some result.now }

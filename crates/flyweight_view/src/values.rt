@@ -68,6 +68,7 @@ pub(crate) fn field_element(span: &Span<'_>, plan: &Plan<'_>, i: usize, j: usize
 }
 
 /// The bytes of field `i` of a block, none where it is absent.
+#[inline(always)]
 pub(crate) fn field_bytes<'a>(span: &Span<'a>, plan: &Plan<'a>, i: usize) -> Option<FieldBytes<'a>>
     requires seen { IsSeen span.now plan.now }
     requires field { i < length (fields_of plan.now) }

@@ -163,6 +163,7 @@ impl Chunk {
 }
 
 /// Writes bytes between others, piece by piece.
+#[cold]
 #[inline(never)]
 fn put_each<O: Sink>(chunk: &mut Chunk, sink: &mut O, before: &[u8], bytes: &[u8], behind: &[u8])
     ensures { Writes (output (O.held sink.old) (O.faults sink.old) chunk.old)
@@ -185,6 +186,7 @@ fn has_fault<O: Sink>(sink: &mut O, bytes: &[u8]) -> bool
 }
 
 /// Writes what a chunk has gathered, and then bytes.
+#[cold]
 #[inline(never)]
 #[tactic(auto, using(crate::proofs::Written::fails, crate::proofs::Written::spills))]
 fn spill<O: Sink>(chunk: &mut Chunk, sink: &mut O, bytes: &[u8])

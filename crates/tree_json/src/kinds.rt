@@ -27,6 +27,7 @@ use sbe_types::{Kind, Leaf, LeafShape, List, Member, Named, Order, Presence, Pri
 
 /// Writes the value that the bytes of a kind show. It needs a kind in order, and as many bytes as it is wide.
 #[cycle(kind)]
+#[inline(always)]
 #[tactic(auto, using(crate::proofs::FromBytes::enum_written, crate::proofs::FromBytes::set_written, crate::proofs::FromBytes::constant_written))]
 pub fn put_shown<O: Sink>(chunk: &mut Chunk, sink: &mut O, order: Order, kind: &Kind, bytes: &[u8])
     requires ready { IsKindInOrder kind.now }
@@ -172,6 +173,7 @@ fn put_valid<O: Sink>(chunk: &mut Chunk, sink: &mut O, names: &[Named], number: 
 }
 
 /// Writes the text before the first 00: null where it is empty and the leaf optional.
+#[inline(always)]
 #[tactic(auto, using(crate::proofs::Fronts::front_written))]
 fn put_text_in<O: Sink>(chunk: &mut Chunk, sink: &mut O, leaf: &Leaf, bytes: &[u8])
     ensures { Writes (output (O.held sink.old) (O.faults sink.old) chunk.old)

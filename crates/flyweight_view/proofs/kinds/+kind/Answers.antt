@@ -1,6 +1,8 @@
-use Rattle.std.proofs.Common.{refl, sym, ap, ◌∙◌}
+use Rattle.std.proofs.Common.{◌≡◌, ◌+◌, ◌-◌, false, cond, take, drop, Ok, refl, sym, ap, subst, ◌∙◌, arith, rules}
+use Rattle.sbe_types.specs.Places.{width, is_const, begin_of, end_past}
 use Rattle.flyweight_view.specs.Told.{piece}
 use Rattle.flyweight_view.specs.Kinds.{kind_told}
+use Rattle.flyweight_view.proofs.AtOnce.{part_looks}
 use Rattle.flyweight_view.proofs.KindTold.{leaf_is, enum_is, set_is, const_is, comp_is, const_part}
 use Rattle.flyweight_view.proofs.MembersReady.{members_few, members_ready}
 use Rattle.flyweight_view.proofs.kinds.+kind.Goals as goal
@@ -31,6 +33,18 @@ judge_kind-returns-in-Const-clause-told t c =
 
 pub judge_member-returns-in-Const-clause-told : goal.judge_member-returns-in-Const-clause-told
 judge_member-returns-in-Const-clause-told t c = sym (const_part c.args.mode c.args.member.now.kind c.in-Const.field-0 c.args.i _ c.in-Const.is)
+
+pub judge_member-returns-then-shows_at_once-clause-told : goal.judge_member-returns-then-shows_at_once-clause-told
+judge_member-returns-then-shows_at_once-clause-told t c =
+    let m = c.args.member.now in
+    let e = c.args.end in
+    let moves : is_const m.kind ≡ false = search rules in
+    let past : end_past e m.offset m.kind ≡ begin_of e m.offset + width m.kind = ap (λ t. cond t e (begin_of e m.offset + width m.kind)) moves in
+    let wide : c.args.behind - begin_of e m.offset ≡ width m.kind = omega (arith, c.requires.behind, past) in
+    let begins : c.begin_of-begin.result ≡ begin_of e m.offset = c.begin_of-begin.ensures in
+    sym (part_looks c.args.mode m.kind c.args.i (c.args.at + begin_of e m.offset) (take (width m.kind) (drop (begin_of e m.offset) c.args.bytes.now))
+    (subst (λ n. kind_told c.args.mode m.kind (piece (c.args.at + begin_of e m.offset) (take n (drop (begin_of e m.offset) c.args.bytes.now))) ≡ Ok tt) wide
+    (rw begins at (c.if-shows_at_once.ensures refl (c.args.at + begin_of e m.offset)))))
 
 pub judge_members-loop-member-init : goal.judge_members-loop-member-init
 judge_members-loop-member-init t c = record {
