@@ -1,0 +1,6 @@
+mod WholeNumbers
+mod SetBits
+mod OrderedKinds
+mod NamedMembers
+mod Counters
+mod CheckedSchemas
