@@ -1,0 +1,4 @@
+pub mod Bits
+pub mod Fitting
+pub mod Elements
+pub mod Places

@@ -1,0 +1,59 @@
+ghost use Rattle.std.specs.Prelude.{◌≡◌};
+ghost use Rattle.sbe_wire.specs.Misfit.{misfit_here, misfit_in};
+ghost use Rattle.sbe_types.specs.declared.path.Step.TheVariants.{Elem};
+ghost use Rattle.field_bytes.specs.Faults.{code_of, told};
+
+/// Why a value doesn't fit its field.
+#[derive(Clone, Copy, Debug, PartialEq, Eq)]
+pub enum FieldCause {
+    /// A number isn't admitted or is the null of an optional field, or a text is too long, or empty where
+    /// it is optional.
+    Range,
+    /// An enum's number isn't listed.
+    EnumUnknown,
+    /// A set has a bit that isn't listed.
+    SetUnknown,
+    /// A byte may not stand in the text.
+    TextByte,
+    /// The value is of another kind, or an array of another length.
+    Kind,
+}
+
+/// The first element or byte of a value that doesn't fit its field.
+#[derive(Clone, Copy, Debug, PartialEq, Eq)]
+pub struct ValueFault {
+    pub cause: FieldCause,
+    /// The element of an array, counted from 0.
+    pub elem: Option<usize>,
+    /// The number or the byte, or the length of a text; 0 where the value is of another kind.
+    pub detail: i128,
+}
+
+/// Leaves why a value doesn't fit in `out`, and answers no.
+pub(crate) fn refuse(cause: FieldCause, detail: i128, out: &mut ValueFault) -> bool
+    ensures { told result out.new ≡ misfit_here (code_of cause) detail }
+{
+    *out = ValueFault {
+        cause,
+        elem: None,
+        detail,
+    };
+    false
+}
+
+/// The same of element `at`.
+pub(crate) fn refuse_element(
+    at: usize,
+    cause: FieldCause,
+    detail: i128,
+    out: &mut ValueFault,
+) -> bool
+    ensures { told result out.new ≡ misfit_in (Elem at) (misfit_here (code_of cause) detail) }
+{
+    *out = ValueFault {
+        cause,
+        elem: Some(at),
+        detail,
+    };
+    false
+}

@@ -1,0 +1,49 @@
+ghost use Rattle.std.specs.Prelude.{◌≡◌, ◌<◌, if◌then◌else◌, pos, ℕ};
+ghost use Rattle.std.specs.Int.{bit_at};
+ghost use Rattle.std.specs.Ordering.{int_eq};
+ghost use Rattle.sbe_types.specs.Shown.{has_listed_bits, is_listed};
+ghost use Rattle.field_bytes.specs.Written.{bit_of};
+
+use sbe_types::Named;
+
+/// Whether one of the names has that number.
+pub(crate) fn is_listed(names: &[Named], number: i128) -> bool
+    ensures { result ≡ is_listed names.now number }
+{
+    names.iter().any(|name| name.number == number)
+}
+
+/// Whether each bit that is set is a choice.
+pub(crate) fn are_listed(choices: &[Named], bits: u64) -> bool
+    ensures { result ≡ has_listed_bits choices.now 64 bits }
+{
+    let mut left = bits;
+    for choice in choices {
+        left = without(left, &choice.number);
+    }
+    left == 0
+}
+
+/// The place of a bit, where it is one of 64.
+#[inline(always)]
+fn bit_of(number: &i128) -> Option<u32>
+    ensures { result ≡ bit_of number.now }
+{
+    match u32::try_from(*number) {
+        Ok(place) if place < 64 => Some(place),
+        _ => None,
+    }
+}
+
+/// The bits without that of a number.
+#[inline(always)]
+#[tactic(auto, using(crate::proofs::Bits::bit_cleared, crate::proofs::Bits::no_bit_cleared))]
+fn without(bits: u64, number: &i128) -> u64
+    ensures { (k : ℕ) → k < 64
+        → bit_at result k ≡ (if int_eq number.now (pos k) then 0 else bit_at bits k) }
+{
+    match bit_of(number) {
+        Some(place) => bits & !(1 << place),
+        None => bits,
+    }
+}
