@@ -1,6 +1,6 @@
 -- Dimensions by their rows.
 use Rattle.std.proofs.Common.{◌≡◌, ◌≤◌, ◌<◌, ◌+◌, ◌-◌, ℕ, Bool, true, false, cond, List, length, take, drop, Option, Some, None, Result, Ok, Err, refl, sym, ap, ◌∙◌, subst, arith}
-use Rattle.std.specs.Prelude.{nat_le, pos, codes, slice_get}
+use Rattle.std.specs.Prelude.{nat_le, pos, codes}
 use Rattle.std.specs.Option.{option_map, option_map_or, option_and_then, IsSome}
 use Rattle.std.proofs.lemmas.Bool.{le-leb}
 use Rattle.std.proofs.lemmas.Bool.Decides.{nat_tests}
@@ -10,8 +10,8 @@ use Rattle.sbe_types.specs.declared.schema.WireSchema.{WireSchema}
 use Rattle.sbe_types.specs.Numbers.{number_of, natural, prim_width}
 use Rattle.sbe_types.specs.Places.{members_end}
 use Rattle.sbe_types.specs.Shown.{admits}
-use Rattle.sbe_wire.specs.Named.{Spot, spot_named, number_named, is_admitted}
-use Rattle.schema_facts.specs.Levels.{Node, all_nodes}
+use Rattle.sbe_wire.specs.Named.{Spot, number_named, is_admitted}
+use Rattle.schema_facts.specs.Levels.{Node}
 use Rattle.schema_facts.specs.Measured.{IsCounter}
 use Rattle.layout_compile.specs.declared.rows.DimRow.{DimRow}
 use Rattle.layout_compile.specs.declared.rows.SpotRow.{SpotRow}

@@ -1,1 +1,3 @@
 pub mod DimRows
+pub mod Pairs
+pub mod DimPuts

@@ -1,5 +1,5 @@
 -- Data parts by their rows.
-use Rattle.std.proofs.Common.{◌≡◌, ◌≤◌, ◌<◌, ◌+◌, ◌-◌, ℕ, zero, suc, Bool, true, false, cond, List, [], ◌∷◌, length, take, drop, get_or, Option, Some, None, Result, Ok, Err, refl, sym, ap, ◌∙◌, subst, arith}
+use Rattle.std.proofs.Common.{◌≡◌, ◌≤◌, ◌<◌, ◌+◌, ◌-◌, ℕ, zero, suc, cond, List, [], ◌∷◌, length, take, drop, get_or, Option, Some, Result, Err, refl, sym, ap, ◌∙◌, subst, arith}
 use Rattle.std.specs.Prelude.{slice_get, map}
 use Rattle.std.specs.List.{AllByRecursion}
 use Rattle.std.specs.Option.{option_map}
@@ -10,10 +10,10 @@ use Rattle.std.proofs.lemmas.Bool.{le-leb}
 use Rattle.sbe_types.specs.declared.kind.Leaf.{Leaf as LeafOf}
 use Rattle.sbe_types.specs.Numbers.{number_of, natural, prim_width}
 use Rattle.sbe_types.specs.declared.schema.DataField.{DataField}
-use Rattle.sbe_types.specs.declared.schema.Level.{Level, out-Level}
+use Rattle.sbe_types.specs.declared.schema.Level.{out-Level}
 use Rattle.sbe_types.specs.declared.schema.WireSchema.{WireSchema}
 use Rattle.schema_facts.specs.CheckedLevels.{HasLengths, IsLength}
-use Rattle.schema_facts.specs.IsChecked.{IsChecked, EachLevel}
+use Rattle.schema_facts.specs.IsChecked.{IsChecked}
 use Rattle.schema_facts.specs.Levels.{Node, all_nodes, parts_at, parts_in}
 use Rattle.schema_facts.specs.Measured.{IsSmall}
 use Rattle.layout_compile.specs.declared.rows.LevelRow.{LevelRow}
@@ -37,7 +37,7 @@ part_behind [] i row h = cc
 part_behind (p ∷ ps) zero row h = (p, refl, cc)
 part_behind (p ∷ ps) (suc i) row h = part_behind ps i row h
 
-parts_is : (schema : WireSchema) (n : ℕ) (level : LevelRow) (for : RowFor schema n level) → parts_at schema n ≡ (out-Level for.0.level).parts
+pub parts_is : (schema : WireSchema) (n : ℕ) (level : LevelRow) (for : RowFor schema n level) → parts_at schema n ≡ (out-Level for.0.level).parts
 parts_is schema n level for = ap (λ (o : Option Node). parts_in (option_map (λ (x : Node). x.level) o)) for.1
 
 pub part_at : (schema : WireSchema) (n i : ℕ) (level : LevelRow) (row : PartRow) → RowFor schema n level → slice_get level.parts.items i ≡ Some row → (part : DataField) × (slice_get (parts_at schema n) i ≡ Some part) × (row ≡ part_row part)

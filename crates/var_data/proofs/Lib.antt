@@ -1,1 +1,2 @@
 pub mod DataRows
+pub mod Parts

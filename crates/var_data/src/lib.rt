@@ -2,6 +2,8 @@
 #![tactic(auto)]
 
 mod data;
+mod put;
 pub mod worked;
 
 pub use data::{DataErr, read_data, read_data_of};
+pub use put::{PutDataErr, put_data, put_data_of};

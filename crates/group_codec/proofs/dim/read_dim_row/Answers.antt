@@ -1,4 +1,4 @@
-use Rattle.std.proofs.Common.{◌≡◌, ◌≤◌, ◌+◌, ◌-◌, false, true, length, take, drop, pos, sym, ap, ◌∙◌, arith, rules, FitsSigned}
+use Rattle.std.proofs.Common.{◌≡◌, ◌+◌, ◌-◌, false, true, take, drop, pos, sym, ap, ◌∙◌, arith, rules, FitsSigned}
 use mir.Syntax.{w128}
 use Rattle.std.proofs.lemmas.Int.{to_z-of_z}
 use Rattle.sbe_types.specs.Shown.{admits}
