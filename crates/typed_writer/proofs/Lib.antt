@@ -1,0 +1,9 @@
+pub mod Checked
+pub mod Grouping
+pub mod Holding
+pub mod Lists
+pub mod Parting
+pub mod Standing
+pub mod Rising
+pub mod Setting
+pub mod Unset

@@ -1,0 +1,248 @@
+ghost use Rattle.std.specs.Prelude.{◌≡◌, ◌≤◌, ◌<◌, ◌==◌, ◌∷◌, [], length, drop, IfOk, IfErr, OnOk, OnErr};
+ghost use Rattle.schema_facts.specs.Levels.{groups_at};
+ghost use Rattle.std.specs.Borrow.{sem};
+ghost use Rattle.typed_writer.specs.Lending.{RootRests};
+ghost use Rattle.typed_writer.specs.States.{AppendsEntries, AppendsParts, SetsFields, block_at, entries_left, level_of, next_part, parts_done, parts_in_tail};
+ghost use Rattle.typed_writer.specs.Steps.{Adds, Begins, DataRefused, GroupRefused, Groups, IsFull, Opens, StartRefused, ends, first_unset, goes_on_as, next_group};
+
+use crate::buffer::FrameBuf;
+use crate::room::Full;
+use crate::stack::Frame;
+use layout_compile::Layout;
+use thiserror::Error;
+
+/// What comes next behind a block.
+#[derive(Clone, Copy, Debug, PartialEq, Eq)]
+pub enum NextPart {
+    /// Group `i` of the level.
+    Group(usize),
+    /// Data part `i` of the level.
+    Data(usize),
+    /// Nothing more.
+    End,
+}
+
+/// Why a message can't be begun.
+#[derive(Clone, Copy, Debug, PartialEq, Eq, Drop, Error)]
+pub enum StartErr {
+    /// The schema has no message of that number.
+    #[error("there is no such message")]
+    Template,
+    /// The header and the root's block have no room.
+    #[error("{0}")]
+    Full(Full),
+}
+
+/// Why a group or a data part can't be appended.
+#[derive(Clone, Copy, Debug, PartialEq, Eq, Drop, Error)]
+pub enum TailErr {
+    /// The group may not have so many entries.
+    #[error("the group may not have so many entries")]
+    Count,
+    /// The data part may not have so many bytes.
+    #[error("the data may not have so many bytes")]
+    Length,
+    /// The group's dimension, or the data, have no room.
+    #[error("{0}")]
+    Full(Full),
+}
+
+/// A block whose fields are being set.
+#[derive(Drop)]
+pub struct FieldsW<'b> {
+    pub buf: &'b mut FrameBuf,
+    pub layout: &'b Layout,
+}
+
+/// A block whose groups and data are being appended.
+#[derive(Drop)]
+pub struct TailW<'b> {
+    pub buf: &'b mut FrameBuf,
+    pub layout: &'b Layout,
+    /// How many writers stand open while it is the innermost one.
+    pub depth: usize,
+}
+
+/// A group whose entries are being appended.
+#[derive(Drop)]
+pub struct EntriesW<'b> {
+    pub buf: &'b mut FrameBuf,
+    pub layout: &'b Layout,
+    /// How many writers stand open while it is the innermost one.
+    pub depth: usize,
+}
+
+/// A block with a field that isn't set.
+#[derive(Drop)]
+pub struct Undone<'b> {
+    pub fields: FieldsW<'b>,
+    /// The first field that isn't set, and has to be.
+    pub unset: usize,
+}
+
+/// Begins the body of a message, afresh: what stood in the buffer is let go (SBE 1.0, "Message structure").
+///
+/// # Errors
+///
+/// `Template` exactly where the schema has no message of that number, then `Full` exactly where its header and its
+/// root's block pass the limit. The buffer is empty after both.
+pub fn start<'b>(
+    buf: &'b mut FrameBuf,
+    layout: &'b Layout,
+    template: usize,
+) -> Result<FieldsW<'b>, StartErr>
+    ensures* rests { sem 𝓛 (RootRests buf.entry result) }
+    ensures same_reference { IfOk result (λ f. f.buf.ghost_name ≡ buf.entry.ghost_name) }
+    ensures ok { IfOk result (λ f. Begins layout.now template buf.old f.buf.now) }
+    ensures ready { IfOk result (λ f. SetsFields layout.now f.buf.now) }
+    ensures layout { IfOk result (λ f. f.layout.now ≡ layout.now) }
+    ensures refused { IfErr result (StartRefused layout.now template buf.old.limit) }
+{
+    buf.begin(layout, template)
+}
+
+impl<'b> FieldsW<'b> {
+    /// Ends the fields of the block. Its groups and data follow.
+    ///
+    /// # Errors
+    ///
+    /// The writer itself, where a field is unset that is no constant and no optional leaf or enum other than
+    /// octets; and the first such field.
+    pub fn done(self) -> Result<TailW<'b>, Undone<'b>>
+        requires { SetsFields self.layout.now self.buf.now }
+        ensures ok_reference { IfOk result (λ t. t.buf.ghost_name ≡ self.entry.buf.ghost_name) }
+        ensures err_reference { IfErr result (λ u. u.fields.buf.ghost_name ≡ self.entry.buf.ghost_name) }
+        ensures ok { IfOk result (λ t. t.buf.now ≡ goes_on_as self.entry.buf.now (Frame.Tail (level_of self.entry.buf.now.frames) 0)) }
+        ensures depth { IfOk result (λ t. t.depth ≡ length self.entry.buf.now.frames) }
+        ensures err { IfErr result (λ u. u.fields.buf.now ≡ self.entry.buf.now) }
+    {
+        let FieldsW { buf, layout } = self;
+        if let Some(unset) = buf.unset(layout) {
+            return Err(Undone {
+                fields: FieldsW { buf, layout },
+                unset,
+            });
+        }
+        buf.to_tail(layout);
+        let depth = buf.depth();
+        Ok(TailW { buf, layout, depth })
+    }
+}
+
+impl<'b> TailW<'b> {
+    /// Whether no writer below this one is unfinished.
+    pub fn whole(&self) -> bool
+        ensures { result ≡ (length self.now.buf.now.frames == self.now.depth) }
+    {
+        self.buf.depth() == self.depth
+    }
+
+    /// What comes next.
+    pub fn next(&self) -> NextPart
+        requires { AppendsParts self.now.layout.now self.now.buf.now }
+        ensures { result ≡ next_part self.now.layout.now (level_of self.now.buf.now.frames) (parts_done self.now.buf.now.frames) }
+    {
+        self.buf.next(self.layout)
+    }
+
+    /// Begins the next group, of so many entries. It needs a group that is next.
+    ///
+    /// # Errors
+    ///
+    /// `Count` exactly where the group may not have so many entries, then `Full` exactly where its dimension passes
+    /// the limit. The writer stands where it stood.
+    pub fn group(&mut self, count: u32) -> Result<EntriesW<'_>, TailErr>
+        requires state { AppendsParts self.old.layout.now self.old.buf.now }
+        requires group { parts_done self.old.buf.now.frames < length (groups_at self.old.layout.now (level_of self.old.buf.now.frames)) }
+        ensures ok { IfOk result (λ e. Groups self.old.layout.now count self.old.buf.now e.buf.now) }
+        ensures ready { IfOk result (λ e. AppendsEntries e.layout.now e.buf.now) }
+        ensures refused { IfErr result (GroupRefused self.old.layout.now (next_group self.old.layout.now self.old.buf.now.frames) count self.old.buf.now) }
+    {
+        let layout = self.layout;
+        self.buf.group(layout, count)
+    }
+
+    /// Appends the next data part (SBE 1.0, "Variable-length data"). It needs a data part that is next.
+    ///
+    /// # Errors
+    ///
+    /// `Length` exactly where the part may not have so many bytes, then `Full` exactly where they pass the limit
+    /// with their length number. The buffer is as it was.
+    pub fn data(&mut self, bytes: &[u8]) -> Result<(), TailErr>
+        requires state { AppendsParts self.old.layout.now self.old.buf.now }
+        requires groups { length (groups_at self.old.layout.now (level_of self.old.buf.now.frames)) ≤ parts_done self.old.buf.now.frames }
+        requires part { parts_done self.old.buf.now.frames < parts_in_tail self.old.layout.now (level_of self.old.buf.now.frames) }
+        ensures same_reference { self.new.buf.ghost_name ≡ self.old.buf.ghost_name }
+        ensures same_layout { self.new.layout ≡ self.old.layout }
+        ensures depth { self.new.depth ≡ self.old.depth }
+        ensures ok { OnOk result (Adds self.old.layout.now bytes.now self.old.buf.now self.new.buf.now) }
+        ensures ready { OnOk result (AppendsParts self.old.layout.now self.new.buf.now) }
+        ensures err { OnErr result (self.new.buf.now ≡ self.old.buf.now) }
+        ensures refused { IfErr result (DataRefused self.old.layout.now (length bytes.now) self.old.buf.now) }
+    {
+        self.buf.lay_data(self.layout, bytes)
+    }
+
+    /// Ends an entry, behind its last part. It needs a writer that isn't the root's.
+    pub fn close(self)
+        requires state { AppendsParts self.layout.now self.buf.now }
+        requires end { parts_done self.buf.now.frames ≡ parts_in_tail self.layout.now (level_of self.buf.now.frames) }
+        requires entry { 1 < length self.buf.now.frames }
+        ensures { self.exit.0.now ≡ ends self.entry.buf.now }
+    {
+        self.buf.leave();
+    }
+
+    /// Ends the message, behind its last part, and gives the length of its body. It needs the root's writer.
+    pub fn finish(self) -> usize
+        requires state { AppendsParts self.layout.now self.buf.now }
+        requires end { parts_done self.buf.now.frames ≡ parts_in_tail self.layout.now (level_of self.buf.now.frames) }
+        requires root { length self.buf.now.frames ≡ 1 }
+        ensures ends { self.exit.0.now ≡ ends self.entry.buf.now }
+        ensures length { result ≡ length self.entry.buf.now.bytes }
+    {
+        self.buf.leave();
+        self.buf.bytes().len()
+    }
+}
+
+impl<'b> EntriesW<'b> {
+    /// How many entries are still to come.
+    pub fn left(&self) -> u32
+        ensures { result ≡ entries_left self.now.buf.now.frames }
+    {
+        self.buf.left()
+    }
+
+    /// Whether no writer below this one is unfinished.
+    pub fn whole(&self) -> bool
+        ensures { result ≡ (length self.now.buf.now.frames == self.now.depth) }
+    {
+        self.buf.depth() == self.depth
+    }
+
+    /// Begins the next entry. It needs an entry that is still to come.
+    ///
+    /// # Errors
+    ///
+    /// `Full` exactly where the entry's block passes the limit.
+    pub fn entry(&mut self) -> Result<FieldsW<'_>, Full>
+        requires state { AppendsEntries self.old.layout.now self.old.buf.now }
+        requires some { 0 < entries_left self.old.buf.now.frames }
+        ensures ok { IfOk result (λ f. Opens self.old.layout.now self.old.buf.now f.buf.now) }
+        ensures ready { IfOk result (λ f. SetsFields f.layout.now f.buf.now) }
+        ensures full { IfErr result (λ f. IsFull self.old.buf.now (block_at self.old.layout.now (level_of self.old.buf.now.frames)) f) }
+    {
+        let layout = self.layout;
+        self.buf.entry(layout)
+    }
+
+    /// Ends the group, behind its last entry.
+    pub fn end(self)
+        requires state { AppendsEntries self.layout.now self.buf.now }
+        requires none { entries_left self.buf.now.frames ≡ 0 }
+        ensures { self.exit.0.now ≡ ends self.entry.buf.now }
+    {
+        self.buf.leave();
+    }
+}
