@@ -3,3 +3,4 @@ pub mod Inverse
 pub mod PlaceLemmas
 pub mod TextLemmas
 pub mod BadLemmas
+pub mod ListSame

@@ -8,6 +8,8 @@ pub mod laws;
 mod leaf;
 mod limits;
 mod message;
+mod message_copy;
+mod message_same;
 mod number;
 mod path;
 mod schema;

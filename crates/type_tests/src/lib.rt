@@ -1,8 +1,10 @@
-//! Tests of `sbe_types` over values from outside: what bytes show, and the steps of a path.
+//! Tests of `sbe_types` over values from outside: what bytes show, the steps of a path, and equal messages.
 #![tactic(auto)]
 
 #[cfg(test)]
 mod leaves;
+#[cfg(test)]
+mod messages;
 #[cfg(test)]
 mod numbers;
 #[cfg(test)]
