@@ -1,0 +1,10 @@
+pub mod Stands
+pub mod KindMoves
+pub mod BlockMoves
+pub mod NamedMoves
+pub mod TailMoves
+pub mod TailCuts
+pub mod Tests
+pub mod BodyMoves
+pub mod ForwardPlain
+pub mod Names
