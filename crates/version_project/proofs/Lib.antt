@@ -1,0 +1,15 @@
+pub mod Opens
+pub mod DataWalk
+pub mod ProjectWalk
+pub mod PairWalk
+pub mod Alike
+pub mod NarrowRows
+pub mod StayWalk
+pub mod FieldWalk
+pub mod NarrowLevels
+pub mod Sizes
+pub mod MessageWalk
+pub mod AddedWalk
+pub mod LevelSizes
+pub mod RootWalk
+pub mod PlainTells

@@ -1,0 +1,17 @@
+-- Old parts and new ones, in order: each new part that old knows is compared with the next old one.
+use Rattle.std.specs.Prelude.{ℕ, Bool, if◌then◌else◌, Option, None, List, [], ◌∷◌}
+use Rattle.sbe_types.specs.declared.schema.Group.{Group}
+use Rattle.version_laws.specs.declared.difference.Difference.{Difference}
+use Rattle.version_laws.specs.declared.difference.Reason.TheVariants as reason
+use Rattle.version_laws.specs.Differ.{differs, or_else, unless_for, in_part, group_name, group_reason, group_differs}
+
+-- two lists compared part by part
+abbrev pub paired : {P : Type 0} → (P → Bool) → (P → List ℕ) → (P → P → Option Difference) → List P → List P → Option Difference
+paired known name compare [] [] = None
+paired known name compare (f ∷ fs) [] = differs (name f) reason.Part
+paired known name compare [] (g ∷ gs) = if known g then differs (name g) reason.Part else paired known name compare [] gs
+paired known name compare (f ∷ fs) (g ∷ gs) = if known g then or_else (compare f g) (paired known name compare fs gs) else paired known name compare (f ∷ fs) gs
+
+-- two groups compared
+abbrev pub group_compare : ℕ → Bool → Group → Group → Option Difference
+group_compare version more f g = unless_for (group_name f) (group_reason f g) (in_part (group_name f) (group_differs version more f g))

@@ -1,0 +1,85 @@
+// The first difference between the fields of two levels.
+ghost use Rattle.std.specs.Prelude.{◌≡◌, IfOk};
+ghost use Rattle.schema_facts.specs.Measured.{IsNarrow, AreNarrowFields};
+ghost use Rattle.version_laws.specs.Differ.{no_fields, field_stays, field_reason, fields_differ};
+
+use crate::differ::ends::{begin_at, end_behind};
+use crate::differ::found::at_part;
+use crate::differ::kinds::is_same_kind;
+use crate::differ::leaves::is_same_name;
+use crate::differ::places::{are_same_places, is_same_place};
+use lists::{List, NoMem};
+use sbe_types::Field;
+use std::alloc::Global;
+use version_laws::{Difference, Reason};
+
+/// The first difference between old's fields and those of new that are effective by old's version, in order.
+pub(crate) fn fields_differ(
+    alloc: Global,
+    version: u32,
+    more: bool,
+    olds: &List<Field>,
+    news: &List<Field>,
+) -> Result<Option<Difference>, NoMem>
+    requires old { AreNarrowFields 0 olds.now }
+    requires new { AreNarrowFields 0 news.now }
+    ensures { IfOk result (λ found. found ≡ fields_differ version more no_fields olds.now news.now) }
+{
+    let mut i = 0usize;
+    let mut end = 0;
+    let mut other_end = 0;
+    for j in 0..news.len() {
+        let new = news.at(j);
+        if new.since <= version {
+            if i >= olds.len() {
+                return at_part(alloc, &new.name, Reason::Part);
+            }
+            let old = olds.at(i);
+            if let Some(reason) = reason_of(more, end, old, other_end, new) {
+                return at_part(alloc, &old.name, reason);
+            }
+            end = end_behind(end, old.offset, &old.kind);
+            i += 1;
+        }
+        other_end = end_behind(other_end, new.offset, &new.kind);
+    }
+    if i < olds.len() {
+        return at_part(alloc, &olds.at(i).name, Reason::Part);
+    }
+    Ok(None)
+}
+
+/// Why a field of new isn't that field of old, behind fields that end there.
+fn reason_of(more: bool, end: u32, old: &Field, other_end: u32, new: &Field) -> Option<Reason>
+    requires old { IsNarrow old.now.kind }
+    requires new { IsNarrow new.now.kind }
+    ensures { result ≡ field_reason more (record { old = end; new = other_end }) old.now new.now }
+{
+    if !is_same_name(old.name.as_slice(), new.name.as_slice()) {
+        return Some(Reason::Part);
+    }
+    if old.since != new.since {
+        return Some(Reason::Since);
+    }
+    if !does_stay(end, old, other_end, new) {
+        return Some(Reason::Place);
+    }
+    if !is_same_kind(more, &old.kind, &new.kind) {
+        return Some(Reason::Kind);
+    }
+    None
+}
+
+/// Whether two fields begin at one place, and so does each member of their composites.
+fn does_stay(end: u32, old: &Field, other_end: u32, new: &Field) -> bool
+    requires old { IsNarrow old.now.kind }
+    requires new { IsNarrow new.now.kind }
+    ensures { result ≡ field_stays (record { old = end; new = other_end }) old.now new.now }
+{
+    is_same_place(
+        &old.kind,
+        begin_at(end, old.offset),
+        &new.kind,
+        begin_at(other_end, new.offset),
+    ) && are_same_places(&old.kind, &new.kind)
+}
