@@ -1,0 +1,36 @@
+-- The next name in a list of names.
+use Rattle.std.proofs.Common.{◌≡◌, ℕ, suc, ◌+◌, ◌<◌, true, cond, List, ◌∷◌, length, drop, get_or, Some, sym, ap, ◌∙◌, drop-cons, add-one}
+use Rattle.std.specs.Str.{bytes_eq}
+use Rattle.sbe_types.specs.declared.kind.Member.{Member}
+use Rattle.sbe_types.specs.declared.schema.Field.{Field}
+use Rattle.sbe_types.specs.declared.schema.DataField.{DataField}
+use Rattle.sbe_types.specs.declared.schema.Group.{Group}
+use Rattle.sbe_types.specs.declared.schema.Level.{Level, out-Level}
+use Rattle.line_reading.specs.Objects.{is_named}
+use Rattle.line_reading.specs.Lines.{field_names, data_names, group_name, level_named}
+use Rattle.line_reading.specs.Code.{member_list_names, group_list_names, template}
+
+-- item i of a list, and those behind it
+pub there : {A : Type 0} (xs : List A) (i : ℕ) (x : A) → i < length xs → x ≡ get_or xs i x → drop i xs ≡ x ∷ drop (i + 1) xs
+there xs i x h is = rw add-one (drop-cons xs i x h ∙ ap (λ y. y ∷ drop (suc i) xs) (sym is))
+
+pub field_next : (key : List ℕ) (fs : List Field) (i : ℕ) (f : Field) → i < length fs → f ≡ get_or fs i f
+    → is_named key (field_names (drop i fs)) ≡ cond (bytes_eq key f.name) true (is_named key (field_names (drop (i + 1) fs)))
+field_next key fs i f h is = ap (λ xs. is_named key (field_names xs)) (there fs i f h is)
+
+pub part_next : (key : List ℕ) (ps : List DataField) (i : ℕ) (p : DataField) → i < length ps → p ≡ get_or ps i p
+    → is_named key (data_names (drop i ps)) ≡ cond (bytes_eq key p.name) true (is_named key (data_names (drop (i + 1) ps)))
+part_next key ps i p h is = ap (λ xs. is_named key (data_names xs)) (there ps i p h is)
+
+pub member_next : (key : List ℕ) (ms : List Member) (i : ℕ) (m : Member) → i < length ms → m ≡ get_or ms i m
+    → is_named key (member_list_names (drop i ms)) ≡ cond (bytes_eq key m.name) true (is_named key (member_list_names (drop (i + 1) ms)))
+member_next key ms i m h is = ap (λ xs. is_named key (member_list_names xs)) (there ms i m h is)
+
+pub group_next : (key : List ℕ) (gs : List Group) (i : ℕ) (g : Group) → i < length gs → g ≡ get_or gs i g
+    → is_named key (group_list_names (drop i gs)) ≡ cond (bytes_eq key (group_name g)) true (is_named key (group_list_names (drop (i + 1) gs)))
+group_next key gs i g h is = ap (λ xs. is_named key (group_list_names xs)) (there gs i g h is)
+
+pub level_next : (s : List ℕ) (levels : List Level) (i : ℕ) (level : Level) → i < length levels → level ≡ get_or levels i level
+    → level_named i (drop i levels) s ≡ cond (bytes_eq (out-Level level).name s) (Some (template i level)) (level_named (i + 1) (drop (i + 1) levels) s)
+level_next s levels i level h is =
+    ap (λ xs. level_named i xs s) (there levels i level h is) ∙ ap (λ n. cond (bytes_eq (out-Level level).name s) (Some (template i level)) (level_named n (drop (i + 1) levels) s)) (sym (add-one i))

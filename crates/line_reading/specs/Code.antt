@@ -1,0 +1,75 @@
+-- What the code's values stand for, and kinds and levels by their lists.
+use Rattle.std.specs.Prelude.{ℕ, List, [], ◌∷◌, codes, Option, Some, None, Ok, String}
+use Rattle.std.specs.Borrow.{Bor}
+use Rattle.std.specs.declared.alloc.Global.{Global}
+use Rattle.std.specs.BTreeMap.{BTreeMap}
+use Rattle.serde_json.specs.Data.{Members, no_members}
+use Rattle.serde_json.specs.View.{members_view}
+use Rattle.serde_json.specs.declared.value.Value.{Value as JsonValue}
+use Rattle.sbe_types.specs.declared.kind.Member.{Member}
+use Rattle.sbe_types.specs.declared.schema.Group.{Group}
+use Rattle.sbe_types.specs.declared.schema.Level.{Level, out-Level}
+use Rattle.sbe_types.specs.declared.message.Value.{Value}
+use Rattle.sbe_types.specs.declared.message.Block.{Block}
+use Rattle.sbe_types.specs.declared.message.GroupVal.{GroupVal}
+use Rattle.line_reading.specs.declared.names.Names.{Names}
+use Rattle.line_reading.specs.declared.names.Names.TheVariants.{Fields, Groups, Parts, Members as MemberNames, Entry, Message}
+use Rattle.line_reading.specs.Refusals.{Reading, ◌>>=◌}
+use Rattle.line_reading.specs.Objects.{part}
+use Rattle.line_reading.specs.Values.{value_in}
+use Rattle.line_reading.specs.Lines.{field_names, fields_read, data_names, parts_read, group_name, group_read, entry_names, message_names, block_with, Template}
+
+-- an object's members; none where it is missing
+abbrev pub seen : Option (Bor (BTreeMap (String Global) JsonValue)) → Members
+seen None = no_members
+seen (Some m) = members_view m.now.entries
+
+-- the names of members
+abbrev pub member_list_names : List Member → List (List ℕ)
+member_list_names [] = []
+member_list_names (m ∷ ms) = m.name ∷ member_list_names ms
+
+-- the names of groups
+abbrev pub group_list_names : List Group → List (List ℕ)
+group_list_names [] = []
+group_list_names (g ∷ gs) = group_name g ∷ group_list_names gs
+
+-- the names that keys may have
+abbrev pub names_in : Names → List (List ℕ)
+names_in (Fields fs) = field_names fs.now
+names_in (Groups gs) = group_list_names gs.now
+names_in (Parts ps) = data_names ps.now
+names_in (MemberNames ms) = member_list_names ms.now
+names_in Entry = entry_names
+names_in Message = message_names
+
+-- the values of members, in the schema's order
+unfoldable pub member_list_read : List Member → Members → Reading (List Value)
+member_list_read [] found = Ok []
+member_list_read (m ∷ ms) found = do
+  v ← value_in m.name m.kind found
+  vs ← member_list_read ms found
+  Ok (v ∷ vs)
+
+-- the entries of groups, in the schema's order
+unfoldable pub group_list_read : List Group → Members → Reading (List GroupVal)
+group_list_read [] ms = Ok []
+group_list_read (g ∷ gs) ms = do
+  v ← group_read g ms
+  vs ← group_list_read gs ms
+  Ok (v ∷ vs)
+
+-- what stands in the object of a level
+unfoldable pub block_opened : Level → Members → Reading Block
+block_opened level ms = do
+  found_fields ← part (codes "fields") (field_names (out-Level level).fields) ms
+  vs ← fields_read (out-Level level).fields found_fields
+  found_groups ← part (codes "groups") (group_list_names (out-Level level).groups) ms
+  ws ← group_list_read (out-Level level).groups found_groups
+  found_parts ← part (codes "data") (data_names (out-Level level).parts) ms
+  ps ← parts_read (out-Level level).parts found_parts
+  Ok (block_with vs ws ps)
+
+-- a template by its number and level
+abbrev pub template : ℕ → Level → Template
+template number level = record { number = number; level = level }

@@ -1,0 +1,150 @@
+ghost use Rattle.std.specs.Prelude.{◌≡◌, option_map};
+ghost use Rattle.serde_json.specs.View.{view, items_view};
+ghost use Rattle.line_reading.specs.Refusals.{Gives};
+ghost use Rattle.line_reading.specs.Objects.{each, at_item as at_place};
+ghost use Rattle.line_reading.specs.Lines.{entry_of, entry_in, entries_in, group_in, block_read, group_read};
+ghost use Rattle.line_reading.specs.Code.{seen, group_list_read, block_opened};
+
+use crate::fields::read_fields;
+use crate::names::{Names, name_of};
+use crate::objects::{at_item, find_in, part, refuse_unknown};
+use crate::parts::read_parts;
+use crate::refusals::{JCode, LineFault, inside, refuse};
+use lists::List;
+use sbe_types::{Block, BlockList, Group, GroupVal, GroupValList, Level};
+use serde_json::{Map, Value as Json};
+use std::alloc::Global;
+
+/// What stands in the object of a message's root or of an entry: fields, then groups, then data.
+#[cycle(block)]
+#[tactic(auto, unfolding(crate::specs::Code::block_opened))]
+fn read_opened(
+    alloc: Global,
+    level: &Level,
+    object: Option<&Map<String, Json>>,
+) -> Result<Block, LineFault>
+    ensures { Gives result (block_opened level.now (seen object.entry)) }
+{
+    let fields = level.fields.as_slice();
+    let groups = level.groups.as_slice();
+    let parts = level.parts.as_slice();
+    let found = part(alloc, "fields", &Names::Fields(fields), object)?;
+    let fields = read_fields(alloc, fields, found)?;
+    let found = part(alloc, "groups", &Names::Groups(groups), object)?;
+    let groups = read_groups(alloc, groups, found)?;
+    let found = part(alloc, "data", &Names::Parts(parts), object)?;
+    let parts = read_parts(alloc, parts, found)?;
+    Ok(Block {
+        fields,
+        groups,
+        parts,
+    })
+}
+
+/// The block of a level.
+#[cycle(block)]
+pub fn read_block(
+    alloc: Global,
+    level: &Level,
+    object: Option<&Map<String, Json>>,
+) -> Result<Block, LineFault>
+    ensures { Gives result (block_read level.now (seen object.entry)) }
+{
+    read_opened(alloc, level, object)
+}
+
+/// The entries of groups, in the schema's order.
+#[cycle(block)]
+#[tactic(auto, unfolding(crate::specs::Code::group_list_read), using(crate::proofs::ListSteps::groups_more))]
+fn read_groups(
+    alloc: Global,
+    groups: &[Group],
+    object: Option<&Map<String, Json>>,
+) -> Result<GroupValList, LineFault>
+    ensures { Gives result (group_list_read groups.now (seen object.entry)) }
+{
+    let mut out = List::new(alloc);
+    for group in groups {
+        out.push(read_group(alloc, group, object)?)?;
+    }
+    Ok(out)
+}
+
+/// The entries of a group.
+#[cycle(block)]
+fn read_group(
+    alloc: Global,
+    group: &Group,
+    object: Option<&Map<String, Json>>,
+) -> Result<GroupVal, LineFault>
+    ensures { Gives result (group_read group.now (seen object.entry)) }
+{
+    let name = name_of(group);
+    inside(
+        alloc,
+        name,
+        read_entries(alloc, &group.level, find_in(object, name)),
+    )
+}
+
+/// The entries of a group; a missing one has none.
+#[cycle(block)]
+fn read_entries(alloc: Global, level: &Level, found: Option<&Json>) -> Result<GroupVal, LineFault>
+    ensures { Gives result (group_in (block_read level.now) (option_map (λ v. view v.now) found.entry)) }
+{
+    match found {
+        None => Ok(GroupVal::Entries(List::new(alloc))),
+        Some(found) => match found.as_array() {
+            None => refuse(alloc, JCode::Kind, b""),
+            Some(items) => {
+                let entries = read_items(alloc, level, items.as_slice())?;
+                Ok(GroupVal::Entries(entries))
+            }
+        },
+    }
+}
+
+/// The entries of an array.
+#[cycle(block)]
+#[tactic(auto, unfolding(crate::specs::Objects::each), using(crate::proofs::ItemSteps::entries_more))]
+fn read_items(alloc: Global, level: &Level, items: &[Json]) -> Result<BlockList, LineFault>
+    ensures { Gives result (each (entry_in (block_read level.now)) 0 (items_view items.now)) }
+{
+    let mut out = List::new(alloc);
+    for (i, item) in items.iter().enumerate() {
+        out.push(read_item(alloc, level, i, item)?)?;
+    }
+    Ok(out)
+}
+
+/// Entry `i` of an array.
+#[cycle(block)]
+fn read_item(alloc: Global, level: &Level, i: usize, item: &Json) -> Result<Block, LineFault>
+    ensures { Gives result (at_place i (entry_in (block_read level.now) (view item.now))) }
+{
+    at_item(alloc, i, read_entry(alloc, level, item))
+}
+
+/// An entry: an object.
+#[cycle(block)]
+fn read_entry(alloc: Global, level: &Level, item: &Json) -> Result<Block, LineFault>
+    ensures { Gives result (entry_in (block_read level.now) (view item.now)) }
+{
+    match item.as_object() {
+        None => refuse(alloc, JCode::Kind, b""),
+        Some(object) => inside(alloc, b".", read_known(alloc, level, Some(object))),
+    }
+}
+
+/// What stands in an entry's object.
+#[cycle(block)]
+fn read_known(
+    alloc: Global,
+    level: &Level,
+    object: Option<&Map<String, Json>>,
+) -> Result<Block, LineFault>
+    ensures { Gives result (entry_of (block_read level.now) (seen object.entry)) }
+{
+    refuse_unknown(alloc, &Names::Entry, object)?;
+    read_block(alloc, level, object)
+}

@@ -1,0 +1,27 @@
+ghost use Rattle.std.specs.Prelude.{◌≡◌};
+ghost use Rattle.line_reading.specs.Refusals.{Gives};
+ghost use Rattle.line_reading.specs.Lines.{fields_read};
+ghost use Rattle.line_reading.specs.Code.{seen};
+
+use crate::kinds::read_value;
+use crate::refusals::LineFault;
+use lists::List;
+use sbe_types::{Field, ValueList};
+use serde_json::{Map, Value as Json};
+use std::alloc::Global;
+
+/// The values of fields, in the schema's order.
+#[tactic(auto, unfolding(crate::specs::Lines::fields_read), using(crate::proofs::ListSteps::fields_more))]
+pub fn read_fields(
+    alloc: Global,
+    fields: &[Field],
+    object: Option<&Map<String, Json>>,
+) -> Result<ValueList, LineFault>
+    ensures { Gives result (fields_read fields.now (seen object.entry)) }
+{
+    let mut out = List::new(alloc);
+    for field in fields {
+        out.push(read_value(alloc, field.name.as_slice(), &field.kind, object)?)?;
+    }
+    Ok(out)
+}

@@ -1,0 +1,123 @@
+ghost use Rattle.std.specs.Prelude.{◌≡◌, option_map};
+ghost use Rattle.serde_json.specs.View.{view};
+ghost use Rattle.line_reading.specs.Refusals.{Gives, GivesAs};
+ghost use Rattle.line_reading.specs.Lines.{level_named, named_template, template_in, is_version, version_in, message_read, message_in, tree_of};
+ghost use Rattle.line_reading.specs.Code.{seen, template};
+
+use crate::blocks::read_block;
+use crate::names::Names;
+use crate::objects::{find_in, refuse_unknown};
+use crate::refusals::{JCode, LineFault, refuse};
+use sbe_types::{Level, Msg, WireSchema};
+use schema_check::Checked;
+use serde_json::{Map, Value as Json};
+use std::alloc::Global;
+
+/// The first level of that name, with its number.
+#[tactic(auto, using(crate::proofs::NameSteps::level_next))]
+fn level_named<'l>(levels: &'l [Level], name: &[u8]) -> Option<(usize, &'l Level)>
+    ensures { option_map (λ p. template p.0 p.1.now) result ≡ level_named 0 levels.now name.now }
+{
+    for (i, level) in levels.iter().enumerate() {
+        if level.name.as_slice() == name {
+            return Some((i, level));
+        }
+    }
+    None
+}
+
+/// The template of a message, which must be there, as a string.
+fn read_template<'l>(
+    alloc: Global,
+    levels: &'l [Level],
+    found: Option<&Json>,
+) -> Result<(usize, &'l Level), LineFault>
+    ensures { GivesAs (λ p. template p.0 p.1.now) result (template_in levels.now (option_map (λ v. view v.now) found.entry)) }
+{
+    match found {
+        None => refuse(alloc, JCode::Shape, b"template"),
+        Some(found) => match found.as_str() {
+            None => refuse(alloc, JCode::Kind, b"template"),
+            Some(name) => match level_named(levels, name.as_bytes()) {
+                None => refuse(alloc, JCode::UnknownName, name.as_bytes()),
+                Some(named) => Ok(named),
+            },
+        },
+    }
+}
+
+fn is_version(version: u32, found: Option<u64>) -> bool
+    ensures { result ≡ is_version version found }
+{
+    match found {
+        None => false,
+        Some(n) => n == version as u64,
+    }
+}
+
+/// Asks that the version, where it stands, is the schema's.
+fn check_version(alloc: Global, version: u32, found: Option<&Json>) -> Result<(), LineFault>
+    ensures { Gives result (version_in version (option_map (λ v. view v.now) found.entry)) }
+{
+    match found {
+        None => Ok(()),
+        Some(found) => {
+            if is_version(version, found.as_u64()) {
+                return Ok(());
+            }
+            refuse(alloc, JCode::Kind, b"version")
+        }
+    }
+}
+
+/// The message in an object: its template, its version, its unknown keys, its root.
+fn read_message(
+    alloc: Global,
+    schema: &WireSchema,
+    object: Option<&Map<String, Json>>,
+) -> Result<Msg, LineFault>
+    ensures { Gives result (message_read schema.now (seen object.entry)) }
+{
+    let levels = schema.messages.as_slice();
+    let (number, level) = read_template(alloc, levels, find_in(object, b"template"))?;
+    check_version(alloc, schema.version, find_in(object, b"version"))?;
+    refuse_unknown(alloc, &Names::Message, object)?;
+    let block = read_block(alloc, level, object)?;
+    Ok(Msg {
+        template: number,
+        version: schema.version,
+        block,
+    })
+}
+
+/// The message in JSON data, which must be an object.
+fn read_tree(alloc: Global, schema: &WireSchema, found: &Json) -> Result<Msg, LineFault>
+    ensures { Gives result (message_in schema.now (view found.now)) }
+{
+    match found.as_object() {
+        None => refuse(alloc, JCode::Shape, b""),
+        Some(object) => read_message(alloc, schema, Some(object)),
+    }
+}
+
+/// The message that a line holds, or why it is refused: the first fault by the steps of reading, with its place.
+pub fn msg_of_line(alloc: Global, checked: &Checked, line: &[u8]) -> Result<Msg, LineFault>
+    ensures { Gives result (tree_of checked.now line.now) }
+{
+    read_line(alloc, checked.schema(), line)
+}
+
+/// The message that a line holds, by the schema.
+fn read_line(alloc: Global, schema: &WireSchema, line: &[u8]) -> Result<Msg, LineFault>
+    ensures { Gives result (tree_of schema.now line.now) }
+{
+    match Json::from_slice(alloc, line) {
+        Ok(found) => read_tree(alloc, schema, &found),
+        Err(e) => {
+            if e.is_memory() {
+                return Err(LineFault::Memory);
+            }
+            refuse(alloc, JCode::NotJson, b"")
+        }
+    }
+}

@@ -1,0 +1,51 @@
+ghost use Rattle.std.specs.Prelude.{◌≡◌, option_map};
+ghost use Rattle.serde_json.specs.View.{view};
+ghost use Rattle.line_reading.specs.Refusals.{Gives};
+ghost use Rattle.line_reading.specs.Lines.{data_there, data_read, parts_read};
+ghost use Rattle.line_reading.specs.Code.{seen};
+
+use crate::objects::find_in;
+use crate::refusals::{LineFault, inside};
+use crate::texts::read_bytes;
+use lists::List;
+use sbe_types::{DataField, DataVal, DataValList};
+use serde_json::{Map, Value as Json};
+use std::alloc::Global;
+
+/// The bytes of data; a missing one is empty.
+fn read_data(alloc: Global, found: Option<&Json>) -> Result<DataVal, LineFault>
+    ensures { Gives result (data_there (option_map (λ v. view v.now) found.entry)) }
+{
+    match found {
+        None => Ok(DataVal::Bytes(List::new(alloc))),
+        Some(found) => Ok(DataVal::Bytes(read_bytes(alloc, found)?)),
+    }
+}
+
+/// The bytes of a data part.
+fn read_part(
+    alloc: Global,
+    part: &DataField,
+    object: Option<&Map<String, Json>>,
+) -> Result<DataVal, LineFault>
+    ensures { Gives result (data_read part.now (seen object.entry)) }
+{
+    let name = part.name.as_slice();
+    inside(alloc, name, read_data(alloc, find_in(object, name)))
+}
+
+/// The bytes of data parts, in the schema's order.
+#[tactic(auto, unfolding(crate::specs::Lines::parts_read), using(crate::proofs::ListSteps::parts_more))]
+pub fn read_parts(
+    alloc: Global,
+    parts: &[DataField],
+    object: Option<&Map<String, Json>>,
+) -> Result<DataValList, LineFault>
+    ensures { Gives result (parts_read parts.now (seen object.entry)) }
+{
+    let mut out = List::new(alloc);
+    for part in parts {
+        out.push(read_part(alloc, part, object)?)?;
+    }
+    Ok(out)
+}
