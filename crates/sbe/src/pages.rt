@@ -6,13 +6,16 @@ const HELP: &str = "sbe: FIX Simple Binary Encoding on the command line
 
 Usage:
   sbe check SCHEMA
+  sbe compat OLD NEW
   sbe dump SCHEMA [OPTION VALUE]..
   sbe --help | -h
   sbe --version
 
 check judges a message schema, and prints a line of JSON for each of its messages.
+compat prints whether a reader of OLD and a reader of NEW understand each other's messages: both ways,
+one way (NEW reads those of OLD), or not, with the first difference.
 dump reads SBE frames from standard input, and prints each message as a line of JSON.
-SCHEMA is the file of a message schema. Its name doesn't begin with `--`.
+SCHEMA, OLD and NEW are files of message schemas. Their names don't begin with `--`.
 
 Options of dump, in any order behind the file:
   --also SCHEMA      one more schema; a frame is read by the one whose id it has
@@ -26,8 +29,8 @@ Answers go to standard output, each before the next frame is waited for. Why a r
 ends early is noted on standard error, as a line of JSON.
 
 Exit status:
-   0  the schema is in order; the input was read to its end, and nothing was refused
-   1  the input was read to its end, and at least one message was refused
+   0  the schemas are in order; the input was read to its end, and nothing was refused
+   1  the input was read to its end, and at least one message was refused; or NEW doesn't extend OLD
    2  the words are no command
    3  a schema was refused
    5  the input is no row of whole frames, or a frame is longer than its limit
@@ -40,6 +43,7 @@ Exit status:
 
 Examples:
   sbe check feed.json
+  sbe compat feed.json feed2.json
   sbe dump feed.json < frames.bin
   sbe dump feed.json --also orders.json < frames.bin
 ";
@@ -97,8 +101,9 @@ mod tests {
     use std::alloc::Global;
     use std::test::Fail;
 
-    const EXAMPLES: [&str; 3] = [
+    const EXAMPLES: [&str; 4] = [
         "  sbe check feed.json",
+        "  sbe compat feed.json feed2.json",
         "  sbe dump feed.json < frames.bin",
         "  sbe dump feed.json --also orders.json < frames.bin",
     ];

@@ -13,7 +13,7 @@ use Rattle.sbe_cli.specs.declared.job.Job.TheVariants as jobs
 use Rattle.sbe_cli.specs.declared.job.FrameJob.{FrameJob}
 use Rattle.sbe_cli.specs.declared.job.FrameJob.TheVariants.{Dump}
 use Rattle.sbe_cli.specs.declared.job.OnceJob.{OnceJob}
-use Rattle.sbe_cli.specs.declared.job.OnceJob.TheVariants.{Check}
+use Rattle.sbe_cli.specs.declared.job.OnceJob.TheVariants.{Check, Compat}
 use Rattle.sbe_cli.specs.declared.job.Verdict.{Verdict}
 use Rattle.sbe_cli.specs.declared.pump.Kept.{Kept}
 use Rattle.sbe_cli.proofs.Replied.{is_dumped, dumped_once}
@@ -54,6 +54,7 @@ frame_replied (Dump schemas) kept item placed = (is_dumped schemas kept.items it
 
 pub whole_replied : (job : OnceJob) → IsWholeReply job (whole_reply job)
 whole_replied (Check schema) = (refl, refl, refl)
+whole_replied (Compat older newer) = (refl, refl, refl)
 
 some_reply : (job : Job) (kept : Kept) (piece : Piece) → IsPlacedJob job → Suits (reading_of job) piece → (reply : Reply) × IsReply job kept piece reply
 some_reply (jobs.Frames job limits) kept (Frame item) placed suits = (reply_of job kept item, frame_replied job kept item placed)
@@ -77,6 +78,7 @@ frame_once (Dump schemas) kept item a b placed h k =
 
 whole_once : (job : OnceJob) (a b : Reply) → IsWholeReply job a → IsWholeReply job b → a ≡ b
 whole_once (Check schema) a b h k = equal_replies a b (h.0 ∙ sym k.0) (h.1 ∙ sym k.1) (h.2 ∙ sym k.2)
+whole_once (Compat older newer) a b h k = equal_replies a b (h.0 ∙ sym k.0) (h.1 ∙ sym k.1) (h.2 ∙ sym k.2)
 
 pub reply_once : (job : Job) (kept : Kept) (piece : Piece) (a b : Reply) → IsPlacedJob job → IsReply job kept piece a → IsReply job kept piece b → a ≡ b
 reply_once (jobs.Frames job limits) kept (Frame item) a b placed h k = frame_once job kept item a b placed h k

@@ -8,6 +8,7 @@ pub mod Forms
 pub mod Judging
 pub mod Replied
 pub mod Loading
+pub mod Putting
 pub mod Splitting
 pub mod Folding
 pub mod Reporting

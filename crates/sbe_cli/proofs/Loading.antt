@@ -9,6 +9,7 @@ use Rattle.dump_lines.specs.Dumped.{AreInOrder}
 use Rattle.dump_lines.specs.declared.schemas.Schemas.{Schemas}
 use Rattle.sbe_cli.specs.Pumps.{IsBounded}
 use Rattle.sbe_cli.specs.Jobs.{LoadsJob}
+use Rattle.sbe_cli.specs.Report.{two_judged}
 use Rattle.sbe_cli.specs.Judged.{schema_in, file_schema, refused_as, alone, with_one, JoinsFrom, GoesOn, JudgesMore}
 use Rattle.sbe_cli.specs.Files.{Reads, LoadsAs, LoadsChecked, stop_of, JoinsAs, LoadsJoining, LoadsMore, LoadsSchemas, FailsAt}
 use Rattle.sbe_cli.specs.declared.job.Job.TheVariants as jobs
@@ -62,6 +63,30 @@ pub check_stopped : (told : Option (List ℕ → Option (List ℕ))) (name : Lis
 check_stopped told name (Refused why) h = record { judges = λ contents same. (why, h contents same, refl); sound = tt }
 check_stopped told name Fault h = record { judges = λ contents same. tt; sound = tt }
 check_stopped told name NoMemory h = record { judges = λ contents same. tt; sound = tt }
+
+-- ---- the job of a comparison
+
+module _ (told : Option (List ℕ → Option (List ℕ))) (older newer : List ℕ) where
+  pub compat_loaded : (first second : WireSchema) → LoadsChecked told older (Ok first) → LoadsChecked told newer (Ok second)
+      → LoadsJob told (command.Compat older newer) (Ok (jobs.Once (once.Compat first second)))
+  compat_loaded first second h k = record {
+    judges = λ contents same. sym (ap (λ f. two_judged f (file_schema (contents newer))) (h contents same) ∙ ap (two_judged (Ok first)) (k contents same));
+    sound = (tt, tt, refl);
+  }
+
+  pub older_stopped : (why : LoadStop) → LoadsChecked told older (Err why) → LoadsJob told (command.Compat older newer) (Err (stop_of role.Old why))
+  older_stopped (Refused why) h = record { judges = λ contents same. sym (ap (λ f. two_judged f (file_schema (contents newer))) (h contents same)); sound = tt }
+  older_stopped Fault h = record { judges = λ contents same. tt; sound = tt }
+  older_stopped NoMemory h = record { judges = λ contents same. tt; sound = tt }
+
+  pub newer_stopped : (first : WireSchema) (why : LoadStop) → LoadsChecked told older (Ok first) → LoadsChecked told newer (Err why)
+      → LoadsJob told (command.Compat older newer) (Err (stop_of role.New why))
+  newer_stopped first (Refused why) h k = record {
+    judges = λ contents same. sym (ap (λ f. two_judged f (file_schema (contents newer))) (h contents same) ∙ ap (two_judged (Ok first)) (k contents same));
+    sound = tt;
+  }
+  newer_stopped first Fault h k = record { judges = λ contents same. tt; sound = tt }
+  newer_stopped first NoMemory h k = record { judges = λ contents same. tt; sound = tt }
 
 -- ---- several schemas
 

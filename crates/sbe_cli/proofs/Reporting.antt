@@ -4,7 +4,7 @@ use Rattle.sbe_types.specs.declared.schema.WireSchema.{WireSchema}
 use Rattle.open_framing.specs.Heads.{IsBytes}
 use Rattle.sbe_cli.specs.Splits.{Piece, PieceEnd}
 use Rattle.sbe_cli.specs.Replies.{Written, reading_of, none_kept, Replies}
-use Rattle.sbe_cli.specs.Report.{Outcome, Judges, closed, JobReport, JudgedReport, CommandReport, Report}
+use Rattle.sbe_cli.specs.Report.{Outcome, two_judged, Judges, closed, JobReport, JudgedReport, CommandReport, Report}
 use Rattle.sbe_cli.specs.Words.{command_of}
 use Rattle.sbe_cli.specs.Judged.{file_schema, refused_as, JudgesSchemas}
 use Rattle.dump_lines.specs.declared.schemas.Schemas.{Schemas}
@@ -17,7 +17,7 @@ use Rattle.sbe_cli.specs.declared.job.FrameJob.TheVariants as frames
 use Rattle.sbe_cli.specs.declared.job.OnceJob.TheVariants as once
 use Rattle.sbe_cli.specs.declared.pump.Kept.{Kept}
 use Rattle.sbe_cli.specs.declared.words.Command.{Command}
-use Rattle.sbe_cli.specs.declared.words.Command.TheVariants.{Check, Dump}
+use Rattle.sbe_cli.specs.declared.words.Command.TheVariants.{Check, Compat, Dump}
 use Rattle.sbe_cli.proofs.Judging.{schemas_once, schemas_some, schemas_good}
 use Rattle.sbe_cli.proofs.Splitting.{splits_once, splits_some}
 use Rattle.sbe_cli.proofs.Folding.{IsPlacedJob, replies_once, replies_some, splits_suit}
@@ -57,11 +57,15 @@ all_never h = cc
 file_same : {s t : RefusedFile} → ◌≡◌ {A = Result Schemas RefusedFile} (Err s) (Err t) → s ≡ t
 file_same h = cc
 
+job_same : {s t : Job} → ◌≡◌ {A = Result Job RefusedFile} (Ok s) (Ok t) → s ≡ t
+job_same h = cc
+
 pub judged_once : (command : Command) (contents : List ℕ → Option (List ℕ)) (a b : Result Job RefusedFile) → Judges command contents a → Judges command contents b → a ≡ b
 judged_once (Check name) contents (Ok x) (Ok y) h k = ap Ok (h.2 ∙ ap (λ (s : WireSchema). jobs.Once (once.Check s)) (ok_same (sym h.1 ∙ k.1)) ∙ sym k.2)
 judged_once (Check name) contents (Ok x) (Err f) h k = absurd (never (sym h.1 ∙ k.1))
 judged_once (Check name) contents (Err f) (Ok y) h k = absurd (never (sym k.1 ∙ h.1))
 judged_once (Check name) contents (Err f) (Err g) h k = ap Err (h.2 ∙ ap (refused_as role.Schema) (err_same (sym h.1 ∙ k.1)) ∙ sym k.2)
+judged_once (Compat older newer) contents a b h k = h ∙ sym k
 judged_once (Dump name also limits) contents (Ok x) (Ok y) h k =
     let same = all_same (schemas_once contents name also (Ok h.0) (Ok k.0) h.1 k.1) in
     ap Ok (h.2 ∙ ap (λ (s : Schemas). jobs.Frames (frames.Dump s) limits) same ∙ sym k.2)
@@ -75,6 +79,7 @@ some_judged (Check name) contents = by (file_schema (contents name)) refl
     by : (r : Result WireSchema FileRefusal) → file_schema (contents name) ≡ r → (judged : Result Job RefusedFile) × Judges (Check name) contents judged
     by (Ok schema) h = (Ok (jobs.Once (once.Check schema)), (schema, h, refl))
     by (Err f) h = (Err (refused_as role.Schema f), (f, h, refl))
+some_judged (Compat older newer) contents = (_, refl)
 some_judged (Dump name also limits) contents = by (schemas_some contents name also)
   where
     by : (r : Result Schemas RefusedFile) × JudgesSchemas contents name also r → (judged : Result Job RefusedFile) × Judges (Dump name also limits) contents judged
@@ -83,6 +88,12 @@ some_judged (Dump name also limits) contents = by (schemas_some contents name al
 
 pub judged_placed : (command : Command) (contents : List ℕ → Option (List ℕ)) (job : Job) → Judges command contents (Ok job) → IsPlacedJob job
 judged_placed (Check name) contents job h = subst IsPlacedJob (sym h.2) tt
+judged_placed (Compat older newer) contents job h = two_placed (file_schema (contents older)) (file_schema (contents newer)) h
+  where
+    two_placed : (first second : Result WireSchema FileRefusal) → Ok job ≡ two_judged first second → IsPlacedJob job
+    two_placed (Err why) second e = cc
+    two_placed (Ok first) (Err why) e = cc
+    two_placed (Ok first) (Ok second) e = subst IsPlacedJob (sym (job_same e)) tt
 judged_placed (Dump name also limits) contents job h = subst IsPlacedJob (sym h.2) (schemas_good contents name also h.0 h.1)
 
 -- ---- there is one report

@@ -17,7 +17,7 @@ use Rattle.sbe_cli.specs.declared.files.FileRole.TheVariants as role
 use Rattle.sbe_cli.specs.declared.files.RefusedFile.{RefusedFile}
 use Rattle.sbe_cli.specs.declared.files.TheConstants.{SCHEMA_BYTES}
 use Rattle.sbe_cli.specs.declared.words.Command.{Command}
-use Rattle.sbe_cli.specs.declared.words.Command.TheVariants.{Check, Dump}
+use Rattle.sbe_cli.specs.declared.words.Command.TheVariants.{Check, Compat, Dump}
 
 -- ---- one file
 
@@ -48,10 +48,20 @@ refused_as role why = record { role = role; why = why }
 abbrev pub IsWithin : ℕ → FileRole → Type 0
 IsWithin many role.Schema = ⊤
 IsWithin many (role.Also n) = (1 ≤ n) × (n ≤ many)
+IsWithin many role.Old = ⊥
+IsWithin many role.New = ⊥
+
+-- one of two files, the older or the newer
+abbrev pub IsOfTwo : FileRole → Type 0
+IsOfTwo role.Schema = ⊥
+IsOfTwo (role.Also n) = ⊥
+IsOfTwo role.Old = ⊤
+IsOfTwo role.New = ⊤
 
 -- a command has a file in that role
 abbrev pub HasFile : Command → FileRole → Type 0
 HasFile (Check name) role = IsWithin 0 role
+HasFile (Compat older newer) role = IsOfTwo role
 HasFile (Dump name also limits) role = IsWithin (length also) role
 
 -- ---- several schemas

@@ -1,5 +1,6 @@
 pub mod Words
 pub mod Dump
+pub mod Compat
 pub mod Splits
 pub mod Replies
 pub mod Stops

@@ -7,7 +7,9 @@ use Rattle.open_framing.specs.Frames.{Item}
 use Rattle.frame_stream.specs.Stream.{StreamState, room}
 use Rattle.schema_lines.specs.Lines.{message_lines}
 use Rattle.dump_lines.specs.Dumped.{dumped}
+use Rattle.version_laws.specs.Answer.{compat}
 use Rattle.sbe_cli.specs.Dump.{verdict_of}
+use Rattle.sbe_cli.specs.Compat.{compared_line, compared_verdict}
 use Rattle.sbe_cli.specs.Replies.{Reply, counted_by}
 use Rattle.sbe_cli.specs.Outside.{Streams}
 use Rattle.sbe_cli.specs.Steps.{IsReadyFrame, PumpState, Goes, Closes, opened}
@@ -16,7 +18,7 @@ use Rattle.sbe_cli.specs.declared.job.Job.TheVariants as jobs
 use Rattle.sbe_cli.specs.declared.job.FrameJob.{FrameJob}
 use Rattle.sbe_cli.specs.declared.job.FrameJob.TheVariants.{Dump}
 use Rattle.sbe_cli.specs.declared.job.OnceJob.{OnceJob}
-use Rattle.sbe_cli.specs.declared.job.OnceJob.TheVariants.{Check}
+use Rattle.sbe_cli.specs.declared.job.OnceJob.TheVariants.{Check, Compat}
 use Rattle.sbe_cli.specs.declared.job.Verdict.TheVariants.{Answered}
 use Rattle.sbe_cli.specs.declared.pump.Kept.{Kept}
 use Rattle.sbe_cli.specs.declared.pump.Step.{Step}
@@ -96,6 +98,7 @@ reply_of (Dump schemas) kept item = record {
 -- what the code puts for a job over its files
 abbrev pub whole_reply : OnceJob → Reply
 whole_reply (Check schema) = record { output = message_lines schema.messages; notes = []; verdict = Answered }
+whole_reply (Compat older newer) = record { output = compared_line (compat older newer); notes = []; verdict = compared_verdict (compat older newer) }
 
 -- a pump that has not ended
 abbrev pub running : Job → Kept → PumpState

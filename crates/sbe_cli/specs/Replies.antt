@@ -1,7 +1,9 @@
 -- What each command answers to each piece of its input, and what it has done so far.
 use Rattle.std.specs.Prelude.{◌≡◌, ℕ, ◌+◌, List, [], ◌∷◌, ◌++◌, length}
 use Rattle.schema_lines.specs.Lines.{message_lines}
+use Rattle.version_laws.specs.Answer.{compat}
 use Rattle.sbe_cli.specs.Dump.{IsDumpedLine}
+use Rattle.sbe_cli.specs.Compat.{compared_line, compared_verdict}
 use Rattle.open_framing.specs.Frames.{Item}
 use Rattle.sbe_cli.specs.Splits.{Reading, Frames, Once, Piece, Frame, Line, Whole, piece_bytes}
 use Rattle.sbe_cli.specs.declared.job.Job.{Job}
@@ -9,7 +11,7 @@ use Rattle.sbe_cli.specs.declared.job.Job.TheVariants as jobs
 use Rattle.sbe_cli.specs.declared.job.FrameJob.{FrameJob}
 use Rattle.sbe_cli.specs.declared.job.FrameJob.TheVariants.{Dump}
 use Rattle.sbe_cli.specs.declared.job.OnceJob.{OnceJob}
-use Rattle.sbe_cli.specs.declared.job.OnceJob.TheVariants.{Check}
+use Rattle.sbe_cli.specs.declared.job.OnceJob.TheVariants.{Check, Compat}
 use Rattle.sbe_cli.specs.declared.job.Verdict.{Verdict}
 use Rattle.sbe_cli.specs.declared.job.Verdict.TheVariants.{Answered, Refused, Translated}
 use Rattle.sbe_cli.specs.declared.pump.Kept.{Kept}
@@ -37,6 +39,8 @@ IsFrameReply (Dump schemas) kept item reply = IsDumpedLine schemas kept.items it
 -- all that a job over its files answers: one case a command
 abbrev pub IsWholeReply : OnceJob → Reply → Type 0
 IsWholeReply (Check schema) reply = (reply.output ≡ message_lines schema.messages) × (reply.notes ≡ []) × (reply.verdict ≡ Answered)
+IsWholeReply (Compat older newer) reply =
+    (reply.output ≡ compared_line (compat older newer)) × (reply.notes ≡ []) × (reply.verdict ≡ compared_verdict (compat older newer))
 
 -- The answer to one piece.
 abbrev pub IsReply : Job → Kept → Piece → Reply → Type 0

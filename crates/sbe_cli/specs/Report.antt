@@ -19,7 +19,7 @@ use Rattle.sbe_cli.specs.declared.job.FrameJob.TheVariants as frames
 use Rattle.sbe_cli.specs.declared.job.OnceJob.TheVariants as once
 use Rattle.sbe_cli.specs.declared.pump.Kept.{Kept}
 use Rattle.sbe_cli.specs.declared.words.Command.{Command}
-use Rattle.sbe_cli.specs.declared.words.Command.TheVariants.{Check, Dump}
+use Rattle.sbe_cli.specs.declared.words.Command.TheVariants.{Check, Compat, Dump}
 
 -- the output, the notes and the status of a run
 pub record Outcome : Type 0 where
@@ -29,10 +29,17 @@ pub record Outcome : Type 0 where
 
 -- ---- the files
 
+-- The comparison of an older schema with a newer one. The older file is judged whole before the newer: its refusal comes first.
+abbrev pub two_judged : Result WireSchema FileRefusal → Result WireSchema FileRefusal → Result Job RefusedFile
+two_judged (Err why) newer = Err (refused_as role.Old why)
+two_judged (Ok older) (Err why) = Err (refused_as role.New why)
+two_judged (Ok older) (Ok newer) = Ok (jobs.Once (once.Compat older newer))
+
 -- The job of a command whose files are accepted, or the first refusal of a file.
 abbrev pub Judges : Command → (List ℕ → Option (List ℕ)) → Result Job RefusedFile → Type 0
 Judges (Check name) contents (Ok job) = (schema : WireSchema) × (file_schema (contents name) ≡ Ok schema) × (job ≡ jobs.Once (once.Check schema))
 Judges (Check name) contents (Err file) = (why : FileRefusal) × (file_schema (contents name) ≡ Err why) × (file ≡ refused_as role.Schema why)
+Judges (Compat older newer) contents judged = judged ≡ two_judged (file_schema (contents older)) (file_schema (contents newer))
 Judges (Dump name also limits) contents (Ok job) = (schemas : Schemas) × JudgesSchemas contents name also (Ok schemas) × (job ≡ jobs.Frames (frames.Dump schemas) limits)
 Judges (Dump name also limits) contents (Err file) = JudgesSchemas contents name also (Err file)
 

@@ -46,6 +46,22 @@ six_lines =
     ++ codes "{\"message\":\"Nest\",\"id\":5,\"block\":0,\"groups\":2,\"data\":1}\n"
     ++ codes "{\"message\":\"Big\",\"id\":6,\"block\":0,\"groups\":1,\"data\":0}\n"
 
+-- The answer to an event's schema and a later version of it.
+abbrev pub two_way : List ℕ
+two_way = codes "{\"compat\":\"TwoWay\"}\n"
+
+-- The answer where a group was added before data.
+abbrev pub one_way : List ℕ
+one_way = codes "{\"compat\":\"OneWay\",\"path\":\"Ow.g\"}\n"
+
+-- The answer where a field has another type.
+abbrev pub other_kind : List ℕ
+other_kind = codes "{\"compat\":\"No\",\"path\":\"Ping.a\",\"reason\":\"Kind\"}\n"
+
+-- The note where the older file is absent.
+abbrev pub absent_old : List ℕ
+absent_old = codes "{\"absent\":\"old\"}\n"
+
 -- The note where the schema is in XML.
 abbrev pub refused_xml : List ℕ
 refused_xml = codes "{\"file\":\"schema\",\"refused\":\"S01\",\"path\":\"\"}\n"

@@ -26,6 +26,8 @@ usage_line = codes "{\"usage\":\"sbe check compat dump build fixcheck tofix tosb
 abbrev pub role_name : FileRole → List ℕ
 role_name role.Schema = codes "schema"
 role_name (role.Also n) = codes "also" ++ decimal n
+role_name role.Old = codes "old"
+role_name role.New = codes "new"
 
 -- The line of a file that is refused with this code at this path.
 abbrev pub refused_file : FileRole → List ℕ → List ℕ → List ℕ

@@ -6,7 +6,7 @@ use Rattle.std.specs.Str.{bytes_eq, all_ascii_digits}
 use Rattle.std.specs.Str.Parse.{digits_value}
 use Rattle.sbe_base.specs.declared.status.Limits.{Limits}
 use Rattle.sbe_cli.specs.declared.words.Command.{Command}
-use Rattle.sbe_cli.specs.declared.words.Command.TheVariants.{Check, Dump}
+use Rattle.sbe_cli.specs.declared.words.Command.TheVariants.{Check, Compat, Dump}
 use Rattle.sbe_cli.specs.declared.words.WordsErr.{WordsErr}
 use Rattle.sbe_cli.specs.declared.words.WordsErr.TheVariants.{Usage, Memory}
 use Rattle.sbe_cli.specs.declared.words.forms.Form.{Form}
@@ -88,6 +88,7 @@ pub record FormRow : Type 0 where
 -- the table of forms
 abbrev pub row_of : Form → FormRow
 row_of form.Check = record { word = codes "check"; files = 1; options = [] }
+row_of form.Compat = record { word = codes "compat"; files = 2; options = [] }
 row_of form.Dump = record { word = codes "dump"; files = 1; options = MAX_FRAME.now ∷ MAX_INPUT.now ∷ ALSO.now ∷ [] }
 
 -- the words have the form of this row, whatever values its options have
@@ -104,6 +105,14 @@ check_of (word ∷ schema ∷ next ∷ more) = None
 check_of (word ∷ []) = None
 check_of [] = None
 
+-- `compat OLD NEW`
+abbrev pub compat_of : List (List ℕ) → Option Command
+compat_of (word ∷ older ∷ newer ∷ []) = Some (Compat older newer)
+compat_of (word ∷ older ∷ newer ∷ next ∷ more) = None
+compat_of (word ∷ older ∷ []) = None
+compat_of (word ∷ []) = None
+compat_of [] = None
+
 -- a dump of these files, where their names and the limits are there
 abbrev pub dump_from : List ℕ → Option Limits → Option (List (List ℕ)) → Option Command
 dump_from schema None also = None
@@ -119,6 +128,7 @@ dump_of [] = None
 -- what words of this form say, if the values of their options may be so
 abbrev pub said_by : Form → List (List ℕ) → Option Command
 said_by form.Check words = check_of words
+said_by form.Compat words = compat_of words
 said_by form.Dump words = dump_of words
 
 -- The command that words say: that of the first form that they have, with each option at most once and a right value.
@@ -135,9 +145,11 @@ Says (Err Memory) said = ⊤
 abbrev pub reads_input : Option Command → Bool
 reads_input None = false
 reads_input (Some (Check name)) = false
+reads_input (Some (Compat older newer)) = false
 reads_input (Some (Dump name also limits)) = true
 
 -- the limits of a command, where it has some: 64 to 16,777,216 bytes a frame, and 1 to 1,099,511,627,776 bytes in all
 abbrev pub HasLimits : Command → Type 0
 HasLimits (Check schema) = ⊤
+HasLimits (Compat older newer) = ⊤
 HasLimits (Dump schema also limits) = (64 ≤ limits.frame) × (limits.frame ≤ 16_777_216) × (1 ≤ limits.input) × (limits.input ≤ 2 ^ 40)

@@ -15,6 +15,10 @@ pub enum FileRole {
     Schema,
     /// A further schema, counted from 1.
     Also(usize),
+    /// The older of two schemas.
+    Old,
+    /// The newer of them.
+    New,
 }
 
 /// Why a file isn't taken.

@@ -7,6 +7,7 @@ ghost use Rattle.sbe_cli.specs.Outside.{object_of};
 ghost use Rattle.sbe_cli.specs.Pumps.{reply_of, whole_reply};
 
 use crate::check::{load_check, put_checked};
+use crate::compat::{load_compat, put_compared};
 use crate::draft::Draft;
 use crate::dump::{answer_dumped, load_dump};
 use crate::files::JobStop;
@@ -39,6 +40,8 @@ pub enum FrameJob {
 pub enum OnceJob {
     /// Prints a line for each message of a schema.
     Check { schema: Checked },
+    /// Prints how two schemas go together.
+    Compat { older: Checked, newer: Checked },
 }
 
 /// What became of an item.
@@ -58,6 +61,9 @@ pub fn load_job<F: Files>(alloc: Global, command: Command, files: &mut F) -> Res
 {
     match command {
         Command::Check { schema } => load_check(alloc, schema.as_str(), files),
+        Command::Compat { older, newer } => {
+            load_compat(alloc, older.as_str(), newer.as_str(), files)
+        }
         Command::Dump {
             schema,
             also,
@@ -90,5 +96,6 @@ pub fn put_whole(job: &OnceJob, draft: &mut Draft) -> Result<Verdict, NoMem>
 {
     match job {
         OnceJob::Check { schema } => put_checked(schema, &mut draft.output),
+        OnceJob::Compat { older, newer } => put_compared(older, newer, &mut draft.output),
     }
 }

@@ -2,6 +2,7 @@
 #![tactic(auto)]
 
 mod check;
+mod compat;
 mod draft;
 mod dump;
 mod dumped;

@@ -56,6 +56,8 @@ pub fn put_role<N: Sink>(chunk: &mut Chunk, notes: &mut N, role: FileRole)
             chunk.put(notes, b"also");
             put_count(chunk, notes, number as u64);
         }
+        FileRole::Old => chunk.put(notes, b"old"),
+        FileRole::New => chunk.put(notes, b"new"),
     }
 }
 

@@ -1,15 +1,19 @@
 //! The definitions of a run, computed on small runs.
 
-ghost use Rattle.std.specs.Prelude.{◌≡◌, ◌∷◌, ◌++◌, [], ℕ, List, Option, Some, None, codes};
+ghost use Rattle.std.specs.Prelude.{◌≡◌, ◌∷◌, ◌++◌, [], ℕ, List, Option, Some, None, Ok, Err, codes};
 ghost use Rattle.sbe_base.specs.declared.status.Limits.{Limits};
 ghost use Rattle.sbe_base.specs.declared.status.Status.TheVariants as status;
 ghost use Rattle.dump_lines.specs.Dumped.{AreInOrder};
-ghost use Rattle.sbe_cli.specs.Judged.{alone};
-ghost use Rattle.sbe_wire.specs.Rows.Schemas.{schema7};
+ghost use Rattle.sbe_cli.specs.Judged.{alone, refused_as};
+ghost use Rattle.sbe_types.specs.declared.schema.WireSchema.{WireSchema};
+ghost use Rattle.sbe_cli.specs.declared.files.FileRefusal.{FileRefusal};
+ghost use Rattle.sbe_cli.specs.declared.files.FileRole.TheVariants as role;
+ghost use Rattle.sbe_wire.specs.Rows.Schemas.{schema7, event0, event2, one_data};
+ghost use Rattle.version_laws.specs.Rows.{ping_wide, one_data1};
 ghost use Rattle.sbe_cli.specs.Splits.{Frames, End, EndInside, InputLimit};
 ghost use Rattle.sbe_cli.specs.Replies.{Replies, none_kept, none_written};
-ghost use Rattle.sbe_cli.specs.Report.{Report, JobReport, closed};
-ghost use Rattle.sbe_cli.specs.Rows.{two_pieces, ping_line, six_lines, refused_second, refused_xml, usage, absent, ends_inside, over_limit};
+ghost use Rattle.sbe_cli.specs.Report.{Report, JobReport, closed, two_judged};
+ghost use Rattle.sbe_cli.specs.Rows.{two_pieces, ping_line, six_lines, two_way, one_way, other_kind, refused_second, refused_xml, usage, absent, absent_old, ends_inside, over_limit};
 ghost use Rattle.sbe_cli.specs.declared.job.Job.TheVariants as jobs;
 ghost use Rattle.sbe_cli.specs.declared.job.FrameJob.TheVariants as frame;
 ghost use Rattle.sbe_cli.specs.declared.job.OnceJob.TheVariants as once;
@@ -33,6 +37,33 @@ pub fn two_frames()
 /// A check of a schema of six messages, whatever the input holds.
 pub fn six_messages()
     ensures { (input : List ℕ) → JobReport (jobs.Once (once.Check schema7)) input (record { output = six_lines; notes = []; status = status.Done }) }
+{}
+
+/// An event's schema and a later version of it.
+pub fn goes_both_ways()
+    ensures { (input : List ℕ) → JobReport (jobs.Once (once.Compat event0 event2)) input (record { output = two_way; notes = []; status = status.Done }) }
+{}
+
+/// A group was added before data.
+pub fn goes_one_way()
+    ensures { (input : List ℕ) → JobReport (jobs.Once (once.Compat one_data one_data1)) input (record { output = one_way; notes = []; status = status.Done }) }
+{}
+
+/// A field has another type: the pair is a refused item.
+pub fn is_no_extension()
+    ensures { (input : List ℕ) → JobReport (jobs.Once (once.Compat schema7 ping_wide)) input (record { output = other_kind; notes = []; status = status.SomeRefused }) }
+{}
+
+/// Neither file of a comparison is there.
+pub fn no_files()
+    ensures { (input : List ℕ) → Report (codes "compat" ∷ codes "a.json" ∷ codes "b.json" ∷ []) (λ name. None) input
+        (record { output = []; notes = absent_old; status = status.NoFile }) }
+{}
+
+/// The older file is judged whole before the newer.
+pub fn first_refusal()
+    ensures older { (why later : FileRefusal) → two_judged (Err why) (Err later) ≡ Err (refused_as role.Old why) }
+    ensures newer { (schema : WireSchema) (why : FileRefusal) → two_judged (Ok schema) (Err why) ≡ Err (refused_as role.New why) }
 {}
 
 /// A schema in XML.

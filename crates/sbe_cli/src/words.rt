@@ -1,6 +1,6 @@
 ghost use Rattle.std.specs.Prelude.{◌≡◌, map, string_bytes, IfOk};
 ghost use Rattle.std.specs.List.{list_all};
-ghost use Rattle.sbe_cli.specs.Words.{Says, HasLimits, check_of, command_of, dump_of, is_file_name, limits_of, names_given, said_by, values_of};
+ghost use Rattle.sbe_cli.specs.Words.{Says, HasLimits, check_of, command_of, compat_of, dump_of, is_file_name, limits_of, names_given, said_by, values_of};
 
 mod forms;
 mod options;
@@ -55,6 +55,11 @@ pub enum Command {
     Check {
         schema: Name,
     },
+    /// Prints whether the readers and writers of two schemas go together.
+    Compat {
+        older: Name,
+        newer: Name,
+    },
     /// Prints a line for each frame of the input, by the schema that its message names.
     Dump {
         schema: Name,
@@ -97,6 +102,7 @@ fn read_form(alloc: Global, form: Form, words: &[String]) -> Result<Command, Wor
 {
     match form {
         Form::Check => read_check(alloc, words),
+        Form::Compat => read_compat(alloc, words),
         Form::Dump => read_dump(alloc, words),
     }
 }
@@ -112,6 +118,22 @@ fn read_check(alloc: Global, words: &[String]) -> Result<Command, WordsErr>
         return Err(WordsErr::Memory);
     };
     Ok(Command::Check { schema })
+}
+
+fn read_compat(alloc: Global, words: &[String]) -> Result<Command, WordsErr>
+    ensures says { Says result (compat_of (map (λ word. string_bytes word) words.now)) }
+    ensures ranges { IfOk result (λ command. HasLimits command) }
+{
+    let [_, older, newer] = words else {
+        return Err(WordsErr::Usage);
+    };
+    let Ok(older) = Name::new(alloc, older.as_str()) else {
+        return Err(WordsErr::Memory);
+    };
+    let Ok(newer) = Name::new(alloc, newer.as_str()) else {
+        return Err(WordsErr::Memory);
+    };
+    Ok(Command::Compat { older, newer })
 }
 
 fn read_dump(alloc: Global, words: &[String]) -> Result<Command, WordsErr>

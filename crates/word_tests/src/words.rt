@@ -74,7 +74,7 @@ fn reads_a_dump(rt: HostRuntime) -> Result<(), Fail> {
                 assert_eq!(rt; schema.as_str(), "S");
                 assert_eq!(rt; *limits, Limits { frame, input }, "{texts:?}");
             }
-            Command::Check { .. } => assert!(rt; false, "{texts:?}"),
+            Command::Check { .. } | Command::Compat { .. } => assert!(rt; false, "{texts:?}"),
         }
     }
     Ok(())
@@ -108,7 +108,7 @@ fn reads_further_schemas(rt: HostRuntime) -> Result<(), Fail> {
                     assert_eq!(rt; also.at(i).as_str(), names[i], "{texts:?}");
                 }
             }
-            Command::Check { .. } => assert!(rt; false, "{texts:?}"),
+            Command::Check { .. } | Command::Compat { .. } => assert!(rt; false, "{texts:?}"),
         }
     }
     Ok(())
@@ -137,7 +137,23 @@ fn reads_a_check(rt: HostRuntime) -> Result<(), Fail> {
         let command = command_of(rt.alloc(), &["check", name])?;
         match &command {
             Command::Check { schema } => assert_eq!(rt; schema.as_str(), name),
-            Command::Dump { .. } => assert!(rt; false, "{name}"),
+            Command::Compat { .. } | Command::Dump { .. } => assert!(rt; false, "{name}"),
+        }
+    }
+    Ok(())
+}
+
+#[test]
+fn reads_a_comparison(rt: HostRuntime) -> Result<(), Fail> {
+    let rows = [("S", "T"), ("S", "S"), ("compat", "a b"), ("-", "-S")];
+    for (first, second) in rows {
+        let command = command_of(rt.alloc(), &["compat", first, second])?;
+        match &command {
+            Command::Compat { older, newer } => {
+                assert_eq!(rt; older.as_str(), first);
+                assert_eq!(rt; newer.as_str(), second);
+            }
+            Command::Check { .. } | Command::Dump { .. } => assert!(rt; false, "{first} {second}"),
         }
     }
     Ok(())
@@ -163,7 +179,7 @@ fn names_a_file(rt: HostRuntime) -> Result<(), Fail> {
         let command = command_of(rt.alloc(), &["dump", name])?;
         match &command {
             Command::Dump { schema, .. } => assert_eq!(rt; schema.as_str(), name),
-            Command::Check { .. } => assert!(rt; false, "{name}"),
+            Command::Check { .. } | Command::Compat { .. } => assert!(rt; false),
         }
     }
     Ok(())
@@ -171,7 +187,7 @@ fn names_a_file(rt: HostRuntime) -> Result<(), Fail> {
 
 #[test]
 fn refuses_other_words(rt: HostRuntime) -> Result<(), Fail> {
-    let rows: [&[&str]; 56] = [
+    let rows: [&[&str]; 69] = [
         &[],
         &[""],
         &["dump"],
@@ -240,6 +256,19 @@ fn refuses_other_words(rt: HostRuntime) -> Result<(), Fail> {
         &["check", "S", "--max-input", "1"],
         &["Check", "S"],
         &["S", "check"],
+        &["compat"],
+        &["compat", "S"],
+        &["compat", "S", ""],
+        &["compat", "", "T"],
+        &["compat", "S", "--T"],
+        &["compat", "--S", "T"],
+        &["compat", "S", "T", ""],
+        &["compat", "S", "T", "U"],
+        &["compat", "S", "T", "--also"],
+        &["compat", "S", "T", "--also", "U"],
+        &["compat", "S", "T", "--max-frame", "64"],
+        &["compat", "S", "T", "--max-input", "1"],
+        &["Compat", "S", "T"],
         &["--help"],
         &["-h"],
         &["--version"],
@@ -260,9 +289,8 @@ fn refuses_other_words(rt: HostRuntime) -> Result<(), Fail> {
 
 #[test]
 fn refuses_commands_that_are_to_come(rt: HostRuntime) -> Result<(), Fail> {
-    let rows: [&[&str]; 8] = [
+    let rows: [&[&str]; 7] = [
         &["check", "S", "M"],
-        &["compat", "S", "T"],
         &["build", "S"],
         &["fixcheck", "M"],
         &["tofix", "S", "M"],
@@ -339,7 +367,7 @@ fn refuses_numbers_of_no_range(rt: HostRuntime) -> Result<(), Fail> {
 
 #[test]
 fn lists_its_forms(rt: HostRuntime) -> Result<(), Fail> {
-    let words = ["check", "dump"];
+    let words = ["check", "compat", "dump"];
     assert_eq!(rt; FORMS.len(), words.len());
     for (form, word) in FORMS.iter().zip(words.iter()) {
         assert_eq!(rt; form.row().word(), *word);

@@ -11,12 +11,14 @@ use std::marker::Model;
 pub enum Form {
     /// `check S`
     Check,
+    /// `compat OLD NEW`
+    Compat,
     /// `dump S`, with further schemas
     Dump,
 }
 
 /// All forms, in the order in which they are tried.
-pub const FORMS: [Form; 2] = [Form::Check, Form::Dump];
+pub const FORMS: [Form; 3] = [Form::Check, Form::Compat, Form::Dump];
 
 /// What words of a form are: a command's word, names of files, and options in pairs.
 #[derive(Drop)]
@@ -46,6 +48,11 @@ impl Form {
             Form::Check => Row {
                 word: "check",
                 files: 1,
+                options: &[],
+            },
+            Form::Compat => Row {
+                word: "compat",
+                files: 2,
                 options: &[],
             },
             Form::Dump => Row {
