@@ -1,0 +1,4 @@
+pub mod Trails
+pub mod Composites
+pub mod Elements
+pub mod MemberBytes

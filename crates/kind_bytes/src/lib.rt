@@ -1,0 +1,13 @@
+//! The bytes of values of any kind, composites too (SBE 1.0, "Field encoding" and "Composite encoding").
+#![tactic(auto)]
+
+mod error;
+mod judge;
+mod put;
+mod trail;
+mod writes;
+
+pub use error::FieldErr;
+pub use judge::judge_field;
+pub use put::put_kind;
+pub use writes::field_writes;
