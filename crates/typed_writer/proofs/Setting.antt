@@ -1,12 +1,13 @@
 -- A field of a block: its place, and that it lies in the block.
 use Rattle.std.proofs.Common.{◌≡◌, ◌≤◌, ◌<◌, ℕ, zero, suc, ◌+◌, Bool, true, false, cond, List, [], ◌∷◌, length, Some, None, refl, sym, ap, ◌∙◌, arith}
 use Rattle.std.specs.Prelude.{slice_get}
-use Rattle.std.specs.Option.{option_map, IsSome}
-use Rattle.sbe_types.specs.declared.kind.Kind.{Kind, Leaf, Enum, Set, Const, Comp'}
+use Rattle.std.specs.Option.{option_map, option_and_then, IsSome}
 use Rattle.sbe_types.specs.declared.schema.Field.{Field}
 use Rattle.sbe_types.specs.declared.schema.Level.{out-Level}
 use Rattle.sbe_types.specs.declared.schema.WireSchema.{WireSchema}
 use Rattle.sbe_types.specs.declared.message.Value.{Value}
+use Rattle.sbe_types.specs.declared.path.Step.TheVariants as way
+use Rattle.sbe_wire.specs.Misfit.{misfit_in}
 use Rattle.sbe_types.specs.Places.{width, is_const, begin_of, end_past, fields_end, field_place}
 use Rattle.schema_facts.specs.CheckedLevels.{HasKinds}
 use Rattle.schema_facts.specs.InOrder.{IsKindInOrder}
@@ -15,24 +16,17 @@ use Rattle.schema_facts.specs.Levels.{all_nodes, fields_at}
 use Rattle.schema_facts.proofs.KindDeclared.{all_at}
 use Rattle.layout_compile.proofs.Items.{item_there}
 use Rattle.layout_compile.proofs.Told.{place_there}
-use Rattle.field_bytes.specs.Faults.{is_single}
+use Rattle.kind_bytes.specs.Misfits.{field_misfit}
 use Rattle.typed_writer.specs.Held.{Held}
 use Rattle.typed_writer.specs.Ready.{FieldsStand}
 use Rattle.typed_writer.specs.States.{block_at}
-use Rattle.typed_writer.specs.Steps.{Sets, SetsField}
+use Rattle.typed_writer.specs.Steps.{Sets, SetsField, misfit_at}
 use Rattle.typed_writer.proofs.Checked.{fields_are, fields_stand, fields_within}
 use Rattle.typed_writer.proofs.Rising.{fields_rise}
 
-never_const : (kind : Kind) → is_single kind ≡ true → is_const kind ≡ false
-never_const (Leaf l) h = refl
-never_const (Enum l names) h = refl
-never_const (Set p names) h = refl
-never_const (Const c) h = cc
-never_const (Comp' n members) h = cc
-
-pub single_place : (schema : WireSchema) (n i : ℕ) (f : Field) → slice_get (fields_at schema n) i ≡ Some f → is_single f.kind ≡ true → IsSome (field_place 0 (fields_at schema n) i)
-single_place schema n i f at single =
-    place_there (fields_at schema n) i f.kind (ap (option_map (λ (f : Field). f.kind)) at) (never_const f.kind single)
+pub moving_place : (schema : WireSchema) (n i : ℕ) (f : Field) → slice_get (fields_at schema n) i ≡ Some f → is_const f.kind ≡ false → IsSome (field_place 0 (fields_at schema n) i)
+moving_place schema n i f at moves =
+    place_there (fields_at schema n) i f.kind (ap (option_map (λ (f : Field). f.kind)) at) moves
 
 placed : (b : Bool) (e n w p : ℕ) → cond b None (Some n) ≡ Some p → cond b e (n + w) ≡ p + w
 placed true e n w p h = cc
@@ -48,9 +42,9 @@ within_all e (x ∷ fs) zero p f stand at place =
     omega (arith, here, rest, wide)
 within_all e (x ∷ fs) (suc i) p f stand at place = within_all (end_past e x.offset x.kind) fs i p f stand.1 at place
 
-pub single_within : (schema : WireSchema) (n i p : ℕ) (f : Field) → IsChecked schema → n < length (all_nodes schema) → slice_get (fields_at schema n) i ≡ Some f →
+pub field_inside : (schema : WireSchema) (n i p : ℕ) (f : Field) → IsChecked schema → n < length (all_nodes schema) → slice_get (fields_at schema n) i ≡ Some f →
     field_place 0 (fields_at schema n) i ≡ Some p → p + width f.kind ≤ block_at schema n
-single_within schema n i p f checked low at place =
+field_inside schema n i p f checked low at place =
     let all = within_all 0 (fields_at schema n) i p f (fields_stand schema n checked low) at place in
     let ends = fields_within schema n checked low in
     omega (arith, all, ends)
@@ -64,3 +58,6 @@ field_order schema n i f checked low at =
 pub sets_field : (schema : WireSchema) (n i p : ℕ) (f : Field) (v : Value) (old new : Held) → slice_get (fields_at schema n) i ≡ Some f → field_place 0 (fields_at schema n) i ≡ Some p →
     Sets schema.order f.kind v p i old new → SetsField schema n i v old new
 sets_field schema n i p f v old new at place sets = (f, p, at, place, sets)
+
+pub misfit_told : (schema : WireSchema) (n i : ℕ) (f : Field) (v : Value) → slice_get (fields_at schema n) i ≡ Some f → misfit_in (way.Part i) (field_misfit f.kind v) ≡ misfit_at schema n i v
+misfit_told schema n i f v at = sym (ap (option_and_then (λ (f : Field). misfit_in (way.Part i) (field_misfit f.kind v))) at)

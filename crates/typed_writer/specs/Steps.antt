@@ -10,14 +10,17 @@ use Rattle.sbe_types.specs.declared.schema.DataField.{DataField}
 use Rattle.sbe_types.specs.declared.schema.Level.{Level}
 use Rattle.sbe_types.specs.declared.schema.WireSchema.{WireSchema}
 use Rattle.sbe_types.specs.declared.message.DataVal.TheVariants as dataval
+use Rattle.sbe_types.specs.declared.path.Step.TheVariants as way
 use Rattle.sbe_types.specs.Places.{width, members_end, field_place}
 use Rattle.sbe_types.specs.Numbers.{prim_width}
 use Rattle.sbe_types.specs.Shown.{is_optional, is_octets, admits}
 use Rattle.sbe_types.specs.Wire.{both, wire_bytes}
 use Rattle.sbe_wire.specs.Canonical.{named_bytes, header_numbers, dimension_numbers, part_bytes}
+use Rattle.sbe_wire.specs.Misfit.{Misfit, misfit_in}
 use Rattle.sbe_wire.specs.Named.{is_admitted}
 use Rattle.schema_facts.specs.Levels.{fields_at, groups_at, parts_at, root_of}
 use Rattle.layout_compile.specs.Parts.{dim_at, group_number}
+use Rattle.kind_bytes.specs.Misfits.{field_misfit}
 use Rattle.typed_writer.specs.declared.room.Full.{Full}
 use Rattle.typed_writer.specs.declared.stack.Frame.{Frame}
 use Rattle.typed_writer.specs.declared.states.StartErr.{StartErr}
@@ -86,6 +89,10 @@ pub record Sets (order : Order) (kind : Kind) (v : Value) (place i : ℕ) (old n
 abbrev pub SetsField : WireSchema → ℕ → ℕ → Value → Held → Held → Type 0
 SetsField schema n i v old new =
     (f : Field) × (place : ℕ) × (slice_get (fields_at schema n) i ≡ Some f) × (field_place 0 (fields_at schema n) i ≡ Some place) × Sets schema.order f.kind v place i old new
+
+-- why field i of level n can't be set to a value, if it can't
+abbrev pub misfit_at : WireSchema → ℕ → ℕ → Value → Option Misfit
+misfit_at schema n i v = option_and_then (λ (f : Field). misfit_in (way.Part i) (field_misfit f.kind v)) (slice_get (fields_at schema n) i)
 
 -- ---- writers
 

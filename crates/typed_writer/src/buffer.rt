@@ -75,6 +75,16 @@ impl FrameBuf {
         self.stack.len()
     }
 
+    /// Lets go of what stands in the buffer.
+    pub fn clear(&mut self)
+        ensures bytes { self.new.bytes ≡ [] }
+        ensures frames { self.new.frames ≡ [] }
+        ensures limit { self.new.limit ≡ self.old.limit }
+    {
+        self.room.clear();
+        self.stack.clear();
+    }
+
     /// How many entries are still to come to the innermost writer.
     pub(crate) fn left(&self) -> u32
         ensures { result ≡ entries_left self.now.frames }
@@ -158,8 +168,7 @@ impl FrameBuf {
         ensures limit { self.new.limit ≡ self.old.limit }
     {
         let _schema = layout.schema();
-        self.room.clear();
-        self.stack.clear();
+        self.clear();
         if template >= layout.templates() {
             return Err(StartErr::Template);
         }

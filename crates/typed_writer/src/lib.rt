@@ -12,6 +12,7 @@ mod states;
 mod tail;
 
 pub use buffer::FrameBuf;
+pub use kind_bytes::FieldErr;
 pub use room::Full;
 pub use stack::{Frame, OPEN_LIMIT};
 pub use states::{EntriesW, FieldsW, NextPart, StartErr, TailErr, TailW, Undone, start};

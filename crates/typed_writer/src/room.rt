@@ -4,11 +4,11 @@ ghost use Rattle.schema_rules.specs.Ranges.{is_number_of};
 ghost use Rattle.sbe_types.specs.Places.{width};
 ghost use Rattle.sbe_wire.specs.Misfit.{value_misfit};
 ghost use Rattle.schema_facts.specs.InOrder.{IsKindInOrder};
-ghost use Rattle.field_bytes.specs.Faults.{is_single};
 ghost use Rattle.typed_writer.specs.Empty.{behind};
 ghost use Rattle.typed_writer.specs.Steps.{IsWritten};
 
-use field_bytes::{put_num, put_value};
+use field_bytes::put_num;
+use kind_bytes::put_kind;
 use layout_compile::width_of;
 use lists::NoMem;
 use sbe_types::{Kind, Order, Prim, Value};
@@ -137,9 +137,8 @@ impl Room {
         self.len = end;
     }
 
-    /// Writes a value that fits its kind, a leaf, an enum or a set, over the bytes at a place behind `at`.
+    /// Writes a value that fits its kind over the bytes at a place behind `at`.
     pub(crate) fn put(&mut self, at: usize, place: usize, order: Order, kind: &Kind, v: &Value)
-        requires single { is_single kind.now ≡ true }
         requires ready { IsKindInOrder kind.now }
         requires room { at + place + width kind.now ≤ length self.old.bytes }
         requires fits { value_misfit kind.now v.now ≡ None }
@@ -149,6 +148,6 @@ impl Room {
         let _size = self.len();
         let begin = at + place;
         let end = begin + width_of(kind) as usize;
-        put_value(order, kind, v, &mut self.memory[begin..end]);
+        put_kind(order, kind, v, &mut self.memory[begin..end]);
     }
 }

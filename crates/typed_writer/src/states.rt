@@ -1,14 +1,19 @@
 ghost use Rattle.std.specs.Prelude.{◌≡◌, ◌≤◌, ◌<◌, ◌==◌, ◌∷◌, [], length, drop, IfOk, IfErr, OnOk, OnErr};
-ghost use Rattle.schema_facts.specs.Levels.{groups_at};
+ghost use Rattle.schema_facts.specs.Levels.{fields_at, groups_at};
 ghost use Rattle.std.specs.Borrow.{sem};
+ghost use Rattle.std.specs.Option.{option_map};
+ghost use Rattle.std.specs.Result.{result_err};
+ghost use Rattle.kind_bytes.specs.Misfits.{misfit_of};
 ghost use Rattle.typed_writer.specs.Lending.{RootRests};
 ghost use Rattle.typed_writer.specs.States.{AppendsEntries, AppendsParts, SetsFields, block_at, entries_left, level_of, next_part, parts_done, parts_in_tail};
-ghost use Rattle.typed_writer.specs.Steps.{Adds, Begins, DataRefused, GroupRefused, Groups, IsFull, Opens, StartRefused, ends, first_unset, goes_on_as, next_group};
+ghost use Rattle.typed_writer.specs.Steps.{Adds, Begins, DataRefused, GroupRefused, Groups, IsFull, Opens, SetsField, StartRefused, ends, first_unset, goes_on_as, misfit_at, next_group};
 
 use crate::buffer::FrameBuf;
 use crate::room::Full;
 use crate::stack::Frame;
+use kind_bytes::FieldErr;
 use layout_compile::Layout;
+use sbe_types::Value;
 use thiserror::Error;
 
 /// What comes next behind a block.
@@ -102,6 +107,26 @@ pub fn start<'b>(
 }
 
 impl<'b> FieldsW<'b> {
+    /// Sets field `i` of the block (SBE 1.0, "Field encoding"); a later value takes the place of an earlier one. It
+    /// needs a field in range.
+    ///
+    /// # Errors
+    ///
+    /// The first member, element or byte that doesn't fit the field; any value of a constant. The bytes are as they
+    /// were, and what counts as set too.
+    pub fn set(&mut self, i: usize, v: &Value) -> Result<(), FieldErr>
+        requires state { SetsFields self.old.layout.now self.old.buf.now }
+        requires field { i < length (fields_at self.old.layout.now (level_of self.old.buf.now.frames)) }
+        ensures same_reference { self.new.buf.ghost_name ≡ self.old.buf.ghost_name }
+        ensures same_layout { self.new.layout ≡ self.old.layout }
+        ensures ok { OnOk result (SetsField self.old.layout.now (level_of self.old.buf.now.frames) i v.now self.old.buf.now self.new.buf.now) }
+        ensures ready { OnOk result (SetsFields self.old.layout.now self.new.buf.now) }
+        ensures err { OnErr result (self.new.buf.now ≡ self.old.buf.now) }
+        ensures refused { option_map misfit_of (result_err result) ≡ misfit_at self.old.layout.now (level_of self.old.buf.now.frames) i v.now }
+    {
+        self.buf.set(self.layout, i, v)
+    }
+
     /// Ends the fields of the block. Its groups and data follow.
     ///
     /// # Errors
@@ -180,7 +205,7 @@ impl<'b> TailW<'b> {
         ensures err { OnErr result (self.new.buf.now ≡ self.old.buf.now) }
         ensures refused { IfErr result (DataRefused self.old.layout.now (length bytes.now) self.old.buf.now) }
     {
-        self.buf.lay_data(self.layout, bytes)
+        self.buf.put_data(self.layout, bytes)
     }
 
     /// Ends an entry, behind its last part. It needs a writer that isn't the root's.

@@ -115,9 +115,14 @@ impl FrameBuf {
         }
     }
 
-    /// Appends the next data part.
+    /// Appends the next data part (SBE 1.0, "Variable-length data"). It needs a data part that is next.
+    ///
+    /// # Errors
+    ///
+    /// `Length` exactly where the part may not have so many bytes, then `Full` exactly where they pass the limit
+    /// with their length number. The buffer is as it was.
     #[tactic(auto, using(crate::proofs::Parting::part_told, crate::proofs::Parting::part_admits, crate::proofs::Checked::tail_few))]
-    pub(crate) fn lay_data(&mut self, layout: &Layout, bytes: &[u8]) -> Result<(), TailErr>
+    pub fn put_data(&mut self, layout: &Layout, bytes: &[u8]) -> Result<(), TailErr>
         requires state { AppendsParts layout.now self.old }
         requires groups { length (groups_at layout.now (level_of self.old.frames)) ≤ parts_done self.old.frames }
         requires part { parts_done self.old.frames < parts_in_tail layout.now (level_of self.old.frames) }

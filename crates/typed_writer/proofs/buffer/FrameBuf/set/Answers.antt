@@ -1,9 +1,9 @@
 use Rattle.std.proofs.Common.{rules}
-use Rattle.typed_writer.proofs.buffer.FrameBuf.set_single.Goals as goal
+use Rattle.typed_writer.proofs.buffer.FrameBuf.set.Goals as goal
 
 pub returns-clause-ok : goal.returns-clause-ok
 returns-clause-ok c = (
-  c.single_at-field.result.now,
+  c.field_of-field.result.now,
   c.place-place.result,
   search rules,
   search rules,

@@ -1,7 +1,7 @@
 use Rattle.schema_facts.specs.Levels.{fields_at}
 use Rattle.typed_writer.proofs.Lists.{got}
 use Rattle.typed_writer.proofs.Setting.{field_order}
-use Rattle.typed_writer.proofs.fields.single_at.Goals as goal
+use Rattle.typed_writer.proofs.fields.field_of.Goals as goal
 
 pub returns-clause-order : goal.returns-clause-order
 returns-clause-order c =

@@ -1,0 +1,5 @@
+//! Tests of the typed writer over a schema file.
+#![tactic(auto)]
+
+#[cfg(test)]
+mod messages;
