@@ -1,0 +1,43 @@
+-- A block as pieces, one at the place of each field. From SBE 1.0, Message structure; the zeros are own profile.
+use Rattle.std.specs.Prelude.{◌≡◌, ℕ, ◌-◌, if◌then◌else◌, Option, Some, None, List, [], ◌∷◌, ◌++◌, length, replicate, ⊤}
+use Rattle.sbe_types.specs.declared.kind.Order.{Order}
+use Rattle.sbe_types.specs.declared.schema.Field.{Field}
+use Rattle.sbe_types.specs.declared.message.Value.{Value}
+use Rattle.sbe_types.specs.Places.{is_const, begin_of, end_past, width}
+use Rattle.sbe_types.specs.Wire.{wire_bytes}
+use Rattle.sbe_wire.specs.Placed.{BeginsBehind}
+
+-- how many bytes stand before a field, behind fields that end at e
+abbrev pub gap : ℕ → Field → ℕ
+gap e f = if is_const f.kind then 0 else begin_of e f.offset - e
+
+-- a piece at the place of each field, behind fields that end at e, and 00 between them
+abbrev pub laid : ℕ → List Field → List (List ℕ) → List ℕ
+laid e [] ps = []
+laid e (f ∷ fs) [] = []
+laid e (f ∷ fs) (p ∷ ps) = replicate (gap e f) 0 ++ (p ++ laid (end_past e f.offset f.kind) fs ps)
+
+-- a piece for each field, as wide as its kind
+abbrev pub AreWide : List Field → List (List ℕ) → Type 0
+AreWide [] [] = ⊤
+AreWide [] (p ∷ ps) = ⊥
+AreWide (f ∷ fs) [] = ⊥
+AreWide (f ∷ fs) (p ∷ ps) = (length p ≡ width f.kind) × AreWide fs ps
+
+-- a piece and others behind it, where all are there
+abbrev pub joined : Option (List ℕ) → Option (List (List ℕ)) → Option (List (List ℕ))
+joined None ps = None
+joined (Some p) None = None
+joined (Some p) (Some ps) = Some (p ∷ ps)
+
+-- the bytes of each field's value, where there are as many values
+abbrev pub wires : Order → List Field → List Value → Option (List (List ℕ))
+wires order [] [] = Some []
+wires order [] (v ∷ vs) = None
+wires order (f ∷ fs) [] = None
+wires order (f ∷ fs) (v ∷ vs) = joined (wire_bytes order f.kind v) (wires order fs vs)
+
+-- each field that takes bytes begins at the end of those before it, which is e, or behind
+abbrev pub Ascend : ℕ → List Field → Type 0
+Ascend e [] = ⊤
+Ascend e (f ∷ fs) = BeginsBehind e f.offset f.kind × Ascend (end_past e f.offset f.kind) fs
