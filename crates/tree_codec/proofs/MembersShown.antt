@@ -1,0 +1,74 @@
+-- The values of a composite's members, read one after another.
+use Rattle.std.proofs.Common.{◌≡◌, ℕ, Bool, List, [], ◌∷◌, ◌++◌, take, drop, refl, sym, ap, ◌∙◌, subst, append_assoc, append-nil}
+use Rattle.std.specs.Prelude.{⊤}
+use mathlib.Core.Former.{Count}
+use Rattle.sbe_types.specs.declared.kind.Kind.{Kind, Comp, Comp', Row_of-Member, end_of-Member, more_of-Member, items-the_row-Member, items_hidden-the_row-Member-0}
+use Rattle.sbe_types.specs.declared.kind.Member.{Member}
+use Rattle.sbe_types.specs.declared.kind.Order.{Order}
+use Rattle.sbe_types.specs.declared.message.Value.{Value}
+use Rattle.sbe_types.specs.declared.message.Value.TheVariants as value
+use Rattle.sbe_types.specs.Places.{width, begin_of, end_past}
+use Rattle.sbe_types.specs.Shows.{Shows, MembersShow}
+use Rattle.tree_codec.specs.TheValues.{IsTheValue}
+
+-- each member's value is shown by the bytes at its place
+abbrev pub ListShows : Order → Bool → ℕ → List Member → List Value → List ℕ → Type 0
+ListShows order known e [] [] b = ⊤
+ListShows order known e [] (v ∷ vs) b = ⊥
+ListShows order known e (m ∷ ms) [] b = ⊥
+ListShows order known e (m ∷ ms) (v ∷ vs) b =
+    Shows order known m.kind v (take (width m.kind) (drop (begin_of e m.offset) b)) × ListShows order known (end_past e m.offset m.kind) ms vs b
+
+row_shows : (order : Order) (known : Bool) (e : ℕ) (n : _) (row : Row_of-Member n) (vs : List Value) (b : List ℕ) → MembersShow order known e row vs b → ListShows order known e (items-the_row-Member n row) vs b
+row_shows order known e n end_of-Member [] b h = tt
+row_shows order known e n end_of-Member (v ∷ vs) b h = absurd h
+row_shows order known e n (more_of-Member name offset kind rest) [] b h = absurd h
+row_shows order known e n (more_of-Member name offset kind rest) (v ∷ vs) b h = (h.0, row_shows order known (end_past e offset kind) _ rest vs b h.1)
+
+abbrev row_in : Kind → (n : Count) × Row_of-Member n
+row_in (Comp' _ row) = (_, row)
+row_in _ = (_, end_of-Member)
+
+-- the values of a composite's members
+members_in : (order : Order) (known : Bool) (ms : List Member) (v : Value) (b : List ℕ) → Shows order known (Comp ms) v b → (vs : List Value) × (v ≡ value.Comp vs) × ListShows order known 0 ms vs b
+members_in order known ms v b h =
+    let row = row_in (Comp ms) in
+    (h.1.0, h.1.1, subst (λ l. ListShows order known 0 l h.1.0 b) (items_hidden-the_row-Member-0 ms) (row_shows order known 0 row.0 row.1 h.1.0 b h.1.2))
+
+-- ---- the loop
+
+-- Whichever values all members show, those before the rest were read.
+pub record Goes (order : Order) (all : List Member) (b : List ℕ) (done : List Value) (e : ℕ) (rest : List Member) : Type 0 where
+  pub goes : (known : Bool) (vs : List Value) → ListShows order known 0 all vs b → (ws : List Value) × ListShows order known e rest ws b × (done ++ ws ≡ vs)
+
+pub goes_first : {order : Order} {all : List Member} {b : List ℕ} → Goes order all b [] 0 all
+goes_first = record { goes = λ known vs h. (vs, h, refl) }
+
+module _ (order : Order) (all : List Member) (b : List ℕ) where
+  step : (known : Bool) (vs : List Value) (e : ℕ) (m : Member) (rest : List Member) (it : Value) (ws done : List Value) →
+      ListShows order known e (m ∷ rest) ws b → done ++ ws ≡ vs → IsTheValue order m.kind (take (width m.kind) (drop (begin_of e m.offset) b)) it →
+      (us : List Value) × ListShows order known (end_past e m.offset m.kind) rest us b × ((done ++ it ∷ []) ++ us ≡ vs)
+  step known vs e m rest it [] done shows is w = absurd shows
+  step known vs e m rest it (v ∷ ws) done shows is w =
+      (ws, shows.1, append_assoc done (it ∷ []) ws ∙ ap (λ x. done ++ x ∷ ws) (w.same known v shows.0) ∙ is)
+
+  pub goes_next : (done : List Value) (e : ℕ) (m : Member) (rest : List Member) (p : List ℕ) (it : Value) → Goes order all b done e (m ∷ rest) →
+      p ≡ take (width m.kind) (drop (begin_of e m.offset) b) → IsTheValue order m.kind p it → Goes order all b (done ++ it ∷ []) (end_past e m.offset m.kind) rest
+  goes_next done e m rest p it g is w =
+      record {
+        goes = λ known vs h. let so_far = g.goes known vs h in
+            step known vs e m rest it so_far.0 done so_far.1 so_far.2 (subst (λ q. IsTheValue order m.kind q it) is w);
+      }
+
+  over : (known : Bool) (vs : List Value) (e : ℕ) (ws done : List Value) → ListShows order known e [] ws b → done ++ ws ≡ vs → done ≡ vs
+  over known vs e [] done shows is = sym (append-nil done) ∙ is
+  over known vs e (v ∷ ws) done shows is = absurd shows
+
+  -- the whole composite
+  pub goes_over : (done : List Value) (e : ℕ) → Goes order all b done e [] → IsTheValue order (Comp all) b (value.Comp done)
+  goes_over done e g =
+      record {
+        same = λ known v h. let members = members_in order known all v b h in
+            let so_far = g.goes known members.0 members.2 in
+            ap value.Comp (over known members.0 e so_far.0 done so_far.1 so_far.2) ∙ sym members.1;
+      }

@@ -1,0 +1,14 @@
+-- Why a body has no tree.
+use Rattle.std.specs.Prelude.{◌≡◌, ℕ, List, ⊤}
+use Rattle.std.specs.Result.{result_ok}
+use Rattle.sbe_types.specs.declared.schema.WireSchema.{WireSchema}
+use Rattle.sbe_wire.specs.Faults.{FirstFault}
+use Rattle.flyweight_view.specs.Heads.{template_told}
+use Rattle.flyweight_view.specs.Viewed.{refused}
+use Rattle.tree_codec.specs.declared.decoding.DecodeErr.{DecodeErr}
+use Rattle.tree_codec.specs.declared.decoding.DecodeErr.TheVariants.{Refused, Memory}
+
+-- the first fault of the body, with the template that its header names; for want of memory nothing is said
+abbrev pub IsRefused : WireSchema → List ℕ → DecodeErr → Type 0
+IsRefused schema body (Refused r) = FirstFault schema (refused r) body × (r.template ≡ result_ok (template_told schema body))
+IsRefused schema body Memory = ⊤

@@ -1,0 +1,52 @@
+ghost use Rattle.std.specs.Prelude.{◌≡◌, IfOk, IfErr};
+ghost use Rattle.sbe_wire.specs.Lays.{Lays};
+ghost use Rattle.flyweight_view.specs.Seen.{seen_level};
+ghost use Rattle.tree_codec.specs.Decoded.{IsRefused};
+ghost use Rattle.tree_codec.specs.Trees.{IsWholeSeen};
+
+use crate::blocks::block_tree;
+use flyweight_view::{MsgView, Refusal, validate};
+use layout_compile::Layout;
+use lists::NoMem;
+use sbe_types::Msg;
+use std::alloc::Global;
+
+/// Why there is no tree of a body.
+#[derive(Drop)]
+pub enum DecodeErr {
+    /// No message of the schema lies in the body.
+    Refused(Refusal),
+    /// Memory is wanting.
+    Memory,
+}
+
+/// The message that lies in a body, as a tree of its values (SBE 1.0, "Message structure").
+///
+/// # Errors
+///
+/// `Refused` exactly where no message of the schema lies in the body, and `Memory` for want of memory.
+pub fn decode(alloc: Global, layout: &Layout, body: &[u8]) -> Result<Msg, DecodeErr>
+    ensures lies { IfOk result (λ m. Lays layout.now m body.now) }
+    ensures refused { IfErr result (λ e. IsRefused layout.now body.now e) }
+{
+    match validate(layout, body) {
+        Ok(view) => match message_tree(alloc, &view) {
+            Ok(message) => Ok(message),
+            Err(NoMem) => Err(DecodeErr::Memory),
+        },
+        Err(refusal) => Err(DecodeErr::Refused(refusal)),
+    }
+}
+
+/// The tree of a message that is seen.
+fn message_tree(alloc: Global, view: &MsgView<'_>) -> Result<Msg, NoMem>
+    requires { IsWholeSeen (seen_level view.now.level view.now.message.block) }
+    ensures { IfOk result (λ m. m ≡ view.now.message) }
+{
+    let block = block_tree(alloc, &view.root())?;
+    Ok(Msg {
+        template: view.template(),
+        version: view.version(),
+        block,
+    })
+}
