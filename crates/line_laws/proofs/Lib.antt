@@ -1,0 +1,13 @@
+pub mod Printing
+pub mod Utf8
+pub mod Finding
+pub mod Differ
+pub mod NamedBack
+pub mod Shown
+pub mod TextBack
+pub mod LeafBack
+pub mod KindBack
+pub mod FieldsBack
+pub mod BlockBack
+pub mod MessageBack
+pub mod Computing

@@ -1,0 +1,7 @@
+use Rattle.std.proofs.Common.{refl}
+use Rattle.line_laws.proofs.Computing.{computing}
+use Rattle.line_laws.proofs.worked.is_read_in_order.Goals as goal
+
+pub returns : goal.returns
+unfolding computing
+returns c = refl
