@@ -11,6 +11,9 @@ use Rattle.sbe_types.specs.declared.message.GroupVal.{GroupVal, items-the_row-Bl
 use Rattle.sbe_types.specs.declared.message.GroupVal.TheVariants as groupval
 use Rattle.sbe_types.specs.declared.message.Msg.{Msg}
 use Rattle.sbe_wire.specs.Faults.{message_named}
+use Rattle.version_laws.specs.declared.difference.Compat.TheVariants as answer
+use Rattle.version_laws.specs.declared.difference.Difference.{Difference}
+use Rattle.version_laws.specs.Answer.{compat_of}
 use Rattle.version_laws.specs.Differ.{is_old, group_since, group_name}
 use Rattle.version_laws.specs.Forward.{NamePath, or_later, below, added_part, added_in, added_group, added_below, has_old_part, has_old_group, early_part, early_group, added_at_root, added_of, added_among, first_added}
 use Rattle.version_laws.specs.Projected.{projected_from, projected}
@@ -145,3 +148,10 @@ pub forward_plain : (old new : WireSchema) → first_added old new ≡ None → 
 forward_plain old new h m n is level at =
     let t = has_template m _ _ n (sym (ap (projected_from old m) at) ∙ is) in
     plain_root old.version level (none_among old.version old.messages new.messages h m.template level at t.0 t.1) m.block
+
+-- ---- the answer that both ways go
+
+pub both_none : (d : Option Difference) (added : Option NamePath) → compat_of d added ≡ answer.TwoWay → (d ≡ None) × (added ≡ None)
+both_none (Some d) added h = cc
+both_none None (Some names) h = cc
+both_none None None h = (refl, refl)

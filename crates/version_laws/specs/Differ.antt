@@ -96,14 +96,20 @@ fields_differ version more ends (f ∷ fs) (g ∷ gs) =
 
 -- why the data g of new isn't the data f of old
 abbrev pub data_reason : DataField → DataField → Option Reason
-data_reason f g = asks (bytes_eq f.name g.name) reason.Part (asks (f.since == g.since) reason.Since (asks (same_leaf f.length g.length) reason.Kind None))
+data_reason f g =
+    asks (bytes_eq f.name g.name) reason.Part
+    (asks (f.since == g.since) reason.Since
+    (asks (same_leaf f.length g.length) reason.Kind None))
 
 -- the first difference of data
 abbrev pub parts_differ : ℕ → List DataField → List DataField → Option Difference
 parts_differ version [] [] = None
 parts_differ version (f ∷ fs) [] = differs f.name reason.Part
 parts_differ version [] (g ∷ gs) = if is_old version g.since then differs g.name reason.Part else parts_differ version [] gs
-parts_differ version (f ∷ fs) (g ∷ gs) = if is_old version g.since then unless_for f.name (data_reason f g) (parts_differ version fs gs) else parts_differ version (f ∷ fs) gs
+parts_differ version (f ∷ fs) (g ∷ gs) =
+    if is_old version g.since
+    then unless_for f.name (data_reason f g) (parts_differ version fs gs)
+    else parts_differ version (f ∷ fs) gs
 
 -- ---- groups, each with its own level behind it
 

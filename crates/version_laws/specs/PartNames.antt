@@ -20,7 +20,10 @@ group_names (more_of-Group g gs) = group_name g ∷ group_names gs
 -- the names of the groups that are effective by a version
 abbrev pub known_group_names : ℕ → {n : _} → Row_of-Group n → List (List ℕ)
 known_group_names version end_of-Group = []
-known_group_names version (more_of-Group g gs) = if is_old version (group_since g) then group_name g ∷ known_group_names version gs else known_group_names version gs
+known_group_names version (more_of-Group g gs) =
+    if is_old version (group_since g)
+    then group_name g ∷ known_group_names version gs
+    else known_group_names version gs
 
 -- new's parts that are effective by old's version are old's parts, at each level that both have
 abbrev mutual

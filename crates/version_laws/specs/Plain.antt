@@ -34,7 +34,8 @@ PlainParts version (p ∷ ps) (v ∷ vs) = MatchBool (is_old version p.since) �
 abbrev mutual
   -- no group or data that old lacks is in the entry
   pub PlainEntry : ℕ → Level → Block → Type 0
-  PlainEntry version (Level' _ _ _ _ _ _ _ groups parts) block = PlainGroups version groups (out-Block block).groups × PlainParts version parts (out-Block block).parts
+  PlainEntry version (Level' _ _ _ _ _ _ _ groups parts) block =
+      PlainGroups version groups (out-Block block).groups × PlainParts version parts (out-Block block).parts
 
   -- each group that old lacks is absent, and the entries of the others are plain
   pub PlainGroups : ℕ → {n : _} → Row_of-Group n → List GroupVal → Type 0

@@ -49,7 +49,9 @@ unfoldable mutual
   projected_groups version end_of-Group vs = []
   projected_groups version (more_of-Group g gs) [] = []
   projected_groups version (more_of-Group g gs) (v ∷ vs) =
-      if is_old version (group_since g) then projected_group version g v ∷ projected_groups version gs vs else projected_groups version gs vs
+      if is_old version (group_since g)
+      then projected_group version g v ∷ projected_groups version gs vs
+      else projected_groups version gs vs
 
   -- the same group with each entry projected
   pub projected_group : ℕ → Group → GroupVal → GroupVal
@@ -61,7 +63,10 @@ unfoldable mutual
 abbrev pub lifted_list : {P V : Type 0} → (P → Bool) → V → List P → List V → List V
 lifted_list known absent [] vs = []
 lifted_list known absent (p ∷ ps) [] = absent ∷ lifted_list known absent ps []
-lifted_list known absent (p ∷ ps) (v ∷ vs) = if known p then v ∷ lifted_list known absent ps vs else absent ∷ lifted_list known absent ps (v ∷ vs)
+lifted_list known absent (p ∷ ps) (v ∷ vs) =
+    if known p
+    then v ∷ lifted_list known absent ps vs
+    else absent ∷ lifted_list known absent ps (v ∷ vs)
 
 unfoldable mutual
   -- the block with a value for each part of new
@@ -77,7 +82,9 @@ unfoldable mutual
   lifted_groups version end_of-Group vs = []
   lifted_groups version (more_of-Group g gs) [] = groupval.Absent ∷ lifted_groups version gs []
   lifted_groups version (more_of-Group g gs) (v ∷ vs) =
-      if is_old version (group_since g) then lifted_group version g v ∷ lifted_groups version gs vs else groupval.Absent ∷ lifted_groups version gs (v ∷ vs)
+      if is_old version (group_since g)
+      then lifted_group version g v ∷ lifted_groups version gs vs
+      else groupval.Absent ∷ lifted_groups version gs (v ∷ vs)
 
   -- the same group with each entry lifted
   pub lifted_group : ℕ → Group → GroupVal → GroupVal

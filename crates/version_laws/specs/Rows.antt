@@ -78,7 +78,11 @@ event_raw_body = 4 ∷ 0 ∷ 1 ∷ 0 ∷ 8 ∷ 0 ∷ 2 ∷ 0 ∷ 53 ∷ 7 ∷ 9 
 
 -- what the newer schema reads of it
 abbrev pub event_full_message : Msg
-event_full_message = record { template = 0; version = 2; block = with_data (value.Enum (pos 53) ∷ value.Num (pos 7) ∷ value.Num (pos 9) ∷ []) (dataval.Bytes (65 ∷ []) ∷ []) }
+event_full_message = record {
+  template = 0;
+  version = 2;
+  block = with_data (value.Enum (pos 53) ∷ value.Num (pos 7) ∷ value.Num (pos 9) ∷ []) (dataval.Bytes (65 ∷ []) ∷ []);
+}
 
 -- what the older schema reads of it: a number that it does not list, and nothing of the later parts
 abbrev pub event_raw_message : Msg
@@ -118,7 +122,8 @@ ne_old_message = ne_of 0 (flat (value.Num (pos 5) ∷ []) ∷ flat (value.Num (p
 
 -- what the newer schema reads of it
 abbrev pub ne_lifted_message : Msg
-ne_lifted_message = ne_of 0 (with_data (value.Num (pos 5) ∷ []) (dataval.Absent ∷ []) ∷ with_data (value.Num (pos 6) ∷ []) (dataval.Absent ∷ []) ∷ [])
+ne_lifted_message =
+    ne_of 0 (with_data (value.Num (pos 5) ∷ []) (dataval.Absent ∷ []) ∷ with_data (value.Num (pos 6) ∷ []) (dataval.Absent ∷ []) ∷ [])
 
 -- e 53 at version 0, which lists no 53
 abbrev pub event_early_body : List ℕ
@@ -126,7 +131,11 @@ event_early_body = 2 ∷ 0 ∷ 1 ∷ 0 ∷ 8 ∷ 0 ∷ 0 ∷ 0 ∷ 53 ∷ 7 ∷ 
 
 -- what the newer schema reads of it
 abbrev pub event_early_message : Msg
-event_early_message = record { template = 0; version = 0; block = with_data (value.Enum (pos 53) ∷ value.Num (pos 7) ∷ value.Absent ∷ []) (dataval.Absent ∷ []) }
+event_early_message = record {
+  template = 0;
+  version = 0;
+  block = with_data (value.Enum (pos 53) ∷ value.Num (pos 7) ∷ value.Absent ∷ []) (dataval.Absent ∷ []);
+}
 
 -- why the older schema refuses it
 abbrev pub event_early_fault : Fault
@@ -163,7 +172,9 @@ small_ping version fields = with_messages version (ping_of fields ∷ [])
 
 -- a composite of a mantissa and an exponent behind it
 abbrev pub decimal : LeafOf → Kind
-decimal mantissa = Comp' (tt ∷ tt ∷ []) (more_of-Member (codes "mantissa") None (Leaf mantissa) (more_of-Member (codes "exponent") None (Leaf int8) end_of-Member))
+decimal mantissa =
+    Comp' (tt ∷ tt ∷ []) (more_of-Member (codes "mantissa") None (Leaf mantissa)
+    (more_of-Member (codes "exponent") None (Leaf int8) end_of-Member))
 
 -- an enum of one letter each
 abbrev pub letters : List Named → Kind

@@ -56,7 +56,8 @@ shape_number Numbers = 4
 -- leaves of one primitive, length, shape and presence
 abbrev pub same_form : LeafOf → LeafOf → Bool
 same_form a b =
-    same_prim a.prim b.prim && (a.length == b.length) && (shape_number a.shape == shape_number b.shape) && (presence_number a.presence == presence_number b.presence)
+    same_prim a.prim b.prim && (a.length == b.length) && (shape_number a.shape == shape_number b.shape)
+    && (presence_number a.presence == presence_number b.presence)
 
 -- leaves of one null and one range
 abbrev pub same_range : LeafOf → LeafOf → Bool
@@ -84,9 +85,14 @@ lists_too more old new = if more then list_all (λ x. list_any (same_named x) ne
 -- constants of one form and value
 abbrev pub same_constant : ConstValue → ConstValue → Bool
 same_constant (constant.Num m) (constant.Num n) = int_eq m n
+same_constant (constant.Num m) (constant.Text t) = false
+same_constant (constant.Num m) (constant.Code q y) = false
+same_constant (constant.Text s) (constant.Num n) = false
 same_constant (constant.Text s) (constant.Text t) = bytes_eq s t
+same_constant (constant.Text s) (constant.Code q y) = false
+same_constant (constant.Code p x) (constant.Num n) = false
+same_constant (constant.Code p x) (constant.Text t) = false
 same_constant (constant.Code p x) (constant.Code q y) = same_prim p q && same_named x y
-same_constant c d = false
 
 -- both are given, and equal, or none is
 abbrev pub same_offset : Option ℕ → Option ℕ → Bool
@@ -99,11 +105,30 @@ abbrev mutual
   -- all fields are equal; `more`: enums and sets of new may list more
   pub same_kind : Bool → Kind → Kind → Bool
   same_kind more (Leaf a) (Leaf b) = same_leaf a b
+  same_kind more (Leaf a) (Enum b ys) = false
+  same_kind more (Leaf a) (Set q ys) = false
+  same_kind more (Leaf a) (Const d) = false
+  same_kind more (Leaf a) (Comp' k new) = false
+  same_kind more (Enum a xs) (Leaf b) = false
   same_kind more (Enum a xs) (Enum b ys) = same_leaf a b && lists_too more xs ys
+  same_kind more (Enum a xs) (Set q ys) = false
+  same_kind more (Enum a xs) (Const d) = false
+  same_kind more (Enum a xs) (Comp' k new) = false
+  same_kind more (Set p xs) (Leaf b) = false
+  same_kind more (Set p xs) (Enum b ys) = false
   same_kind more (Set p xs) (Set q ys) = same_prim p q && lists_too more xs ys
+  same_kind more (Set p xs) (Const d) = false
+  same_kind more (Set p xs) (Comp' k new) = false
+  same_kind more (Const c) (Leaf b) = false
+  same_kind more (Const c) (Enum b ys) = false
+  same_kind more (Const c) (Set q ys) = false
   same_kind more (Const c) (Const d) = same_constant c d
+  same_kind more (Const c) (Comp' k new) = false
+  same_kind more (Comp' n old) (Leaf b) = false
+  same_kind more (Comp' n old) (Enum b ys) = false
+  same_kind more (Comp' n old) (Set q ys) = false
+  same_kind more (Comp' n old) (Const d) = false
   same_kind more (Comp' n old) (Comp' k new) = same_row more old new
-  same_kind more old new = false
 
   -- the same for members one after another
   pub same_row : Bool → {n : _} → Row_of-Member n → {k : _} → Row_of-Member k → Bool
@@ -127,8 +152,15 @@ same_place kind p kind' q = is_const kind || is_const kind' || (p == q)
 abbrev mutual
   -- the members at one position have one place
   pub same_places : Kind → Kind → Bool
+  same_places (Leaf a) kind = true
+  same_places (Enum a xs) kind = true
+  same_places (Set p xs) kind = true
+  same_places (Const c) kind = true
+  same_places (Comp' n old) (Leaf b) = true
+  same_places (Comp' n old) (Enum b ys) = true
+  same_places (Comp' n old) (Set q ys) = true
+  same_places (Comp' n old) (Const d) = true
   same_places (Comp' n old) (Comp' k new) = same_row_places 0 old 0 new
-  same_places old new = true
 
   -- the same for members one after another, behind members that end at these places
   pub same_row_places : ℕ → {n : _} → Row_of-Member n → ℕ → {k : _} → Row_of-Member k → Bool

@@ -1,8 +1,8 @@
 -- The walks for the first added group or data, and the texts of their paths.
-use Rattle.std.proofs.Common.{◌≡◌, ◌≤◌, ◌<◌, ◌+◌, ℕ, Bool, true, false, cond, List, [], ◌∷◌, ◌++◌, length, drop, Option, Some, None, refl, sym, ap, ◌∙◌, subst, arith}
+use Rattle.std.proofs.Common.{◌≡◌, ◌≤◌, ◌<◌, ◌+◌, ℕ, Bool, true, false, cond, List, [], ◌∷◌, ◌++◌, length, drop, Option, Some, None, refl, sym, ap, ◌∙◌, subst}
 use Rattle.std.proofs.lemmas.List.{drop_all}
-use Rattle.std.proofs.lemmas.Bool.Decides.{nat_tests}
 use Rattle.std.specs.Prelude.{◌||◌, not, slice_get, codes, ⊤}
+use Rattle.std.specs.List.{list_any}
 use Rattle.std.specs.Option.{option_map}
 use denote.Hole.Carrier as carrier
 use Rattle.sbe_types.specs.declared.schema.DataField.{DataField}
@@ -14,21 +14,18 @@ use Rattle.sbe_wire.specs.Faults.{message_named}
 use Rattle.version_laws.specs.Answer.{dotted}
 use Rattle.version_laws.specs.Differ.{is_old, group_since, group_name}
 use Rattle.version_laws.specs.Forward.{NamePath, or_later, below, added_part, added_in, added_group, added_below, has_old_part, has_old_group, early_part, early_group, added_at_root, added_of, added_among}
-use Rattle.version_project.specs.Additions.{added_each, has_old_each, early_each}
+use Rattle.version_laws.specs.Projected.{old_part}
+use Rattle.version_project.specs.Additions.{added_each, early_each}
+use Rattle.version_project.specs.IsPlain.{old_group}
 use Rattle.version_project.specs.Sought.{Finds}
-use Rattle.version_project.proofs.Alike.{drop_at}
+use Rattle.version_project.proofs.Items.{drop_at}
+use Rattle.version_project.proofs.OldParts.{old_has, old_lacks, name_is, old_has_group, old_lacks_group}
 
 abbrev pub text : Option NamePath → Option (List ℕ)
 text = option_map dotted
 
 abbrev pub inside_text : List ℕ → Option (List ℕ) → Option (List ℕ)
 inside_text name = option_map (λ inner. name ++ codes "." ++ inner)
-
-known : (version since : ℕ) → since ≤ version → is_old version since ≡ true
-known version since h = grind (arith, nat_tests)
-
-added : (version since : ℕ) → version < since → is_old version since ≡ false
-added version since h = grind (arith, nat_tests)
 
 -- ---- paths have names
 
@@ -76,9 +73,9 @@ named_early : (version : ℕ) (parts : List DataField) (gs : List Group) → IsN
 named_early version parts [] = named_early_part version parts
 named_early version parts (g ∷ gs) =
     named_either (is_old version (group_since g)) (or_later (below (group_name g) (added_below version g)) (early_each version parts gs))
-    (cond (has_old_each version gs || has_old_part version parts) (Some (group_name g ∷ [])) (early_each version parts gs))
+    (cond (list_any (old_group version) gs || list_any (old_part version) parts) (Some (group_name g ∷ [])) (early_each version parts gs))
     (named_later (below (group_name g) (added_below version g)) (early_each version parts gs) (named_below (group_name g) (added_below version g)) (named_early version parts gs))
-    (named_either (has_old_each version gs || has_old_part version parts) (Some (group_name g ∷ [])) (early_each version parts gs) (named_one (group_name g)) (named_early version parts gs))
+    (named_either (list_any (old_group version) gs || list_any (old_part version) parts) (Some (group_name g ∷ [])) (early_each version parts gs) (named_one (group_name g)) (named_early version parts gs))
 
 text_below : (n : List ℕ) (a : Option NamePath) → IsNamed a → inside_text n (text a) ≡ text (below n a)
 unfolding IsNamed
@@ -99,9 +96,13 @@ unfolding added_in levels.out-Level carrier.out
 level_added version (Level' name id semantic since block_length fs n gs ps) =
     ap (λ a. or_later a (added_part version ps)) (rows_added version gs ∙ ap (added_each version) (sym (items_shown-the_row-Group-0 n gs)))
 
-rows_old : (version : ℕ) {n : _} (gs : Row_of-Group n) → has_old_group version gs ≡ has_old_each version (items-the_row-Group _ gs)
+rows_old : (version : ℕ) {n : _} (gs : Row_of-Group n) → has_old_group version gs ≡ list_any (old_group version) (items-the_row-Group _ gs)
 rows_old version end_of-Group = refl
 rows_old version (more_of-Group g gs) = ap (λ t. is_old version (group_since g) || t) (rows_old version gs)
+
+parts_old : (version : ℕ) (ps : List DataField) → has_old_part version ps ≡ list_any (old_part version) ps
+parts_old version [] = refl
+parts_old version (p ∷ ps) = ap (λ t. is_old version p.since || t) (parts_old version ps)
 
 rows_early : (version : ℕ) (parts : List DataField) {n : _} (gs : Row_of-Group n) → early_group version parts gs ≡ early_each version parts (items-the_row-Group _ gs)
 rows_early version parts end_of-Group = refl
@@ -110,29 +111,17 @@ rows_early version parts (more_of-Group g gs) =
     (cond (has_old_group version gs || has_old_part version parts) (Some (group_name g ∷ [])) m)) (rows_early version parts gs)
     ∙ ap (λ t. cond (is_old version (group_since g)) (or_later (below (group_name g) (added_below version g)) (early_each version parts (items-the_row-Group _ gs)))
     (cond (t || has_old_part version parts) (Some (group_name g ∷ [])) (early_each version parts (items-the_row-Group _ gs)))) (rows_old version gs)
+    ∙ ap (λ t. cond (is_old version (group_since g)) (or_later (below (group_name g) (added_below version g)) (early_each version parts (items-the_row-Group _ gs)))
+    (cond (list_any (old_group version) (items-the_row-Group _ gs) || t) (Some (group_name g ∷ [])) (early_each version parts (items-the_row-Group _ gs)))) (parts_old version parts)
 
 pub root_added : (version : ℕ) (level : Level) → added_at_root version level ≡ early_each version (out-Level level).parts (out-Level level).groups
 unfolding added_at_root levels.out-Level carrier.out
 root_added version (Level' name id semantic since block_length fs n gs ps) =
     rows_early version ps gs ∙ ap (early_each version ps) (sym (items_shown-the_row-Group-0 n gs))
 
-name_is : (g : Group) → group_name g ≡ (out-Level (out-Group g).level).name
-unfolding groups_of.out-Group carrier.out
-name_is (Group' dim level) = refl
-
-since_is : (g : Group) → group_since g ≡ (out-Level (out-Group g).level).since
-unfolding groups_of.out-Group carrier.out
-since_is (Group' dim level) = refl
-
 below_is : (version : ℕ) (g : Group) → added_below version g ≡ added_in version (out-Group g).level
 unfolding added_below groups_of.out-Group carrier.out
 below_is version (Group' dim level) = refl
-
-pub known_group : (version : ℕ) (g : Group) → (out-Level (out-Group g).level).since ≤ version → is_old version (group_since g) ≡ true
-known_group version g h = ap (is_old version) (since_is g) ∙ known version (out-Level (out-Group g).level).since h
-
-pub added_one : (version : ℕ) (g : Group) → version < (out-Level (out-Group g).level).since → is_old version (group_since g) ≡ false
-added_one version g h = ap (is_old version) (since_is g) ∙ added version (out-Level (out-Group g).level).since h
 
 pub group_below : (version : ℕ) (g : Group) (a : Option (List ℕ)) → a ≡ text (added_in version (out-Group g).level) →
     inside_text (out-Level (out-Group g).level).name a ≡ text (below (group_name g) (added_below version g))
@@ -170,7 +159,7 @@ module _ (version : ℕ) (gs : List Group) (whole : Option (List ℕ)) where
       added_each version (drop i gs) ≡ or_later (below (group_name g) (added_below version g)) (added_each version (drop (i + 1) gs))
   each_step i g at h =
       ap (added_each version) (drop_at gs i g at)
-      ∙ ap (λ t. cond t (or_later (below (group_name g) (added_below version g)) (added_each version (drop (i + 1) gs))) (Some (group_name g ∷ []))) (known_group version g h)
+      ∙ ap (λ t. cond t (or_later (below (group_name g) (added_below version g)) (added_each version (drop (i + 1) gs))) (Some (group_name g ∷ []))) (old_has_group version g h)
 
   pub each_goes : (i : ℕ) (g : Group) (x : Option (List ℕ)) → slice_get gs i ≡ Some g → (out-Level (out-Group g).level).since ≤ version → x ≡ text (below (group_name g) (added_below version g)) → x ≡ None →
       text (added_each version (drop i gs)) ≡ whole → text (added_each version (drop (i + 1) gs)) ≡ whole
@@ -187,7 +176,7 @@ module _ (version : ℕ) (gs : List Group) (whole : Option (List ℕ)) where
   each_new i g at h so_far =
       ap Some (sym (name_is g))
       ∙ sym (ap text (ap (added_each version) (drop_at gs i g at)
-      ∙ ap (λ t. cond t (or_later (below (group_name g) (added_below version g)) (added_each version (drop (i + 1) gs))) (Some (group_name g ∷ []))) (added_one version g h))) ∙ so_far
+      ∙ ap (λ t. cond t (or_later (below (group_name g) (added_below version g)) (added_each version (drop (i + 1) gs))) (Some (group_name g ∷ []))) (old_lacks_group version g h))) ∙ so_far
 
   pub each_ends : (n : ℕ) → length gs ≤ n → text (added_each version (drop n gs)) ≡ whole → None ≡ whole
   each_ends n h so_far = sym (ap (λ l. text (added_each version l)) (drop_all n gs h)) ∙ so_far
@@ -197,11 +186,11 @@ module _ (version : ℕ) (gs : List Group) (whole : Option (List ℕ)) where
 module _ (version : ℕ) (ps : List DataField) (whole : Option (List ℕ)) where
   pub part_goes : (i : ℕ) (p : DataField) → slice_get ps i ≡ Some p → p.since ≤ version → text (added_part version (drop i ps)) ≡ whole → text (added_part version (drop (i + 1) ps)) ≡ whole
   part_goes i p at h so_far =
-      sym (ap text (ap (added_part version) (drop_at ps i p at) ∙ ap (λ t. cond t (added_part version (drop (i + 1) ps)) (Some (p.name ∷ []))) (known version p.since h))) ∙ so_far
+      sym (ap text (ap (added_part version) (drop_at ps i p at) ∙ ap (λ t. cond t (added_part version (drop (i + 1) ps)) (Some (p.name ∷ []))) (old_has version p.since h))) ∙ so_far
 
   pub part_new : (i : ℕ) (p : DataField) → slice_get ps i ≡ Some p → version < p.since → text (added_part version (drop i ps)) ≡ whole → Some p.name ≡ whole
   part_new i p at h so_far =
-      sym (ap text (ap (added_part version) (drop_at ps i p at) ∙ ap (λ t. cond t (added_part version (drop (i + 1) ps)) (Some (p.name ∷ []))) (added version p.since h))) ∙ so_far
+      sym (ap text (ap (added_part version) (drop_at ps i p at) ∙ ap (λ t. cond t (added_part version (drop (i + 1) ps)) (Some (p.name ∷ []))) (old_lacks version p.since h))) ∙ so_far
 
   pub part_ends : (n : ℕ) → length ps ≤ n → text (added_part version (drop n ps)) ≡ whole → None ≡ whole
   part_ends n h so_far = sym (ap (λ l. text (added_part version l)) (drop_all n ps h)) ∙ so_far
@@ -209,48 +198,28 @@ module _ (version : ℕ) (ps : List DataField) (whole : Option (List ℕ)) where
   pub early_part_old : (i : ℕ) (p : DataField) → slice_get ps i ≡ Some p → p.since ≤ version → text (early_part version (drop i ps)) ≡ whole → text (early_part version (drop (i + 1) ps)) ≡ whole
   early_part_old i p at h so_far =
       sym (ap text (ap (early_part version) (drop_at ps i p at)
-      ∙ ap (λ t. cond (t || not (has_old_part version (drop (i + 1) ps))) (early_part version (drop (i + 1) ps)) (Some (p.name ∷ []))) (known version p.since h))) ∙ so_far
+      ∙ ap (λ t. cond (t || not (has_old_part version (drop (i + 1) ps))) (early_part version (drop (i + 1) ps)) (Some (p.name ∷ []))) (old_has version p.since h))) ∙ so_far
 
   either_way : (t : Bool) (a b : Option NamePath) → cond (t || true) a b ≡ a
   either_way true a b = refl
   either_way false a b = refl
 
-  pub early_part_last : (i : ℕ) (p : DataField) → slice_get ps i ≡ Some p → has_old_part version (drop (i + 1) ps) ≡ false →
+  pub early_part_last : (i : ℕ) (p : DataField) → slice_get ps i ≡ Some p → list_any (old_part version) (drop (i + 1) ps) ≡ false →
       text (early_part version (drop i ps)) ≡ whole → text (early_part version (drop (i + 1) ps)) ≡ whole
   early_part_last i p at none so_far =
       sym (ap text (ap (early_part version) (drop_at ps i p at)
-      ∙ ap (λ t. cond (is_old version p.since || not t) (early_part version (drop (i + 1) ps)) (Some (p.name ∷ []))) none
+      ∙ ap (λ t. cond (is_old version p.since || not t) (early_part version (drop (i + 1) ps)) (Some (p.name ∷ []))) (parts_old version (drop (i + 1) ps) ∙ none)
       ∙ either_way (is_old version p.since) (early_part version (drop (i + 1) ps)) (Some (p.name ∷ [])))) ∙ so_far
 
-  pub early_part_stops : (i : ℕ) (p : DataField) → slice_get ps i ≡ Some p → version < p.since → has_old_part version (drop (i + 1) ps) ≡ true →
+  pub early_part_stops : (i : ℕ) (p : DataField) → slice_get ps i ≡ Some p → version < p.since → list_any (old_part version) (drop (i + 1) ps) ≡ true →
       text (early_part version (drop i ps)) ≡ whole → Some p.name ≡ whole
   early_part_stops i p at h more so_far =
       sym (ap text (ap (early_part version) (drop_at ps i p at)
-      ∙ ap (λ t. cond (t || not (has_old_part version (drop (i + 1) ps))) (early_part version (drop (i + 1) ps)) (Some (p.name ∷ []))) (added version p.since h)
-      ∙ ap (λ t. cond (not t) (early_part version (drop (i + 1) ps)) (Some (p.name ∷ []))) more)) ∙ so_far
+      ∙ ap (λ t. cond (t || not (has_old_part version (drop (i + 1) ps))) (early_part version (drop (i + 1) ps)) (Some (p.name ∷ []))) (old_lacks version p.since h)
+      ∙ ap (λ t. cond (not t) (early_part version (drop (i + 1) ps)) (Some (p.name ∷ []))) (parts_old version (drop (i + 1) ps) ∙ more))) ∙ so_far
 
   pub early_part_ends : (n : ℕ) → length ps ≤ n → text (early_part version (drop n ps)) ≡ whole → None ≡ whole
   early_part_ends n h so_far = sym (ap (λ l. text (early_part version l)) (drop_all n ps h)) ∙ so_far
-
-module _ (version : ℕ) (ps : List DataField) (whole : Bool) where
-  pub old_part_here : (i : ℕ) (p : DataField) → slice_get ps i ≡ Some p → p.since ≤ version → has_old_part version (drop i ps) ≡ whole → true ≡ whole
-  old_part_here i p at h so_far = sym (ap (has_old_part version) (drop_at ps i p at) ∙ ap (λ t. t || has_old_part version (drop (i + 1) ps)) (known version p.since h)) ∙ so_far
-
-  pub old_part_on : (i : ℕ) (p : DataField) → slice_get ps i ≡ Some p → version < p.since → has_old_part version (drop i ps) ≡ whole → has_old_part version (drop (i + 1) ps) ≡ whole
-  old_part_on i p at h so_far = sym (ap (has_old_part version) (drop_at ps i p at) ∙ ap (λ t. t || has_old_part version (drop (i + 1) ps)) (added version p.since h)) ∙ so_far
-
-  pub old_part_ends : (n : ℕ) → length ps ≤ n → has_old_part version (drop n ps) ≡ whole → false ≡ whole
-  old_part_ends n h so_far = sym (ap (has_old_part version) (drop_all n ps h)) ∙ so_far
-
-module _ (version : ℕ) (gs : List Group) (whole : Bool) where
-  pub old_group_here : (i : ℕ) (g : Group) → slice_get gs i ≡ Some g → (out-Level (out-Group g).level).since ≤ version → has_old_each version (drop i gs) ≡ whole → true ≡ whole
-  old_group_here i g at h so_far = sym (ap (has_old_each version) (drop_at gs i g at) ∙ ap (λ t. t || has_old_each version (drop (i + 1) gs)) (known_group version g h)) ∙ so_far
-
-  pub old_group_on : (i : ℕ) (g : Group) → slice_get gs i ≡ Some g → version < (out-Level (out-Group g).level).since → has_old_each version (drop i gs) ≡ whole → has_old_each version (drop (i + 1) gs) ≡ whole
-  old_group_on i g at h so_far = sym (ap (has_old_each version) (drop_at gs i g at) ∙ ap (λ t. t || has_old_each version (drop (i + 1) gs)) (added_one version g h)) ∙ so_far
-
-  pub old_group_ends : (n : ℕ) → length gs ≤ n → has_old_each version (drop n gs) ≡ whole → false ≡ whole
-  old_group_ends n h so_far = sym (ap (has_old_each version) (drop_all n gs h)) ∙ so_far
 
 -- ---- the root
 
@@ -263,14 +232,14 @@ module _ (version : ℕ) (ps : List DataField) (gs : List Group) (whole : Option
   early_step i g at h =
       ap (early_each version ps) (drop_at gs i g at)
       ∙ ap (λ t. cond t (or_later (below (group_name g) (added_below version g)) (early_from (i + 1)))
-      (cond (has_old_each version (drop (i + 1) gs) || has_old_part version ps) (Some (group_name g ∷ [])) (early_from (i + 1)))) (known_group version g h)
+      (cond (list_any (old_group version) (drop (i + 1) gs) || list_any (old_part version) ps) (Some (group_name g ∷ [])) (early_from (i + 1)))) (old_has_group version g h)
 
   early_added : (i : ℕ) (g : Group) → slice_get gs i ≡ Some g → version < (out-Level (out-Group g).level).since →
-      early_from i ≡ cond (has_old_each version (drop (i + 1) gs) || has_old_part version ps) (Some (group_name g ∷ [])) (early_from (i + 1))
+      early_from i ≡ cond (list_any (old_group version) (drop (i + 1) gs) || list_any (old_part version) ps) (Some (group_name g ∷ [])) (early_from (i + 1))
   early_added i g at h =
       ap (early_each version ps) (drop_at gs i g at)
       ∙ ap (λ t. cond t (or_later (below (group_name g) (added_below version g)) (early_from (i + 1)))
-      (cond (has_old_each version (drop (i + 1) gs) || has_old_part version ps) (Some (group_name g ∷ [])) (early_from (i + 1)))) (added_one version g h)
+      (cond (list_any (old_group version) (drop (i + 1) gs) || list_any (old_part version) ps) (Some (group_name g ∷ [])) (early_from (i + 1)))) (old_lacks_group version g h)
 
   pub early_goes : (i : ℕ) (g : Group) (x : Option (List ℕ)) → slice_get gs i ≡ Some g → (out-Level (out-Group g).level).since ≤ version → x ≡ text (below (group_name g) (added_below version g)) → x ≡ None →
       text (early_from i) ≡ whole → text (early_from (i + 1)) ≡ whole
@@ -280,13 +249,13 @@ module _ (version : ℕ) (ps : List DataField) (gs : List Group) (whole : Option
       text (early_from i) ≡ whole → Some p ≡ whole
   early_stops i g x p at h is some so_far = later_some (below (group_name g) (added_below version g)) (early_from (i + 1)) x p is some ∙ sym (ap text (early_step i g at h)) ∙ so_far
 
-  pub early_new : (i : ℕ) (g : Group) → slice_get gs i ≡ Some g → version < (out-Level (out-Group g).level).since → (has_old_each version (drop (i + 1) gs) || has_old_part version ps) ≡ true →
+  pub early_new : (i : ℕ) (g : Group) → slice_get gs i ≡ Some g → version < (out-Level (out-Group g).level).since → (list_any (old_group version) (drop (i + 1) gs) || list_any (old_part version) ps) ≡ true →
       text (early_from i) ≡ whole → Some (out-Level (out-Group g).level).name ≡ whole
   early_new i g at h more so_far =
       ap Some (sym (name_is g))
       ∙ sym (ap text (early_added i g at h ∙ ap (λ t. cond t (Some (group_name g ∷ [])) (early_from (i + 1))) more)) ∙ so_far
 
-  pub early_last : (i : ℕ) (g : Group) → slice_get gs i ≡ Some g → version < (out-Level (out-Group g).level).since → (has_old_each version (drop (i + 1) gs) || has_old_part version ps) ≡ false →
+  pub early_last : (i : ℕ) (g : Group) → slice_get gs i ≡ Some g → version < (out-Level (out-Group g).level).since → (list_any (old_group version) (drop (i + 1) gs) || list_any (old_part version) ps) ≡ false →
       text (early_from i) ≡ whole → text (early_from (i + 1)) ≡ whole
   early_last i g at h none so_far = sym (ap text (early_added i g at h ∙ ap (λ t. cond t (Some (group_name g ∷ [])) (early_from (i + 1))) none)) ∙ so_far
 

@@ -1,5 +1,5 @@
 -- Two lists, compared item by item.
-use Rattle.std.proofs.Common.{◌≡◌, ◌≢◌, ◌≤◌, ◌+◌, ℕ, zero, suc, Bool, true, false, List, [], ◌∷◌, length, drop, Option, Some, refl, sym, ap, ◌∙◌, add-one}
+use Rattle.std.proofs.Common.{◌≡◌, ◌≢◌, ◌≤◌, ◌+◌, ℕ, suc, Bool, true, false, List, [], ◌∷◌, length, drop, Some, refl, sym, ap, ◌∙◌}
 use Rattle.std.specs.Prelude.{◌&&◌, slice_get}
 use Rattle.std.proofs.lemmas.List.{drop_all}
 use mathlib.Core.Former.{Count}
@@ -8,14 +8,7 @@ use Rattle.sbe_types.specs.declared.kind.Member.{Member}
 use Rattle.sbe_types.specs.declared.kind.Named.{Named}
 use Rattle.version_laws.specs.Same.{same_named, same_names, same_kind, same_row, same_members}
 use Rattle.version_project.specs.Pairwise.{all_alike, is_member}
-
-some_is : {A : Type 0} {x y : A} → ◌≡◌ {A = Option A} (Some x) (Some y) → x ≡ y
-some_is k = cc
-
-pub drop_at : {Y : Type 0} (ys : List Y) (i : ℕ) (y : Y) → slice_get ys i ≡ Some y → drop i ys ≡ y ∷ drop (i + 1) ys
-drop_at [] i y h = cc
-drop_at (x ∷ ys) zero y h = ap (λ x. x ∷ ys) (some_is h)
-drop_at (x ∷ ys) (suc i) y h = rw add-one (rw add-one at (drop_at ys i y h))
+use Rattle.version_project.proofs.Items.{drop_at}
 
 pub unlike_long : {X : Type 0} (test : X → X → Bool) (xs ys : List X) → length xs ≢ length ys → false ≡ all_alike test xs ys
 unlike_long test [] [] h = absurd (h refl)

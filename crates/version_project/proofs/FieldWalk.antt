@@ -1,7 +1,6 @@
 -- The walk over two lists of fields.
-use Rattle.std.proofs.Common.{◌≡◌, ◌≤◌, ◌<◌, ◌+◌, ℕ, Bool, true, false, cond, List, [], ◌∷◌, length, drop, Option, Some, None, sym, ap, ◌∙◌, subst, arith}
+use Rattle.std.proofs.Common.{◌≡◌, ◌≤◌, ◌<◌, ◌+◌, ℕ, Bool, cond, List, [], ◌∷◌, length, drop, Option, Some, None, sym, ap, ◌∙◌, subst}
 use Rattle.std.proofs.lemmas.List.{drop_all}
-use Rattle.std.proofs.lemmas.Bool.Decides.{nat_tests}
 use Rattle.std.specs.Prelude.{slice_get}
 use Rattle.sbe_types.specs.declared.schema.Field.{Field}
 use Rattle.sbe_types.specs.Places.{end_past}
@@ -9,17 +8,10 @@ use Rattle.schema_facts.specs.Measured.{IsNarrow, EndsWithin, AreNarrowFields}
 use Rattle.version_laws.specs.declared.difference.Difference.{Difference}
 use Rattle.version_laws.specs.declared.difference.Reason.{Reason}
 use Rattle.version_laws.specs.declared.difference.Reason.TheVariants as reason
-use Rattle.version_laws.specs.Differ.{Ends, is_old, differs, unless_for, field_reason, fields_differ}
-use Rattle.version_project.proofs.Alike.{drop_at}
-
-abbrev ends_at : ℕ → ℕ → Ends
-ends_at e d = record { old = e; new = d }
-
-known : (version since : ℕ) → since ≤ version → is_old version since ≡ true
-known version since h = grind (arith, nat_tests)
-
-added : (version since : ℕ) → version < since → is_old version since ≡ false
-added version since h = grind (arith, nat_tests)
+use Rattle.version_laws.specs.Differ.{differs, unless_for, field_reason, fields_differ}
+use Rattle.version_project.specs.Pairwise.{ends_at}
+use Rattle.version_project.proofs.Items.{drop_at}
+use Rattle.version_project.proofs.OldParts.{old_has, old_lacks}
 
 module _ (version : ℕ) (more : Bool) (olds news : List Field) (whole : Option Difference) where
   abbrev left : ℕ → ℕ → ℕ → ℕ → Option Difference
@@ -31,14 +23,14 @@ module _ (version : ℕ) (more : Bool) (olds news : List Field) (whole : Option 
       ap (λ l. fields_differ version more (ends_at e d) l (drop j news)) (drop_at olds i f a)
       ∙ ap (fields_differ version more (ends_at e d) (f ∷ drop (i + 1) olds)) (drop_at news j g b)
       ∙ ap (λ t. cond t (unless_for f.name (field_reason more (ends_at e d) f g) (left (end_past e f.offset f.kind) (i + 1) (end_past d g.offset g.kind) (j + 1)))
-      (fields_differ version more (ends_at e (end_past d g.offset g.kind)) (f ∷ drop (i + 1) olds) (drop (j + 1) news))) (known version g.since old)
+      (fields_differ version more (ends_at e (end_past d g.offset g.kind)) (f ∷ drop (i + 1) olds) (drop (j + 1) news))) (old_has version g.since old)
 
   skip : (e d : ℕ) (xs : List Field) (g : Field) (gs : List Field) → version < g.since →
       fields_differ version more (ends_at e d) xs (g ∷ gs) ≡ fields_differ version more (ends_at e (end_past d g.offset g.kind)) xs gs
-  skip e d [] g gs h = ap (λ t. cond t (differs g.name reason.Part) (fields_differ version more (ends_at e (end_past d g.offset g.kind)) [] gs)) (added version g.since h)
+  skip e d [] g gs h = ap (λ t. cond t (differs g.name reason.Part) (fields_differ version more (ends_at e (end_past d g.offset g.kind)) [] gs)) (old_lacks version g.since h)
   skip e d (f ∷ fs) g gs h =
       ap (λ t. cond t (unless_for f.name (field_reason more (ends_at e d) f g) (fields_differ version more (ends_at (end_past e f.offset f.kind) (end_past d g.offset g.kind)) fs gs))
-      (fields_differ version more (ends_at e (end_past d g.offset g.kind)) (f ∷ fs) gs)) (added version g.since h)
+      (fields_differ version more (ends_at e (end_past d g.offset g.kind)) (f ∷ fs) gs)) (old_lacks version g.since h)
 
   pub field_kept : (e i d j e' i' d' : ℕ) (f g : Field) (r : Option Reason) → slice_get olds i ≡ Some f → slice_get news j ≡ Some g → g.since ≤ version →
       r ≡ field_reason more (ends_at e d) f g → r ≡ None → e' ≡ end_past e f.offset f.kind → i' ≡ i + 1 → d' ≡ end_past d g.offset g.kind → left e i d j ≡ whole → left e' i' d' (j + 1) ≡ whole
@@ -59,7 +51,7 @@ module _ (version : ℕ) (more : Bool) (olds news : List Field) (whole : Option 
   pub field_extra : (e i d j : ℕ) (g : Field) → length olds ≤ i → slice_get news j ≡ Some g → g.since ≤ version → left e i d j ≡ whole → differs g.name reason.Part ≡ whole
   field_extra e i d j g end b old so_far =
       sym (ap (λ l. fields_differ version more (ends_at e d) l (drop j news)) (drop_all i olds end) ∙ ap (fields_differ version more (ends_at e d) []) (drop_at news j g b)
-      ∙ ap (λ t. cond t (differs g.name reason.Part) (fields_differ version more (ends_at e (end_past d g.offset g.kind)) [] (drop (j + 1) news))) (known version g.since old)) ∙ so_far
+      ∙ ap (λ t. cond t (differs g.name reason.Part) (fields_differ version more (ends_at e (end_past d g.offset g.kind)) [] (drop (j + 1) news))) (old_has version g.since old)) ∙ so_far
 
   pub field_missing : (e i d j : ℕ) (f : Field) → slice_get olds i ≡ Some f → length news ≤ j → left e i d j ≡ whole → differs f.name reason.Part ≡ whole
   field_missing e i d j f a end so_far =

@@ -1,11 +1,12 @@
 -- Sizes of levels, by which the comparison of levels ends.
-use Rattle.std.proofs.Common.{◌≡◌, ◌≤◌, ◌+◌, ℕ, zero, suc, List, [], ◌∷◌, Option, Some, refl, sym, ap, ◌∙◌, arith}
+use Rattle.std.proofs.Common.{◌≡◌, ◌≤◌, ◌+◌, ℕ, zero, suc, List, [], ◌∷◌, Some, refl, sym, ap, ◌∙◌, arith}
 use Rattle.std.specs.Prelude.{slice_get}
 use denote.Hole.Carrier as carrier
 use Rattle.sbe_types.specs.declared.schema.Level as levels
 use Rattle.sbe_types.specs.declared.schema.Group as groups_of
 use Rattle.sbe_types.specs.declared.schema.Group.{Group, Group', out-Group}
 use Rattle.sbe_types.specs.declared.schema.Level.{Level, Level', out-Level, Row_of-Group, end_of-Group, more_of-Group, items-the_row-Group, items_shown-the_row-Group-0}
+use Rattle.version_project.proofs.Items.{some_is}
 
 mutual
   -- the groups in a level, those inside one another too
@@ -42,7 +43,4 @@ size_of_one [] i g at = cc
 size_of_one (x ∷ gs) zero g at =
     let here : group_size x ≡ group_size g = ap group_size (some_is at) in
     omega (arith, here)
-  where
-    some_is : {A : Type 0} {x y : A} → ◌≡◌ {A = Option A} (Some x) (Some y) → x ≡ y
-    some_is k = cc
 size_of_one (x ∷ gs) (suc i) g at = let rest = size_of_one gs i g at in omega (arith, rest)

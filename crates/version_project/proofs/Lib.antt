@@ -1,3 +1,5 @@
+pub mod Items
+pub mod OldParts
 pub mod Opens
 pub mod DataWalk
 pub mod ProjectWalk

@@ -11,7 +11,7 @@ use Rattle.version_laws.specs.declared.difference.Difference.{Difference}
 use Rattle.version_laws.specs.declared.difference.Reason.TheVariants as reason
 use Rattle.version_laws.specs.Differ.{or_else, differs, in_part, level_differs, message_differs, messages_differ}
 use Rattle.version_project.specs.Sought.{Finds}
-use Rattle.version_project.proofs.Alike.{drop_at}
+use Rattle.version_project.proofs.Items.{some_is, drop_at}
 
 same_id : (m n : ℕ) → m ≡ n → (m == n) ≡ true
 same_id m n h = grind (arith, nat_tests)
@@ -59,9 +59,6 @@ module _ (version : ℕ) (more : Bool) (olds news : List Level) (whole : Option 
       sym (messages_step i old at ∙ ap (λ d. or_else d (messages_differ version more (drop (i + 1) olds) news)) (sym is ∙ some)) ∙ so_far
 
 -- ---- one message
-
-some_is : {A : Type 0} {x y : A} → ◌≡◌ {A = Option A} (Some x) (Some y) → x ≡ y
-some_is k = cc
 
 pub found_is : (levels : List Level) (sought : Option (ℕ × Level)) (i : ℕ) (level : Level) → Finds levels sought (Some i) → slice_get levels i ≡ Some level → sought ≡ Some (i, level)
 found_is levels sought i level found at = found.2 ∙ ap (λ l. Some (i, l)) (some_is (sym found.1 ∙ at))

@@ -13,6 +13,7 @@ use Rattle.sbe_types.specs.declared.schema.WireSchema.{WireSchema}
 use Rattle.schema_facts.specs.Levels.{Node, nodes, nodes_below, nodes_of, nodes_from}
 use Rattle.schema_facts.specs.Measured.{AreNarrowFields, AreMeasured, IsMeasured}
 use Rattle.version_project.specs.Narrow.{IsNarrowLevel, AreNarrowGroups, IsNarrowGroup}
+use Rattle.version_project.proofs.Items.{some_is}
 
 rows_narrow : {n : _} (row : Row_of-Group n) → AreNarrowGroups row → AllByRecursion IsNarrowGroup (items-the_row-Group _ row)
 unfolding AreNarrowGroups
@@ -35,9 +36,6 @@ level_narrow (Group' dim level) h = h
 pub narrow_at : {X : Type 0} (P : X → Type 0) (xs : List X) (i : ℕ) (x : X) → AllByRecursion P xs → slice_get xs i ≡ Some x → P x
 narrow_at P [] i x all at = cc
 narrow_at P (y ∷ ys) zero x all at = subst P (some_is at) all.0
-  where
-    some_is : {A : Type 0} {x y : A} → ◌≡◌ {A = Option A} (Some x) (Some y) → x ≡ y
-    some_is k = cc
 narrow_at P (y ∷ ys) (suc i) x all at = narrow_at P ys i x all.1 at
 
 pub narrow_item : {X : Type 0} (P : X → Type 0) (xs zs : List X) (i : ℕ) (x : X) → AllByRecursion P xs → zs ≡ xs → i < length zs → x ≡ get_or zs i x → P x

@@ -6,7 +6,8 @@ use Rattle.sbe_types.specs.declared.kind.Member.{Member}
 use Rattle.sbe_types.specs.Places.{width, row_end, members_end, end_past}
 use Rattle.schema_facts.specs.Measured.{IsNarrow, IsNarrowRow, EndsWithin}
 use Rattle.version_project.specs.Narrow.{AreNarrow}
-use Rattle.version_project.proofs.Alike.{drop_at, row_in}
+use Rattle.version_project.proofs.Alike.{row_in}
+use Rattle.version_project.proofs.Items.{drop_at}
 
 rows_end : (n : _) (row : Row_of-Member n) (e : ℕ) → row_end e row ≡ members_end e (items-the_row-Member n row)
 rows_end n end_of-Member e = refl

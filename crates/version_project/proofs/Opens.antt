@@ -1,5 +1,5 @@
 -- The tests of plain entries, as the code walks.
-use Rattle.std.proofs.Common.{◌≡◌, ◌<◌, ℕ, zero, suc, ◌+◌, Bool, true, false, cond, List, [], ◌∷◌, length, drop, get_or, Option, Some, refl, sym, ap, ◌∙◌, subst, add-one, drop-cons}
+use Rattle.std.proofs.Common.{◌≡◌, ◌<◌, ℕ, ◌+◌, Bool, true, false, cond, List, [], ◌∷◌, length, drop, get_or, Some, refl, sym, ap, ◌∙◌, subst}
 use Rattle.std.specs.Prelude.{◌&&◌, slice_get}
 use denote.Hole.Carrier as carrier
 use Rattle.sbe_types.specs.declared.schema.Level as levels
@@ -12,24 +12,15 @@ use Rattle.sbe_types.specs.declared.message.GroupVal.TheVariants as groupval
 use Rattle.std.specs.List.{list_all}
 use Rattle.version_laws.specs.Differ.{is_old}
 use Rattle.version_laws.specs.Plain.{is_absent_group}
+use Rattle.version_project.proofs.Items.{drop_at, item_at}
 use Rattle.version_project.specs.IsPlain.{all_pairs, part_is_plain, entries_pass, entry_is_plain, groups_are_plain, group_is_plain}
 
 -- ---- a pair of lists, item by item
 
-pub drop_at : {Y : Type 0} (ys : List Y) (i : ℕ) (y : Y) → slice_get ys i ≡ Some y → drop i ys ≡ y ∷ drop (suc i) ys
-drop_at [] i y h = cc
-drop_at (x ∷ ys) zero y h = ap (λ x. x ∷ ys) (some_is h)
-  where
-    some_is : {A : Type 0} {x y : A} → ◌≡◌ {A = Option A} (Some x) (Some y) → x ≡ y
-    some_is k = cc
-drop_at (x ∷ ys) (suc i) y h = drop_at ys i y h
-
 pub pairs_step : {X Y : Type 0} (test : X → Y → Bool) (xs : List X) (ys : List Y) (i : ℕ) (x : X) (y : Y) → i < length xs → x ≡ get_or xs i x → slice_get ys i ≡ Some y →
     all_pairs test (drop i xs) (drop i ys) ≡ (test x y && all_pairs test (drop (i + 1) xs) (drop (i + 1) ys))
 pairs_step test xs ys i x y h at is =
-    let front : drop i xs ≡ x ∷ drop (i + 1) xs = rw add-one (drop-cons xs i x h ∙ ap (λ z. z ∷ drop (suc i) xs) (sym at)) in
-    let other : drop i ys ≡ y ∷ drop (i + 1) ys = rw add-one (drop_at ys i y is) in
-    ap (λ l. all_pairs test l (drop i ys)) front ∙ ap (λ l. all_pairs test (x ∷ drop (i + 1) xs) l) other
+    ap (λ l. all_pairs test l (drop i ys)) (item_at xs xs i x refl h at) ∙ ap (λ l. all_pairs test (x ∷ drop (i + 1) xs) l) (drop_at ys i y is)
 
 pub pairs_go : {X Y : Type 0} (test : X → Y → Bool) (xs zs : List X) (ys : List Y) (i : ℕ) (x : X) (y : Y) (r : Bool) → zs ≡ xs → i < length zs → x ≡ get_or zs i x → slice_get ys i ≡ Some y → r ≡ test x y → r ≡ true →
     all_pairs test (drop i xs) (drop i ys) ≡ all_pairs test xs ys → all_pairs test (drop (i + 1) xs) (drop (i + 1) ys) ≡ all_pairs test xs ys

@@ -1,6 +1,6 @@
 -- The test of plain messages tells which are plain.
 use Rattle.std.proofs.Common.{◌≡◌, ℕ, Bool, true, false, cond, List, [], ◌∷◌, Some, refl, sym, ◌∙◌, subst}
-use Rattle.std.specs.Prelude.{⊤, IsTrue, ◌↔◌, not, ◌&&◌, ◌||◌, slice_get, Option}
+use Rattle.std.specs.Prelude.{⊤, IsTrue, ◌↔◌, not, ◌&&◌, ◌||◌, slice_get}
 use Rattle.std.specs.Bool.{MatchBool}
 use Rattle.std.specs.List.{list_all, list_any}
 use denote.Hole.Carrier as carrier
@@ -19,6 +19,7 @@ use Rattle.version_laws.specs.Differ.{is_old, group_since}
 use Rattle.version_laws.specs.Projected.{old_part}
 use Rattle.version_laws.specs.Plain.{AllOf, EachEntry, PlainParts, PlainEntry, PlainGroups, PlainGroup, NoOldParts, NoOldGroups, is_absent_part, is_absent_group, PlainRootParts, PlainRootGroups, PlainRoot, Plain}
 use Rattle.version_project.specs.IsPlain.{all_pairs, part_is_plain, entries_pass, entry_is_plain, groups_are_plain, group_is_plain, old_group, root_parts_pass, root_groups_pass, root_is_plain}
+use Rattle.version_project.proofs.Items.{some_is}
 
 abbrev pub Tells : Bool → Type 0 → Type 0
 Tells b P = IsTrue b ↔ P
@@ -141,11 +142,8 @@ root_tells version (Level' name id semantic since block_length fs n gs ps) block
 
 -- ---- the message
 
-some_is : {X : Type 0} (x y : X) → ◌≡◌ {A = Option X} (Some x) (Some y) → x ≡ y
-some_is x y h = cc
-
 pub message_tells : (old new : WireSchema) (m : Msg) (level : Level) → slice_get new.messages m.template ≡ Some level → Tells (root_is_plain old.version level m.block) (Plain old new m)
 message_tells old new m level at = (
-  λ h other is. subst (λ l. PlainRoot old.version l m.block) (some_is level other (sym at ∙ is)) ((root_tells old.version level m.block).0 h),
+  λ h other is. subst (λ l. PlainRoot old.version l m.block) (some_is (sym at ∙ is)) ((root_tells old.version level m.block).0 h),
   λ plain. (root_tells old.version level m.block).1 (plain level at),
 )

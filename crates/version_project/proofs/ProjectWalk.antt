@@ -1,6 +1,5 @@
 -- The walk that copies what an older schema knows.
-use Rattle.std.proofs.Common.{◌≡◌, ◌≤◌, ◌<◌, ℕ, suc, ◌+◌, Bool, true, false, cond, List, [], ◌∷◌, ◌++◌, length, drop, get_or, Some, refl, sym, ap, ◌∙◌, subst, arith, add-one, drop-cons, append_assoc, map}
-use Rattle.std.proofs.lemmas.Bool.Decides.{nat_tests}
+use Rattle.std.proofs.Common.{◌≡◌, ◌<◌, ℕ, ◌+◌, Bool, true, false, cond, List, [], ◌∷◌, ◌++◌, length, drop, get_or, Some, refl, sym, ap, ◌∙◌, subst, append_assoc, map}
 use Rattle.std.specs.Prelude.{slice_get}
 use denote.Hole.Carrier as carrier
 use Rattle.sbe_types.specs.declared.schema.Level as levels
@@ -14,19 +13,17 @@ use Rattle.sbe_types.specs.declared.message.DataVal.{DataVal}
 use Rattle.sbe_types.specs.declared.message.Block.{Block, out-Block}
 use Rattle.sbe_types.specs.declared.message.GroupVal.{GroupVal}
 use Rattle.sbe_types.specs.declared.message.GroupVal.TheVariants as groupval
-use Rattle.version_project.specs.Each.{known_each}
+use Rattle.version_project.specs.Each.{known_each, known_fields, known_groups, known_parts}
 use Rattle.version_laws.specs.Differ.{is_old, group_since}
 use Rattle.version_laws.specs.Projected.{each_entry, old_field, old_part, projected_list, projected_block, projected_groups, projected_group}
 use Rattle.version_laws.proofs.TailMoves.{each_of}
-use Rattle.version_project.proofs.Opens.{drop_at}
+use Rattle.version_project.proofs.Items.{drop_at, item_at}
 
 module _ {X Y : Type 0} (known : X → Bool) (f : X → Y → Y) where
   each_step : (xs : List X) (ys : List Y) (i : ℕ) (x : X) (y : Y) → i < length xs → x ≡ get_or xs i x → slice_get ys i ≡ Some y →
       known_each known f (drop i xs) (drop i ys) ≡ cond (known x) (f x y ∷ known_each known f (drop (i + 1) xs) (drop (i + 1) ys)) (known_each known f (drop (i + 1) xs) (drop (i + 1) ys))
   each_step xs ys i x y h at is =
-      let front : drop i xs ≡ x ∷ drop (i + 1) xs = rw add-one (drop-cons xs i x h ∙ ap (λ z. z ∷ drop (suc i) xs) (sym at)) in
-      let other : drop i ys ≡ y ∷ drop (i + 1) ys = rw add-one (drop_at ys i y is) in
-      ap (λ l. known_each known f l (drop i ys)) front ∙ ap (λ l. known_each known f (x ∷ drop (i + 1) xs) l) other
+      ap (λ l. known_each known f l (drop i ys)) (item_at xs xs i x refl h at) ∙ ap (λ l. known_each known f (x ∷ drop (i + 1) xs) l) (drop_at ys i y is)
 
   pub each_go : (xs zs : List X) (ys out : List Y) (i : ℕ) (x : X) (y r : Y) (whole : List Y) → zs ≡ xs → i < length zs → x ≡ get_or zs i x → slice_get ys i ≡ Some y → known x ≡ true → r ≡ f x y →
       out ++ known_each known f (drop i xs) (drop i ys) ≡ whole → (out ++ r ∷ []) ++ known_each known f (drop (i + 1) xs) (drop (i + 1) ys) ≡ whole
@@ -42,17 +39,17 @@ module _ {X Y : Type 0} (known : X → Bool) (f : X → Y → Y) where
       let rest = known_each known f (drop (i + 1) xs) (drop (i + 1) ys) in
       sym (ap (λ l. out ++ l) (each_step xs ys i x y (subst (λ zs. i < length zs) same h) (subst (λ zs. x ≡ get_or zs i x) same at) is ∙ ap (λ t. cond t (f x y ∷ rest) rest) old)) ∙ so_far
 
-parts_each : (version : ℕ) (ps : List DataField) (vs : List DataVal) → projected_list (old_part version) ps vs ≡ known_each (old_part version) (λ (p : DataField) (v : DataVal). v) ps vs
+parts_each : (version : ℕ) (ps : List DataField) (vs : List DataVal) → projected_list (old_part version) ps vs ≡ known_parts version ps vs
 parts_each version [] vs = refl
 parts_each version (p ∷ ps) [] = refl
 parts_each version (p ∷ ps) (v ∷ vs) = ap (λ r. cond (old_part version p) (v ∷ r) r) (parts_each version ps vs)
 
-fields_each : (version : ℕ) (fs : List Field) (vs : List Value) → projected_list (old_field version) fs vs ≡ known_each (old_field version) (λ (f : Field) (v : Value). v) fs vs
+fields_each : (version : ℕ) (fs : List Field) (vs : List Value) → projected_list (old_field version) fs vs ≡ known_fields version fs vs
 fields_each version [] vs = refl
 fields_each version (f ∷ fs) [] = refl
 fields_each version (f ∷ fs) (v ∷ vs) = ap (λ r. cond (old_field version f) (v ∷ r) r) (fields_each version fs vs)
 
-rows_each : (version : ℕ) {n : _} (groups : Row_of-Group n) (vs : List GroupVal) → projected_groups version groups vs ≡ known_each (λ g. is_old version (group_since g)) (projected_group version) (items-the_row-Group _ groups) vs
+rows_each : (version : ℕ) {n : _} (groups : Row_of-Group n) (vs : List GroupVal) → projected_groups version groups vs ≡ known_groups version (items-the_row-Group _ groups) vs
 unfolding projected_groups
 rows_each version end_of-Group vs = refl
 rows_each version (more_of-Group g gs) [] = refl
@@ -61,15 +58,16 @@ rows_each version (more_of-Group g gs) (v ∷ vs) = ap (λ r. cond (is_old versi
 abbrev pub block_of : List Value → List GroupVal → List DataVal → Block
 block_of fields groups parts = record { fields = fields; groups = groups; parts = parts }
 
-pub block_is : (version : ℕ) (level : Level) (block : Block) (fields : List Value) (groups : List GroupVal) (parts : List DataVal) → fields ≡ known_each (old_field version) (λ (f : Field) (v : Value). v) (out-Level level).fields (out-Block block).fields →
-    groups ≡ known_each (λ g. is_old version (group_since g)) (projected_group version) (out-Level level).groups (out-Block block).groups →
-    parts ≡ known_each (old_part version) (λ (p : DataField) (v : DataVal). v) (out-Level level).parts (out-Block block).parts →
+pub block_is : (version : ℕ) (level : Level) (block : Block) (fields : List Value) (groups : List GroupVal) (parts : List DataVal) →
+    fields ≡ known_fields version (out-Level level).fields (out-Block block).fields →
+    groups ≡ known_groups version (out-Level level).groups (out-Block block).groups →
+    parts ≡ known_parts version (out-Level level).parts (out-Block block).parts →
     block_of fields groups parts ≡ projected_block version level block
 unfolding projected_block levels.out-Level carrier.out
 block_is version (Level' name id semantic since block_length fs n gs ps) block fields groups parts a b c =
     ap (λ x. block_of x groups parts) (a ∙ sym (fields_each version fs (out-Block block).fields))
     ∙ ap (λ x. block_of (out-Block (projected_block version (Level' name id semantic since block_length fs n gs ps) block)).fields x parts)
-    (b ∙ ap (λ l. known_each (λ g. is_old version (group_since g)) (projected_group version) l (out-Block block).groups) (items_shown-the_row-Group-0 n gs) ∙ sym (rows_each version gs (out-Block block).groups))
+    (b ∙ ap (λ l. known_groups version l (out-Block block).groups) (items_shown-the_row-Group-0 n gs) ∙ sym (rows_each version gs (out-Block block).groups))
     ∙ ap (λ x. block_of (out-Block (projected_block version (Level' name id semantic since block_length fs n gs ps) block)).fields (projected_groups version gs (out-Block block).groups) x) (c ∙ sym (parts_each version ps (out-Block block).parts))
 
 pub group_is : (version : ℕ) (g : Group) (v : GroupVal) → projected_group version g v ≡ each_entry (projected_block version (out-Group g).level) v
@@ -82,13 +80,3 @@ absent_is version g v h = sym (group_is version g v ∙ ap (each_entry (projecte
 pub entries_are : (version : ℕ) (g : Group) (v : GroupVal) (es out : List Block) → v ≡ groupval.Entries es → out ≡ map (projected_block version (out-Group g).level) es → groupval.Entries out ≡ projected_group version g v
 entries_are version g v es out h e =
     ap groupval.Entries e ∙ sym (group_is version g v ∙ ap (each_entry (projected_block version (out-Group g).level)) h ∙ each_of (projected_block version (out-Group g).level) es)
-
-since_is : (g : Group) → group_since g ≡ (out-Level (out-Group g).level).since
-unfolding groups_of.out-Group carrier.out
-since_is (Group' dim level) = refl
-
-pub known_group : (version : ℕ) (g : Group) → (out-Level (out-Group g).level).since ≤ version → is_old version (group_since g) ≡ true
-known_group version g h = ap (is_old version) (since_is g) ∙ grind (arith, nat_tests)
-
-pub added_group : (version : ℕ) (g : Group) → version < (out-Level (out-Group g).level).since → is_old version (group_since g) ≡ false
-added_group version g h = ap (is_old version) (since_is g) ∙ grind (arith, nat_tests)

@@ -1,10 +1,8 @@
 -- Members of a list are no larger than the largest of them.
-use Rattle.std.proofs.Common.{◌≡◌, ◌≤◌, ℕ, zero, suc, List, [], ◌∷◌, Option, Some, arith, subst}
+use Rattle.std.proofs.Common.{◌≡◌, ◌≤◌, ℕ, zero, suc, List, [], ◌∷◌, Some, arith, subst}
 use Rattle.std.specs.Prelude.{slice_get}
 use denote.Param.Weighed.{most}
-
-some_is : {A : Type 0} {x y : A} → ◌≡◌ {A = Option A} (Some x) (Some y) → x ≡ y
-some_is k = cc
+use Rattle.version_project.proofs.Items.{some_is}
 
 pub size_at : {X : Type 0} (size : X → ℕ) (xs : List X) (i : ℕ) (x : X) → slice_get xs i ≡ Some x → size x ≤ most size xs
 size_at size [] i x at = cc

@@ -3,6 +3,7 @@ use Rattle.std.specs.Prelude.{ℕ, Bool, if◌then◌else◌, Option, None, List
 use Rattle.sbe_types.specs.declared.schema.Group.{Group}
 use Rattle.version_laws.specs.declared.difference.Difference.{Difference}
 use Rattle.version_laws.specs.declared.difference.Reason.TheVariants as reason
+use Rattle.version_project.specs.IsPlain.{old_group}
 use Rattle.version_laws.specs.Differ.{differs, or_else, unless_for, in_part, group_name, group_reason, group_differs}
 
 -- two lists compared part by part
@@ -10,8 +11,16 @@ abbrev pub paired : {P : Type 0} → (P → Bool) → (P → List ℕ) → (P �
 paired known name compare [] [] = None
 paired known name compare (f ∷ fs) [] = differs (name f) reason.Part
 paired known name compare [] (g ∷ gs) = if known g then differs (name g) reason.Part else paired known name compare [] gs
-paired known name compare (f ∷ fs) (g ∷ gs) = if known g then or_else (compare f g) (paired known name compare fs gs) else paired known name compare (f ∷ fs) gs
+paired known name compare (f ∷ fs) (g ∷ gs) =
+    if known g
+    then or_else (compare f g) (paired known name compare fs gs)
+    else paired known name compare (f ∷ fs) gs
 
 -- two groups compared
 abbrev pub group_compare : ℕ → Bool → Group → Group → Option Difference
-group_compare version more f g = unless_for (group_name f) (group_reason f g) (in_part (group_name f) (group_differs version more f g))
+group_compare version more f g =
+    unless_for (group_name f) (group_reason f g) (in_part (group_name f) (group_differs version more f g))
+
+-- two lists of groups compared
+abbrev pub groups_compare : ℕ → Bool → List Group → List Group → Option Difference
+groups_compare version more olds news = paired (old_group version) group_name (group_compare version more) olds news

@@ -1,14 +1,16 @@
 //! The first added group or data that an older reader can't pass over.
-ghost use Rattle.std.specs.Prelude.{◌≡◌, ◌++◌, IfOk, Some, codes, drop};
+ghost use Rattle.std.specs.Prelude.{◌≡◌, ◌++◌, IfOk, Some, codes};
 ghost use Rattle.std.specs.Option.{option_map};
 ghost use Rattle.sbe_wire.specs.Faults.{message_named};
 ghost use Rattle.sbe_types.specs.declared.schema.Level.{out-Level};
 ghost use Rattle.version_laws.specs.Answer.{dotted};
 ghost use Rattle.version_laws.specs.Differ.{group_name};
-ghost use Rattle.version_laws.specs.Forward.{below, added_part, added_in, added_below, early_part, has_old_part, added_at_root, added_of, added_among, first_added};
-ghost use Rattle.version_project.specs.Additions.{added_each, has_old_each};
+ghost use Rattle.version_laws.specs.Forward.{below, added_part, added_in, added_below};
+ghost use Rattle.version_laws.specs.Forward.{early_part, added_at_root, added_of, added_among, first_added};
+ghost use Rattle.version_project.specs.Additions.{added_each};
 
 use crate::differ::message_of;
+use crate::known::{has_old_group, has_old_part};
 use lists::{List, NoMem, Text};
 use sbe_types::{DataField, Group, Level, WireSchema};
 use std::alloc::Global;
@@ -89,30 +91,6 @@ fn early_part(alloc: Global, version: u32, parts: &List<DataField>) -> Result<Op
         }
     }
     Ok(None)
-}
-
-/// Whether old has one of the data from number `from` on.
-fn has_old_part(version: u32, parts: &List<DataField>, from: usize) -> bool
-    ensures { result ≡ has_old_part version (drop from parts.now) }
-{
-    for i in from..parts.len() {
-        if parts.at(i).since <= version {
-            return true;
-        }
-    }
-    false
-}
-
-/// Whether old has one of the groups from number `from` on.
-fn has_old_group(version: u32, groups: &List<Group>, from: usize) -> bool
-    ensures { result ≡ has_old_each version (drop from groups.now) }
-{
-    for i in from..groups.len() {
-        if groups.at(i).level.since <= version {
-            return true;
-        }
-    }
-    false
 }
 
 /// The first added group or data of an entry.

@@ -4,8 +4,8 @@
 
 mod added;
 mod comparing;
-mod copies;
 mod differ;
+mod known;
 mod messages;
 mod plain_entries;
 mod plain_messages;

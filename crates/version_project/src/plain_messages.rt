@@ -1,36 +1,11 @@
-ghost use Rattle.std.specs.Prelude.{◌≡◌, ◌↔◌, ◌<◌, IsTrue, drop, length, not, ◌&&◌};
-ghost use Rattle.std.specs.List.{list_any};
+ghost use Rattle.std.specs.Prelude.{◌≡◌, ◌↔◌, IsTrue};
 ghost use Rattle.version_laws.specs.Plain.{Plain};
-ghost use Rattle.version_laws.specs.Projected.{old_part};
-ghost use Rattle.version_project.specs.IsPlain.{old_group, root_parts_pass, root_is_plain};
+ghost use Rattle.version_project.specs.IsPlain.{root_parts_pass, root_is_plain};
 
+use crate::known::{has_old_group, has_old_part};
 use crate::plain_entries::{plain_group, plain_part};
 use lists::List;
-use sbe_types::{Block, DataField, DataVal, Group, Level, Msg, WireSchema};
-
-/// Whether one of the data parts from that one on is effective by the version.
-fn any_known_part(version: u32, parts: &List<DataField>, from: usize) -> bool
-    ensures { result ≡ list_any (old_part version) (drop from parts.now) }
-{
-    for i in from..parts.len() {
-        if parts.at(i).since <= version {
-            return true;
-        }
-    }
-    false
-}
-
-/// Whether one of the groups from that one on is effective by the version.
-fn any_known_group(version: u32, groups: &List<Group>, from: usize) -> bool
-    ensures { result ≡ list_any (old_group version) (drop from groups.now) }
-{
-    for i in from..groups.len() {
-        if groups.at(i).level.since <= version {
-            return true;
-        }
-    }
-    false
-}
+use sbe_types::{Block, DataField, DataVal, Level, Msg, WireSchema};
 
 fn root_parts(version: u32, parts: &List<DataField>, values: &List<DataVal>) -> bool
     ensures { result ≡ root_parts_pass version parts.now values.now }
@@ -40,7 +15,7 @@ fn root_parts(version: u32, parts: &List<DataField>, values: &List<DataVal>) -> 
             return true;
         }
         if !plain_part(version, part, values.at(i)) {
-            return !any_known_part(version, parts, i);
+            return !has_old_part(version, parts, i);
         }
     }
     true
@@ -55,8 +30,8 @@ fn plain_root(version: u32, level: &Level, block: &Block) -> bool
             return true;
         }
         if !plain_group(version, group, block.groups.at(i)) {
-            let behind = any_known_part(version, &level.parts, 0);
-            return !any_known_group(version, &level.groups, i) && !behind;
+            let behind = has_old_part(version, &level.parts, 0);
+            return !has_old_group(version, &level.groups, i) && !behind;
         }
     }
     root_parts(version, &level.parts, &block.parts)

@@ -1,9 +1,7 @@
-ghost use Rattle.std.specs.Prelude.{◌≡◌, drop, map, IfOk};
-ghost use Rattle.version_project.specs.Each.{known_each};
-ghost use Rattle.version_laws.specs.Differ.{is_old, group_since};
-ghost use Rattle.version_laws.specs.Projected.{old_field, old_part, projected_block, projected_group};
+ghost use Rattle.std.specs.Prelude.{◌≡◌, map, IfOk};
+ghost use Rattle.version_project.specs.Each.{known_fields, known_groups, known_parts};
+ghost use Rattle.version_laws.specs.Projected.{projected_block, projected_group};
 
-use crate::copies::{copied, copied_data};
 use lists::{List, NoMem};
 use sbe_types::{Block, DataField, DataVal, Field, Group, GroupVal, Level, Value};
 use std::alloc::Global;
@@ -14,7 +12,7 @@ fn project_fields(
     fields: &List<Field>,
     values: &List<Value>,
 ) -> Result<List<Value>, NoMem>
-    ensures { IfOk result (λ it. it ≡ known_each (old_field version) (λ f v. v) fields.now values.now) }
+    ensures { IfOk result (λ it. it ≡ known_fields version fields.now values.now) }
 {
     let mut out = List::new(alloc);
     for (i, field) in fields.as_slice().iter().enumerate() {
@@ -23,7 +21,7 @@ fn project_fields(
         }
         let value = values.at(i);
         if field.since <= version {
-            let copy = copied(alloc, value)?;
+            let copy = value.copy(alloc)?;
             out.push(copy)?;
         }
     }
@@ -36,7 +34,7 @@ fn project_parts(
     parts: &List<DataField>,
     values: &List<DataVal>,
 ) -> Result<List<DataVal>, NoMem>
-    ensures { IfOk result (λ it. it ≡ known_each (old_part version) (λ p v. v) parts.now values.now) }
+    ensures { IfOk result (λ it. it ≡ known_parts version parts.now values.now) }
 {
     let mut out = List::new(alloc);
     for (i, part) in parts.as_slice().iter().enumerate() {
@@ -45,7 +43,7 @@ fn project_parts(
         }
         let value = values.at(i);
         if part.since <= version {
-            let copy = copied_data(alloc, value)?;
+            let copy = value.copy(alloc)?;
             out.push(copy)?;
         }
     }
@@ -59,7 +57,7 @@ fn project_groups(
     groups: &List<Group>,
     values: &List<GroupVal>,
 ) -> Result<List<GroupVal>, NoMem>
-    ensures { IfOk result (λ it. it ≡ known_each (λ g. is_old version (group_since g)) (projected_group version) groups.now values.now) }
+    ensures { IfOk result (λ it. it ≡ known_groups version groups.now values.now) }
 {
     let mut out = List::new(alloc);
     for (i, group) in groups.as_slice().iter().enumerate() {

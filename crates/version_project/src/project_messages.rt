@@ -4,6 +4,7 @@ ghost use Rattle.sbe_types.specs.declared.schema.Level.{Level};
 ghost use Rattle.sbe_wire.specs.Faults.{message_named};
 ghost use Rattle.version_laws.specs.Projected.{projected};
 
+use crate::differ::message_of;
 use crate::project_blocks::project_block;
 use lists::NoMem;
 use sbe_types::{LevelList, Msg, WireSchema};
@@ -14,24 +15,17 @@ fn number_of(levels: &LevelList, id: u32) -> usize
     requires { IsSome (message_named 0 id levels.now) }
     ensures { (level : Level) × (message_named 0 id levels.now ≡ Some (result, level)) }
 {
-    for (i, level) in levels.as_slice().iter().enumerate() {
-        if level.id == id {
-            return i;
-        }
+    match message_of(levels, id) {
+        Some(number) => number,
+        None => 0,
     }
-    0
 }
 
 /// Whether there is a message of that id.
 fn is_named(levels: &LevelList, id: u32) -> bool
     ensures { result ≡ is_some (message_named 0 id levels.now) }
 {
-    for level in levels.as_slice() {
-        if level.id == id {
-            return true;
-        }
-    }
-    false
+    message_of(levels, id).is_some()
 }
 
 /// Whether the older schema has the message's template.

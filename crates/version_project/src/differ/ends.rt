@@ -1,7 +1,7 @@
 // Where parts begin and end.
 ghost use Rattle.std.specs.Prelude.{◌≡◌};
 ghost use Rattle.sbe_types.specs.declared.kind.Kind.{Comp};
-ghost use Rattle.sbe_types.specs.Places.{width, begin_of, end_past, members_end, is_const};
+ghost use Rattle.sbe_types.specs.Places.{width, begin_of, end_past};
 ghost use Rattle.schema_facts.specs.Measured.{IsNarrow, EndsWithin};
 
 use lists::List;

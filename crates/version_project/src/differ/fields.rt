@@ -2,6 +2,7 @@
 ghost use Rattle.std.specs.Prelude.{◌≡◌, IfOk};
 ghost use Rattle.schema_facts.specs.Measured.{IsNarrow, AreNarrowFields};
 ghost use Rattle.version_laws.specs.Differ.{no_fields, field_stays, field_reason, fields_differ};
+ghost use Rattle.version_project.specs.Pairwise.{ends_at};
 
 use crate::differ::ends::{begin_at, end_behind};
 use crate::differ::found::at_part;
@@ -53,7 +54,7 @@ pub(crate) fn fields_differ(
 fn reason_of(more: bool, end: u32, old: &Field, other_end: u32, new: &Field) -> Option<Reason>
     requires old { IsNarrow old.now.kind }
     requires new { IsNarrow new.now.kind }
-    ensures { result ≡ field_reason more (record { old = end; new = other_end }) old.now new.now }
+    ensures { result ≡ field_reason more (ends_at end other_end) old.now new.now }
 {
     if !is_same_name(old.name.as_slice(), new.name.as_slice()) {
         return Some(Reason::Part);
@@ -74,7 +75,7 @@ fn reason_of(more: bool, end: u32, old: &Field, other_end: u32, new: &Field) -> 
 fn does_stay(end: u32, old: &Field, other_end: u32, new: &Field) -> bool
     requires old { IsNarrow old.now.kind }
     requires new { IsNarrow new.now.kind }
-    ensures { result ≡ field_stays (record { old = end; new = other_end }) old.now new.now }
+    ensures { result ≡ field_stays (ends_at end other_end) old.now new.now }
 {
     is_same_place(
         &old.kind,

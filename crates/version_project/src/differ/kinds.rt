@@ -1,7 +1,6 @@
 // Whether kinds are equal.
-ghost use Rattle.std.specs.Prelude.{◌≡◌, ◌&&◌};
-ghost use Rattle.std.specs.Str.{bytes_eq};
-ghost use Rattle.version_laws.specs.Same.{same_kind, same_offset, same_members};
+ghost use Rattle.std.specs.Prelude.{◌≡◌};
+ghost use Rattle.version_laws.specs.Same.{same_kind, same_members};
 ghost use Rattle.version_project.specs.Pairwise.{all_alike, is_member};
 
 use crate::differ::leaves::{

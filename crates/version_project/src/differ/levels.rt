@@ -1,9 +1,9 @@
 // The first difference between two levels: their fields, groups and data.
 ghost use Rattle.std.specs.Prelude.{◌≡◌, IfOk};
 ghost use Rattle.std.specs.List.{AllByRecursion};
-ghost use Rattle.version_laws.specs.Differ.{is_old, level_differs, group_name, group_since, group_reason};
+ghost use Rattle.version_laws.specs.Differ.{level_differs, group_reason};
 ghost use Rattle.version_project.specs.Narrow.{IsNarrowLevel, IsNarrowGroup};
-ghost use Rattle.version_project.specs.Paired.{paired, group_compare};
+ghost use Rattle.version_project.specs.Paired.{group_compare, groups_compare};
 
 use crate::differ::data::parts_differ;
 use crate::differ::fields::fields_differ;
@@ -48,7 +48,7 @@ fn groups_differ(
 ) -> Result<Option<Difference>, NoMem>
     requires old { AllByRecursion IsNarrowGroup olds.now }
     requires new { AllByRecursion IsNarrowGroup news.now }
-    ensures { IfOk result (λ found. found ≡ paired (λ g. is_old version (group_since g)) group_name (group_compare version more) olds.now news.now) }
+    ensures { IfOk result (λ found. found ≡ groups_compare version more olds.now news.now) }
 {
     let mut i = 0usize;
     for new in news.as_slice() {

@@ -1,10 +1,10 @@
 // Whether parts begin at one place.
-ghost use Rattle.std.specs.Prelude.{◌≡◌, ◌&&◌, true};
+ghost use Rattle.std.specs.Prelude.{◌≡◌, true};
 ghost use Rattle.sbe_types.specs.declared.kind.Kind.{Comp};
-ghost use Rattle.sbe_types.specs.Places.{is_const, begin_of, end_past};
+ghost use Rattle.sbe_types.specs.Places.{is_const};
 ghost use Rattle.schema_facts.specs.Measured.{IsNarrow};
 ghost use Rattle.version_laws.specs.Same.{same_place, same_places, same_header};
-ghost use Rattle.version_project.specs.Pairwise.{all_stay, member_stays, is_header_member};
+ghost use Rattle.version_project.specs.Pairwise.{ends_at, all_stay, member_stays, is_header_member};
 
 use crate::differ::ends::{begin_at, end_behind};
 use crate::differ::kinds::is_same_kind;
@@ -49,7 +49,7 @@ pub(crate) fn are_same_places(old: &Kind, new: &Kind) -> bool
 fn do_stay(old: &List<Member>, new: &List<Member>) -> bool
     requires old { IsNarrow (Comp old.now) }
     requires new { IsNarrow (Comp new.now) }
-    ensures { result ≡ all_stay true member_stays 0 old.now 0 new.now }
+    ensures { result ≡ all_stay true member_stays (ends_at 0 0) old.now new.now }
 {
     let mut end = 0;
     let mut other_end = 0;
@@ -73,7 +73,7 @@ fn do_stay(old: &List<Member>, new: &List<Member>) -> bool
 fn does_stay(end: u32, old: &Member, other_end: u32, new: &Member) -> bool
     requires old { IsNarrow old.now.kind }
     requires new { IsNarrow new.now.kind }
-    ensures { result ≡ member_stays end old.now other_end new.now }
+    ensures { result ≡ member_stays (ends_at end other_end) old.now new.now }
 {
     is_same_place(
         &old.kind,
@@ -107,7 +107,7 @@ pub(crate) fn is_same_header(old: &List<Member>, new: &List<Member>) -> bool
 }
 
 fn is_same_member(end: u32, old: &Member, other_end: u32, new: &Member) -> bool
-    ensures { result ≡ is_header_member end old.now other_end new.now }
+    ensures { result ≡ is_header_member (ends_at end other_end) old.now new.now }
 {
     is_same_name(old.name.as_slice(), new.name.as_slice())
         && is_same_place(

@@ -1,8 +1,7 @@
 use Rattle.std.proofs.Common.{sym, ap, ◌∙◌}
 use Rattle.std.specs.Prelude.{◌&&◌}
-use Rattle.std.proofs.lemmas.Bool.Decides.{nat_tests}
-use Rattle.std.proofs.Common.{arith}
 use Rattle.version_project.specs.IsPlain.{group_is_plain}
+use Rattle.version_project.proofs.OldParts.{old_has, old_lacks}
 use Rattle.version_project.proofs.Opens.{pairs_go, pairs_stop, both_tests, no_groups_pass, absent_is_plain, known_is_plain, added_is_not}
 use Rattle.version_project.proofs.plain_entries.+plain.Goals as goal
 
@@ -18,10 +17,10 @@ pub plain_group-returns-in-Absent : goal.plain_group-returns-in-Absent
 plain_group-returns-in-Absent t c = absent_is_plain c.args.version c.args.group.now c.args.value.now c.in-Absent.is
 
 pub plain_group-returns-then-group-version : goal.plain_group-returns-then-group-version
-plain_group-returns-then-group-version t c = known_is_plain c.args.version c.args.group.now c.args.value.now _ c.plain_entries.result c.in-Entries.is (grind (arith, nat_tests, c.if-group-version.true)) c.plain_entries.ensures
+plain_group-returns-then-group-version t c = known_is_plain c.args.version c.args.group.now c.args.value.now _ c.plain_entries.result c.in-Entries.is (old_has c.args.version _ c.if-group-version.true) c.plain_entries.ensures
 
 pub plain_group-returns-else-group-version : goal.plain_group-returns-else-group-version
-plain_group-returns-else-group-version t c = added_is_not c.args.version c.args.group.now c.args.value.now _ c.in-Entries.is (grind (arith, nat_tests, c.if-group-version.false))
+plain_group-returns-else-group-version t c = added_is_not c.args.version c.args.group.now c.args.value.now _ c.in-Entries.is (old_lacks c.args.version _ c.if-group-version.false)
 
 pub plain_groups-returns-then-not-plain_group : goal.plain_groups-returns-then-not-plain_group
 plain_groups-returns-then-not-plain_group t c = pairs_stop (group_is_plain c.args.version) c.args.groups.now _ c.args.values.now c.loop-i.i _ _ _ c.as_slice-group-items.ensures c.loop-i-test.true c.group-item.is c.at.ensures c.plain_group.ensures c.if-not-plain_group.true c.loop-i.invariant

@@ -1,10 +1,10 @@
 use Rattle.std.proofs.Common.{arith, ◌≡◌, ◌+◌, drop, sym, ap, ◌∙◌, subst}
 use Rattle.std.specs.Prelude.{IfOk}
-use Rattle.sbe_types.specs.declared.schema.Group.{Group}
-use Rattle.version_laws.specs.Differ.{is_old, group_name, group_since, in_part}
-use Rattle.version_project.specs.Paired.{paired, group_compare}
+use Rattle.version_laws.specs.Differ.{group_name, in_part}
+use Rattle.version_project.specs.IsPlain.{old_group}
+use Rattle.version_project.specs.Paired.{group_compare, groups_compare}
 use Rattle.version_project.proofs.PairWalk.{kept_goes_on, kept_stops, added_goes_on, missing, fields_tell, groups_tell, parts_tell, group_ends, differs_named}
-use Rattle.version_project.proofs.AddedWalk.{known_group, added_one}
+use Rattle.version_project.proofs.OldParts.{old_has_group, old_lacks_group}
 use Rattle.version_project.proofs.NarrowLevels.{fields_narrow, groups_narrow, level_narrow, narrow_at, narrow_item}
 use Rattle.version_project.proofs.LevelSizes.{size_of_level, size_of_group, size_of_one}
 use Rattle.version_project.specs.Narrow.{IsNarrowGroup}
@@ -21,25 +21,25 @@ group_differs-returns-in_ok-outer-in-Some-2 t c =
 
 pub groups_differ-returns-in-Some : goal.groups_differ-returns-in-Some
 groups_differ-returns-in-Some t c =
-    kept_stops (λ (g : Group). is_old c.args.version (group_since g)) group_name (group_compare c.args.version c.args.more) c.args.olds.now c.args.news.now _ c.loop-new.i c.loop-new.new-index _ _ _
-    c.as_slice-new-items.ensures c.loop-new-test.true c.new-item.is c.at-old.ensures (known_group c.args.version _ c.if-new-version.true) (sym c.in-Some.is ∙ c.in_ok-found.ensures) c.loop-new.invariant
+    kept_stops (old_group c.args.version) group_name (group_compare c.args.version c.args.more) c.args.olds.now c.args.news.now _ c.loop-new.i c.loop-new.new-index _ _ _
+    c.as_slice-new-items.ensures c.loop-new-test.true c.new-item.is c.at-old.ensures (old_has_group c.args.version _ c.if-new-version.true) (sym c.in-Some.is ∙ c.in_ok-found.ensures) c.loop-new.invariant
 
 pub groups_differ-loop-new-preserved : goal.groups_differ-loop-new-preserved
 groups_differ-loop-new-preserved t c = elim c.if-new-version.branch [
   | groups_differ-then-new-version+else-i-len+in_ok-found+in_default w ↦
-      subst (λ i. paired (λ (g : Group). is_old c.args.version (group_since g)) group_name (group_compare c.args.version c.args.more) (drop i c.args.olds.now) (drop (c.loop-new.new-index + 1) c.args.news.now) ≡ paired (λ (g : Group). is_old c.args.version (group_since g)) group_name (group_compare c.args.version c.args.more) c.args.olds.now c.args.news.now) (sym w.i-is)
-      (kept_goes_on (λ (g : Group). is_old c.args.version (group_since g)) group_name (group_compare c.args.version c.args.more) c.args.olds.now c.args.news.now _ c.loop-new.i c.loop-new.new-index _ _
-      c.as_slice-new-items.ensures c.loop-new-test.true c.new-item.is w.at-old.ensures (known_group c.args.version _ w.if-new-version.true) (sym w.in_default.is ∙ w.in_ok-found.ensures) c.loop-new.invariant)
+      subst (λ i. groups_compare c.args.version c.args.more (drop i c.args.olds.now) (drop (c.loop-new.new-index + 1) c.args.news.now) ≡ groups_compare c.args.version c.args.more c.args.olds.now c.args.news.now) (sym w.i-is)
+      (kept_goes_on (old_group c.args.version) group_name (group_compare c.args.version c.args.more) c.args.olds.now c.args.news.now _ c.loop-new.i c.loop-new.new-index _ _
+      c.as_slice-new-items.ensures c.loop-new-test.true c.new-item.is w.at-old.ensures (old_has_group c.args.version _ w.if-new-version.true) (sym w.in_default.is ∙ w.in_ok-found.ensures) c.loop-new.invariant)
   | groups_differ-else-new-version w ↦
-      subst (λ i. paired (λ (g : Group). is_old c.args.version (group_since g)) group_name (group_compare c.args.version c.args.more) (drop i c.args.olds.now) (drop (c.loop-new.new-index + 1) c.args.news.now) ≡ paired (λ (g : Group). is_old c.args.version (group_since g)) group_name (group_compare c.args.version c.args.more) c.args.olds.now c.args.news.now) (sym w.i-is)
-      (added_goes_on (λ (g : Group). is_old c.args.version (group_since g)) group_name (group_compare c.args.version c.args.more) c.args.olds.now c.args.news.now _ c.loop-new.i c.loop-new.new-index _
-      c.as_slice-new-items.ensures c.loop-new-test.true c.new-item.is (added_one c.args.version _ w.if-new-version.false) c.loop-new.invariant)
+      subst (λ i. groups_compare c.args.version c.args.more (drop i c.args.olds.now) (drop (c.loop-new.new-index + 1) c.args.news.now) ≡ groups_compare c.args.version c.args.more c.args.olds.now c.args.news.now) (sym w.i-is)
+      (added_goes_on (old_group c.args.version) group_name (group_compare c.args.version c.args.more) c.args.olds.now c.args.news.now _ c.loop-new.i c.loop-new.new-index _
+      c.as_slice-new-items.ensures c.loop-new-test.true c.new-item.is (old_lacks_group c.args.version _ w.if-new-version.false) c.loop-new.invariant)
 ]
 
 pub groups_differ-returns-then-i-len-2 : goal.groups_differ-returns-then-i-len-2
 groups_differ-returns-then-i-len-2 t c =
     subst (λ w. IfOk c.at_part-then-i-len-2.result (λ d. d ≡ w))
-    (differs_named _ ∙ missing (λ (g : Group). is_old c.args.version (group_since g)) group_name (group_compare c.args.version c.args.more) c.args.olds.now c.args.news.now _ c.loop-new.i c.loop-new.new-index _
+    (differs_named _ ∙ missing (old_group c.args.version) group_name (group_compare c.args.version c.args.more) c.args.olds.now c.args.news.now _ c.loop-new.i c.loop-new.new-index _
     c.as_slice-new-items.ensures c.at.ensures c.loop-new-test.false c.loop-new.invariant)
     c.at_part-then-i-len-2.ensures
 

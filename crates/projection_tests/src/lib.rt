@@ -1,0 +1,9 @@
+//! Tests of what an older schema knows of a newer one's messages.
+#![tactic(auto)]
+
+#[cfg(test)]
+mod entries;
+#[cfg(test)]
+mod events;
+#[cfg(test)]
+mod schemas;
