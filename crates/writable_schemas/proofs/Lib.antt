@@ -3,4 +3,4 @@ mod SetBits
 mod OrderedKinds
 mod NamedMembers
 mod Counters
-mod CheckedSchemas
+pub mod CheckedSchemas
