@@ -1,0 +1,3 @@
+mod NumberThere
+mod Adding
+mod Within

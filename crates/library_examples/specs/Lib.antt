@@ -1,0 +1,4 @@
+pub mod Schemas
+pub mod Sums
+pub mod Orders
+pub mod Lines

@@ -1,0 +1,65 @@
+-- The sum of a field over the entries of a group.
+use Rattle.std.specs.Prelude.{◌≡◌, ℕ, Bool, true, false, nat_lt, if◌then◌else◌, ℤ, pos, ◌+ℤ◌, Option, Some, None, unwrap_or, List, [], ◌∷◌, length, slice_get, ⊤}
+use Rattle.std.specs.Option.{option_and_then}
+use Rattle.sbe_types.specs.declared.kind.Kind.{Kind, Leaf, Enum, Set, Const, Comp'}
+use Rattle.sbe_types.specs.declared.kind.LeafShape.{LeafShape}
+use Rattle.sbe_types.specs.declared.kind.LeafShape.TheVariants.{Number, RangedText, EncodedText, Octets, Numbers}
+use Rattle.sbe_types.specs.declared.schema.Level.{Level}
+use Rattle.sbe_types.specs.declared.schema.WireSchema.{WireSchema}
+use Rattle.sbe_types.specs.declared.message.Block.{out-Block}
+use Rattle.sbe_types.specs.declared.message.Msg.{Msg}
+use Rattle.sbe_wire.specs.Faults.{FirstFault}
+use Rattle.sbe_wire.specs.Lays.{Lays}
+use Rattle.field_values.specs.Told.{number_in}
+use Rattle.flyweight_view.specs.Seen.{Seen, seen_level, group_seen}
+use Rattle.flyweight_view.specs.Viewed.{refused}
+use Rattle.library_examples.specs.declared.sums.SumErr.{SumErr}
+use Rattle.library_examples.specs.declared.sums.SumErr.TheVariants.{Refused, Over}
+
+-- a leaf of this shape is one number
+abbrev pub is_number_shape : LeafShape → Bool
+is_number_shape Number = true
+is_number_shape RangedText = false
+is_number_shape EncodedText = false
+is_number_shape Octets = false
+is_number_shape Numbers = false
+
+-- a value of this kind is one number: an integer, an enum or a set
+abbrev pub is_number_kind : Kind → Bool
+is_number_kind (Leaf l) = is_number_shape l.shape
+is_number_kind (Enum l names) = true
+is_number_kind (Set p names) = true
+is_number_kind (Const c) = false
+is_number_kind (Comp' n members) = false
+
+-- the number of field i of a block, if it has one
+abbrev pub number_at : ℕ → Seen → Option ℤ
+number_at i seen = if nat_lt i (length seen.fields) then option_and_then number_in (slice_get (out-Block seen.block).fields i) else None
+
+-- the sum of field i over entries; one without a number counts as 0
+abbrev pub sum_at : ℕ → List Seen → ℤ
+sum_at i [] = pos 0
+sum_at i (e ∷ es) = unwrap_or (number_at i e) (pos 0) +ℤ sum_at i es
+
+-- the entries of a group; where it is absent there are none
+abbrev pub all_entries : Option (Option (List Seen)) → List Seen
+all_entries None = []
+all_entries (Some None) = []
+all_entries (Some (Some es)) = es
+
+-- the sum of a field over the entries of group number `group` of a block
+abbrev pub group_sum : ℕ → ℕ → Seen → ℤ
+group_sum group field seen = sum_at field (all_entries (group_seen (slice_get seen.groups group) (slice_get (out-Block seen.block).groups group)))
+
+-- A message lies in the body, and this is the sum of a field over the entries of one of its groups.
+pub record IsSum (schema : WireSchema) (body : List ℕ) (group field : ℕ) (sum : ℤ) : Type 0 where
+  pub message : Msg
+  pub level : Level
+  pub lies : Lays schema message body
+  pub root : slice_get schema.messages message.template ≡ Some level
+  pub is : sum ≡ group_sum group field (seen_level level message.block)
+
+-- the first fault of the body; of a sum that passes 128 bits nothing is said
+abbrev pub IsNoSum : WireSchema → List ℕ → SumErr → Type 0
+IsNoSum schema body (Refused r) = FirstFault schema (refused r) body
+IsNoSum schema body Over = ⊤

@@ -1,0 +1,13 @@
+//! Small uses of the library, for whoever embeds it: a schema file is loaded; a field is summed over the entries of a group, from
+//! the bytes; an order is written part by part; the template of a line of JSON is told.
+#![tactic(auto)]
+
+mod lines;
+mod orders;
+mod schemas;
+mod sums;
+
+pub use lines::template_of;
+pub use orders::{Order, OrderErr, write_order};
+pub use schemas::{LoadErr, load};
+pub use sums::{SumErr, sum_entries};

@@ -1,0 +1,25 @@
+// The template of a line of JSON.
+ghost use Rattle.std.specs.Prelude.{◌≡◌, IfOk, IfErr};
+ghost use Rattle.library_examples.specs.Lines.{IsRefused, NamesTemplate};
+
+use line_reading::{LineFault, msg_of_line};
+use schema_check::Checked;
+use std::alloc::Global;
+
+/// The name of the template of the message that a line of JSON holds.
+///
+/// # Errors
+///
+/// `Refused` exactly where the line holds no message of the schema, and `Memory` for want of memory.
+pub fn template_of<'a>(
+    alloc: Global,
+    checked: &'a Checked,
+    line: &[u8],
+) -> Result<&'a [u8], LineFault>
+    ensures named { IfOk result (λ name. NamesTemplate checked.now line.now name.now) }
+    ensures refused { IfErr result (IsRefused checked.now line.now) }
+{
+    let message = msg_of_line(alloc, checked, line)?;
+    let root = checked.schema().messages.at(message.template);
+    Ok(root.name.as_slice())
+}
