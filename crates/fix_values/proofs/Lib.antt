@@ -1,13 +1,5 @@
-mod NumeralLemmas
-mod LeafLemmas
-mod CodeLemmas
-mod TableLemmas
-mod DecimalLemmas
-mod ReadBack
-mod Fractions
-mod DecimalsBack
-mod Reduced
-mod SetsBack
-mod WholeBack
-mod Spelled
-mod Enough
+pub mod NumeralLemmas
+pub mod LeafLemmas
+pub mod CodeLemmas
+pub mod TableLemmas
+pub mod DecimalLemmas

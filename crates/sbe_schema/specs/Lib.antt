@@ -2,4 +2,3 @@ pub mod Forms
 pub mod Types
 pub mod Messages
 pub mod Schemas
-pub mod Rows

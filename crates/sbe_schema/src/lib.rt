@@ -9,7 +9,6 @@ mod message;
 mod schema;
 mod schema_err;
 mod types;
-pub mod worked;
 
 pub use schema::read_schema;
 pub use schema_err::{SCode, SchemaErr};

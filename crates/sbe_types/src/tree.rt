@@ -11,14 +11,14 @@ pub enum PrimitiveType {
 }
 
 /// A `valueRef`: the name of an enum, a dot, and the name of one of its valid values.
-#[derive(Debug, Drop)]
+#[derive(Drop)]
 pub struct ValueRef {
     pub enum_name: Text,
     pub value_name: Text,
 }
 
 /// A `messageSchema`: a schema as its file has it, before it is checked.
-#[derive(Debug, Drop)]
+#[derive(Drop)]
 pub struct Schema {
     pub id: u32,
     pub version: u32,
@@ -30,21 +30,21 @@ pub struct Schema {
 }
 
 /// A child of a `messageSchema`.
-#[derive(Debug, Drop)]
+#[derive(Drop)]
 pub enum SchemaItem {
     Types(TypesEl),
     Message(MessageEl),
 }
 
 /// A `types` element, which declares types.
-#[derive(Debug, Drop)]
+#[derive(Drop)]
 pub struct TypesEl {
     pub children: List<TypesItem>,
 }
 
 /// A declared type. Its `offset` is none and its `since_version` 0, since these are said of the
 /// members of composites alone.
-#[derive(Debug, Drop)]
+#[derive(Drop)]
 pub enum TypesItem {
     Type(TypeEl),
     Composite(CompositeEl),
@@ -53,7 +53,7 @@ pub enum TypesItem {
 }
 
 /// A `type`: a primitive, or an array of them.
-#[derive(Debug, Drop)]
+#[derive(Drop)]
 pub struct TypeEl {
     pub name: Text,
     pub primitive_type: PrimitiveType,
@@ -74,7 +74,7 @@ pub struct TypeEl {
 
 /// A `composite`, declared or written inside another.
 #[cycle(composite)]
-#[derive(Debug, Drop)]
+#[derive(Drop)]
 pub struct CompositeEl {
     pub name: Text,
     /// Of a member: where it begins, counted from the first byte of the composite around it.
@@ -85,7 +85,7 @@ pub struct CompositeEl {
 
 /// A member of a composite.
 #[cycle(composite)]
-#[derive(Debug, Drop)]
+#[derive(Drop)]
 pub enum MemberItem {
     Type(TypeEl),
     Enum(EnumEl),
@@ -95,7 +95,7 @@ pub enum MemberItem {
 }
 
 /// An `enum`: a number that is one of its valid values.
-#[derive(Debug, Drop)]
+#[derive(Drop)]
 pub struct EnumEl {
     pub name: Text,
     /// The name of the type of its number.
@@ -107,14 +107,14 @@ pub struct EnumEl {
 }
 
 /// A `validValue` of an enum: its name, and its number or character as text.
-#[derive(Debug, Drop)]
+#[derive(Drop)]
 pub struct ValidValueEl {
     pub name: Text,
     pub text: Text,
 }
 
 /// A `set`: a number whose bits are its choices.
-#[derive(Debug, Drop)]
+#[derive(Drop)]
 pub struct SetEl {
     pub name: Text,
     /// The name of the type of its number.
@@ -126,14 +126,14 @@ pub struct SetEl {
 }
 
 /// A `choice` of a set: its name, and its bit as text.
-#[derive(Debug, Drop)]
+#[derive(Drop)]
 pub struct ChoiceEl {
     pub name: Text,
     pub text: Text,
 }
 
 /// A `ref`: a member of a composite whose type is declared elsewhere.
-#[derive(Debug, Drop)]
+#[derive(Drop)]
 pub struct RefEl {
     pub name: Text,
     pub type_name: Text,
@@ -143,7 +143,7 @@ pub struct RefEl {
 }
 
 /// A `message`: a template.
-#[derive(Debug, Drop)]
+#[derive(Drop)]
 pub struct MessageEl {
     pub name: Text,
     pub id: u32,
@@ -156,7 +156,7 @@ pub struct MessageEl {
 
 /// A part of a message or a group.
 #[cycle(part)]
-#[derive(Debug, Drop)]
+#[derive(Drop)]
 pub enum PartItem {
     Field(FieldEl),
     Group(GroupEl),
@@ -164,7 +164,7 @@ pub enum PartItem {
 }
 
 /// A `field`: a value in the block of a message or an entry.
-#[derive(Debug, Drop)]
+#[derive(Drop)]
 pub struct FieldEl {
     pub name: Text,
     pub id: u32,
@@ -178,7 +178,7 @@ pub struct FieldEl {
 
 /// A `group`: entries that repeat.
 #[cycle(part)]
-#[derive(Debug, Drop)]
+#[derive(Drop)]
 pub struct GroupEl {
     pub name: Text,
     pub id: u32,
@@ -191,7 +191,7 @@ pub struct GroupEl {
 }
 
 /// A `data` element: a length, then so many bytes.
-#[derive(Debug, Drop)]
+#[derive(Drop)]
 pub struct DataEl {
     pub name: Text,
     pub id: u32,

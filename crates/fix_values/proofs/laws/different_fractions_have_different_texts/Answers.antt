@@ -1,5 +1,0 @@
-use Rattle.fix_values.proofs.Reduced.{one_text}
-use Rattle.fix_values.proofs.laws.different_fractions_have_different_texts.Goals as goal
-
-pub returns : goal.returns
-returns c = one_text

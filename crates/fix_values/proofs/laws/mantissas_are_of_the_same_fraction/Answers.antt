@@ -1,8 +1,0 @@
-use Rattle.fix_values.proofs.Fractions.{fit_same, fit_only}
-use Rattle.fix_values.proofs.laws.mantissas_are_of_the_same_fraction.Goals as goal
-
-pub returns-clause-same : goal.returns-clause-same
-returns-clause-same c = fit_same
-
-pub returns-clause-only : goal.returns-clause-only
-returns-clause-only c = fit_only

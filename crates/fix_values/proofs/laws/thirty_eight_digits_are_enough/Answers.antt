@@ -1,5 +1,0 @@
-use Rattle.fix_values.proofs.Enough.{has_text}
-use Rattle.fix_values.proofs.laws.thirty_eight_digits_are_enough.Goals as goal
-
-pub returns-clause-shown : goal.returns-clause-shown
-returns-clause-shown c = has_text

@@ -1,0 +1,8 @@
+mod ReadBack
+mod Fractions
+mod DecimalsBack
+mod Reduced
+mod SetsBack
+mod WholeBack
+mod Spelled
+mod Enough
