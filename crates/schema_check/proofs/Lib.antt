@@ -1,16 +1,5 @@
-pub mod Seen
-pub mod TypePlaces
-pub mod WholeLemmas
-pub mod Rows
-pub mod TableLemmas
-pub mod Known
-pub mod ReferredLemmas
-pub mod CompositeRows
-pub mod LeafLemmas
 pub mod GroupRows
 pub mod LevelRows
 pub mod FormLemmas
 pub mod ReachLemmas
 pub mod WholeSchema
-pub mod ListSame
-pub mod WidthLemmas

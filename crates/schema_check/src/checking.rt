@@ -7,14 +7,14 @@ ghost use Rattle.schema_rules.specs.Checked.{checked_of};
 ghost use Rattle.schema_check.specs.Reach.{AreShortMessages};
 
 use crate::checked::Checked;
-use crate::declarations::Declarations;
 use crate::judging::judge;
 use crate::levels::resolve_message;
-use crate::resolver::Resolver;
 use lists::{List, NoMem};
 use sbe_types::{Header, LevelList, MessageEl, Schema, SchemaItem, TypesItem, WireSchema};
 use schema_rules::CheckErr;
 use std::alloc::Global;
+use type_facts::Declarations;
+use type_kinds::Resolver;
 
 /// Checks a schema whose names and numbers keep their forms, and gives it with every type name
 /// resolved. Its errors are the first rule that an element breaks, with the element's path, and want

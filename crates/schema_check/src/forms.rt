@@ -3,10 +3,9 @@ ghost use Rattle.sbe_types.specs.Places.{begin_of};
 ghost use Rattle.schema_rules.specs.Facts.{counted};
 ghost use Rattle.schema_check.specs.Forms.{IsLike, SameMembers, SameForm};
 
-use crate::facts::past;
-use crate::same_kinds::is_same_kind;
-use crate::widths::fact_of;
 use sbe_types::{Member, WireSchema};
+use type_facts::past;
+use type_kinds::{fact_of, is_same_kind};
 
 /// Whether messages of both begin alike: in the same byte order, with a header of the same form.
 pub fn is_same_form(a: &WireSchema, b: &WireSchema) -> bool

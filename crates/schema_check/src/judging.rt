@@ -2,15 +2,13 @@ ghost use Rattle.std.specs.Prelude.{◌≡◌, codes};
 ghost use Rattle.schema_rules.specs.Judging.{Gives, first_of, behind};
 ghost use Rattle.schema_rules.specs.Checked.{header_rules, judged};
 
-use crate::counters::{holds, is_header, members_named};
-use crate::declarations::Declarations;
-use crate::declared::judge_types;
 use crate::messages::judge_messages;
-use crate::refusals::{behind, refuse};
-use crate::value_lists::names_fraction;
 use sbe_types::MessageEl;
 use schema_rules::{CCode, CheckErr, LevelScope};
 use std::alloc::Global;
+use type_check::{behind, judge_types, names_fraction, refuse};
+use type_facts::Declarations;
+use type_kinds::{holds, is_header, members_named};
 
 /// Judges a whole schema: the declared types, the header type and the messages, in this order.
 pub fn judge(

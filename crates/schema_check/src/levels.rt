@@ -11,18 +11,15 @@ ghost use Rattle.schema_facts.specs.Ends.{end_with, parts_end, resolved_group};
 ghost use Rattle.schema_check.specs.Reach.{IsShortPart, AreShortParts, IsShortLevel};
 ghost use Rattle.schema_check.specs.Entries.{resolved_entries};
 
-use crate::counters::{leaf_of_member, members_named};
-use crate::declarations::Declarations;
-use crate::facts::past;
-use crate::fields::field_fact;
-use crate::resolver::Resolver;
-use crate::types::Types;
 use lists::{List, NoMem};
 use sbe_types::{
     DataEl, DataField, DataFieldList, Field, FieldEl, FieldList, Group, GroupEl, GroupList, Leaf,
     LeafShape, Level, MemberItem, MessageEl, PartItem, Presence, Prim,
 };
 use std::alloc::Global;
+use type_check::field_fact;
+use type_facts::{Declarations, Types, past};
+use type_kinds::{Resolver, leaf_of_member, members_named};
 
 /// A message with every type name resolved.
 pub fn resolve_message(

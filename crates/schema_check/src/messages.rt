@@ -5,16 +5,14 @@ ghost use Rattle.schema_rules.specs.Names.{is_among};
 ghost use Rattle.schema_rules.specs.Kinds.{kind_named, members_of, members_named};
 ghost use Rattle.schema_rules.specs.Checked.{message_rules, message_end_rules, message_judged, messages_judged, no_message};
 
-use crate::counters::holds;
-use crate::declarations::Declarations;
-use crate::name_table::NameTable;
 use crate::parts::{block_of, is_bad_block, is_short, judge_parts};
-use crate::refusals::{behind, refuse};
-use crate::types::Types;
 use lists::List;
 use sbe_types::{MemberItem, MessageEl};
 use schema_rules::{CCode, CheckErr, LevelFacts, LevelScope};
 use std::alloc::Global;
+use type_check::{NameTable, behind, refuse};
+use type_facts::{Declarations, Types};
+use type_kinds::holds;
 
 /// Judges the messages in their order, under the members of the header.
 pub fn judge_messages(

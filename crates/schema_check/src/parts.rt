@@ -6,18 +6,12 @@ ghost use Rattle.schema_rules.specs.Kinds.{kind_named, members_of, members_named
 ghost use Rattle.schema_rules.specs.PartRules.{rank, greatest_since, begins_wrong, part_rules, since_in, entries_level, no_part, with_field, with_group, with_data, facts_with, part_name, data_rules, data_judged, dimension_rules, is_short, is_bad_block, group_rules, part_judged, parts_judged};
 ghost use Rattle.schema_check.specs.Seen.{level_of, group_seen};
 
-use crate::counters::{holds, is_data, is_dimension, members_named};
-use crate::declarations::Declarations;
-use crate::facts::past;
-use crate::fields::{field_fact, judge_field};
-use crate::heads::judge_head;
-use crate::name_table::NameTable;
-use crate::refusals::{behind, refuse};
-use crate::types::Types;
-use crate::value_lists::names_fraction;
 use sbe_types::{DataEl, GroupEl, MemberItem, PartItem};
 use schema_rules::{CCode, CheckErr, Fact, LevelFacts, LevelScope, PartClass, PartHead};
 use std::alloc::Global;
+use type_check::{NameTable, behind, field_fact, judge_field, judge_head, names_fraction, refuse};
+use type_facts::{Declarations, Types, past};
+use type_kinds::{holds, is_data, is_dimension, members_named};
 
 /// Of a level without parts.
 const NO_PARTS: LevelFacts = LevelFacts {

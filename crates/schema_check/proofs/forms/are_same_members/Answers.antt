@@ -1,7 +1,7 @@
 use Rattle.std.proofs.Common.{refl, ap, ◌∙◌, arith}
 use Rattle.sbe_types.specs.Places.{end_past}
 use Rattle.schema_rules.specs.Facts.{counted}
-use Rattle.schema_check.proofs.WidthLemmas.{past_wide}
+use Rattle.type_kinds.proofs.WidthLemmas.{past_wide}
 use Rattle.schema_check.proofs.FormLemmas.{StandsFor, first_stands, here, next_stands, all_stand}
 use Rattle.schema_check.proofs.forms.are_same_members.Goals as goal
 

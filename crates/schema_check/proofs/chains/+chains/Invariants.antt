@@ -1,9 +1,0 @@
-use Rattle.std.proofs.Common.{◌≡◌, drop}
-use Rattle.std.specs.List.{list_any}
-use Rattle.schema_rules.specs.Chains.{member_has}
-use Rattle.schema_check.specs.Tables.{chain_told}
-use Rattle.schema_check.proofs.chains.+chains.Given as goal
-
-abbrev pub invariant-go_members_on-loop-member : goal.invariant-go_members_on-loop-member
-invariant-go_members_on-loop-member l =
-    list_any (member_has (chain_told l.types l.table)) (drop l.member-index l.members) ≡ list_any (member_has (chain_told l.types l.table)) l.members

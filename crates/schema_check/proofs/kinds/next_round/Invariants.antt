@@ -1,7 +1,0 @@
-use Rattle.std.proofs.Common.{◌≡◌, take, map}
-use Rattle.schema_rules.specs.Kinds.{as_declared, item_kind}
-use Rattle.schema_check.specs.Tables.{kind_told}
-use Rattle.schema_check.proofs.kinds.next_round.Given as goal
-
-abbrev pub invariant-loop-item : goal.invariant-loop-item
-invariant-loop-item l = l.next ≡ map (item_kind l.types (kind_told l.types l.table) as_declared) (take l.item-index l.item-items)

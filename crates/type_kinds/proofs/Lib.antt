@@ -1,0 +1,6 @@
+pub mod Rows
+pub mod TableLemmas
+pub mod Known
+pub mod LeafLemmas
+pub mod ListSame
+pub mod WidthLemmas
