@@ -1,4 +1,4 @@
-ghost use Rattle.std.specs.Prelude.{◌≡◌, ◌<◌, ◌≤◌, false, length, OnErr, OnOk};
+ghost use Rattle.std.specs.Prelude.{◌≡◌, ◌<◌, ◌≤◌, [], None, Ok, false, length, IfSome, OnErr, OnOk};
 ghost use Rattle.open_framing.specs.Heads.{IsBytes};
 ghost use Rattle.open_framing.specs.declared.head.TheConstants.{HEAD_BYTES};
 ghost use Rattle.frame_stream.specs.Held.{Begins, Fills, IsBegun, IsEndBehind, IsStopOf, Nexts, StopCause, released};
@@ -40,9 +40,29 @@ impl Window {
     {
         if whole {
             self.let_go_all();
-            return self.read_frame(input);
+            if let Some(head) = self.take_ahead(input) {
+                return Ok(head);
+            }
         }
         self.read_frame(input)
+    }
+
+    /// Takes the next frame of what the source has read ahead, where the whole of it is there.
+    fn take_ahead<I: Source>(&mut self, input: &mut I) -> Option<Head>
+        requires none { self.old.held.bytes ≡ [] }
+        ensures nexts { IfSome result (λ head. Nexts self.old.held self.new.held (I.left input.old) (I.left input.new) (Ok head)) }
+        ensures none { result ≡ None → (self.new.held ≡ self.old.held) × (input.new ≡ input.old) }
+        ensures cause { I.faults input.new ≡ I.faults input.old }
+    {
+        let head = match read_head(input.ahead(), self.size()) {
+            Ok(head) => head,
+            Err(_) => return None,
+        };
+        if self.copy_ahead(input, head.length as usize) {
+            are_bytes(self.as_slice());
+            return Some(head);
+        }
+        None
     }
 
     /// Takes the next frame, of which a part may be held.

@@ -164,7 +164,8 @@ mod tests {
     use super::*;
     use crate::test_inputs::{BAD_HEAD, PING, PING_BODY, PING_HEAD, TEXT, limits};
     use open_framing::{SBE_LITTLE, TAG_VALUE};
-    use sbe_base::MemSource;
+    use sbe_base::{BufferedSource, MemSource};
+    use std::io::BufReader;
     use std::process::Abort;
     use std::test::Fail;
 
@@ -270,6 +271,31 @@ mod tests {
                 assert_eq!(rt; stream.take(&mut source), Ok(Taken::EndInside(len)));
                 assert_eq!(rt; stream.held(), &PING[..len]);
             }
+        }
+        Ok(())
+    }
+
+    /// Of a source that lends what it has read ahead the same frames come, whatever its buffer holds.
+    #[test]
+    fn takes_frames_of_what_is_read_ahead(rt: HostRuntime) -> Result<(), Fail> {
+        let bytes = [PING, PING, TEXT, PING].concat(rt.alloc())?;
+        let rows: [(Result<Taken, StreamErr>, &[u8], &[u8]); 5] = [
+            (PING_TAKEN, PING_BODY, b""),
+            (PING_TAKEN, PING_BODY, b""),
+            (TEXT_TAKEN, b"ab", b""),
+            (OVER, b"", &PING[..19]),
+            (OVER, b"", &PING[..19]),
+        ];
+        for capacity in 1..80usize {
+            let reader = BufReader::with_capacity(rt.alloc(), capacity, bytes.as_slice())?;
+            let mut source = BufferedSource::new(reader);
+            let mut stream = FrameStream::open(rt.alloc(), limits(65_536, 67))?;
+            for (answer, body, held) in rows {
+                assert_eq!(rt; stream.take(&mut source), answer, "buffer of {capacity}");
+                assert_eq!(rt; stream.frame(), body);
+                assert_eq!(rt; stream.held(), held);
+            }
+            assert_eq!(rt; stream.taken(), 67);
         }
         Ok(())
     }

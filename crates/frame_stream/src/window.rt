@@ -1,8 +1,8 @@
-ghost use Rattle.std.specs.Prelude.{◌≡◌, ◌<◌, ◌≤◌, ◌-◌, None, length, take, drop, true, IfOk, IsSome, OnOk};
+ghost use Rattle.std.specs.Prelude.{◌≡◌, ◌<◌, ◌≤◌, ◌-◌, None, [], length, take, drop, true, false, IfOk, IsSome, IsTrue, OnOk};
 ghost use Rattle.open_framing.specs.Lines.{before_end};
 ghost use Rattle.frame_stream.specs.Held.{released};
 ghost use Rattle.frame_stream.specs.Reading.{DryCause};
-ghost use Rattle.frame_stream.specs.Window.{EndCause, FindsEnd, LineEnds, Reads, let_go_of, none_held};
+ghost use Rattle.frame_stream.specs.Window.{EndCause, FindsEnd, LineEnds, Moves, Reads, let_go_of, none_held};
 
 use crate::reading::{Dry, read_within};
 use memchr::memchr;
@@ -166,6 +166,29 @@ impl Window {
         self.more_behind(input, want)
     }
 
+    /// Takes so many bytes of what the source has read ahead, where they are there and may be taken.
+    pub(crate) fn copy_ahead<I: Source>(&mut self, input: &mut I, n: usize) -> bool
+        requires none { self.old.held.bytes ≡ [] }
+        requires room { n ≤ self.old.held.size }
+        ensures moves { IsTrue result → Moves self.old.held self.new.held (I.left input.old) (I.left input.new) [] }
+        ensures bytes { IsTrue result → (n ≤ length (I.read_ahead input.old)) × (self.new.held.bytes ≡ take n (I.read_ahead input.old)) }
+        ensures none { result ≡ false → (self.new.held ≡ self.old.held) × (input.new ≡ input.old) }
+        ensures cause { I.faults input.new ≡ I.faults input.old }
+    {
+        let ahead = input.ahead();
+        if ahead.len() < n || self.limit - self.taken < n as u64 {
+            return false;
+        }
+        copy_front(self.buffer.as_mut_slice(), ahead, n);
+        if !input.pass(n) {
+            return false;
+        }
+        self.start = 0;
+        self.end = n;
+        self.taken += n as u64;
+        true
+    }
+
     /// Moves the bytes to the front of the buffer. Nothing else shows of it.
     fn compact(&mut self)
         ensures held { self.new.held ≡ self.old.held }
@@ -219,4 +242,14 @@ fn move_front(buf: &mut [u8], start: usize, end: usize)
     ensures moved { take (end - start) buf.new ≡ drop start (take end buf.old) }
 {
     buf.copy_within(start..end, 0);
+}
+
+/// Copies the first bytes of a slice to the front of a buffer.
+fn copy_front(buf: &mut [u8], from: &[u8], n: usize)
+    requires there { n ≤ length from.now }
+    requires room { n ≤ length buf.old }
+    ensures size { length buf.new ≡ length buf.old }
+    ensures copied { take n buf.new ≡ take n from.now }
+{
+    buf[..n].copy_from_slice(&from[..n]);
 }

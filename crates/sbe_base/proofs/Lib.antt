@@ -1,3 +1,4 @@
 pub mod Known
 pub mod Names
+mod Passing
 pub mod Pieces

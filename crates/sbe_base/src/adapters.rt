@@ -1,8 +1,9 @@
-ghost use Rattle.sbe_base.specs.Adapters.{WrapsReader, WrapsWriter};
+ghost use Rattle.sbe_base.specs.Adapters.{WrapsBuffer, WrapsReader, WrapsWriter};
+ghost use Rattle.std.specs.Io.Buffered.{reader_buffer, reader_remaining};
 
 use crate::retry::{read_retried, write_retried};
 use crate::{Failed, Sink, Source};
-use std::io::{Read, Write};
+use std::io::{BufRead, BufReader, Read, Write};
 
 /// A reader of std, with a count of its failures. It tells what the reader tells. A read that the system interrupted is
 /// made again, and is no failure.
@@ -34,6 +35,48 @@ impl<R: Read + Drop> Source for StdSource<R> {
                 Err(Failed)
             }
         }
+    }
+}
+
+/// A buffered reader of std, with a count of its failures, which lends what is in its buffer. All else is as of a
+/// [`StdSource`].
+#[derive(Drop)]
+pub struct BufferedSource<R: Read + Drop> {
+    source: StdSource<BufReader<R>>,
+}
+
+impl<R: Read + Drop> BufferedSource<R> {
+    /// A source of what the reader gives.
+    pub fn new(inner: BufReader<R>) -> BufferedSource<R>
+        ensures { WrapsBuffer inner result }
+    {
+        BufferedSource {
+            source: StdSource::new(inner),
+        }
+    }
+}
+
+impl<R: Read + Drop> Source for BufferedSource<R> {
+    ghost left = { λ buffered. reader_remaining R.remaining buffered.source.inner };
+
+    ghost faults = { λ buffered. buffered.source.faults };
+
+    ghost read_ahead = { λ buffered. reader_buffer buffered.source.inner };
+
+    fn read(&mut self, buf: &mut [u8]) -> Result<usize, Failed> {
+        self.source.read(buf)
+    }
+
+    fn ahead(&self) -> &[u8] {
+        self.source.inner.buffer()
+    }
+
+    fn pass(&mut self, n: usize) -> bool {
+        if self.source.inner.buffer().len() < n {
+            return false;
+        }
+        self.source.inner.consume(n);
+        true
     }
 }
 
@@ -185,5 +228,27 @@ mod tests {
             assert_eq!(rt; buf[0], front);
         }
         assert_eq!(rt; source.faults, 1);
+    }
+
+    /// What was read ahead is lent and passed over, and no more.
+    #[test]
+    fn lends_what_is_in_its_buffer(rt: HostRuntime) -> Result<(), Fail> {
+        let bytes: &[u8] = b"abcde";
+        let reader = BufReader::with_capacity(rt.alloc(), 4, bytes)?;
+        let mut source = BufferedSource::new(reader);
+        let mut buf = [0u8; 1];
+        let rows: [(&[u8], usize, bool, &[u8]); 4] = [
+            (b"", 1, false, b""),
+            (b"bcd", 4, false, b"bcd"),
+            (b"cd", 1, true, b"d"),
+            (b"", 0, true, b""),
+        ];
+        for (lent, n, passed, rest) in rows {
+            assert_eq!(rt; source.ahead(), lent);
+            assert_eq!(rt; source.pass(n), passed);
+            assert_eq!(rt; source.ahead(), rest);
+            assert!(rt; read_from(&mut source, &mut buf).is_ok());
+        }
+        Ok(())
     }
 }

@@ -13,7 +13,7 @@ mod shared;
 mod status;
 mod stream;
 
-pub use adapters::{StdSink, StdSource};
+pub use adapters::{BufferedSource, StdSink, StdSource};
 pub use dir_files::DirFiles;
 pub use files::{Files, LoadErr};
 pub use lists::NoMem;

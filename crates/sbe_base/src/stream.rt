@@ -1,6 +1,6 @@
-ghost use Rattle.std.specs.Prelude.{◌≡◌, ◌<◌, ◌≤◌, ℕ, List, Option, length, IfOk, OnOk, OnErr};
-ghost use Rattle.std.specs.Io.{ReadsAtMost, WritesAtMost};
-ghost use Rattle.std.specs.Io.KnownBytes.{ReadConsumes, WriteAppends, Appends};
+ghost use Rattle.std.specs.Prelude.{◌≡◌, ◌<◌, ◌≤◌, ℕ, List, [], Option, length, take, IfOk, IsTrue, false, OnOk, OnErr};
+ghost use Rattle.std.specs.Io.{ReadsAtMost, StartsWith, WritesAtMost};
+ghost use Rattle.std.specs.Io.KnownBytes.{Consumes, ReadConsumes, WriteAppends, Appends};
 ghost use Rattle.sbe_base.specs.Causes.{HasCause, AppendsPart};
 
 use thiserror::Error;
@@ -23,12 +23,34 @@ pub trait Source {
     /// How often it has failed.
     ghost faults: { Self → ℕ };
 
+    /// The bytes that it has read ahead, which come next.
+    ghost read_ahead: { Self → List ℕ } = { λ source. [] };
+
     /// Takes the next bytes into the front of `buf`, and answers how many. For a `buf` that isn't empty it
     /// answers 0 only at the end. After `Failed` nothing was taken.
     fn read(&mut self, buf: &mut [u8]) -> Result<usize, Failed>
         ensures bound { ReadsAtMost result buf.new }
         ensures bytes { ReadConsumes (left self.old) (left self.new) result buf.new }
         ensures cause { HasCause (faults self.old) (faults self.new) result };
+
+    /// The bytes that it has read ahead, or a front of them. Nothing is asked for.
+    fn ahead(&self) -> &[u8]
+        ensures { StartsWith (read_ahead self.now) result.now }
+    {
+        &[]
+    }
+
+    /// Passes over the first `n` of the bytes that it has read ahead, or over none, and answers whether it did.
+    /// Nothing is asked for.
+    fn pass(&mut self, n: usize) -> bool
+        ensures bound { IsTrue result → n ≤ length (read_ahead self.old) }
+        ensures bytes { IsTrue result → Consumes (left self.old) (left self.new) (take n (read_ahead self.old)) }
+        ensures stays { result ≡ false → self.new ≡ self.old }
+        ensures cause { faults self.new ≡ faults self.old }
+    {
+        let _none = n;
+        false
+    }
 }
 
 /// Where bytes go.
