@@ -1,39 +1,94 @@
-use run_trials::{FRAME, PING, Trial, expect, run_trial, sample};
-use sbe_base::{MemFiles, MemSink, MemSource, Status};
-use sbe_cli::{Pump, Step, read_words};
+use run_trials::{FRAME, PING, Trial, expect, opened, run_trial, sample};
+use sample_schemas::FileParts;
+use sbe_base::{MemSink, MemSource, Status};
+use sbe_cli::{Pump, Step};
 use std::alloc::Global;
 use std::test::Fail;
 
 const PING_LINE: &[u8] = b"{\"message\":\"Ping\",\"id\":1,\"block\":6,\"groups\":0,\"data\":0}\n";
 
-/// The front of a schema with the types of a header, of group sizes and of data.
-const FRONT: &str = "{\"messageSchema\":{\"package\":\"demo\",\"id\":7,\"content\":[
-    {\"types\":{\"content\":[{\"composite\":{\"name\":\"messageHeader\",\"content\":[
-        {\"type\":{\"name\":\"blockLength\",\"primitiveType\":\"uint16\"}},
-        {\"type\":{\"name\":\"templateId\",\"primitiveType\":\"uint16\"}},
-        {\"type\":{\"name\":\"schemaId\",\"primitiveType\":\"uint16\"}},
-        {\"type\":{\"name\":\"version\",\"primitiveType\":\"uint16\"}}]}},
-    {\"composite\":{\"name\":\"groupSizeEncoding\",\"content\":[
-        {\"type\":{\"name\":\"blockLength\",\"primitiveType\":\"uint16\"}},
-        {\"type\":{\"name\":\"numInGroup\",\"primitiveType\":\"uint16\"}}]}},
-    {\"composite\":{\"name\":\"varData16\",\"content\":[
-        {\"type\":{\"name\":\"length\",\"primitiveType\":\"uint16\"}},
-        {\"type\":{\"name\":\"varData\",\"primitiveType\":\"uint8\",\"length\":0}}]}},
-    {\"type\":{\"name\":\"small\",\"primitiveType\":\"int8\",\"presence\":\"optional\",\"nullValue\":127}}]}}";
+/// A schema with a small number and no message.
+const NONE: FileParts<'static> = FileParts {
+    attributes: r#""id":7"#,
+    types: r#",{"type":{"name":"small","primitiveType":"int8","presence":"optional","nullValue":127}}"#,
+    messages: "",
+};
 
-const NUL: &str = "{\"message\":{\"name\":\"Nul\",\"id\":2,\"content\":[
-    {\"field\":{\"name\":\"n\",\"id\":1003,\"type\":\"small\"}}]}}";
+/// A schema, and the lines of its messages.
+#[derive(Clone, Copy)]
+struct Printed {
+    file: FileParts<'static>,
+    lines: &'static str,
+}
 
-const GRP: &str = "{\"message\":{\"name\":\"Grp\",\"id\":4,\"content\":[
-    {\"group\":{\"name\":\"g\",\"id\":2001,\"content\":[
-        {\"field\":{\"name\":\"x\",\"id\":1005,\"type\":\"uint8\"}}]}}]}}";
-
-const NEST: &str = "{\"message\":{\"name\":\"Nest\",\"id\":5,\"content\":[
-    {\"group\":{\"name\":\"legs\",\"id\":2002,\"content\":[
-        {\"field\":{\"name\":\"q\",\"id\":1006,\"type\":\"uint8\"}},
-        {\"group\":{\"name\":\"subs\",\"id\":2003,\"content\":[
-            {\"field\":{\"name\":\"s\",\"id\":1007,\"type\":\"uint8\"}}]}},
-        {\"data\":{\"name\":\"note\",\"id\":2004,\"type\":\"varData16\"}}]}}]}}";
+/// No message; a number; a group; a group in a group, and data; all three; and a constant field of an enum that names the valid
+/// value itself.
+const PRINTED: [Printed; 6] = [
+    Printed {
+        file: NONE,
+        lines: "",
+    },
+    Printed {
+        file: FileParts {
+            messages: r#",{"message":{"name":"Nul","id":2,"content":[
+                {"field":{"name":"n","id":1003,"type":"small"}}]}}"#,
+            ..NONE
+        },
+        lines: "{\"message\":\"Nul\",\"id\":2,\"block\":1,\"groups\":0,\"data\":0}\n",
+    },
+    Printed {
+        file: FileParts {
+            messages: r#",{"message":{"name":"Grp","id":4,"content":[
+                {"group":{"name":"g","id":2001,"content":[
+                    {"field":{"name":"x","id":1005,"type":"uint8"}}]}}]}}"#,
+            ..NONE
+        },
+        lines: "{\"message\":\"Grp\",\"id\":4,\"block\":0,\"groups\":1,\"data\":0}\n",
+    },
+    Printed {
+        file: FileParts {
+            messages: r#",{"message":{"name":"Nest","id":5,"content":[
+                {"group":{"name":"legs","id":2002,"content":[
+                    {"field":{"name":"q","id":1006,"type":"uint8"}},
+                    {"group":{"name":"subs","id":2003,"content":[
+                        {"field":{"name":"s","id":1007,"type":"uint8"}}]}},
+                    {"data":{"name":"note","id":2004,"type":"varData16"}}]}}]}}"#,
+            ..NONE
+        },
+        lines: "{\"message\":\"Nest\",\"id\":5,\"block\":0,\"groups\":2,\"data\":1}\n",
+    },
+    Printed {
+        file: FileParts {
+            messages: r#",{"message":{"name":"Nul","id":2,"content":[
+                {"field":{"name":"n","id":1003,"type":"small"}}]}},
+            {"message":{"name":"Grp","id":4,"content":[
+                {"group":{"name":"g","id":2001,"content":[
+                    {"field":{"name":"x","id":1005,"type":"uint8"}}]}}]}},
+            {"message":{"name":"Nest","id":5,"content":[
+                {"group":{"name":"legs","id":2002,"content":[
+                    {"field":{"name":"q","id":1006,"type":"uint8"}},
+                    {"group":{"name":"subs","id":2003,"content":[
+                        {"field":{"name":"s","id":1007,"type":"uint8"}}]}},
+                    {"data":{"name":"note","id":2004,"type":"varData16"}}]}}]}}"#,
+            ..NONE
+        },
+        lines: r#"{"message":"Nul","id":2,"block":1,"groups":0,"data":0}
+{"message":"Grp","id":4,"block":0,"groups":1,"data":0}
+{"message":"Nest","id":5,"block":0,"groups":2,"data":1}
+"#,
+    },
+    Printed {
+        file: FileParts {
+            types: r#",{"enum":{"name":"E","encodingType":"uint8","content":[
+                {"validValue":{"name":"A","text":1}},{"validValue":{"name":"B","text":2}}]}}"#,
+            messages: r#",{"message":{"name":"Ping","id":1,"content":[
+                {"field":{"name":"e","id":1,"type":"E","presence":"constant","valueRef":"E.B"}},
+                {"field":{"name":"a","id":1001,"type":"uint16"}}]}}"#,
+            ..NONE
+        },
+        lines: "{\"message\":\"Ping\",\"id\":1,\"block\":2,\"groups\":0,\"data\":0}\n",
+    },
+];
 
 /// The sample's schema and input, with the words of a check.
 fn check<'a>() -> Trial<'a> {
@@ -43,49 +98,16 @@ fn check<'a>() -> Trial<'a> {
     }
 }
 
-/// A schema of these messages.
-fn schema_of(alloc: Global, messages: &[&str]) -> Result<String, Fail> {
-    let mut text = String::from_str(alloc, FRONT)?;
-    for message in messages {
-        text.push_str(",")?;
-        text.push_str(message)?;
-    }
-    text.push_str("]}}")?;
-    Ok(text)
-}
-
 #[test]
 fn prints_a_line_for_each_message(rt: HostRuntime) -> Result<(), Fail> {
     let alloc = rt.alloc();
-    let rows: [(&[&str], &[u8]); 5] = [
-        (&[], b""),
-        (
-            &[NUL],
-            b"{\"message\":\"Nul\",\"id\":2,\"block\":1,\"groups\":0,\"data\":0}\n",
-        ),
-        (
-            &[GRP],
-            b"{\"message\":\"Grp\",\"id\":4,\"block\":0,\"groups\":1,\"data\":0}\n",
-        ),
-        (
-            &[NEST],
-            b"{\"message\":\"Nest\",\"id\":5,\"block\":0,\"groups\":2,\"data\":1}\n",
-        ),
-        (
-            &[NUL, GRP, NEST],
-            b"{\"message\":\"Nul\",\"id\":2,\"block\":1,\"groups\":0,\"data\":0}
-{\"message\":\"Grp\",\"id\":4,\"block\":0,\"groups\":1,\"data\":0}
-{\"message\":\"Nest\",\"id\":5,\"block\":0,\"groups\":2,\"data\":1}
-",
-        ),
-    ];
-    for (messages, output) in rows {
-        let schema = schema_of(alloc, messages)?;
+    for row in PRINTED {
+        let text = row.file.text(alloc)?;
         let trial = Trial {
-            schema: schema.as_bytes(),
+            schema: text.as_bytes(),
             ..check()
         };
-        expect(alloc, &trial, Status::Done, output, b"")?;
+        expect(alloc, &trial, Status::Done, row.lines.as_bytes(), b"")?;
     }
     expect(alloc, &check(), Status::Done, PING_LINE, b"")
 }
@@ -147,56 +169,6 @@ fn refuses_files_that_hold_no_schema(rt: HostRuntime) -> Result<(), Fail> {
     };
     let notes = b"{\"file\":\"schema\",\"refused\":\"S06\",\"path\":\"\"}\n";
     expect(alloc, &trial, Status::SchemaRefused, b"", notes)
-}
-
-/// The schemas that break a rule, with its code and the element's path.
-#[test]
-fn refuses_schemas_that_break_a_rule(rt: HostRuntime) -> Result<(), Fail> {
-    let alloc = rt.alloc();
-    let rows: [(&[&str], &[u8]); 5] = [
-        (
-            &[
-                "{\"message\":{\"name\":\"Ping\",\"id\":1,\"content\":[
-                {\"field\":{\"name\":\"a\",\"id\":1001,\"type\":\"nothing\"}}]}}",
-            ],
-            b"{\"file\":\"schema\",\"refused\":\"C02\",\"path\":\"messages/Ping.a\"}\n",
-        ),
-        (
-            &[
-                "{\"message\":{\"name\":\"Ping\",\"id\":1,\"content\":[
-                {\"field\":{\"name\":\"a\",\"id\":1001,\"type\":\"double\"}}]}}",
-            ],
-            b"{\"file\":\"schema\",\"refused\":\"C03\",\"path\":\"messages/Ping.a\"}\n",
-        ),
-        (
-            &[NUL, NUL],
-            b"{\"file\":\"schema\",\"refused\":\"C13\",\"path\":\"messages/Nul\"}\n",
-        ),
-        (
-            &[
-                "{\"message\":{\"name\":\"Ping\",\"id\":1,\"content\":[
-                {\"field\":{\"name\":\"a\",\"id\":1001,\"type\":\"uint8\"}},
-                {\"field\":{\"name\":\"a\",\"id\":1002,\"type\":\"uint8\"}}]}}",
-            ],
-            b"{\"file\":\"schema\",\"refused\":\"C13\",\"path\":\"messages/Ping.a\"}\n",
-        ),
-        (
-            &[
-                "{\"message\":{\"name\":\"Grp\",\"id\":4,\"content\":[
-                {\"group\":{\"name\":\"g\",\"id\":2001,\"content\":[]}}]}}",
-            ],
-            b"{\"file\":\"schema\",\"refused\":\"C16\",\"path\":\"messages/Grp.g\"}\n",
-        ),
-    ];
-    for (messages, notes) in rows {
-        let schema = schema_of(alloc, messages)?;
-        let trial = Trial {
-            schema: schema.as_bytes(),
-            ..check()
-        };
-        expect(alloc, &trial, Status::SchemaRefused, b"", notes)?;
-    }
-    Ok(())
 }
 
 /// What ends a check early: an absent file, and each object that fails.
@@ -270,38 +242,64 @@ fn leaves_the_input_as_it_was(rt: HostRuntime) -> Result<(), Fail> {
     Ok(())
 }
 
+/// A step, and how many bytes were then left of the input and written to the output.
+#[derive(Clone, Copy, Debug, PartialEq)]
+struct Seen {
+    step: Step,
+    left: usize,
+    written: usize,
+}
+
+/// The next step of a pump.
+fn next_step(
+    pump: &mut Pump,
+    input: &mut MemSource,
+    output: &mut MemSink,
+    notes: &mut MemSink,
+) -> Seen {
+    let step = pump.step(input, output, notes);
+    Seen {
+        step,
+        left: input.left().len(),
+        written: output.bytes().len(),
+    }
+}
+
+/// The first three steps of a check.
+fn three_steps(
+    alloc: Global,
+    input: &mut MemSource,
+    output: &mut MemSink,
+    notes: &mut MemSink,
+) -> Result<[Seen; 3], Fail> {
+    let mut pump = opened(alloc, &["check", "ping.json"])?;
+    let first = next_step(&mut pump, input, output, notes);
+    let second = next_step(&mut pump, input, output, notes);
+    let third = next_step(&mut pump, input, output, notes);
+    Ok([first, second, third])
+}
+
 /// The job is done at the first step, and the run ends at the next.
 #[test]
 fn does_its_job_once(rt: HostRuntime) -> Result<(), Fail> {
     let alloc = rt.alloc();
-    let words = Vec::from_array(
-        alloc,
-        [
-            String::from_str(alloc, "check")?,
-            String::from_str(alloc, "ping.json")?,
-        ],
-    )?;
-    let Ok(command) = read_words(alloc, words.as_slice()) else {
-        return Err(Fail::new("no command"));
-    };
-    let mut files = MemFiles::new(alloc, &[])?;
-    files.put("ping.json", PING)?;
     let mut input = MemSource::new(alloc, FRAME, 64, &[])?;
     let mut output = MemSink::new(alloc, 1024, &[])?;
     let mut notes = MemSink::new(alloc, 1024, &[])?;
-    let Ok(mut pump) = Pump::open(alloc, command, &mut files, &mut notes) else {
-        return Err(Fail::new("no pump"));
+    let [first, second, third] = three_steps(alloc, &mut input, &mut output, &mut notes)?;
+    let went = Seen {
+        step: Step::Went,
+        left: FRAME.len(),
+        written: PING_LINE.len(),
     };
-    let steps = [
-        Step::Went,
-        Step::Ended(Status::Done),
-        Step::Ended(Status::Done),
-    ];
-    for step in steps {
-        assert_eq!(rt; pump.step(&mut input, &mut output, &mut notes), step);
-        assert_eq!(rt; input.left().len(), FRAME.len());
-        assert_eq!(rt; output.bytes(), PING_LINE);
-    }
+    let ended = Seen {
+        step: Step::Ended(Status::Done),
+        ..went
+    };
+    assert_eq!(rt; first, went);
+    assert_eq!(rt; second, ended);
+    assert_eq!(rt; third, ended);
+    assert_eq!(rt; output.bytes(), PING_LINE);
     assert!(rt; notes.bytes().is_empty());
     Ok(())
 }

@@ -2,7 +2,6 @@
 
 mod added;
 mod ends;
-mod files;
 mod parts;
 mod rows;
 mod wholes;

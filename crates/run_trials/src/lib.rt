@@ -2,7 +2,7 @@
 #![tactic(auto)]
 
 use sbe_base::{MemFiles, MemSink, MemSource, Status};
-use sbe_cli::run;
+use sbe_cli::{Pump, read_words, run};
 use std::alloc::Global;
 use std::test::Fail;
 
@@ -66,12 +66,33 @@ pub struct Outcome {
     pub left: usize,
 }
 
-/// Runs a trial, whose output has room for so many bytes.
-pub fn run_trial(alloc: Global, trial: &Trial, room: usize) -> Result<Outcome, Fail> {
+/// The words of a command.
+fn words_of(alloc: Global, given: &[&str]) -> Result<Vec<String>, Fail> {
     let mut words = Vec::new(alloc);
-    for word in trial.words {
+    for word in given {
         words.push(String::from_str(alloc, *word)?)?;
     }
+    Ok(words)
+}
+
+/// A pump that these words open over the sample's schema. The test fails where none is opened.
+pub fn opened(alloc: Global, words: &[&str]) -> Result<Pump, Fail> {
+    let words = words_of(alloc, words)?;
+    let Ok(command) = read_words(alloc, words.as_slice()) else {
+        return Err(Fail::new("no command"));
+    };
+    let mut files = MemFiles::new(alloc, &[])?;
+    files.put("ping.json", PING)?;
+    let mut notes = MemSink::new(alloc, 1024, &[])?;
+    match Pump::open(alloc, command, &mut files, &mut notes) {
+        Ok(pump) => Ok(pump),
+        Err(status) => Err(Fail::new(format_args!("no pump: {status:?}"))),
+    }
+}
+
+/// Runs a trial, whose output has room for so many bytes.
+pub fn run_trial(alloc: Global, trial: &Trial, room: usize) -> Result<Outcome, Fail> {
+    let words = words_of(alloc, trial.words)?;
     let mut files = MemFiles::new(alloc, trial.load)?;
     files.put("ping.json", trial.schema)?;
     let piece = trial.piece.max(1);

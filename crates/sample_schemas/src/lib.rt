@@ -3,7 +3,7 @@
 
 use std::alloc::{AllocError, Global};
 
-/// The types that the files share: a header, a dimension, a type of data, and a price.
+/// The types that all files share: a header, a dimension and a type of data.
 pub const TYPES: &str = r#"
     {"composite":{"name":"messageHeader","content":[
         {"type":{"name":"blockLength","primitiveType":"uint16"}},
@@ -15,12 +15,36 @@ pub const TYPES: &str = r#"
         {"type":{"name":"numInGroup","primitiveType":"uint16"}}]}},
     {"composite":{"name":"varData16","content":[
         {"type":{"name":"length","primitiveType":"uint16"}},
-        {"type":{"name":"varData","primitiveType":"uint8","length":0}}]}},
+        {"type":{"name":"varData","primitiveType":"uint8","length":0}}]}}"#;
+
+/// A price.
+const PRICE: &str = r#",
     {"composite":{"name":"Price","content":[
         {"type":{"name":"mantissa","primitiveType":"int32"}},
         {"type":{"name":"exponent","primitiveType":"int8"}}]}}"#;
 
-/// A schema file in two pieces, between which the shared types stand.
+/// A schema file by what it has besides the shared types.
+#[derive(Clone, Copy)]
+pub struct FileParts<'a> {
+    /// Its attributes, with commas between them.
+    pub attributes: &'a str,
+    /// Its types, each behind a comma.
+    pub types: &'a str,
+    /// Its messages, each behind a comma.
+    pub messages: &'a str,
+}
+
+impl FileParts<'_> {
+    /// The whole file.
+    pub fn text(&self, alloc: Global) -> Result<String, AllocError> {
+        format!(in alloc;
+            r#"{{"messageSchema":{{"package":"demo",{},"content":[{{"types":{{"content":[{TYPES}{}]}}}}{}]}}}}"#,
+            self.attributes, self.types, self.messages
+        )
+    }
+}
+
+/// A schema file in two pieces, between which the shared types and a price stand.
 #[derive(Clone, Copy)]
 pub struct SchemaFile {
     pub before: &'static str,
@@ -32,6 +56,7 @@ impl SchemaFile {
     pub fn text(&self, alloc: Global) -> Result<String, AllocError> {
         let mut text = String::from_str(alloc, self.before)?;
         text.push_str(TYPES)?;
+        text.push_str(PRICE)?;
         text.push_str(self.behind)?;
         Ok(text)
     }

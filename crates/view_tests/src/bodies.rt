@@ -4,7 +4,8 @@ mod rows;
 
 use flyweight_view::{Refusal, validate};
 use layout_compile::{Layout, compile};
-use rows::{BIG, DATA, ENTRY, GROUPS, LITTLE, MESSAGE, NESTED, ROOT, Row};
+use rows::{DATA, ENTRY, GROUPS, MESSAGE, NESTED, ROOT, Row};
+use sample_bodies::{BIG, LITTLE, quote_schema};
 use sbe_schema::read_schema;
 use sbe_types::Path;
 use schema_check::check;
@@ -12,69 +13,8 @@ use std::alloc::{AllocError, Global};
 use std::process::Abort;
 use std::test::Fail;
 
-const BEFORE: &str = r#"{"messageSchema":{"package":"demo","id":300,"version":2,"byteOrder":""#;
-
-const BEHIND: &str = r#"","content":[{"types":{"content":[
-    {"composite":{"name":"messageHeader","content":[
-        {"type":{"name":"blockLength","primitiveType":"uint16"}},
-        {"type":{"name":"templateId","primitiveType":"uint16"}},
-        {"type":{"name":"schemaId","primitiveType":"uint16"}},
-        {"type":{"name":"version","primitiveType":"uint16"}}]}},
-    {"composite":{"name":"groupSizeEncoding","content":[
-        {"type":{"name":"blockLength","primitiveType":"uint16"}},
-        {"type":{"name":"numInGroup","primitiveType":"uint8","maxValue":3}}]}},
-    {"composite":{"name":"Bytes","content":[
-        {"type":{"name":"length","primitiveType":"uint8","maxValue":5}},
-        {"type":{"name":"varData","primitiveType":"uint8","length":0}}]}},
-    {"enum":{"name":"Side","encodingType":"uint8","content":[
-        {"validValue":{"name":"Buy","text":1}},
-        {"validValue":{"name":"Sell","text":2}}]}},
-    {"set":{"name":"Flags","encodingType":"uint16","content":[
-        {"choice":{"name":"First","text":0}},
-        {"choice":{"name":"Last","text":9}}]}},
-    {"type":{"name":"Text","primitiveType":"char","length":3}},
-    {"type":{"name":"Marks","primitiveType":"uint16","length":2,"maxValue":9}},
-    {"composite":{"name":"Deep","content":[
-        {"type":{"name":"exact","primitiveType":"int32","minValue":-9,"maxValue":9}}]}},
-    {"composite":{"name":"Pair","content":[
-        {"type":{"name":"number","primitiveType":"int16"}},
-        {"ref":{"name":"side","type":"Side"}},
-        {"ref":{"name":"flags","type":"Flags"}},
-        {"ref":{"name":"text","type":"Text"}},
-        {"ref":{"name":"marks","type":"Marks"}},
-        {"ref":{"name":"deep","type":"Deep"}}]}}]}},
-    {"message":{"name":"Ping","id":8000,"content":[
-        {"field":{"name":"number","id":1,"type":"uint16"}}]}},
-    {"message":{"name":"Quote","id":9,"content":[
-        {"field":{"name":"number","id":1,"type":"uint16"}},
-        {"field":{"name":"side","id":2,"type":"Side"}},
-        {"field":{"name":"flags","id":3,"type":"Flags"}},
-        {"field":{"name":"text","id":4,"type":"Text"}},
-        {"field":{"name":"marks","id":5,"type":"Marks"}},
-        {"field":{"name":"pair","id":6,"type":"Pair"}},
-        {"field":{"name":"extra","id":7,"type":"uint8","offset":29,"sinceVersion":2}},
-        {"group":{"name":"legs","id":8,"content":[
-            {"field":{"name":"number","id":11,"type":"uint16"}},
-            {"field":{"name":"side","id":12,"type":"Side"}},
-            {"field":{"name":"flags","id":13,"type":"Flags"}},
-            {"field":{"name":"text","id":14,"type":"Text"}},
-            {"field":{"name":"marks","id":15,"type":"Marks"}},
-            {"field":{"name":"pair","id":16,"type":"Pair"}},
-            {"group":{"name":"subs","id":17,"content":[
-                {"field":{"name":"number","id":21,"type":"uint16"}},
-                {"field":{"name":"side","id":22,"type":"Side"}},
-                {"field":{"name":"flags","id":23,"type":"Flags"}},
-                {"field":{"name":"text","id":24,"type":"Text"}},
-                {"field":{"name":"marks","id":25,"type":"Marks"}},
-                {"field":{"name":"pair","id":26,"type":"Pair"}},
-                {"data":{"name":"memo","id":27,"type":"Bytes"}}]}},
-            {"data":{"name":"note","id":18,"type":"Bytes"}}]}},
-        {"data":{"name":"memo","id":9,"type":"Bytes"}},
-        {"data":{"name":"tail","id":10,"type":"Bytes","sinceVersion":2}}]}}]}}"#;
-
 fn layout_of(alloc: Global, order: &str) -> Result<Layout, Fail> {
-    let text = format!(in alloc; "{BEFORE}{order}{BEHIND}")?;
-    let schema = read_schema(alloc, text.as_bytes())?;
+    let schema = read_schema(alloc, quote_schema(alloc, order)?.as_bytes())?;
     let checked = check(alloc, schema)?;
     Ok(compile(alloc, &checked)?)
 }

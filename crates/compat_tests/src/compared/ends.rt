@@ -1,6 +1,7 @@
 //! Comparisons that end early.
 
-use super::{Pair, comparing, expect, files};
+use super::{Pair, comparing, expect};
+use sample_schemas::{EVENT, LATER_EVENT};
 use sbe_base::Status;
 use std::test::Fail;
 
@@ -8,7 +9,9 @@ use std::test::Fail;
 #[test]
 fn names_the_file_that_is_refused(rt: HostRuntime) -> Result<(), Fail> {
     let alloc = rt.alloc();
-    let sample = comparing(files::EVENT, files::LATER_EVENT);
+    let old = EVENT.text(alloc)?;
+    let new = LATER_EVENT.text(alloc)?;
+    let sample = comparing(old.as_str(), new.as_str());
     let rows: [(Pair, Status, &[u8]); 8] = [
         (
             Pair {
@@ -89,15 +92,18 @@ fn names_the_file_that_is_refused(rt: HostRuntime) -> Result<(), Fail> {
 fn refuses_a_file_that_is_too_long(rt: HostRuntime) -> Result<(), Fail> {
     let alloc = rt.alloc();
     let long = vec![in alloc; b' '; 1_048_577]?;
+    let sample = comparing("{}", "{}");
     let old = Pair {
         old: long.as_slice(),
-        ..comparing(files::EVENT, files::LATER_EVENT)
+        ..sample
     };
     let notes = b"{\"file\":\"old\",\"refused\":\"S06\",\"path\":\"\"}\n";
     expect(&rt, alloc, &old, Status::SchemaRefused, b"", notes)?;
+    let event = EVENT.text(alloc)?;
     let new = Pair {
+        old: event.as_bytes(),
         new: long.as_slice(),
-        ..comparing(files::EVENT, files::LATER_EVENT)
+        ..sample
     };
     let notes = b"{\"file\":\"new\",\"refused\":\"S06\",\"path\":\"\"}\n";
     expect(&rt, alloc, &new, Status::SchemaRefused, b"", notes)
@@ -107,7 +113,9 @@ fn refuses_a_file_that_is_too_long(rt: HostRuntime) -> Result<(), Fail> {
 #[test]
 fn ends_where_an_object_fails(rt: HostRuntime) -> Result<(), Fail> {
     let alloc = rt.alloc();
-    let sample = comparing(files::EVENT, files::LATER_EVENT);
+    let old = EVENT.text(alloc)?;
+    let new = LATER_EVENT.text(alloc)?;
+    let sample = comparing(old.as_str(), new.as_str());
     let rows: [(Pair, Status, &[u8], &[u8]); 5] = [
         (
             Pair {
@@ -180,7 +188,7 @@ fn asks_for_two_files(rt: HostRuntime) -> Result<(), Fail> {
     for words in rows {
         let given = Pair {
             words,
-            ..comparing(files::EVENT, files::LATER_EVENT)
+            ..comparing("", "")
         };
         expect(&rt, rt.alloc(), &given, Status::Usage, b"", usage)?;
     }

@@ -267,3 +267,27 @@ pub const ENTRY_KIND_NEW: &str = r#"{"messageSchema":{"id":300,"version":3,"cont
     {"group":{"name":"g19","id":114,"content":[{"field":{"name":"f17","id":112,"type":"t3","presence":"optional"}},{"field":{"name":"f18","id":113,"type":"t3"}}]}},{"data":{"name":"d20","id":115,"type":"varData0","sinceVersion":2}}]}},
     {"message":{"name":"Msg29","id":65533,"content":[{"field":{"name":"f22","id":116,"type":"enc1","offset":1}},{"field":{"name":"f23","id":117,"type":"t2"}},{"field":{"name":"f24","id":118,"type":"t3","presence":"required"}},
     {"group":{"name":"g28","id":122,"sinceVersion":2,"content":[{"field":{"name":"f25","id":4294967295,"type":"int32"}},{"field":{"name":"f26","id":120,"type":"char"}},{"data":{"name":"d27","id":121,"type":"varData0"}}]}}]}}]}}"#;
+
+/// A group of another dimension. The older schema.
+pub const GROUP_KIND_OLD: &str =
+    r#"{"messageSchema":{"id":"7","version":3,"package":"a.b é","content":[
+    {"types":{"content":[
+    {"composite":{"name":"messageHeader","content":[{"type":{"name":"blockLength","primitiveType":"uint16"}},{"type":{"name":"templateId","primitiveType":"uint16"}},{"type":{"name":"schemaId","primitiveType":"uint16"}},{"type":{"name":"version","primitiveType":"uint16"}}]}},
+    {"composite":{"name":"groupSizeEncoding","content":[{"type":{"name":"blockLength","primitiveType":"uint16"}},{"type":{"name":"numInGroup","primitiveType":"uint16","maxValue":2,"minValue":2}}]}},
+    {"composite":{"name":"varData0","content":[{"type":{"name":"length","primitiveType":"uint32"}},{"type":{"name":"varData","primitiveType":"char","length":0}}]}},{"type":{"name":"t1","primitiveType":"char","length":8}},{"type":{"name":"t2","primitiveType":"uint16","maxValue":7}},{"type":{"name":"t3","primitiveType":"int8","maxValue":-127}},{"type":{"name":"t4","primitiveType":"int32"}},
+    {"composite":{"name":"c5","content":[{"type":{"name":"mantissa","primitiveType":"int64","presence":"optional","minValue":-9223372036854775808}},{"type":{"name":"exponent","primitiveType":"int8"}}]}},
+    {"composite":{"name":"c6","content":[{"type":{"name":"mantissa","primitiveType":"int8"}},{"type":{"name":"exponent","primitiveType":"int8","presence":"constant","text":"-4"}}]}}]}},
+    {"message":{"name":"Msg13","id":1,"semanticType":"U0","blockLength":14,"content":[{"field":{"name":"f7","id":101,"type":"c6"}},{"field":{"name":"f8","id":4294967295,"type":"c5"}},
+    {"group":{"name":"g11","id":105,"content":[{"field":{"name":"f9","id":103,"type":"t4"}},{"data":{"name":"d10","id":104,"type":"varData0"}}]}},{"data":{"name":"d12","id":4294967295,"type":"varData0"}}]}}]}}"#;
+
+/// A group of another dimension. The newer schema.
+pub const GROUP_KIND_NEW: &str =
+    r#"{"messageSchema":{"id":"7","version":4,"package":"a.b é","content":[
+    {"types":{"content":[
+    {"composite":{"name":"messageHeader","content":[{"type":{"name":"blockLength","primitiveType":"uint16"}},{"type":{"name":"templateId","primitiveType":"uint16"}},{"type":{"name":"schemaId","primitiveType":"uint16"}},{"type":{"name":"version","primitiveType":"uint16"}}]}},
+    {"composite":{"name":"groupSizeEncoding","content":[{"type":{"name":"blockLength","primitiveType":"uint16"}},{"type":{"name":"numInGroup","primitiveType":"uint16","maxValue":9,"minValue":2}}]}},
+    {"composite":{"name":"varData0","content":[{"type":{"name":"length","primitiveType":"uint32"}},{"type":{"name":"varData","primitiveType":"char","length":0}}]}},{"type":{"name":"t1","primitiveType":"char","length":8}},{"type":{"name":"t2","primitiveType":"uint16","maxValue":7}},{"type":{"name":"t3","primitiveType":"int8","maxValue":-127}},{"type":{"name":"t4","primitiveType":"int32"}},
+    {"composite":{"name":"c5","content":[{"type":{"name":"mantissa","primitiveType":"int64","presence":"optional","minValue":-9223372036854775808}},{"type":{"name":"exponent","primitiveType":"int8"}}]}},
+    {"composite":{"name":"c6","content":[{"type":{"name":"mantissa","primitiveType":"int8"}},{"type":{"name":"exponent","primitiveType":"int8","presence":"constant","text":"-4"}}]}}]}},
+    {"message":{"name":"Msg13","id":1,"semanticType":"U0","content":[{"field":{"name":"f7","id":101,"type":"c6"}},{"field":{"name":"f8","id":4294967295,"type":"c5"}},
+    {"group":{"name":"g11","id":105,"content":[{"field":{"name":"f9","id":103,"type":"t4"}},{"data":{"name":"d10","id":104,"type":"varData0"}},{"data":{"name":"dnew1","id":92001,"type":"varData0","sinceVersion":4}}]}},{"data":{"name":"d12","id":4294967295,"type":"varData0"}}]}}]}}"#;

@@ -1,6 +1,7 @@
-use run_trials::{FRAME, LINE, PING, TWICE, Trial, expect, run_trial, sample};
-use sbe_base::{MemFiles, MemSink, MemSource, Status};
-use sbe_cli::{Pump, Step, read_words};
+use run_trials::{FRAME, LINE, TWICE, Trial, expect, opened, run_trial, sample};
+use sbe_base::{MemSink, MemSource, Status};
+use sbe_cli::{Pump, Step};
+use std::alloc::Global;
 use std::test::Fail;
 
 #[test]
@@ -159,40 +160,73 @@ fn takes_nothing_behind_a_failed_answer(rt: HostRuntime) -> Result<(), Fail> {
     Ok(())
 }
 
+/// A step, and how many bytes were then left of the input, written to the output and noted.
+#[derive(Clone, Copy, Debug, PartialEq)]
+struct Seen {
+    step: Step,
+    left: usize,
+    written: usize,
+    noted: usize,
+}
+
+/// The next step of a pump.
+fn next_step(
+    pump: &mut Pump,
+    input: &mut MemSource,
+    output: &mut MemSink,
+    notes: &mut MemSink,
+) -> Seen {
+    let step = pump.step(input, output, notes);
+    Seen {
+        step,
+        left: input.left().len(),
+        written: output.bytes().len(),
+        noted: notes.bytes().len(),
+    }
+}
+
+/// The first four steps of a dump.
+fn four_steps(
+    alloc: Global,
+    input: &mut MemSource,
+    output: &mut MemSink,
+    notes: &mut MemSink,
+) -> Result<[Seen; 4], Fail> {
+    let mut pump = opened(alloc, &["dump", "ping.json"])?;
+    let first = next_step(&mut pump, input, output, notes);
+    let second = next_step(&mut pump, input, output, notes);
+    let third = next_step(&mut pump, input, output, notes);
+    let fourth = next_step(&mut pump, input, output, notes);
+    Ok([first, second, third, fourth])
+}
+
 /// Each answer is written before a byte behind its frame is asked for, and the last answer of a pump stays.
 #[test]
 fn steps_frame_by_frame(rt: HostRuntime) -> Result<(), Fail> {
     let alloc = rt.alloc();
-    let words = Vec::from_array(
-        alloc,
-        [
-            String::from_str(alloc, "dump")?,
-            String::from_str(alloc, "ping.json")?,
-        ],
-    )?;
-    let Ok(command) = read_words(alloc, words.as_slice()) else {
-        return Err(Fail::new("no pump"));
-    };
-    let mut files = MemFiles::new(alloc, &[])?;
-    files.put("ping.json", PING)?;
     let mut input = MemSource::new(alloc, TWICE, 64, &[])?;
     let mut output = MemSink::new(alloc, 1024, &[])?;
     let mut notes = MemSink::new(alloc, 1024, &[])?;
-    let Ok(mut pump) = Pump::open(alloc, command, &mut files, &mut notes) else {
-        return Err(Fail::new("no pump"));
+    let [first, second, third, fourth] = four_steps(alloc, &mut input, &mut output, &mut notes)?;
+    let ended = Seen {
+        step: Step::Ended(Status::Done),
+        left: 0,
+        written: 164,
+        noted: 0,
     };
-    let steps = [
-        (Step::Went, 20usize, 82usize),
-        (Step::Went, 0, 164),
-        (Step::Ended(Status::Done), 0, 164),
-        (Step::Ended(Status::Done), 0, 164),
-    ];
-    for (step, left, written) in steps {
-        assert_eq!(rt; pump.step(&mut input, &mut output, &mut notes), step);
-        assert_eq!(rt; input.left().len(), left);
-        assert_eq!(rt; output.bytes().len(), written);
-    }
-    assert!(rt; notes.bytes().is_empty());
+    let last = Seen {
+        step: Step::Went,
+        ..ended
+    };
+    let front = Seen {
+        left: 20,
+        written: 82,
+        ..last
+    };
+    assert_eq!(rt; first, front);
+    assert_eq!(rt; second, last);
+    assert_eq!(rt; third, ended);
+    assert_eq!(rt; fourth, ended);
     Ok(())
 }
 
@@ -200,35 +234,21 @@ fn steps_frame_by_frame(rt: HostRuntime) -> Result<(), Fail> {
 #[test]
 fn stays_ended_after_a_fault(rt: HostRuntime) -> Result<(), Fail> {
     let alloc = rt.alloc();
-    let words = Vec::from_array(
-        alloc,
-        [
-            String::from_str(alloc, "dump")?,
-            String::from_str(alloc, "ping.json")?,
-        ],
-    )?;
-    let Ok(command) = read_words(alloc, words.as_slice()) else {
-        return Err(Fail::new("no pump"));
-    };
-    let mut files = MemFiles::new(alloc, &[])?;
-    files.put("ping.json", PING)?;
     let mut input = MemSource::new(alloc, FRAME, 64, &[2])?;
     let mut output = MemSink::new(alloc, 1024, &[])?;
     let mut notes = MemSink::new(alloc, 1024, &[])?;
-    let Ok(mut pump) = Pump::open(alloc, command, &mut files, &mut notes) else {
-        return Err(Fail::new("no pump"));
+    let [first, second, third, fourth] = four_steps(alloc, &mut input, &mut output, &mut notes)?;
+    let note = b"{\"fault\":\"Read\",\"at\":6}\n".as_slice();
+    let ended = Seen {
+        step: Step::Ended(Status::ReadFault),
+        left: 14,
+        written: 0,
+        noted: note.len(),
     };
-    for _ in 0..2u32 {
-        assert_eq!(rt;
-            pump.step(&mut input, &mut output, &mut notes),
-            Step::Ended(Status::ReadFault)
-        );
-        assert_eq!(rt; input.left().len(), 14);
-        assert_eq!(rt;
-            notes.bytes(),
-            b"{\"fault\":\"Read\",\"at\":6}\n".as_slice()
-        );
-    }
-    assert!(rt; output.bytes().is_empty());
+    assert_eq!(rt; first, ended);
+    assert_eq!(rt; second, ended);
+    assert_eq!(rt; third, ended);
+    assert_eq!(rt; fourth, ended);
+    assert_eq!(rt; notes.bytes(), note);
     Ok(())
 }
