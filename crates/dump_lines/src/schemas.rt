@@ -1,4 +1,4 @@
-ghost use Rattle.std.specs.Prelude.{◌≡◌, ◌++◌, ◌∷◌, [], find, None, Some, IfNone, IfSome, OnOk};
+ghost use Rattle.std.specs.Prelude.{◌≡◌, ◌++◌, ◌∷◌, [], find, None, Some, IfNone, IfSome, OnErr, OnOk};
 ghost use Rattle.std.specs.List.{list_any};
 ghost use Rattle.dump_lines.specs.Chosen.{has_id, schema_for, schema_with};
 ghost use Rattle.dump_lines.specs.Dumped.{AreInOrder};
@@ -27,11 +27,12 @@ impl Schemas {
         }
     }
 
-    /// Adds one more.
+    /// Adds one more; for want of memory all stays as it was.
     pub fn push(&mut self, layout: Layout) -> Result<(), NoMem>
         requires { AreInOrder self.old }
         ensures schemas { OnOk result (self.new ≡ record { first = self.old.first; also = self.old.also ++ layout ∷ [] }) }
         ensures order { OnOk result (AreInOrder self.new) }
+        ensures kept { OnErr result (self.new ≡ self.old) }
     {
         let _schema = layout.schema();
         self.also.push(layout)

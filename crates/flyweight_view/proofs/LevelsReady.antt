@@ -87,7 +87,7 @@ level_ready schema n level h at =
 
 -- ---- its row
 
-same_node : (schema : WireSchema) (n : ℕ) (row : LevelRow) (level : Level) (is : RowFor schema n row) → level_at schema n ≡ Some level → is.0.level ≡ level
+pub same_node : (schema : WireSchema) (n : ℕ) (row : LevelRow) (level : Level) (is : RowFor schema n row) → level_at schema n ≡ Some level → is.0.level ≡ level
 same_node schema n row level is at =
     let both : Some is.0.level ≡ Some level = sym (ap (option_map (λ (x : Node). x.level)) is.1) ∙ at in
     cc

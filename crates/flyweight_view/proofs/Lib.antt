@@ -23,3 +23,5 @@ pub mod PartsTold
 pub mod GroupSteps
 pub mod TailsSeen
 pub mod AtOnce
+pub mod Alive
+pub mod BlockRows

@@ -75,15 +75,6 @@ module _ (schema : WireSchema) (n : ℕ) (row : LevelRow) (level : Level) (ready
       let below : nat_le k (length body - at) ≡ false = grind (arith, nat_tests) in
       sym (entry_walked mode level k body at near ∙ ap (λ t. cond t (behind_fields k) (Err (fault_at code.Truncated at (pos k)))) below)
 
-  pub entry_rows : (k : ℕ) (rows : List FieldRow) (fields : List Field) (slice : List ℕ) → rows ≡ row.fields.items → fields ≡ (out-Level level).fields → length slice ≡ k → floor mode.version (out-Level level).fields ≤ k →
-      AreFieldRows mode.version (length slice) fields rows
-  entry_rows k rows fields slice same same_fields long reaches =
-      let known = level_ready schema n level ready there in
-      let all = rows_ready mode.version k (out-Level level).fields row.fields.items (row_fields schema n row level is there) known.placed known.ready reaches in
-      subst (λ m. AreFieldRows mode.version m fields rows) (sym long)
-      (subst (λ fs. AreFieldRows mode.version k fs rows) (sym same_fields)
-      (subst (λ rs. AreFieldRows mode.version k (out-Level level).fields rs) (sym same) all))
-
   pub entry_told : (k : ℕ) (rows : List FieldRow) (fields : List Field) (slice : List ℕ) (r : Result Unit Fault) → k ≤ length body - at → rows ≡ row.fields.items → fields ≡ (out-Level level).fields → slice ≡ take k (drop at body) →
       r ≡ fields_told mode (piece at slice) 0 fields rows →
       (r >>= (λ _. skim (tail_read mode.order mode.known mode.version level) body (at + k))) ≡ skim (entries_read mode level k) body at

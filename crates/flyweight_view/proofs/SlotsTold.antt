@@ -58,7 +58,7 @@ entry_fields tail order known version fields k b r h =
     read ∙ ap (λ (x : Block). Ok (out-Block x).fields) block
 
 module _ (s : Span) (p : Plan) (seen : IsSeen s p) where
-  long_bytes : length (bytes_of s) ≡ s.size
+  pub long_bytes : length (bytes_of s) ≡ s.size
   long_bytes = let near = seen.near in simp (length-take, length-drop) (omega arith)
 
   pub fields_lie : FieldsLay s.mode.order s.mode.known s.mode.version 0 (fields_of p) (values_at s p) (bytes_of s)

@@ -8,6 +8,7 @@ pub mod Seen
 pub mod Read
 pub mod Viewed
 pub mod Planned
+pub mod ByTable
 pub mod Blocks
 pub mod Slots
 pub mod ShownIn

@@ -5,11 +5,13 @@ ghost use Rattle.sbe_types.specs.declared.message.Value.TheVariants.{Absent};
 ghost use Rattle.schema_facts.specs.CheckedLevels.{group_name};
 ghost use Rattle.schema_facts.specs.InOrder.{IsKindInOrder};
 ghost use Rattle.field_values.specs.Told.{all_elements, element_of, number_in, state_of, text_in};
+ghost use Rattle.flyweight_view.specs.ByTable.{IsTableBlock};
 ghost use Rattle.flyweight_view.specs.Lefts.{groups_seen};
 ghost use Rattle.flyweight_view.specs.Seen.{bytes_in, field_seen, group_seen};
 ghost use Rattle.flyweight_view.specs.ShownIn.{IsShownIn};
 ghost use Rattle.flyweight_view.specs.Planned.{seen_at, IsSeen};
 
+use crate::by_table::{TableBlock, table_block};
 use crate::entries::EntriesView;
 use crate::groups::{GroupsView, group_of, groups_in};
 use crate::parts::{PartsView, data_of, parts_in};
@@ -152,6 +154,15 @@ impl<'a> BlockView<'a> {
         ensures absent { IfNone result (slice_get self.now.block.fields i ≡ Some Absent) }
     {
         field_bytes(&self.span, &self.plan, i)
+    }
+
+    /// Its bytes with the table of its fields, where it is of a level, all fields stand, and numbers have the lowest byte
+    /// first.
+    #[inline(always)]
+    pub fn by_table(&self) -> Option<TableBlock<'a>>
+        ensures { IfSome result (λ b. IsTableBlock b self.now) }
+    {
+        table_block(&self.span, &self.plan)
     }
 
     /// The members of field `i`. It needs a field that is there and a composite.

@@ -2,6 +2,7 @@
 #![tactic(auto)]
 
 mod block;
+mod by_table;
 mod ends;
 mod entries;
 mod fields;
@@ -20,6 +21,7 @@ mod view;
 mod walk;
 
 pub use block::BlockView;
+pub use by_table::TableBlock;
 pub use entries::EntriesView;
 pub use field_values::FieldState;
 pub use groups::GroupsView;

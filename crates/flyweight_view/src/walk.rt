@@ -21,8 +21,8 @@ ghost use Rattle.flyweight_view.specs.Layers.{IsLayer};
 ghost use Rattle.flyweight_view.specs.Ready.{IsReadySchema};
 ghost use Rattle.flyweight_view.specs.Told.{went};
 
+use crate::by_table::judge_block;
 use crate::ends::is_flat;
-use crate::fields::judge_fields;
 use crate::found::Found;
 use crate::layer::Layer;
 use crate::mode::Mode;
@@ -59,16 +59,9 @@ pub(crate) fn walk_entry(
         out.tell(FCode::Truncated, at, block as i128);
         return None;
     }
-    let rows = layout.row(n).fields.as_slice();
+    let row = layout.row(n);
     let behind = at + size;
-    if !judge_fields(
-        mode,
-        rows,
-        level.fields.as_slice(),
-        at,
-        &body[at..behind],
-        out,
-    ) {
+    if !judge_block(mode, row, level, at, &body[at..behind], out) {
         return None;
     }
     if is_flat(level) {
@@ -284,12 +277,11 @@ fn walk_block(
         out.tell(FCode::Truncated, at, block as i128);
         return None;
     }
-    let rows = row.fields.as_slice();
     let behind = at + size;
-    if !judge_fields(
+    if !judge_block(
         layer.mode,
-        rows,
-        layer.level.fields.as_slice(),
+        row,
+        layer.level,
         at,
         &layer.body[at..behind],
         out,

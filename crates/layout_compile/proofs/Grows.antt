@@ -2,6 +2,7 @@
 use Rattle.std.proofs.Common.{◌≡◌, ◌≤◌, ◌<◌, ℕ, zero, suc, ◌+◌, Bool, List, [], ◌∷◌, ◌++◌, length, take, drop, get_or, Option, Some, None, refl, sym, ap, ◌∙◌, subst, arith, append_assoc, length-append, cond}
 use Rattle.std.proofs.lemmas.List.{append-nil}
 use Rattle.std.specs.Prelude.{slice_get, flat_map, map, not, ◌&&◌}
+use Rattle.std.specs.List.{AllByRecursion}
 use Rattle.sbe_types.specs.declared.schema.Field.{Field}
 use Rattle.sbe_types.specs.declared.schema.WireSchema.{WireSchema}
 use Rattle.sbe_types.specs.declared.schema.Group.{Group, out-Group}
@@ -14,8 +15,10 @@ use Rattle.layout_compile.specs.declared.rows.LevelRow.{LevelRow}
 use Rattle.layout_compile.specs.declared.tables.Around.{Around}
 use Rattle.schema_facts.specs.Levels.{Node, nodes, nodes_of, nodes_from, all_nodes, node}
 use Rattle.schema_facts.specs.Measured.{IsMeasuredLevel, AreMeasured, AreNarrowFields, IsNarrow, EndsWithin}
+use Rattle.schema_facts.specs.CheckedLevels.{HasKinds}
+use Rattle.schema_facts.specs.IsChecked.{IsChecked}
 use Rattle.layout_compile.specs.Rowed.{RowIs, FieldIs, FieldsAre, DimOf, AreRows, rows_floor, roots_from}
-use Rattle.layout_compile.specs.Grown.{RowsAre, Grown, Pushed}
+use Rattle.layout_compile.specs.Grown.{RowsAre, Grown, Pushed, IsOrdered, AreOrdered}
 use Rattle.layout_compile.proofs.Nodes.{nodes_open, open_group}
 
 -- ---- fields
@@ -149,6 +152,7 @@ pushed_grown around a b dim level of p =
       groups = p.this.groups;
       parts = p.this.parts;
       keys = p.this.keys;
+      flat_is = p.this.flat_is;
       end = p.this.end ∙ ap (λ n. length a + n) long;
     } in
     let next : length (a ++ row ∷ []) ≡ suc (length a) = omega (arith, length-append a (row ∷ [])) in
@@ -183,45 +187,53 @@ are_rows schema levels g =
 
 -- ---- what is asked of the levels
 
-all_front : (xs ys : List Node) → AreMeasured (xs ++ ys) → AreMeasured xs
+all_front : (xs ys : List Node) → AreOrdered (xs ++ ys) → AreOrdered xs
 all_front [] ys h = tt
 all_front (x ∷ xs) ys h = (h.0, all_front xs ys h.1)
 
-all_back : (xs ys : List Node) → AreMeasured (xs ++ ys) → AreMeasured ys
+all_back : (xs ys : List Node) → AreOrdered (xs ++ ys) → AreOrdered ys
 all_back [] ys h = h
 all_back (x ∷ xs) ys h = all_back xs ys h.1
 
--- what is asked of the levels of one level
-opened : (t : ℕ) (dim : Option (List Member)) (level : Level) → AreMeasured (nodes t dim level) → IsMeasuredLevel (node t dim level) × AreMeasured (flat_map (nodes_of t) (out-Level level).groups)
-opened t dim level h = subst (λ ns. AreMeasured ns) (nodes_open t dim level) h
+both_asked : (nodes : List Node) → AreMeasured nodes → AllByRecursion HasKinds nodes → AreOrdered nodes
+both_asked [] h k = tt
+both_asked (x ∷ xs) h k = (record { measured = h.0; kinds = k.0.fields }, both_asked xs h.1 k.1)
 
-pub group_measured : (t : ℕ) (gs : List Group) (i : ℕ) (g : Group) → i < length gs → g ≡ get_or gs i g → AreMeasured (flat_map (nodes_of t) (drop i gs)) →
-    IsMeasuredLevel (node t (Some (out-Group g).dim) (out-Group g).level) × AreMeasured (flat_map (nodes_of t) (out-Level (out-Group g).level).groups) × AreMeasured (flat_map (nodes_of t) (drop (i + 1) gs))
+-- the levels of a checked schema are so
+pub levels_ordered : (schema : WireSchema) → IsChecked schema → AreOrdered (all_nodes schema)
+levels_ordered schema h = both_asked (all_nodes schema) h.measured.levels h.kinds.levels
+
+-- what is asked of the levels of one level
+opened : (t : ℕ) (dim : Option (List Member)) (level : Level) → AreOrdered (nodes t dim level) → IsOrdered (node t dim level) × AreOrdered (flat_map (nodes_of t) (out-Level level).groups)
+opened t dim level h = subst (λ ns. AreOrdered ns) (nodes_open t dim level) h
+
+pub group_measured : (t : ℕ) (gs : List Group) (i : ℕ) (g : Group) → i < length gs → g ≡ get_or gs i g → AreOrdered (flat_map (nodes_of t) (drop i gs)) →
+    IsOrdered (node t (Some (out-Group g).dim) (out-Group g).level) × AreOrdered (flat_map (nodes_of t) (out-Level (out-Group g).level).groups) × AreOrdered (flat_map (nodes_of t) (drop (i + 1) gs))
 group_measured t [] i g h is all = absurd (omega arith)
 group_measured t (f ∷ gs) zero g h is all =
-    let here = subst (λ (x : Group). AreMeasured (nodes_of t x)) (sym is) (all_front (nodes_of t f) (flat_map (nodes_of t) gs) all) in
-    let parts = opened t (Some (out-Group g).dim) (out-Group g).level (subst (λ ns. AreMeasured ns) (open_group t g) here) in
+    let here = subst (λ (x : Group). AreOrdered (nodes_of t x)) (sym is) (all_front (nodes_of t f) (flat_map (nodes_of t) gs) all) in
+    let parts = opened t (Some (out-Group g).dim) (out-Group g).level (subst (λ ns. AreOrdered ns) (open_group t g) here) in
     (parts.0, parts.1, all_back (nodes_of t f) (flat_map (nodes_of t) gs) all)
 group_measured t (f ∷ gs) (suc i) g h is all =
     let next : suc i + 1 ≡ suc (i + 1) = omega arith in
     rw next (group_measured t gs i g (omega arith) is all)
 
-pub message_measured : (k : ℕ) (ls : List Level) (i : ℕ) (l : Level) → i < length ls → l ≡ get_or ls i l → AreMeasured (nodes_from (k + i) (drop i ls)) →
-    IsMeasuredLevel (node (k + i) None l) × AreMeasured (flat_map (nodes_of (k + i)) (out-Level l).groups) × AreMeasured (nodes_from (k + (i + 1)) (drop (i + 1) ls))
+pub message_measured : (k : ℕ) (ls : List Level) (i : ℕ) (l : Level) → i < length ls → l ≡ get_or ls i l → AreOrdered (nodes_from (k + i) (drop i ls)) →
+    IsOrdered (node (k + i) None l) × AreOrdered (flat_map (nodes_of (k + i)) (out-Level l).groups) × AreOrdered (nodes_from (k + (i + 1)) (drop (i + 1) ls))
 message_measured k [] i l h is all = absurd (omega arith)
 message_measured k (f ∷ ls) zero l h is all =
-    let here = subst (λ (x : Level). AreMeasured (nodes (k + 0) None x)) (sym is) (all_front (nodes (k + 0) None f) (nodes_from (suc (k + 0)) ls) all) in
+    let here = subst (λ (x : Level). AreOrdered (nodes (k + 0) None x)) (sym is) (all_front (nodes (k + 0) None f) (nodes_from (suc (k + 0)) ls) all) in
     let parts = opened (k + 0) None l here in
-    (parts.0, parts.1, subst (λ j. AreMeasured (nodes_from j ls)) (omega arith) (all_back (nodes (k + 0) None f) (nodes_from (suc (k + 0)) ls) all))
+    (parts.0, parts.1, subst (λ j. AreOrdered (nodes_from j ls)) (omega arith) (all_back (nodes (k + 0) None f) (nodes_from (suc (k + 0)) ls) all))
 message_measured k (f ∷ ls) (suc i) l h is all =
     let next : suc i + 1 ≡ suc (i + 1) = omega arith in
-    let rest = message_measured (suc k) ls i l (omega arith) is (subst (λ j. AreMeasured (nodes_from j (drop i ls))) (omega arith) all) in
+    let rest = message_measured (suc k) ls i l (omega arith) is (subst (λ j. AreOrdered (nodes_from j (drop i ls))) (omega arith) all) in
     let same : suc k + i ≡ k + suc i = omega arith in
     let after : suc k + (i + 1) ≡ k + suc (i + 1) = omega arith in
     rw next (
-      subst (λ j. IsMeasuredLevel (node j None l)) same rest.0,
-      subst (λ j. AreMeasured (flat_map (nodes_of j) (out-Level l).groups)) same rest.1,
-      subst (λ j. AreMeasured (nodes_from j (drop (i + 1) ls))) after rest.2,
+      subst (λ j. IsOrdered (node j None l)) same rest.0,
+      subst (λ j. AreOrdered (flat_map (nodes_of j) (out-Level l).groups)) same rest.1,
+      subst (λ j. AreOrdered (nodes_from j (drop (i + 1) ls))) after rest.2,
     )
 
 -- ---- what falls
@@ -275,13 +287,13 @@ roots_many k t [] = refl
 roots_many k t (f ∷ ls) = ap suc (roots_many (k + length (nodes t None f)) (suc t) ls)
 
 -- the same of all messages
-pub message_first : (ls : List Level) (i : ℕ) (l : Level) → i < length ls → l ≡ get_or ls i l → AreMeasured (nodes_from i (drop i ls)) →
-    IsMeasuredLevel (node i None l) × AreMeasured (flat_map (nodes_of i) (out-Level l).groups) × AreMeasured (nodes_from (i + 1) (drop (i + 1) ls))
+pub message_first : (ls : List Level) (i : ℕ) (l : Level) → i < length ls → l ≡ get_or ls i l → AreOrdered (nodes_from i (drop i ls)) →
+    IsOrdered (node i None l) × AreOrdered (flat_map (nodes_of i) (out-Level l).groups) × AreOrdered (nodes_from (i + 1) (drop (i + 1) ls))
 message_first ls i l h is all =
     let same : 0 + i ≡ i = omega arith in
     let next : 0 + (i + 1) ≡ i + 1 = omega arith in
-    let m = message_measured 0 ls i l h is (subst (λ k. AreMeasured (nodes_from k (drop i ls))) (sym same) all) in (
-      subst (λ k. IsMeasuredLevel (node k None l)) same m.0,
-      subst (λ k. AreMeasured (flat_map (nodes_of k) (out-Level l).groups)) same m.1,
-      subst (λ k. AreMeasured (nodes_from k (drop (i + 1) ls))) next m.2,
+    let m = message_measured 0 ls i l h is (subst (λ k. AreOrdered (nodes_from k (drop i ls))) (sym same) all) in (
+      subst (λ k. IsOrdered (node k None l)) same m.0,
+      subst (λ k. AreOrdered (flat_map (nodes_of k) (out-Level l).groups)) same m.1,
+      subst (λ k. AreOrdered (nodes_from k (drop (i + 1) ls))) next m.2,
     )

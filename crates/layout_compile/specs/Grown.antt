@@ -1,12 +1,30 @@
 -- Tables as they grow: a level's row, and then those of its groups.
 use Rattle.std.specs.Prelude.{◌≡◌, ℕ, suc, ◌+◌, List, [], ◌∷◌, ◌++◌, length, map, flat_map, None, ⊤}
+use Rattle.std.specs.List.{AllByRecursion}
+use Rattle.sbe_types.specs.declared.schema.Field.{Field}
 use Rattle.sbe_types.specs.declared.schema.Level.{Level, out-Level}
 use Rattle.sbe_wire.specs.Versions.{floor}
 use Rattle.layout_compile.specs.declared.rows.LevelRow.{LevelRow}
 use Rattle.layout_compile.specs.declared.tables.Around.{Around}
+use Rattle.schema_facts.specs.InOrder.{IsKindInOrder}
 use Rattle.schema_facts.specs.Levels.{Node, nodes, nodes_of}
+use Rattle.schema_facts.specs.Measured.{IsMeasuredLevel}
+use Rattle.layout_compile.specs.Flats.{IsFlat}
 use Rattle.layout_compile.specs.Keys.{names_of, KeysAre}
 use Rattle.layout_compile.specs.Rowed.{RowIs, FieldsAre, newest_of, part_row}
+
+-- the kinds of fields are in order
+abbrev pub AreInOrder : List Field → Type 0
+AreInOrder fields = AllByRecursion (λ (f : Field). IsKindInOrder f.kind) fields
+
+-- what is asked of a level before its row is made
+pub record IsOrdered (node : Node) : Type 0 where
+  pub measured : IsMeasuredLevel node
+  pub kinds : AreInOrder (out-Level node.level).fields
+
+-- what is asked of some levels
+abbrev pub AreOrdered : List Node → Type 0
+AreOrdered nodes = AllByRecursion IsOrdered nodes
 
 -- the rows of some levels, of which the first is number k
 abbrev pub RowsAre : ℕ → List LevelRow → List Node → Type 0
@@ -33,6 +51,7 @@ pub record LevelIs (around : Around) (n : ℕ) (level : Level) (row : LevelRow) 
   pub groups : row.groups ≡ length (out-Level level).groups
   pub parts : row.parts.items ≡ map part_row (out-Level level).parts
   pub keys : KeysAre (names_of level) row.keys
+  pub flat_is : IsFlat level row.flat
   pub end : row.end ≡ n + length (nodes around.template None level)
 
 -- a level's row was added, and those of its groups

@@ -1,6 +1,7 @@
 pub mod Paths
 pub mod Keys
 pub mod Rowed
+pub mod Flats
 pub mod Grown
 pub mod Parts
 pub mod Heads

@@ -15,6 +15,7 @@ use Rattle.layout_compile.specs.declared.rows.FieldRow.{FieldRow}
 use Rattle.layout_compile.specs.declared.rows.PartRow.{PartRow}
 use Rattle.layout_compile.specs.declared.rows.LevelRow.{LevelRow}
 use Rattle.schema_facts.specs.Levels.{Node, all_nodes, nodes}
+use Rattle.layout_compile.specs.Flats.{IsFlat}
 use Rattle.layout_compile.specs.Keys.{names_of, KeysAre}
 use Rattle.schema_facts.specs.Measured.{IsCounter}
 
@@ -92,6 +93,7 @@ pub record RowIs (n : ℕ) (row : LevelRow) (node : Node) : Type 0 where
   pub groups : row.groups ≡ length (out-Level node.level).groups
   pub parts : row.parts.items ≡ map part_row (out-Level node.level).parts
   pub keys : KeysAre (names_of node.level) row.keys
+  pub flat_is : IsFlat node.level row.flat
   pub end : row.end ≡ n + length (nodes node.template node.dim node.level)
 
 -- the rows are those of all levels

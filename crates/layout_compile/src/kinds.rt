@@ -1,27 +1,11 @@
 ghost use Rattle.std.specs.Prelude.{◌≡◌, Some};
 ghost use Rattle.std.specs.Option.{IsSome};
 ghost use Rattle.sbe_types.specs.declared.kind.Kind.{Comp};
-ghost use Rattle.sbe_types.specs.Places.{width, begin_of as begins_at, end_past, members_end, member_place as place_in};
-ghost use Rattle.schema_facts.specs.Measured.{IsNarrow, EndsWithin};
+ghost use Rattle.sbe_types.specs.Places.{member_place as place_in};
+ghost use Rattle.schema_facts.specs.Measured.{IsNarrow};
 
-use sbe_types::{Kind, List, Member, MemberList};
-
-/// How many bytes a value of the kind takes; a constant takes none. It needs a kind whose parts end
-/// within 1,048,576 bytes.
-#[cycle(width)]
-#[inline(always)]
-pub fn width_of(kind: &Kind) -> u32
-    requires { IsNarrow kind.now }
-    ensures { result ≡ width kind.now }
-{
-    match kind {
-        Kind::Leaf(leaf) => leaf.prim.width() as u32 * leaf.length,
-        Kind::Enum(leaf, _) => leaf.prim.width() as u32,
-        Kind::Set(prim, _) => prim.width() as u32,
-        Kind::Const(_) => 0,
-        Kind::Comp(members) => end_of(members),
-    }
-}
+use flat_rows::{begin_of, end_behind};
+use sbe_types::MemberList;
 
 /// Where a composite's member `i` begins, counted from the composite's first byte (SBE 1.0, offset).
 /// It needs a member in range that isn't a constant, and members that end within 1,048,576 bytes.
@@ -35,43 +19,4 @@ pub fn member_place(members: &MemberList, i: usize) -> u32
         end = end_behind(end, member.offset, &member.kind);
     }
     begin_of(end, members.at(i).offset)
-}
-
-/// Where the members end.
-#[cycle(width)]
-pub(crate) fn end_of(members: &List<Member>) -> u32
-    requires { IsNarrow (Comp members.now) }
-    ensures { result ≡ width (Comp members.now) }
-{
-    let mut end = 0;
-    for member in members.as_slice() {
-        end = end_behind(end, member.offset, &member.kind);
-    }
-    end
-}
-
-/// Where the parts end when one more is added.
-#[cycle(width)]
-#[inline(always)]
-pub fn end_behind(end: u32, offset: Option<u32>, kind: &Kind) -> u32
-    requires narrow { IsNarrow kind.now }
-    requires within { EndsWithin end offset kind.now }
-    ensures { result ≡ end_past end offset kind.now }
-{
-    match kind {
-        Kind::Const(_) => end,
-        Kind::Leaf(_) | Kind::Enum(_, _) | Kind::Set(_, _) | Kind::Comp(_) => {
-            begin_of(end, offset) + width_of(kind)
-        }
-    }
-}
-
-/// Where a part begins behind parts that end at `end`.
-pub fn begin_of(end: u32, offset: Option<u32>) -> u32
-    ensures { result ≡ begins_at end offset }
-{
-    match offset {
-        Some(place) => place,
-        None => end,
-    }
 }

@@ -3,6 +3,7 @@
 
 mod below;
 mod entries;
+mod flats;
 mod heads;
 mod keys;
 mod kinds;
@@ -16,8 +17,9 @@ mod tables;
 mod templates;
 pub mod worked;
 
+pub use flat_rows::{begin_of, end_behind, width_of};
 pub use heads::{number_at, small_number};
-pub use kinds::{begin_of, end_behind, member_place, width_of};
+pub use kinds::member_place;
 pub use layout::Layout;
 pub use rows::{
     DimRow, FieldRow, HeaderRow, KeyRow, KeyTable, LevelRow, PartPlace, PartRow, SpotRow,

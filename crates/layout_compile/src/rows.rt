@@ -1,5 +1,6 @@
 ghost use Rattle.std.specs.Prelude.{◌≡◌, ◌≤◌, ◌^◌, IfSome, IfNone};
 
+use flat_rows::FlatRows;
 use sbe_types::Leaf;
 use std::collections::BTreeMap;
 
@@ -97,6 +98,8 @@ pub struct LevelRow {
     pub parts: Vec<PartRow>,
     /// The keys of its fields, groups and data.
     pub keys: KeyTable,
+    /// Its fields as values, with what stands between and around them in each line of JSON.
+    pub flat: FlatRows,
 }
 
 /// The tables that a layout keeps beside the schema.

@@ -7,17 +7,18 @@ ghost use Rattle.schema_facts.specs.Levels.{nodes, nodes_of, nodes_from};
 ghost use Rattle.sbe_types.specs.declared.kind.Kind.{Comp};
 ghost use Rattle.sbe_types.specs.Places.{is_const};
 ghost use Rattle.schema_facts.specs.IsChecked.{IsChecked};
-ghost use Rattle.schema_facts.specs.Measured.{AreNarrowFields, IsNarrow, EndsWithin, HasCounter, IsDimension, IsHeader, AreMeasured};
+ghost use Rattle.schema_facts.specs.Measured.{AreNarrowFields, IsNarrow, EndsWithin, HasCounter, IsDimension, IsHeader};
 ghost use Rattle.layout_compile.specs.Rowed.{as_spot, DimIs, FieldIs, FieldsAre, HeaderIs, SpotIs, newest_of, part_row, roots_from, rows_floor};
-ghost use Rattle.layout_compile.specs.Grown.{Grown, LevelIs, Pushed};
+ghost use Rattle.layout_compile.specs.Grown.{Grown, LevelIs, Pushed, AreInOrder, AreOrdered};
 ghost use Rattle.layout_compile.specs.Tables.{AreTables};
 
+use crate::flats::level_flat;
 use crate::keys::keys_of;
-use crate::kinds::{begin_of, end_behind, end_of};
 use crate::layout::{Layout, of_tables};
 use crate::numbers::{firsts_of, places_of};
 use crate::rows::{DimRow, FieldRow, HeaderRow, LevelRow, PartRow, SpotRow, Tables};
 use crate::templates::ids_of;
+use flat_rows::{begin_of, end_behind, end_of};
 use sbe_types::{DataField, Field, Group, Kind, Level, List, Member, NoMem, WireSchema};
 use schema_check::Checked;
 use std::alloc::Global;
@@ -233,12 +234,14 @@ struct Around {
 /// The row of level `n`.
 #[tactic(auto, using(crate::proofs::Grows::floor_row))]
 fn level_row(alloc: Global, around: Around, n: usize, level: &Level) -> Result<LevelRow, NoMem>
-    requires { AreNarrowFields 0 (out-Level level.now).fields }
+    requires narrow { AreNarrowFields 0 (out-Level level.now).fields }
+    requires order { AreInOrder (out-Level level.now).fields }
     ensures { IfOk result (λ row. LevelIs around n level.now row) }
 {
     let fields = field_rows(alloc, level.fields.as_slice())?;
     let parts = part_rows(alloc, level.parts.as_slice())?;
     let keys = keys_of(alloc, level)?;
+    let flat = level_flat(alloc, level)?;
     let Some(many) = count_level(level) else {
         return Err(NoMem);
     };
@@ -259,6 +262,7 @@ fn level_row(alloc: Global, around: Around, n: usize, level: &Level) -> Result<L
         fields,
         parts,
         keys,
+        flat,
     })
 }
 
@@ -271,7 +275,8 @@ fn push_level(
     level: &Level,
 ) -> Result<(), NoMem>
     requires fields { AreNarrowFields 0 (out-Level level.now).fields }
-    requires below { AreMeasured (flat_map (nodes_of around.template) (out-Level level.now).groups) }
+    requires order { AreInOrder (out-Level level.now).fields }
+    requires below { AreOrdered (flat_map (nodes_of around.template) (out-Level level.now).groups) }
     ensures { OnOk result (Pushed around levels.old.items levels.new.items level.now) }
 {
     let row = level_row(alloc, around, levels.len(), level)?;
@@ -288,7 +293,7 @@ fn push_below(
     template: usize,
     groups: &[Group],
 ) -> Result<(), NoMem>
-    requires { AreMeasured (flat_map (nodes_of template) groups.now) }
+    requires { AreOrdered (flat_map (nodes_of template) groups.now) }
     ensures { OnOk result (Grown levels.old.items levels.new.items (flat_map (nodes_of template) groups.now)) }
 {
     for group in groups {
@@ -307,7 +312,7 @@ fn push_roots(
     levels: &mut Vec<LevelRow>,
     messages: &[Level],
 ) -> Result<Vec<usize>, NoMem>
-    requires { AreMeasured (nodes_from 0 messages.now) }
+    requires { AreOrdered (nodes_from 0 messages.now) }
     ensures rows { OnOk result (Grown levels.old.items levels.new.items (nodes_from 0 messages.now)) }
     ensures roots { IfOk result (λ roots. roots.items ≡ roots_from (length levels.old.items) 0 messages.now) }
 {

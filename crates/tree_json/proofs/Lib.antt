@@ -18,3 +18,6 @@ pub mod Lanes
 pub mod Fronts
 pub mod Valid
 pub mod Gathered
+pub mod PiecesText
+pub mod RowsText
+pub mod HeadText

@@ -1,10 +1,13 @@
 -- The text of what a view shows.
-use Rattle.std.specs.Prelude.{ℕ, false, List, ◌++◌, codes, Option}
+use Rattle.std.specs.Prelude.{ℕ, false, ◌==◌, if◌then◌else◌, List, [], ◌++◌, length, codes, Option}
 use Rattle.std.specs.Option.{option_map}
 use Rattle.serde_json.specs.Data.{Data, object, array}
 use Rattle.sbe_types.specs.declared.schema.DataField.{DataField}
 use Rattle.sbe_types.specs.declared.schema.Group.{Group}
 use Rattle.sbe_types.specs.declared.message.Block.{out-Block}
+use Rattle.sbe_types.specs.declared.message.DataVal.{DataVal}
+use Rattle.sbe_types.specs.declared.message.GroupVal.{GroupVal}
+use Rattle.layout_compile.specs.Flats.{text_behind}
 use Rattle.flyweight_view.specs.Seen.{Seen}
 use Rattle.tree_json.specs.Values.{Entry, listed, zipped, text_data}
 use Rattle.tree_json.specs.Lines.{field_entry, part_entry, group_entry, group_name, items_by, three_entries}
@@ -21,6 +24,23 @@ seen_front s =
     codes "{\"data\":{" ++ (entries_text false (zipped part_entry s.parts (out-Block s.block).parts)
     ++ (codes ",\"fields\":{" ++ (entries_text false (zipped field_entry s.fields (out-Block s.block).fields)
     ++ (codes ",\"groups\":{" ++ entries_text false (zipped group_entry s.groups (out-Block s.block).groups)))))
+
+-- the data of a block, behind the opening of the block's object
+abbrev pub data_front : List DataField → List DataVal → List ℕ
+data_front parts vs = codes "{\"data\":{" ++ entries_text false (zipped part_entry parts vs)
+
+-- the same where there is data; else nothing
+abbrev pub own_data : List DataField → List DataVal → List ℕ
+own_data parts vs = if length parts == 0 then [] else data_front parts vs
+
+-- the object of a block up to its groups, whose object is opened, and closed where there are none
+abbrev pub seen_head : Seen → List ℕ
+seen_head s =
+    data_front s.parts (out-Block s.block).parts ++ (codes ",\"fields\":{" ++ (entries_text false (zipped field_entry s.fields (out-Block s.block).fields) ++ text_behind s.groups))
+
+-- the groups behind that
+abbrev pub own_groups : List Group → List GroupVal → List ℕ
+own_groups groups vs = if length groups == 0 then [] else entries_text false (zipped group_entry groups vs)
 
 -- a data part with its bytes
 abbrev pub bytes_entry : DataField → Option (List ℕ) → Entry

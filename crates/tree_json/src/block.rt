@@ -1,16 +1,18 @@
 // Blocks of a message, as JSON.
-ghost use Rattle.std.specs.Prelude.{◌≡◌, ◌≤◌, ◌<◌, ◌++◌, codes, false, length, slice_get, Some};
+ghost use Rattle.std.specs.Prelude.{◌≡◌, ◌≤◌, ◌<◌, ◌++◌, false, length, slice_get, Some};
 ghost use Rattle.std.specs.Option.{option_map, IsSome};
 ghost use Rattle.serde_json.specs.Written.{comma_if};
 ghost use Rattle.sbe_types.specs.declared.message.Block.{out-Block};
 ghost use Rattle.sbe_types.specs.declared.message.Value.{Value};
 ghost use Rattle.sbe_types.specs.declared.schema.Field.{Field};
+ghost use Rattle.layout_compile.specs.Flats.{text_behind};
 ghost use Rattle.tree_json.specs.Values.{zipped, text_data};
-ghost use Rattle.tree_json.specs.Lines.{field_entry, part_entry, group_entry};
+ghost use Rattle.tree_json.specs.Lines.{field_entry};
 ghost use Rattle.tree_json.specs.Plain.{plain_text, entry_text, entries_text, later_behind};
-ghost use Rattle.tree_json.specs.Views.{seen_data, seen_front, entries_data};
+ghost use Rattle.tree_json.specs.Views.{data_front, own_data, own_groups, seen_data, seen_head, seen_front, entries_data};
 ghost use Rattle.tree_json.specs.Writes.{output, Writes};
 
+use crate::by_table::put_rows;
 use crate::chunk::Chunk;
 use crate::kinds::put_shown;
 use crate::texts::put_text;
@@ -24,31 +26,72 @@ pub(crate) fn put_front<O: Sink>(chunk: &mut Chunk, sink: &mut O, block: &BlockV
     ensures { Writes (output (O.held sink.old) (O.faults sink.old) chunk.old)
         (output (O.held sink.new) (O.faults sink.new) chunk.new) (seen_front block.now) }
 {
-    put_parts(chunk, sink, block);
-    put_fields(chunk, sink, block);
+    put_head(chunk, sink, block);
     put_groups(chunk, sink, block);
+}
+
+/// Writes the data and the fields of a block, and the opening of its groups; without groups the bracket behind them too.
+#[inline(always)]
+fn put_head<O: Sink>(chunk: &mut Chunk, sink: &mut O, block: &BlockView<'_>)
+    ensures { Writes (output (O.held sink.old) (O.faults sink.old) chunk.old)
+        (output (O.held sink.new) (O.faults sink.new) chunk.new) (seen_head block.now) }
+{
+    match block.by_table() {
+        Some(values) => {
+            put_own_data(chunk, sink, block);
+            put_rows(chunk, sink, values.table, values.bytes);
+        }
+        None => {
+            put_data(chunk, sink, block);
+            chunk.put(sink, b",\"fields\":{");
+            put_fields(chunk, sink, block);
+            put_opening(chunk, sink, block);
+        }
+    }
+}
+
+/// Writes the opening of a block's groups; without groups the bracket behind them too.
+fn put_opening<O: Sink>(chunk: &mut Chunk, sink: &mut O, block: &BlockView<'_>)
+    ensures { Writes (output (O.held sink.old) (O.faults sink.old) chunk.old)
+        (output (O.held sink.new) (O.faults sink.new) chunk.new) (text_behind block.now.groups) }
+{
+    let (_, count, _) = block.counts();
+    if count == 0 {
+        chunk.put(sink, b",\"groups\":{}");
+        return;
+    }
+    chunk.put(sink, b",\"groups\":{");
 }
 
 // ---- data parts
 
-/// Writes the data parts of a block that are there, from its first bracket to that before its fields.
-fn put_parts<O: Sink>(chunk: &mut Chunk, sink: &mut O, block: &BlockView<'_>)
+/// Writes the data parts of a block, where it has some, behind its first bracket.
+#[inline(always)]
+fn put_own_data<O: Sink>(chunk: &mut Chunk, sink: &mut O, block: &BlockView<'_>)
     ensures { Writes (output (O.held sink.old) (O.faults sink.old) chunk.old)
-        (output (O.held sink.new) (O.faults sink.new) chunk.new)
-        (codes "{\"data\":{" ++ (entries_text false (zipped part_entry block.now.parts (out-Block block.now.block).parts) ++ codes ",\"fields\":{")) }
+        (output (O.held sink.new) (O.faults sink.new) chunk.new) (own_data block.now.parts (out-Block block.now.block).parts) }
 {
-    let (_, _, count) = block.counts();
-    if count == 0 {
-        chunk.put(sink, b"{\"data\":{},\"fields\":{");
+    let (_, _, parts) = block.counts();
+    if parts == 0 {
         return;
     }
+    put_data(chunk, sink, block);
+}
+
+/// Writes the data parts of a block that are there, from its first bracket to that behind them.
+#[inline(never)]
+fn put_data<O: Sink>(chunk: &mut Chunk, sink: &mut O, block: &BlockView<'_>)
+    ensures { Writes (output (O.held sink.old) (O.faults sink.old) chunk.old)
+        (output (O.held sink.new) (O.faults sink.new) chunk.new) (data_front block.now.parts (out-Block block.now.block).parts) }
+{
+    let (_, _, count) = block.counts();
     chunk.put(sink, b"{\"data\":{");
     let mut parts = block.parts();
     let mut later = false;
     for i in 0..count {
         later = put_part(chunk, sink, later, block.data_name(i), parts.next_part());
     }
-    chunk.put(sink, b"},\"fields\":{");
+    chunk.put(sink, b"}");
 }
 
 /// Writes a data part behind its name, unless it is absent, and tells whether a member stands now.
@@ -118,19 +161,17 @@ fn put_field<O: Sink>(
 
 // ---- groups
 
-/// Writes the groups of a block that are there, behind its fields, with the bracket behind them.
+/// Writes the groups of a block that are there, with the bracket behind them; nothing where it has none.
 #[cycle(block)]
 fn put_groups<O: Sink>(chunk: &mut Chunk, sink: &mut O, block: &BlockView<'_>)
     ensures { Writes (output (O.held sink.old) (O.faults sink.old) chunk.old)
         (output (O.held sink.new) (O.faults sink.new) chunk.new)
-        (codes ",\"groups\":{" ++ entries_text false (zipped group_entry block.now.groups (out-Block block.now.block).groups)) }
+        (own_groups block.now.groups (out-Block block.now.block).groups) }
 {
     let (_, count, _) = block.counts();
     if count == 0 {
-        chunk.put(sink, b",\"groups\":{}");
         return;
     }
-    chunk.put(sink, b",\"groups\":{");
     let mut groups = block.groups();
     let mut later = false;
     for i in 0..count {

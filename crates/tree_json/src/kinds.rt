@@ -146,7 +146,13 @@ fn put_one<O: Sink>(chunk: &mut Chunk, sink: &mut O, leaf: &Leaf, number: &i128)
 
 /// Writes the number of an enum, or null. It needs names in form.
 #[inline(never)]
-fn put_listed<O: Sink>(chunk: &mut Chunk, sink: &mut O, leaf: &Leaf, names: &[Named], number: &i128)
+pub(crate) fn put_listed<O: Sink>(
+    chunk: &mut Chunk,
+    sink: &mut O,
+    leaf: &Leaf,
+    names: &[Named],
+    number: &i128,
+)
     requires { AreNamed names.now }
     ensures { Writes (output (O.held sink.old) (O.faults sink.old) chunk.old)
         (output (O.held sink.new) (O.faults sink.new) chunk.new) (plain_text (enum_shown leaf.now names.now number.now)) }
@@ -175,7 +181,7 @@ fn put_valid<O: Sink>(chunk: &mut Chunk, sink: &mut O, names: &[Named], number: 
 /// Writes the text before the first 00: null where it is empty and the leaf optional.
 #[inline(always)]
 #[tactic(auto, using(crate::proofs::Fronts::front_written))]
-fn put_text_in<O: Sink>(chunk: &mut Chunk, sink: &mut O, leaf: &Leaf, bytes: &[u8])
+pub(crate) fn put_text_in<O: Sink>(chunk: &mut Chunk, sink: &mut O, leaf: &Leaf, bytes: &[u8])
     ensures { Writes (output (O.held sink.old) (O.faults sink.old) chunk.old)
         (output (O.held sink.new) (O.faults sink.new) chunk.new) (plain_text (text_shown leaf.now bytes.now)) }
 {

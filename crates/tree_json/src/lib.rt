@@ -2,6 +2,7 @@
 #![tactic(auto)]
 
 mod block;
+mod by_table;
 mod chunk;
 mod kinds;
 mod laws;
@@ -15,6 +16,7 @@ mod texts;
 mod values;
 mod worked;
 
+pub use by_table::put_rows;
 pub use chunk::{CHUNK_BYTES, Chunk};
 pub use kinds::put_shown;
 pub use laws::{

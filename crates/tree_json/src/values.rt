@@ -35,6 +35,21 @@ pub fn put_number<O: Sink>(chunk: &mut Chunk, sink: &mut O, n: &i128)
     }
 }
 
+/// Writes an integer of at most 64 bits.
+#[inline(always)]
+pub(crate) fn put_small_number<O: Sink>(chunk: &mut Chunk, sink: &mut O, n: i64)
+    ensures { Writes (output (O.held sink.old) (O.faults sink.old) chunk.old)
+        (output (O.held sink.new) (O.faults sink.new) chunk.new) (plain_text (number_data n)) }
+{
+    if n >= 0 && n < 100 {
+        put_small(chunk, sink, n as u8);
+    } else if n >= 0 && n < 100_000_000 {
+        put_middle(chunk, sink, n as u32);
+    } else {
+        put_any_number(chunk, sink, &(n as i128));
+    }
+}
+
 /// Writes a number of at most two digits.
 #[inline(always)]
 #[tactic(auto, using(crate::proofs::Numbers::one_digit, crate::proofs::Numbers::two_digits))]

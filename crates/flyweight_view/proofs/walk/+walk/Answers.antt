@@ -1,4 +1,4 @@
-use Rattle.std.proofs.Common.{◌≡◌, ◌<◌, ◌+◌, ◌-◌, length, take, drop, get_or, Ok, Err, sym, ap, ◌∙◌, subst, arith, rules, length-take, length-drop}
+use Rattle.std.proofs.Common.{◌≡◌, ◌<◌, ◌+◌, ◌-◌, length, take, drop, get_or, Ok, Err, refl, sym, ap, ◌∙◌, subst, arith, rules, length-take, length-drop}
 use Rattle.flyweight_view.specs.declared.found.Found.{Found}
 use Rattle.sbe_types.specs.declared.path.Step.TheVariants as way
 use Rattle.sbe_types.specs.declared.schema.Group.{out-Group}
@@ -9,8 +9,10 @@ use Rattle.schema_facts.specs.Levels.{fields_in}
 use Rattle.layout_compile.proofs.GroupWalk.{GroupsFrom, groups_begin}
 use Rattle.flyweight_view.specs.Cursor.{skim, entries_read, groups_told, steps_told}
 use Rattle.flyweight_view.specs.Told.{fault_of}
+use Rattle.flyweight_view.specs.ByTable.{IsBlockRow}
+use Rattle.flyweight_view.proofs.BlockRows.{block_row}
 use Rattle.flyweight_view.proofs.LevelsReady.{level_ready, row_parts, row_since, parts_small, parts_few, group_shallow}
-use Rattle.flyweight_view.proofs.Opens.{steps_more, steps_err, entry_rows, entry_told, tail_told, tail_flat, tail_refused, group_dead, group_told, group_dim, groups_next, child_here, child_next, item_at, level_within}
+use Rattle.flyweight_view.proofs.Opens.{steps_more, steps_err, entry_told, tail_told, tail_flat, tail_refused, group_dead, group_told, group_dim, groups_next, child_here, child_next, item_at, level_within}
 use Rattle.flyweight_view.proofs.Lefts.{none_there}
 use Rattle.flyweight_view.proofs.Nexts.{flat_is}
 use Rattle.flyweight_view.proofs.walk.+walk.Goals as goal
@@ -40,40 +42,35 @@ walk_entries-loop-i-preserved t c =
 
 -- ---- an entry
 
-pub walk_entry-judge_fields-requires-clause-rows : goal.walk_entry-judge_fields-requires-clause-rows
-walk_entry-judge_fields-requires-clause-rows t c =
+pub walk_entry-judge_block-requires-clause-row : goal.walk_entry-judge_block-requires-clause-row
+walk_entry-judge_block-requires-clause-row t c =
     let long : length (take (c.args.at + c.args.block - c.args.at) (drop c.args.at c.args.body.now)) ≡ c.args.block = simp (length-take, length-drop) (omega arith) in
-    entry_rows c.args.layout.now c.args.n c.row.result.now c.args.level.now c.requires.schema c.row.ensures c.requires.level c.args.mode c.args.body.now c.args.at c.requires.at
-    c.args.block c.as_slice-rows.result.now c.as_slice.result.now _ c.as_slice-rows.ensures.value c.as_slice.ensures long c.requires.reaches
+    subst (λ k. IsBlockRow c.args.mode.version k c.args.level.now c.row-row.result.now) (sym long)
+    (block_row c.args.layout.now c.args.n c.row-row.result.now c.args.level.now c.args.mode.version c.args.block c.requires.schema c.row-row.ensures c.requires.level c.requires.reaches)
 
-pub walk_entry-judge_fields-requires-clause-few : goal.walk_entry-judge_fields-requires-clause-few
-walk_entry-judge_fields-requires-clause-few t c =
-    let known = level_ready c.args.layout.now c.args.n c.args.level.now c.requires.schema c.requires.level in
-    omega (arith, known.few, ap length c.as_slice.ensures)
-
-pub walk_entry-returns-then-not-judge_fields-clause-told : goal.walk_entry-returns-then-not-judge_fields-clause-told
-walk_entry-returns-then-not-judge_fields-clause-told t c =
+pub walk_entry-returns-then-not-judge_block-clause-told : goal.walk_entry-returns-then-not-judge_block-clause-told
+walk_entry-returns-then-not-judge_block-clause-told t c =
     let same : c.args.at + c.args.block - c.args.at ≡ c.args.block = omega arith in
-    entry_told c.args.layout.now c.args.n c.row.result.now c.args.level.now c.requires.schema c.row.ensures c.requires.level c.args.mode c.args.body.now c.args.at c.requires.at
-    c.args.block c.as_slice-rows.result.now c.as_slice.result.now _ (Err (fault_of c.judge_fields.new.out)) (omega arith) c.as_slice-rows.ensures.value c.as_slice.ensures
-    (ap (λ k. take k (drop c.args.at c.args.body.now)) same) c.if-not-judge_fields.ensures.told
+    entry_told c.args.layout.now c.args.n c.row-row.result.now c.args.level.now c.requires.schema c.row-row.ensures c.requires.level c.args.mode c.args.body.now c.args.at c.requires.at
+    c.args.block _ _ _ (Err (fault_of c.judge_block.new.out)) (omega arith) refl refl
+    (ap (λ k. take k (drop c.args.at c.args.body.now)) same) c.if-not-judge_block.ensures.told
 
 pub walk_entry-returns-then-is_flat-clause-told : goal.walk_entry-returns-then-is_flat-clause-told
 walk_entry-returns-then-is_flat-clause-told t c =
     let same : c.args.at + c.args.block - c.args.at ≡ c.args.block = omega arith in
     let flat = flat_is c.args.mode c.args.level.now (sym c.if-is_flat.ensures) in
     tail_flat c.args.mode c.args.level.now c.args.body.now (c.args.at + c.args.block) (omega arith) (none_there (out-Level c.args.level.now).groups flat.groups) (none_there (out-Level c.args.level.now).parts flat.parts)
-    ∙ entry_told c.args.layout.now c.args.n c.row.result.now c.args.level.now c.requires.schema c.row.ensures c.requires.level c.args.mode c.args.body.now c.args.at c.requires.at
-    c.args.block c.as_slice-rows.result.now c.as_slice.result.now _ (Ok tt) (omega arith) c.as_slice-rows.ensures.value c.as_slice.ensures
-    (ap (λ k. take k (drop c.args.at c.args.body.now)) same) c.if-not-judge_fields.ensures.told
+    ∙ entry_told c.args.layout.now c.args.n c.row-row.result.now c.args.level.now c.requires.schema c.row-row.ensures c.requires.level c.args.mode c.args.body.now c.args.at c.requires.at
+    c.args.block _ _ _ (Ok tt) (omega arith) refl refl
+    (ap (λ k. take k (drop c.args.at c.args.body.now)) same) c.if-not-judge_block.ensures.told
 
 pub walk_entry-returns-clause-told : goal.walk_entry-returns-clause-told
 walk_entry-returns-clause-told t c =
     let same : c.args.at + c.args.block - c.args.at ≡ c.args.block = omega arith in
     c.walk_tail.ensures.told
-    ∙ entry_told c.args.layout.now c.args.n c.row.result.now c.args.level.now c.requires.schema c.row.ensures c.requires.level c.args.mode c.args.body.now c.args.at c.requires.at
-    c.args.block c.as_slice-rows.result.now c.as_slice.result.now _ (Ok tt) (omega arith) c.as_slice-rows.ensures.value c.as_slice.ensures
-    (ap (λ k. take k (drop c.args.at c.args.body.now)) same) c.if-not-judge_fields.ensures.told
+    ∙ entry_told c.args.layout.now c.args.n c.row-row.result.now c.args.level.now c.requires.schema c.row-row.ensures c.requires.level c.args.mode c.args.body.now c.args.at c.requires.at
+    c.args.block _ _ _ (Ok tt) (omega arith) refl refl
+    (ap (λ k. take k (drop c.args.at c.args.body.now)) same) c.if-not-judge_block.ensures.told
 
 -- ---- a group
 

@@ -2,25 +2,24 @@ use Rattle.std.proofs.Common.{◌≡◌, length, ap, arith, subst, sym}
 use Rattle.std.specs.Prelude.{flat_map}
 use Rattle.sbe_types.specs.declared.schema.Level.{out-Level}
 use Rattle.schema_facts.specs.Levels.{nodes_of}
-use Rattle.schema_facts.specs.Measured.{AreMeasured}
-use Rattle.layout_compile.specs.Grown.{Grown, LevelIs}
+use Rattle.layout_compile.specs.Grown.{Grown, LevelIs, AreOrdered}
 use Rattle.layout_compile.proofs.Grows.{below_more, group_measured, long_level, fewer}
 use Rattle.layout_compile.proofs.tables.+push.Goals as goal
 
 pub push_level-push_below-requires : goal.push_level-push_below-requires
 push_level-push_below-requires t c = (
   omega (arith, long_level c.args.around.template c.args.level.now, ap (λ gs. length (flat_map (nodes_of c.args.around.template) gs)) c.as_slice.ensures),
-  subst (λ gs. AreMeasured (flat_map (nodes_of c.args.around.template) gs)) (sym c.as_slice.ensures) c.requires.below,
+  subst (λ gs. AreOrdered (flat_map (nodes_of c.args.around.template) gs)) (sym c.as_slice.ensures) c.requires.below,
 )
 
 pub push_below-push_level-requires : goal.push_below-push_level-requires
 push_below-push_level-requires t c =
     let here = group_measured c.args.template c.args.groups.now c.loop-group.group-index c.group-item.result (omega arith) c.group-item.is c.loop-group.invariant.measured in
-    (omega (arith, fewer c.args.template c.args.groups.now c.loop-group.group-index c.group-item.result (omega arith) c.group-item.is), (here.0.fields, here.1))
+    (omega (arith, fewer c.args.template c.args.groups.now c.loop-group.group-index c.group-item.result (omega arith) c.group-item.is), (here.0.measured.fields, (here.0.kinds, here.1)))
 
 pub push_below-dim_row-requires : goal.push_below-dim_row-requires
 push_below-dim_row-requires t c =
-    (group_measured c.args.template c.args.groups.now c.loop-group.group-index c.group-item.result (omega arith) c.group-item.is c.loop-group.invariant.measured).0.dim
+    (group_measured c.args.template c.args.groups.now c.loop-group.group-index c.group-item.result (omega arith) c.group-item.is c.loop-group.invariant.measured).0.measured.dim
 
 pub push_below-loop-group-preserved : goal.push_below-loop-group-preserved
 push_below-loop-group-preserved t c =

@@ -1,8 +1,7 @@
 use Rattle.std.proofs.Common.{◌+◌, ◌*◌, length, take, drop, None}
 use Rattle.std.specs.Prelude.{flat_map}
 use Rattle.schema_facts.specs.Levels.{nodes, nodes_of}
-use Rattle.schema_facts.specs.Measured.{AreMeasured}
-use Rattle.layout_compile.specs.Grown.{Grown}
+use Rattle.layout_compile.specs.Grown.{Grown, AreOrdered}
 use Rattle.layout_compile.proofs.tables.+push.Given as goal
 
 abbrev pub decreases-push_level : goal.decreases-push_level
@@ -14,5 +13,5 @@ decreases-push_below l = 2 * length (flat_map (nodes_of l.template) l.groups.now
 abbrev pub invariant-push_below-loop-group : goal.invariant-push_below-loop-group
 invariant-push_below-loop-group l = record {
   grown : Grown l.fn.levels.items l.levels.items (flat_map (nodes_of l.template) (take l.group-index l.groups));
-  measured : AreMeasured (flat_map (nodes_of l.template) (drop l.group-index l.groups));
+  measured : AreOrdered (flat_map (nodes_of l.template) (drop l.group-index l.groups));
 }

@@ -5,7 +5,11 @@ use Rattle.layout_compile.proofs.tables.push_roots.Goals as goal
 
 pub push_level-requires-clause-fields : goal.push_level-requires-clause-fields
 push_level-requires-clause-fields c =
-    (message_first c.args.messages.now c.loop-template.template c.index-messages-template.result (omega arith) c.index-messages-template.is c.loop-template.invariant.measured).0.fields
+    (message_first c.args.messages.now c.loop-template.template c.index-messages-template.result (omega arith) c.index-messages-template.is c.loop-template.invariant.measured).0.measured.fields
+
+pub push_level-requires-clause-order : goal.push_level-requires-clause-order
+push_level-requires-clause-order c =
+    (message_first c.args.messages.now c.loop-template.template c.index-messages-template.result (omega arith) c.index-messages-template.is c.loop-template.invariant.measured).0.kinds
 
 pub push_level-requires-clause-below : goal.push_level-requires-clause-below
 push_level-requires-clause-below c =

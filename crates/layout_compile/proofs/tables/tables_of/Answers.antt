@@ -1,14 +1,17 @@
-use Rattle.std.proofs.Common.{◌≡◌, length, subst, ap, ◌∙◌}
+use Rattle.std.proofs.Common.{◌≡◌, length, sym, subst, ap, ◌∙◌}
 use Rattle.std.specs.BTreeMap.{get}
 use Rattle.std.specs.Ordering.{nat_cmp}
 use Rattle.schema_facts.specs.Levels.{nodes_from, all_nodes}
 use Rattle.layout_compile.specs.Parts.{part_counts, firsts_from, places_from}
 use Rattle.layout_compile.proofs.DataParts.{counts_of, grown_counts}
 use Rattle.layout_compile.specs.Rowed.{roots_from}
-use Rattle.layout_compile.specs.Grown.{Grown}
+use Rattle.layout_compile.specs.Grown.{Grown, AreOrdered}
 use Rattle.layout_compile.specs.Tables.{AreIds}
-use Rattle.layout_compile.proofs.Grows.{are_rows}
+use Rattle.layout_compile.proofs.Grows.{are_rows, levels_ordered}
 use Rattle.layout_compile.proofs.tables.tables_of.Goals as goal
+
+pub push_roots-requires : goal.push_roots-requires
+push_roots-requires c = subst (λ ms. AreOrdered (nodes_from 0 ms)) (sym c.as_slice.ensures) (levels_ordered c.args.schema.now c.requires)
 
 pub returns : goal.returns
 returns c =

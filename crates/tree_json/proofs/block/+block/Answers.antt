@@ -12,15 +12,13 @@ use Rattle.tree_json.proofs.Written.{then_writes, retold, writes_nothing}
 use Rattle.tree_json.proofs.Entries.{goes_on, ends_so, item_next}
 use Rattle.tree_json.proofs.Depth.{AreWithin, seen_within, first_within, some_deep}
 use Rattle.tree_json.proofs.Blocks.{front_closed}
+use Rattle.tree_json.proofs.HeadText.{front_is, no_groups, some_groups}
 use Rattle.tree_json.proofs.Views.{groups_are}
 use Rattle.tree_json.proofs.ViewSteps.{part_of, view_next, view_over}
 use Rattle.tree_json.proofs.block.+block.Goals as goal
 
 pub put_front-returns : goal.put_front-returns
-put_front-returns g t c =
-    let p = entries_text false (zipped part_entry c.args.block.now.parts (out-Block c.args.block.now.block).parts) in
-    retold (ap (λ s. codes "{\"data\":{" ++ s) (append_assoc p (codes ",\"fields\":{") _))
-    (then_writes c.put_parts.ensures (then_writes c.put_fields.ensures c.put_groups.ensures))
+put_front-returns g t c = retold (front_is c.args.block.now) (then_writes c.put_head.ensures c.put_groups.ensures)
 
 pub put_entry-returns : goal.put_entry-returns
 put_entry-returns g t c =
@@ -61,17 +59,17 @@ put_groups-loop-i-preserved g t c =
 
 pub put_groups-returns-then-count-eq0 : goal.put_groups-returns-then-count-eq0
 put_groups-returns-then-count-eq0 g t c =
-    let groups = c.args.block.now.groups in
-    let none = view_over group_entry false 0 groups (out-Block c.args.block.now.block).groups (omega (arith, c.if-count-eq0.true, ap (λ r. r.1) c.counts-count.ensures)) in
-    retold (ap (λ s. codes ",\"groups\":{" ++ s) none) c.put.ensures
+    retold (no_groups c.args.block.now.groups (out-Block c.args.block.now.block).groups (omega (arith, c.if-count-eq0.true, ap (λ r. r.1) c.counts-count.ensures))) writes_nothing
 
 pub put_groups-returns : goal.put_groups-returns
 put_groups-returns g t c =
     let so_far = c.loop-i.invariant.written in
     let groups = c.args.block.now.groups in
+    let values = (out-Block c.args.block.now.block).groups in
     let none = view_over entries_entry c.loop-i.later c.loop-i.i groups c.loop-i.groups (omega (arith, ap (λ r. r.1) c.counts-count.ensures)) in
-    let whole = ap (λ vs. entries_text false (zipped entries_entry groups vs)) c.groups-groups.ensures.seen ∙ ap (entries_text false) (groups_are groups (out-Block c.args.block.now.block).groups) in
-    then_writes c.put-2.ensures (retold (ends_so so_far.0 _ _ _ none so_far.2 ∙ whole) (then_writes so_far.1 c.put-3.ensures))
+    let whole = ap (λ vs. entries_text false (zipped entries_entry groups vs)) c.groups-groups.ensures.seen ∙ ap (entries_text false) (groups_are groups values) in
+    let some = some_groups groups values (omega (arith, c.if-count-eq0.false, ap (λ r. r.1) c.counts-count.ensures)) in
+    retold (ends_so so_far.0 _ _ _ none so_far.2 ∙ whole ∙ some) (then_writes so_far.1 c.put.ensures)
 
 pub put_entries-loop-entry-init : goal.put_entries-loop-entry-init
 put_entries-loop-entry-init g t c =

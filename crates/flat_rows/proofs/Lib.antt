@@ -1,0 +1,11 @@
+pub mod Computing
+pub mod Growing
+pub mod Hex
+pub mod Inside
+pub mod Listed
+pub mod Looks
+pub mod MembersFit
+pub mod PiecesFit
+pub mod PiecesShow
+pub mod RowsJudged
+pub mod Widths

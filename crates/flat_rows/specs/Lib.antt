@@ -1,0 +1,6 @@
+pub mod Texts
+pub mod Pieces
+pub mod Judged
+pub mod Quick
+pub mod Tables
+pub mod Worked

@@ -1,0 +1,80 @@
+-- Fields on which the definitions are computed. Own profile.
+use Rattle.std.specs.Prelude.{ℕ, Option, Some, None, List, [], ◌∷◌, ℤ, pos, negsuc, codes}
+use Rattle.sbe_types.specs.declared.kind.ConstValue.{ConstValue}
+use Rattle.sbe_types.specs.declared.kind.ConstValue.TheVariants as constant
+use Rattle.sbe_types.specs.declared.kind.Kind.{Kind, Leaf, Enum, Set, Const, Comp', end_of-Member, more_of-Member}
+use Rattle.sbe_types.specs.declared.kind.LeafShape.{LeafShape}
+use Rattle.sbe_types.specs.declared.kind.LeafShape.TheVariants.{Number, EncodedText, Numbers}
+use Rattle.sbe_types.specs.declared.kind.Leaf.{Leaf as LeafOf}
+use Rattle.sbe_types.specs.declared.kind.Named.{Named}
+use Rattle.sbe_types.specs.declared.kind.Presence.TheVariants.{Required}
+use Rattle.sbe_types.specs.declared.kind.Primitive.{Primitive}
+use Rattle.sbe_types.specs.declared.kind.Primitive.TheVariants.{Char, I32, U8, U16}
+use Rattle.sbe_types.specs.declared.schema.Field.{Field}
+use Rattle.flat_rows.specs.Pieces.{Slot, Joined}
+
+-- a required leaf of so many primitives
+abbrev pub leaf : Primitive → ℕ → LeafShape → LeafOf
+leaf prim length shape = record { prim = prim; length = length; shape = shape; presence = Required; null = pos 255; low = pos 0; high = pos 254 }
+
+-- a single number
+abbrev pub number : Primitive → Kind
+number prim = Leaf (leaf prim 1 Number)
+
+-- a field at a stated offset, or right behind those before it
+abbrev pub field : List ℕ → Option ℕ → Kind → Field
+field name offset kind = record { name = name; id = 1; since = 0; offset = offset; kind = kind }
+
+-- a constant
+abbrev pub fixed : List ℕ → ConstValue → Field
+fixed name value = field name None (Const value)
+
+-- a valid value or a choice
+abbrev pub named : List ℕ → ℤ → Named
+named name n = record { name = name; number = n }
+
+-- an enum of one char
+abbrev pub side : Kind
+side = Enum (leaf Char 1 Number) (named (codes "Buy") (pos 49) ∷ named (codes "Sell") (pos 50) ∷ [])
+
+-- a set of one byte
+abbrev pub flags : Kind
+flags = Set U8 (named (codes "Late") (pos 0) ∷ [])
+
+-- a text of four chars
+abbrev pub text : Kind
+text = Leaf (leaf Char 4 EncodedText)
+
+-- two numbers of two bytes
+abbrev pub pair : Kind
+pair = Leaf (leaf U16 2 Numbers)
+
+-- a composite of a number, a constant, and a composite of one byte at its sixth byte
+abbrev pub price : Kind
+price = Comp' (tt ∷ tt ∷ tt ∷ []) (more_of-Member (codes "mantissa") None (number I32) (more_of-Member (codes "exponent") None (Const (constant.Num (negsuc 1)))
+    (more_of-Member (codes "in") (Some 6) (Comp' (tt ∷ []) (more_of-Member (codes "x") None (number U8) end_of-Member)) end_of-Member)))
+
+-- a field of each kind, of which one has a stated offset
+abbrev pub mixed : List Field
+mixed =
+    field (codes "n") None (number U16) ∷ fixed (codes "k") (constant.Num (negsuc 3)) ∷ field (codes "e") None side ∷ field (codes "s") None flags
+    ∷ field (codes "t") None text ∷ field (codes "o") (Some 10) pair ∷ field (codes "px") None price
+    ∷ fixed (codes "c") (constant.Text (codes "U\"D")) ∷ fixed (codes "d") (constant.Code Char (named (codes "Sell") (pos 50))) ∷ fixed (codes "h") (constant.Text (97 ∷ 255 ∷ [])) ∷ []
+
+-- a value with what stands before it
+abbrev pub slot : List ℕ → Kind → ℕ → Slot
+slot before kind place = record { before = before; kind = kind; place = place }
+
+-- their values between a bracket and a comma, each with what stands before it
+abbrev pub mixed_joined : Joined
+mixed_joined =
+    record {
+      slots =
+          slot (codes "{\"n\":") (number U16) 0 ∷ slot (codes ",\"k\":-4,\"e\":") side 2 ∷ slot (codes ",\"s\":") flags 3 ∷ slot (codes ",\"t\":") text 4
+          ∷ slot (codes ",\"o\":") pair 10 ∷ slot (codes ",\"px\":{\"mantissa\":") (number I32) 14 ∷ slot (codes ",\"exponent\":-2,\"in\":{\"x\":") (number U8) 20 ∷ [];
+      last = codes "}},\"c\":\"U\\\"D\",\"d\":\"Sell\",\"h\":{\"hex\":\"61ff\"}},";
+    }
+
+-- what a block without fields has
+abbrev pub nothing : Joined
+nothing = record { slots = []; last = codes "}" }

@@ -1,0 +1,212 @@
+// The values of a block, judged by the rows of its table. What one look doesn't see as a value may be one all the same.
+ghost use Rattle.std.specs.Prelude.{◌≡◌, ◌↔◌, ◌≤◌, ◌||◌, Bool, IsTrue, not, true, length, pos, None};
+ghost use Rattle.sbe_types.specs.declared.kind.Kind.{Leaf as LeafKind};
+ghost use Rattle.sbe_types.specs.declared.kind.Order.TheVariants.{Little};
+ghost use Rattle.sbe_types.specs.Numbers.{number_of, prim_width, read_as};
+ghost use Rattle.sbe_types.specs.Places.{width};
+ghost use Rattle.sbe_types.specs.LeafBad.{leaf_bad};
+ghost use Rattle.sbe_types.specs.Shown.{is_listed, is_null};
+ghost use Rattle.schema_facts.specs.InOrder.{IsKindInOrder, IsLeafInOrder};
+ghost use Rattle.flat_rows.specs.Judged.{bytes_there, ShowsSome, SlotsShow};
+ghost use Rattle.flat_rows.specs.Quick.{is_between, is_none, is_text_within, is_word, IsByte};
+ghost use Rattle.flat_rows.specs.Tables.{stands_for, IsRow, IsTable, RowsFit};
+
+use crate::rows::{FlatRow, FlatRows, Look, Quick};
+use byteorder::{ByteOrder, LittleEndian};
+use sbe_types::{Kind, Leaf, LeafCause, LeafFault, NamedList, Order, Prim, get_num, leaf_judge};
+
+/// Whether each value of a table lies in a block.
+pub fn fits(table: &FlatRows, block: &[u8]) -> bool
+    ensures { IsTrue result ↔ RowsFit (length block.now) table.now.rows.items }
+{
+    for row in table.rows.as_slice() {
+        if row.behind as usize > block.len() {
+            return false;
+        }
+    }
+    true
+}
+
+/// Whether one look at the bytes of each value of a block, the lowest byte first, shows that they are one.
+#[inline(always)]
+pub fn shows_all(table: &FlatRows, known: bool, block: &[u8]) -> bool
+    requires table { IsTable table.now }
+    requires fits { RowsFit (length block.now) table.now.rows.items }
+    ensures { result ≡ true → SlotsShow Little known (stands_for table.now).slots block.now }
+{
+    for row in table.rows.as_slice() {
+        if !shows_row(row, known, block) {
+            return false;
+        }
+    }
+    true
+}
+
+/// Whether one look shows that the bytes of a row are a value.
+#[inline(always)]
+fn shows_row(row: &FlatRow, known: bool, block: &[u8]) -> bool
+    requires row { IsRow row.now }
+    requires fits { row.now.behind ≤ length block.now }
+    ensures { result ≡ true → ShowsSome Little known row.now.kind (bytes_there row.now.kind row.now.place block.now) }
+{
+    shows_value(row, known, &block[row.place as usize..row.behind as usize])
+}
+
+/// Whether one look shows that bytes are a value of a row.
+#[inline(always)]
+fn shows_value(row: &FlatRow, known: bool, bytes: &[u8]) -> bool
+    requires row { IsRow row.now }
+    requires wide { length bytes.now ≡ width row.now.kind }
+    ensures { result ≡ true → ShowsSome Little known row.now.kind bytes.now }
+{
+    let quick = &row.quick;
+    match quick.look {
+        Look::I8 => shows_number(quick, number_in(Prim::I8, bytes)),
+        Look::I16 => shows_number(quick, number_in(Prim::I16, bytes)),
+        Look::I32 => shows_number(quick, number_in(Prim::I32, bytes)),
+        Look::I64 => shows_number(quick, number_in(Prim::I64, bytes)),
+        Look::U8 => shows_number(quick, number_in(Prim::U8, bytes)),
+        Look::U16 => shows_number(quick, number_in(Prim::U16, bytes)),
+        Look::U32 => shows_number(quick, number_in(Prim::U32, bytes)),
+        Look::Text => is_text(quick, bytes),
+        Look::Enum => shows_listed(known, &row.kind, bytes),
+        Look::Other => shows_kind(&row.kind, bytes),
+    }
+}
+
+/// The number that the bytes of one primitive show, the lowest byte first.
+#[inline(always)]
+pub fn number_in(prim: Prim, bytes: &[u8]) -> i64
+    requires word { is_word prim ≡ true }
+    requires wide { length bytes.now ≡ prim_width prim }
+    ensures { result ≡ number_of Little prim bytes.now }
+{
+    read_word::<LittleEndian>(prim, bytes)
+}
+
+#[inline(always)]
+fn read_word<O: ByteOrder>(prim: Prim, bytes: &[u8]) -> i64
+    requires word { is_word prim ≡ true }
+    requires wide { length bytes.now ≡ prim_width prim }
+    ensures { result ≡ read_as O.number_of prim bytes.now }
+{
+    match prim {
+        Prim::I8 => bytes[0].cast_signed() as i64,
+        Prim::I16 => O::read_i16(bytes) as i64,
+        Prim::I32 => O::read_i32(bytes) as i64,
+        Prim::I64 => O::read_i64(bytes),
+        Prim::U8 => bytes[0] as i64,
+        Prim::U16 => O::read_u16(bytes) as i64,
+        Prim::U32 => O::read_u32(bytes) as i64,
+        Prim::U64 | Prim::Char => 0,
+    }
+}
+
+/// Whether a number is the null, or in the range.
+#[inline(always)]
+fn shows_number(quick: &Quick, n: i64) -> bool
+    ensures { result ≡ (is_none quick.now n || is_between quick.now n) }
+{
+    is_none(quick, n) || (quick.low <= n && n <= quick.high)
+}
+
+/// Whether a number is the null.
+#[inline(always)]
+pub fn is_none(quick: &Quick, n: i64) -> bool
+    ensures { result ≡ is_none quick.now n }
+{
+    quick.optional && n == quick.null
+}
+
+/// Whether the bytes up to the first 00 lie in the range.
+#[inline(always)]
+fn is_text(quick: &Quick, bytes: &[u8]) -> bool
+    requires low { IsByte quick.now.low }
+    requires high { IsByte quick.now.high }
+    ensures { result ≡ is_text_within quick.now bytes.now }
+{
+    let low = as_byte(quick.low);
+    let high = as_byte(quick.high);
+    for byte in bytes {
+        if !is_between(quick, low, high, *byte) {
+            return *byte == 0;
+        }
+    }
+    true
+}
+
+/// A number of a byte as a byte.
+#[inline(always)]
+fn as_byte(n: i64) -> u8
+    requires { IsByte n }
+    ensures { pos result ≡ n }
+{
+    n as u8
+}
+
+/// Whether a byte lies in the range, which is that of the two bytes.
+#[inline(always)]
+fn is_between(quick: &Quick, low: u8, high: u8, byte: u8) -> bool
+    requires low { quick.now.low ≡ pos low }
+    requires high { quick.now.high ≡ pos high }
+    ensures { result ≡ is_between quick.now (pos byte) }
+{
+    low <= byte && byte <= high
+}
+
+/// Whether one look shows that bytes are a value of a kind that is no enum.
+fn shows_kind(kind: &Kind, bytes: &[u8]) -> bool
+    requires order { IsKindInOrder kind.now }
+    requires wide { length bytes.now ≡ width kind.now }
+    ensures { result ≡ true → (known : Bool) → ShowsSome Little known kind.now bytes.now }
+{
+    match kind {
+        Kind::Leaf(leaf) => shows_leaf(leaf, bytes),
+        Kind::Enum(_, _) | Kind::Set(_, _) | Kind::Comp(_) | Kind::Const(_) => false,
+    }
+}
+
+/// Whether bytes are a value of a kind that is an enum.
+#[inline(always)]
+#[tactic(auto, using(crate::proofs::Looks::enum_kind))]
+fn shows_listed(known: bool, kind: &Kind, bytes: &[u8]) -> bool
+    requires { length bytes.now ≡ width kind.now }
+    ensures { result ≡ true → ShowsSome Little known kind.now bytes.now }
+{
+    match kind {
+        Kind::Enum(leaf, names) => shows_enum(known, leaf, names, bytes),
+        Kind::Leaf(_) | Kind::Set(_, _) | Kind::Comp(_) | Kind::Const(_) => false,
+    }
+}
+
+/// Whether bytes are a single number, a text or an array.
+fn shows_leaf(leaf: &Leaf, bytes: &[u8]) -> bool
+    requires order { IsLeafInOrder leaf.now }
+    requires wide { length bytes.now ≡ width (LeafKind leaf.now) }
+    ensures { result ≡ true → leaf_bad Little leaf.now bytes.now ≡ None }
+{
+    let mut fault = LeafFault {
+        cause: LeafCause::Range,
+        at: 0,
+        number: 0,
+    };
+    leaf_judge(Order::Little, leaf, bytes, &mut fault)
+}
+
+/// Whether bytes are a value of an enum: its null, a listed one, or any where not all are known.
+#[inline(always)]
+fn shows_enum(known: bool, leaf: &Leaf, names: &NamedList, bytes: &[u8]) -> bool
+    requires { length bytes.now ≡ prim_width leaf.now.prim }
+    ensures { let n = number_of Little leaf.now.prim bytes.now in result ≡ (is_null leaf.now n || (is_listed names.now n || not known)) }
+{
+    let number = get_num(Order::Little, leaf.prim, bytes);
+    leaf.is_null(number) || (is_listed(names, number) || !known)
+}
+
+/// Whether one of the names has that number.
+#[inline(always)]
+fn is_listed(names: &NamedList, number: i128) -> bool
+    ensures { result ≡ is_listed names.now number }
+{
+    names.as_slice().iter().any(|name| name.number == number)
+}

@@ -1,0 +1,18 @@
+use Rattle.tree_json.proofs.HeadText.{table_text, head_by_table}
+use Rattle.tree_json.proofs.Written.{then_writes, retold}
+use Rattle.tree_json.proofs.block.put_head.Goals as goal
+
+pub put_rows-requires-clause-table : goal.put_rows-requires-clause-table
+put_rows-requires-clause-table g c = c.in-Some.ensures.table_is
+
+pub put_rows-requires-clause-fits : goal.put_rows-requires-clause-fits
+put_rows-requires-clause-fits g c = c.in-Some.ensures.fits
+
+pub returns-in-Some : goal.returns-in-Some
+returns-in-Some g c =
+    let s = c.args.block.now in
+    let rows = c.put_rows.ensures c.in-Some.ensures.known _ (table_text c.in-Some.values s c.in-Some.ensures) in
+    retold (head_by_table s) (then_writes c.put_own_data.ensures rows)
+
+pub returns-in-None : goal.returns-in-None
+returns-in-None g c = then_writes c.put_data.ensures (then_writes c.put.ensures (then_writes c.put_fields.ensures c.put_opening.ensures))

@@ -1,0 +1,13 @@
+use Rattle.std.proofs.Common.{ap, arith}
+use Rattle.sbe_types.specs.declared.message.Block.{out-Block}
+use Rattle.tree_json.proofs.HeadText.{no_data, some_data}
+use Rattle.tree_json.proofs.Written.{retold, writes_nothing}
+use Rattle.tree_json.proofs.block.put_own_data.Goals as goal
+
+pub returns-then-parts-eq0 : goal.returns-then-parts-eq0
+returns-then-parts-eq0 g c =
+    retold (no_data c.args.block.now.parts (out-Block c.args.block.now.block).parts (omega (arith, c.if-parts-eq0.true, ap (λ r. r.2) c.counts-parts.ensures))) writes_nothing
+
+pub returns : goal.returns
+returns g c =
+    retold (some_data c.args.block.now.parts (out-Block c.args.block.now.block).parts (omega (arith, c.if-parts-eq0.false, ap (λ r. r.2) c.counts-parts.ensures))) c.put_data.ensures
