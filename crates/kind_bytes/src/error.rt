@@ -16,18 +16,20 @@ pub struct FieldErr {
     pub detail: i128,
 }
 
-/// The first part of a value that doesn't fit its kind, lent to the walk over the value so that nothing wide is handed
-/// back.
+/// The first part of a value that doesn't fit its kind. It is lent to the walk over the value, so that nothing wide is
+/// handed back.
 #[derive(Drop)]
-pub(crate) struct Unfit {
-    pub(crate) cause: FieldCause,
-    pub(crate) path: Trail,
-    pub(crate) detail: i128,
+pub struct Unfit {
+    pub cause: FieldCause,
+    /// The way to the part: members of composites, then an element of an array.
+    pub path: Trail,
+    /// The number or the byte, or the length of a text; 0 where the value is of another kind.
+    pub detail: i128,
 }
 
 impl Unfit {
     /// What stands before a part was found that doesn't fit.
-    pub(crate) fn new() -> Unfit
+    pub fn new() -> Unfit
         ensures { length result.path ≡ 0 }
     {
         Unfit {

@@ -49,9 +49,9 @@ fn takes_value(kind: &Kind, v: &Value, out: &mut Unfit) -> bool
     }
 }
 
-/// Whether a value fits its kind; if not, `out` tells the first part that doesn't.
+/// Whether a value fits its kind, a constant its own value too; if not, `out` tells the first part that doesn't.
 #[cycle(kind)]
-pub(crate) fn fits_kind(kind: &Kind, v: &Value, out: &mut Unfit) -> bool
+pub fn fits_kind(kind: &Kind, v: &Value, out: &mut Unfit) -> bool
     requires ready { IsKindInOrder kind.now }
     ensures told { told result out.new ≡ value_misfit kind.now v.now }
     ensures low { result ≡ false → length out.new.path ≤ suc (height kind.now) }

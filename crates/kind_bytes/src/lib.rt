@@ -7,7 +7,8 @@ mod put;
 mod trail;
 mod writes;
 
-pub use error::FieldErr;
-pub use judge::judge_field;
+pub use error::{FieldErr, Unfit};
+pub use judge::{fits_kind, judge_field};
 pub use put::put_kind;
+pub use trail::Trail;
 pub use writes::field_writes;

@@ -6,7 +6,7 @@ use std::marker::Model;
 /// The steps to a part that doesn't fit. They stand at the end of the array, since each composite adds its own in
 /// front on the way out.
 #[derive(Drop)]
-pub(crate) struct Trail {
+pub struct Trail {
     steps: [Step; 20],
     start: usize,
 }
@@ -24,7 +24,7 @@ impl Model for Trail {
 
 impl Trail {
     /// No step.
-    pub(crate) fn new() -> Trail
+    pub fn new() -> Trail
         ensures { result ≡ [] }
     {
         Trail {
@@ -34,7 +34,7 @@ impl Trail {
     }
 
     /// The same steps as a path.
-    pub(crate) fn to_path(&self) -> Path
+    pub fn to_path(&self) -> Path
         ensures { result ≡ self.now }
     {
         let mut path = Path::new();
@@ -45,7 +45,7 @@ impl Trail {
     }
 
     /// Forgets all steps.
-    pub(crate) fn clear(&mut self)
+    pub fn clear(&mut self)
         ensures { self.new ≡ [] }
     {
         self.start = 20;
@@ -53,7 +53,7 @@ impl Trail {
 
     /// Adds a step in front.
     #[tactic(auto, using(crate::proofs::Trails::one_in_front, crate::proofs::Trails::room))]
-    pub(crate) fn push_front(&mut self, step: Step)
+    pub fn push_front(&mut self, step: Step)
         requires { length self.old < 20 }
         ensures { self.new ≡ step ∷ self.old }
     {

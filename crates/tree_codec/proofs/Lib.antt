@@ -7,8 +7,7 @@ pub mod WholeLays
 pub mod TreesBack
 pub mod FieldShown
 pub mod LevelShapes
-pub mod KindMisfits
-pub mod SmallSteps
+pub mod FieldMisfits
 pub mod RoomSteps
 pub mod ShapesBelow
 pub mod CountSmall

@@ -11,13 +11,14 @@ use Rattle.sbe_types.specs.declared.schema.Group.{Group, out-Group}
 use Rattle.sbe_types.specs.declared.schema.Level.{Level, out-Level}
 use Rattle.sbe_types.specs.declared.schema.WireSchema.{WireSchema}
 use Rattle.sbe_types.specs.Places.{members_end}
-use Rattle.sbe_wire.specs.Canonical.{all_bytes, block_bytes, dimension_numbers, entries_bytes, entries_in, group_bytes, named_bytes, tail_bytes}
+use Rattle.sbe_wire.specs.Canonical.{all_bytes, block_bytes, dimension_numbers, entries_bytes, entries_in, group_bytes, named_bytes}
 use Rattle.sbe_wire.specs.Misfit.{Taken, refusal_of, bad_shape, block_shape, entries_shape, group_shape, fields_misfit, each_taken, tail_taken, group_taken}
 use Rattle.sbe_wire.specs.Named.{is_admitted}
 use Rattle.schema_facts.specs.IsChecked.{IsChecked}
 use Rattle.schema_facts.specs.Levels.{level_at, fields_at, fields_in, groups_at, groups_in}
 use Rattle.layout_compile.specs.Parts.{dim_at, group_number}
-use Rattle.layout_compile.proofs.GroupWalk.{GroupsFrom, group_is}
+use Rattle.flyweight_view.proofs.GroupsTold.{from_number}
+use Rattle.flyweight_view.proofs.Opens.{Child, child_here, level_within}
 use Rattle.typed_writer.specs.declared.stack.Frame.TheVariants.{Fields, Tail, Entries}
 use Rattle.typed_writer.specs.declared.states.TailErr.{TailErr}
 use Rattle.typed_writer.specs.declared.states.TailErr.TheVariants as tail_err
@@ -27,11 +28,11 @@ use Rattle.typed_writer.specs.States.{AppendsEntries, AppendsParts, block_at, en
 use Rattle.typed_writer.specs.Steps.{GroupRefused, Groups, Opens, admits_entries, block_in, dimension_in, dimension_size, ends, goes_on_as, next_group}
 use Rattle.typed_writer.proofs.Grouping.{dim_holds, dim_stands}
 use Rattle.typed_writer.proofs.Lists.{behind_both}
-use Rattle.tree_codec.specs.Puts.{Fills, Puts, entry_put, groups_put, task_of}
+use Rattle.tree_codec.specs.Puts.{Fills, Puts, behind_all, entries_stretch, entry_put, entry_stretch, group_stretch, groups_put, groups_stretch, tail_stretch, task_of}
 use Rattle.tree_codec.specs.Rooms.{entry_room, groups_room}
 use Rattle.tree_codec.proofs.PutParts.{own_block}
 use Rattle.tree_codec.proofs.PutSteps.{RoomyGroup, admitted_small, behind_is, block_roomy, entries_over, entries_step, group_bytes_is, group_roomy, groups_over, groups_step, left_behind, named_long, nothing_left, then_none}
-use Rattle.tree_codec.proofs.RoomSteps.{behind_block, entry_went, group_went, no_group, tail_is}
+use Rattle.tree_codec.proofs.RoomSteps.{behind_block, entry_went, got, group_went, no_group, tail_is}
 use Rattle.tree_codec.proofs.LevelShapes.{group_is as shape_is}
 
 true_false : true ≡ false → ⊥
@@ -73,12 +74,12 @@ module _ (schema : WireSchema) (n : ℕ) (level : Level) (block : Block) (at : l
   abbrev first : ℕ
   first = length (out-Level level).fields
 
-  pub groups_start : (old : Held) → AppendsParts schema old → old.frames ≡ Tail n 0 ∷ drop 1 old.frames → GroupsAt schema n level block 0 old old
-  groups_start old state frames =
+  pub groups_start : (old : Held) → AppendsParts schema old → level_of old.frames ≡ n → parts_done old.frames ≡ 0 → GroupsAt schema n level block 0 old old
+  groups_start old state here done =
       let from : first ≡ first + 0 = omega arith in
       record {
         state = state;
-        frames = frames;
+        frames = state.frames ∙ ap (λ k. Tail k (parts_done old.frames) ∷ drop 1 old.frames) here ∙ ap (λ k. Tail n k ∷ drop 1 old.frames) done;
         bytes = refl;
         counted = ap (λ k. groups_room old.limit k (length old.bytes) gs vs) (sym from);
         limit = refl;
@@ -96,14 +97,19 @@ module _ (schema : WireSchema) (n : ℕ) (level : Level) (block : Block) (at : l
         let groups : length (groups_at schema (level_of now.frames)) ≡ length gs = ap (λ k. length (groups_at schema k)) here ∙ ap (λ o. length (groups_in o)) at in
         omega (arith, groups, many, more)
 
-    pub group_is_next : (child : ℕ) → GroupsFrom schema n i child → next_group schema now.frames ≡ child
-    group_is_next child from = ap (λ k. group_number schema k (parts_done now.frames)) here ∙ ap (group_number schema n) many ∙ sym (group_is schema n i child from)
+    -- the level and the dimension of the next group
+    pub next_child : (g : Group) → slice_get gs i ≡ Some g → i < length gs → Child schema (next_group schema now.frames) g
+    next_child g there more =
+        let groups : length (groups_at schema n) ≡ length gs = ap (λ o. length (groups_in o)) at in
+        let from = from_number schema n i (group_number schema n i) (level_within schema n level at) (omega (arith, groups, more)) refl in
+        let next : next_group schema now.frames ≡ group_number schema n i = ap (λ k. group_number schema k (parts_done now.frames)) here ∙ ap (group_number schema n) many in
+        subst (λ k. Child schema k g) (sym next) (child_here schema n level at (group_number schema n i) i from more g (got gs i g there))
 
     pub group_counted : groups_room now.limit (first + i) (length now.bytes) (drop i gs) (drop i vs) ≡ groups_room old.limit first (length old.bytes) gs vs
     group_counted = ap (λ m. groups_room m (first + i) (length now.bytes) (drop i gs) (drop i vs)) walk.limit ∙ walk.counted
 
     pub groups_next : (g : Group) (v : GroupVal) (new : Held) → slice_get gs i ≡ Some g → slice_get vs i ≡ Some v → AppendsParts schema new →
-        Puts (group_bytes schema.order g v) (group_taken now.limit (length now.bytes) g v) (Tail (level_of now.frames) (parts_done now.frames + 1)) now new → GroupsAt schema n level block (i + 1) old new
+        Puts (group_stretch schema.order g v) (Tail (level_of now.frames) (parts_done now.frames + 1)) now new → GroupsAt schema n level block (i + 1) old new
     groups_next g v new there value state puts =
         let next : first + (i + 1) ≡ suc (first + i) = omega arith in
         let taken : Ok (length new.bytes) ≡ group_taken old.limit (length now.bytes) g v = sym (sym (ap (λ m. group_taken m (length now.bytes) g v) walk.limit) ∙ puts.counted) in
@@ -116,7 +122,7 @@ module _ (schema : WireSchema) (n : ℕ) (level : Level) (block : Block) (at : l
           limit = puts.limit ∙ walk.limit;
         }
 
-    pub groups_end : length gs ≡ i → length vs ≡ i → Puts (groups_put schema.order gs vs) (groups_room old.limit first (length old.bytes) gs vs) (Tail n (length gs)) old now
+    pub groups_end : length gs ≡ i → length vs ≡ i → Puts (groups_stretch schema.order level block) (Tail n (length gs)) old now
     groups_end all same =
         record {
           bytes = nothing_left now.bytes _ _ (groups_over schema.order i gs vs (omega (arith, all)) (omega (arith, same))) walk.bytes;
@@ -191,8 +197,8 @@ module _ (schema : WireSchema) (n : ℕ) (g : Group) (v : GroupVal) (es : List B
       ∙ roomy.0.rest
 
   pub group_puts : (mid last new : Held) → GroupOpened schema n g es old mid →
-      Puts (all_bytes (λ entry. entry_put schema.order (out-Group g).level entry) es) (each_taken (λ at entry. entry_room mid.limit (out-Group g).level at entry) 0 (length mid.bytes) es) (Entries n 0) mid last →
-      new ≡ ends last → Puts (group_bytes schema.order g v) (group_taken old.limit (length old.bytes) g v) (Tail (level_of old.frames) (parts_done old.frames + 1)) old new
+      Puts (entries_stretch schema.order (out-Group g).level es) (Entries (level_of mid.frames) 0) mid last →
+      new ≡ ends last → Puts (group_stretch schema.order g v) (Tail (level_of old.frames) (parts_done old.frames + 1)) old new
   group_puts mid last new opened puts ended =
       let order = schema.order in
       let by : ℕ → ℕ → Block → Taken = λ m at entry. entry_room m (out-Group g).level at entry in
@@ -201,7 +207,7 @@ module _ (schema : WireSchema) (n : ℕ) (g : Group) (v : GroupVal) (es : List B
       ∙ behind_both old.bytes mid.bytes last.bytes _ _ opened.bytes puts.bytes in
       let counted : group_taken old.limit (length old.bytes) g v ≡ Ok (length last.bytes) =
       roomy.1 ∙ ap (λ k. each_taken (by old.limit) 0 k es) (sym opened.long) ∙ ap (λ m. each_taken (by m) 0 (length mid.bytes) es) (sym opened.limit) ∙ puts.counted in
-      subst (λ h. Puts (group_bytes order g v) (group_taken old.limit (length old.bytes) g v) (Tail (level_of old.frames) (parts_done old.frames + 1)) old h) (sym ended) (record {
+      subst (λ h. Puts (group_stretch order g v) (Tail (level_of old.frames) (parts_done old.frames + 1)) old h) (sym ended) (record {
         bytes = written;
         counted = counted;
         frames = ap (drop 1) puts.frames ∙ ap (drop 1) opened.frames;
@@ -220,12 +226,12 @@ pub record EntriesAt (schema : WireSchema) (n : ℕ) (level : Level) (es : List 
   pub limit : now.limit ≡ old.limit
 
 module _ (schema : WireSchema) (n : ℕ) (level : Level) (es : List Block) where
-  pub entries_start : (old : Held) → AppendsEntries schema old → old.frames ≡ Entries n (length es) ∷ drop 1 old.frames → EntriesAt schema n level es 0 old old
-  entries_start old state frames =
+  pub entries_start : (old : Held) → AppendsEntries schema old → level_of old.frames ≡ n → entries_left old.frames ≡ length es → EntriesAt schema n level es 0 old old
+  entries_start old state here left =
       let all : length es ≡ length es - 0 = omega arith in
       record {
         state = state;
-        frames = frames ∙ ap (λ k. Entries n k ∷ drop 1 old.frames) all;
+        frames = state.frames ∙ ap (λ k. Entries k (entries_left old.frames) ∷ drop 1 old.frames) here ∙ ap (λ k. Entries n k ∷ drop 1 old.frames) (left ∙ all);
         bytes = refl;
         counted = refl;
         limit = refl;
@@ -245,20 +251,20 @@ module _ (schema : WireSchema) (n : ℕ) (level : Level) (es : List Block) where
     entry_counted = ap (λ m. each_taken (λ at entry. entry_room m level at entry) i (length now.bytes) (drop i es)) walk.limit ∙ walk.counted
 
     pub entries_next : (e : Block) (new : Held) → slice_get es i ≡ Some e → AppendsEntries schema new →
-        Puts (entry_put schema.order level e) (entry_room now.limit level (length now.bytes) e) (Entries n (entries_left now.frames - 1)) now new → EntriesAt schema n level es (i + 1) old new
+        Puts (entry_stretch schema.order level e) (Entries (level_of now.frames) (entries_left now.frames - 1)) now new → EntriesAt schema n level es (i + 1) old new
     entries_next e new there state puts =
         let left : entries_left now.frames - 1 ≡ length es - (i + 1) = omega (arith, left_now) in
         let taken : Ok (length new.bytes) ≡ entry_room old.limit level (length now.bytes) e = sym (sym (ap (λ m. entry_room m level (length now.bytes) e) walk.limit) ∙ puts.counted) in
         record {
           state = state;
-          frames = puts.frames ∙ ap (λ k. Entries n k ∷ drop 1 now.frames) left ∙ ap (λ fs. Entries n (length es - (i + 1)) ∷ drop 1 fs) walk.frames;
+          frames = puts.frames ∙ ap (λ k. Entries k (entries_left now.frames - 1) ∷ drop 1 now.frames) entry_is_of ∙ ap (λ k. Entries n k ∷ drop 1 now.frames) left ∙ ap (λ fs. Entries n (length es - (i + 1)) ∷ drop 1 fs) walk.frames;
           bytes = left_behind now.bytes new.bytes (entry_put schema.order level e) _ _ _ puts.bytes (entries_step schema.order i level es e there) walk.bytes;
           counted = entry_went old.limit i (length now.bytes) level es e there (length new.bytes) taken ∙ walk.counted;
           limit = puts.limit ∙ walk.limit;
         }
 
     pub entries_end : length es ≡ i →
-        Puts (all_bytes (λ entry. entry_put schema.order level entry) es) (each_taken (λ at entry. entry_room old.limit level at entry) 0 (length old.bytes) es) (Entries n 0) old now
+        Puts (entries_stretch schema.order level es) (Entries n 0) old now
     entries_end all =
         let none : drop i es ≡ [] = drop_all i es (omega (arith, all)) in
         let left : length es - i ≡ 0 = omega (arith, all) in
@@ -320,8 +326,11 @@ module _ (schema : WireSchema) (n : ℕ) (level : Level) (entry : Block) (old op
     tailed_is : tailed ≡ goes_on_as filled (Tail n 0)
     tailed_is = goes ∙ ap (λ k. goes_on_as filled (Tail k 0)) filled_level
 
-    pub tail_at : tailed.frames ≡ Tail n 0 ∷ drop 1 tailed.frames
-    tail_at = subst (λ (h : Held). h.frames ≡ Tail n 0 ∷ drop 1 h.frames) (sym tailed_is) refl
+    pub tail_level : level_at schema (level_of tailed.frames) ≡ Some level
+    tail_level = ap (λ (h : Held). level_at schema (level_of h.frames)) tailed_is ∙ at
+
+    pub tail_begins : parts_done tailed.frames ≡ 0
+    tail_begins = ap (λ (h : Held). parts_done h.frames) tailed_is
 
     -- what is behind the block has room
     pub tail_has_room : refusal_of (tail_taken tailed.limit (length tailed.bytes) level entry) ≡ None
@@ -331,9 +340,9 @@ module _ (schema : WireSchema) (n : ℕ) (level : Level) (entry : Block) (old op
         ∙ ap (λ k. refusal_of (tail_taken old.limit k level entry)) entry_long
         ∙ (entry_roomy old.limit (length old.bytes) level entry room).rest
 
-    module _ (last : Held) (told : Puts (tail_bytes schema.order level entry) (tail_taken tailed.limit (length tailed.bytes) level entry) (Tail n (parts_in_tail schema n)) tailed last) where
-      puts : Puts (tail_bytes schema.order level entry) (tail_taken filled.limit (length filled.bytes) level entry) (Tail n (parts_in_tail schema n)) (goes_on_as filled (Tail n 0)) last
-      puts = subst (λ (h : Held). Puts (tail_bytes schema.order level entry) (tail_taken h.limit (length h.bytes) level entry) (Tail n (parts_in_tail schema n)) h last) tailed_is told
+    module _ (last : Held) (told : Puts (tail_stretch schema.order level entry) (behind_all schema tailed.frames) tailed last) where
+      puts : Puts (tail_stretch schema.order level entry) (Tail n (parts_in_tail schema n)) (goes_on_as filled (Tail n 0)) last
+      puts = subst (λ (h : Held). Puts (tail_stretch schema.order level entry) (behind_all schema h.frames) h last) tailed_is told
 
       last_frames : last.frames ≡ Tail n (parts_in_tail schema n) ∷ Entries n (entries_left old.frames - 1) ∷ drop 1 old.frames
       last_frames = puts.frames ∙ ap (λ fs. Tail n (parts_in_tail schema n) ∷ drop 1 fs) filled_frames
@@ -345,14 +354,14 @@ module _ (schema : WireSchema) (n : ℕ) (level : Level) (entry : Block) (old op
       entry_inside = omega (arith, ap length last_frames)
 
       pub entry_puts : (new : Held) → new ≡ ends last →
-          Puts (entry_put schema.order level entry) (entry_room old.limit level (length old.bytes) entry) (Entries n (entries_left old.frames - 1)) old new
+          Puts (entry_stretch schema.order level entry) (Entries n (entries_left old.frames - 1)) old new
       entry_puts new ended =
           let counted : entry_room old.limit level (length old.bytes) entry ≡ Ok (length last.bytes) =
           sym (entry_roomy old.limit (length old.bytes) level entry room).taken
           ∙ ap (λ k. tail_taken old.limit k level entry) (sym entry_long)
           ∙ ap (λ m. tail_taken m (length filled.bytes) level entry) (sym filled_limit)
           ∙ puts.counted in
-          subst (λ h. Puts (entry_put schema.order level entry) (entry_room old.limit level (length old.bytes) entry) (Entries n (entries_left old.frames - 1)) old h) (sym ended) (record {
+          subst (λ h. Puts (entry_stretch schema.order level entry) (Entries n (entries_left old.frames - 1)) old h) (sym ended) (record {
             bytes = behind_both old.bytes filled.bytes last.bytes _ _ block_is puts.bytes;
             counted = counted;
             frames = ap (drop 1) last_frames;

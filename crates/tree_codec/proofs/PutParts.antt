@@ -9,7 +9,7 @@ use Rattle.sbe_types.specs.declared.schema.DataField.{DataField}
 use Rattle.sbe_types.specs.declared.schema.Level.{Level, out-Level}
 use Rattle.sbe_types.specs.declared.schema.WireSchema.{WireSchema}
 use Rattle.sbe_types.specs.Numbers.{prim_width}
-use Rattle.sbe_wire.specs.Canonical.{part_bytes, parts_bytes, tail_bytes}
+use Rattle.sbe_wire.specs.Canonical.{part_bytes, parts_bytes}
 use Rattle.sbe_wire.specs.Misfit.{Taken, refusal_of, block_shape, part_taken, parts_taken, tail_taken}
 use Rattle.schema_facts.specs.Levels.{all_nodes, level_at, groups_at, groups_in, parts_at, parts_in}
 use Rattle.layout_compile.specs.Parts.{dim_at}
@@ -21,7 +21,7 @@ use Rattle.typed_writer.specs.Held.{Held}
 use Rattle.typed_writer.specs.States.{AppendsEntries, AppendsParts, block_at, deep_at, entries_left, level_of, parts_done, parts_in_tail}
 use Rattle.typed_writer.specs.Steps.{Adds, DataRefused, PartRefused, next_data}
 use Rattle.typed_writer.proofs.Lists.{behind_both}
-use Rattle.tree_codec.specs.Puts.{Puts, groups_put}
+use Rattle.tree_codec.specs.Puts.{Puts, behind_all, groups_stretch, part_stretch, parts_stretch, tail_stretch}
 use Rattle.tree_codec.specs.Rooms.{groups_room}
 use Rattle.tree_codec.proofs.PutSteps.{RoomyPart, left_behind, nothing_left, part_long, part_roomy, parts_over, parts_step, tail_bytes_is}
 use Rattle.tree_codec.proofs.RoomSteps.{no_part, part_went, tail_went}
@@ -84,13 +84,13 @@ module _ (schema : WireSchema) (part : DataField) (v : DataVal) (bytes : List �
       refused_by e (subst (λ p. PartRefused p (length bytes) old e) same h.2)
 
   pub part_puts : (new : Held) → Adds schema bytes old new →
-      Puts (part_bytes schema.order part v) (part_taken old.limit (length old.bytes) part v) (Tail (level_of old.frames) (parts_done old.frames + 1)) old new
+      Puts (part_stretch schema.order part v) (Tail (level_of old.frames) (parts_done old.frames + 1)) old new
   part_puts new adds =
       let order = schema.order in
       let told : behind old.bytes (part_bytes order part (dataval.Bytes bytes)) ≡ Some new.bytes =
       sym (ap (λ (o : Option DataField). behind old.bytes (option_and_then (λ (p : DataField). part_bytes order p (dataval.Bytes bytes)) o)) next) ∙ adds.bytes in
       let long = part_long order part bytes old.bytes new.bytes told in
-      subst (λ x. Puts (part_bytes order part x) (part_taken old.limit (length old.bytes) part x) (Tail (level_of old.frames) (parts_done old.frames + 1)) old new) (sym is) (record {
+      subst (λ x. Puts (part_stretch order part x) (Tail (level_of old.frames) (parts_done old.frames + 1)) old new) (sym is) (record {
         bytes = told;
         counted = roomy.1 ∙ ap Ok (sym long);
         frames = adds.frames;
@@ -122,13 +122,13 @@ module _ (schema : WireSchema) (n : ℕ) (level : Level) (block : Block) (at : l
   abbrev first : ℕ
   first = length (out-Level level).fields + length (out-Level level).groups
 
-  pub parts_begin : (old : Held) → AppendsParts schema old → old.frames ≡ Tail n before ∷ drop 1 old.frames → PartsAt schema n level block 0 old old
-  parts_begin old state frames =
+  pub parts_begin : (old : Held) → AppendsParts schema old → level_of old.frames ≡ n → parts_done old.frames ≡ before → PartsAt schema n level block 0 old old
+  parts_begin old state here done =
       let none : before ≡ before + 0 = omega arith in
       let from : first ≡ first + 0 = omega arith in
       record {
         state = state;
-        frames = frames ∙ ap (λ k. Tail n k ∷ drop 1 old.frames) none;
+        frames = state.frames ∙ ap (λ k. Tail k (parts_done old.frames) ∷ drop 1 old.frames) here ∙ ap (λ k. Tail n k ∷ drop 1 old.frames) (done ∙ none);
         bytes = refl;
         counted = ap (λ k. parts_taken old.limit k (length old.bytes) ps vs) (sym from);
         limit = refl;
@@ -160,7 +160,7 @@ module _ (schema : WireSchema) (n : ℕ) (level : Level) (block : Block) (at : l
     part_counted = ap (λ m. parts_taken m (first + i) (length now.bytes) (drop i ps) (drop i vs)) walk.limit ∙ walk.counted
 
     pub parts_next : (p : DataField) (v : DataVal) (new : Held) → slice_get ps i ≡ Some p → slice_get vs i ≡ Some v → AppendsParts schema new →
-        Puts (part_bytes schema.order p v) (part_taken now.limit (length now.bytes) p v) (Tail (level_of now.frames) (parts_done now.frames + 1)) now new → PartsAt schema n level block (i + 1) old new
+        Puts (part_stretch schema.order p v) (Tail (level_of now.frames) (parts_done now.frames + 1)) now new → PartsAt schema n level block (i + 1) old new
     parts_next p v new there value state puts =
         let number : parts_done now.frames + 1 ≡ before + (i + 1) = omega (arith, many) in
         let next : first + (i + 1) ≡ suc (first + i) = omega arith in
@@ -175,7 +175,7 @@ module _ (schema : WireSchema) (n : ℕ) (level : Level) (block : Block) (at : l
         }
 
     pub parts_end : length ps ≡ i → length vs ≡ i →
-        Puts (parts_bytes schema.order ps vs) (parts_taken old.limit first (length old.bytes) ps vs) (Tail n (parts_in_tail schema n)) old now
+        Puts (parts_stretch schema.order level block) (Tail n (parts_in_tail schema n)) old now
     parts_end all same =
         let tail : before + i ≡ parts_in_tail schema n = omega (arith, tail_many schema n level at, all) in
         record {
@@ -187,19 +187,17 @@ module _ (schema : WireSchema) (n : ℕ) (level : Level) (block : Block) (at : l
 
 -- ---- groups and data
 
-pub tail_puts : (schema : WireSchema) (n k : ℕ) (level : Level) (block : Block) (old mid new : Held) → block_shape level block ≡ None →
-    Puts (groups_put schema.order (out-Level level).groups (out-Block block).groups)
-    (groups_room old.limit (length (out-Level level).fields) (length old.bytes) (out-Level level).groups (out-Block block).groups) (Tail n k) old mid →
-    Puts (parts_bytes schema.order (out-Level level).parts (out-Block block).parts)
-    (parts_taken mid.limit (length (out-Level level).fields + length (out-Level level).groups) (length mid.bytes) (out-Level level).parts (out-Block block).parts) (Tail n (parts_in_tail schema n)) mid new →
-    Puts (tail_bytes schema.order level block) (tail_taken old.limit (length old.bytes) level block) (Tail n (parts_in_tail schema n)) old new
-tail_puts schema n k level block old mid new shape a b =
+pub tail_puts : (schema : WireSchema) (k : ℕ) (level : Level) (block : Block) (old mid new : Held) → block_shape level block ≡ None →
+    Puts (groups_stretch schema.order level block) (Tail (level_of old.frames) k) old mid →
+    Puts (parts_stretch schema.order level block) (behind_all schema mid.frames) mid new →
+    Puts (tail_stretch schema.order level block) (behind_all schema old.frames) old new
+tail_puts schema k level block old mid new shape a b =
     let parts : ℕ → ℕ → Taken = λ m at. parts_taken m (length (out-Level level).fields + length (out-Level level).groups) at (out-Level level).parts (out-Block block).parts in
     record {
       bytes = ap (behind old.bytes) (tail_bytes_is schema.order level block) ∙ behind_both old.bytes mid.bytes new.bytes _ _ a.bytes b.bytes;
       counted = sym (tail_went old.limit (length old.bytes) (length mid.bytes) level block (shaped level block shape).groups (sym a.counted))
           ∙ ap (λ m. parts m (length mid.bytes)) (sym a.limit) ∙ b.counted;
-      frames = b.frames ∙ ap (λ fs. Tail n (parts_in_tail schema n) ∷ drop 1 fs) a.frames;
+      frames = b.frames ∙ ap (λ fs. behind_all schema fs ∷ drop 1 fs) a.frames;
       limit = b.limit ∙ a.limit;
     }
 

@@ -22,7 +22,7 @@ use Rattle.typed_writer.specs.States.{block_at, level_of, parts_done, parts_in_t
 use Rattle.typed_writer.specs.Steps.{Begins, StartRefused, block_in, first_unset, goes_on_as, header_in, unset_from}
 use Rattle.typed_writer.proofs.Holding.{header_holds, header_stands}
 use Rattle.typed_writer.proofs.Lists.{behind_both}
-use Rattle.tree_codec.specs.Puts.{Fills, Puts, task_of}
+use Rattle.tree_codec.specs.Puts.{behind_all, Fills, Puts, tail_stretch, task_of}
 use Rattle.tree_codec.proofs.PutParts.{own_block}
 use Rattle.tree_codec.proofs.PutSteps.{block_roomy, both_are, both_behind, named_long}
 use Rattle.tree_codec.proofs.ShapesBelow.{none_first, none_second}
@@ -124,8 +124,11 @@ module _ (schema : WireSchema) (m : Msg) (level : Level) (old : Held) (n : ℕ) 
         tailed_is : tailed ≡ goes_on_as filled (Tail n 0)
         tailed_is = goes ∙ ap (λ k. goes_on_as filled (Tail k 0)) (ap level_of root_frames)
 
-        pub root_tail_at : tailed.frames ≡ Tail n 0 ∷ drop 1 tailed.frames
-        root_tail_at = subst (λ (h : Held). h.frames ≡ Tail n 0 ∷ drop 1 h.frames) (sym tailed_is) refl
+        pub root_tail_level : level_at schema (level_of tailed.frames) ≡ Some level
+        root_tail_level = ap (λ (h : Held). level_at schema (level_of h.frames)) tailed_is ∙ at
+
+        pub root_tail_begins : parts_done tailed.frames ≡ 0
+        root_tail_begins = ap (λ (h : Held). parts_done h.frames) tailed_is
 
         pub root_tail_room : refusal_of (tail_taken tailed.limit (length tailed.bytes) level m.block) ≡ None
         root_tail_room =
@@ -134,9 +137,9 @@ module _ (schema : WireSchema) (m : Msg) (level : Level) (old : Held) (n : ℕ) 
             ∙ ap (λ k. refusal_of (tail_taken old.limit k level m.block)) root_long
             ∙ room.rest
 
-        module _ (last : Held) (told : Puts (tail_bytes schema.order level m.block) (tail_taken tailed.limit (length tailed.bytes) level m.block) (Tail n (parts_in_tail schema n)) tailed last) where
-          puts : Puts (tail_bytes schema.order level m.block) (tail_taken filled.limit (length filled.bytes) level m.block) (Tail n (parts_in_tail schema n)) (goes_on_as filled (Tail n 0)) last
-          puts = subst (λ (h : Held). Puts (tail_bytes schema.order level m.block) (tail_taken h.limit (length h.bytes) level m.block) (Tail n (parts_in_tail schema n)) h last) tailed_is told
+        module _ (last : Held) (told : Puts (tail_stretch schema.order level m.block) (behind_all schema tailed.frames) tailed last) where
+          puts : Puts (tail_stretch schema.order level m.block) (Tail n (parts_in_tail schema n)) (goes_on_as filled (Tail n 0)) last
+          puts = subst (λ (h : Held). Puts (tail_stretch schema.order level m.block) (behind_all schema h.frames) h last) tailed_is told
 
           last_frames : last.frames ≡ Tail n (parts_in_tail schema n) ∷ []
           last_frames = puts.frames ∙ ap (λ fs. Tail n (parts_in_tail schema n) ∷ drop 1 fs) root_frames

@@ -2,18 +2,23 @@
 use Rattle.std.specs.Prelude.{◌≡◌, ℕ, ◌+◌, List, [], ◌∷◌, Option, Some, None, Ok, drop, length, take}
 use Rattle.sbe_types.specs.declared.kind.Order.{Order}
 use Rattle.sbe_types.specs.declared.message.Block.{Block, out-Block}
+use Rattle.sbe_types.specs.declared.message.DataVal.{DataVal}
 use Rattle.sbe_types.specs.declared.message.GroupVal.{GroupVal}
+use Rattle.sbe_types.specs.declared.schema.DataField.{DataField}
 use Rattle.sbe_types.specs.declared.schema.Group.{Group}
 use Rattle.sbe_types.specs.declared.schema.Level.{Level, out-Level}
 use Rattle.sbe_types.specs.declared.schema.WireSchema.{WireSchema}
 use Rattle.sbe_types.specs.Wire.{both}
-use Rattle.sbe_wire.specs.Canonical.{block_bytes, group_bytes, tail_bytes}
-use Rattle.sbe_wire.specs.Misfit.{Taken}
+use Rattle.sbe_wire.specs.Canonical.{all_bytes, block_bytes, group_bytes, part_bytes, parts_bytes, tail_bytes}
+use Rattle.sbe_wire.specs.Misfit.{Taken, each_taken, group_taken, part_taken, parts_taken, refusal_of, tail_taken}
 use Rattle.typed_writer.specs.declared.stack.Frame.{Frame}
+use Rattle.typed_writer.specs.declared.stack.Frame.TheVariants.{Tail}
 use Rattle.typed_writer.specs.Empty.{behind, empty_block}
 use Rattle.typed_writer.specs.Held.{Held}
+use Rattle.typed_writer.specs.States.{level_of, parts_in_tail}
 use Rattle.typed_writer.specs.Steps.{unset_from}
 use Rattle.block_laws.specs.Blocks.{HoldsFirst, Task}
+use Rattle.tree_codec.specs.Rooms.{entry_room, groups_room}
 
 -- ---- parts
 
@@ -28,11 +33,64 @@ groups_put order (g ∷ gs) (v ∷ vs) = both (group_bytes order g v) (groups_pu
 abbrev pub entry_put : Order → Level → Block → Option (List ℕ)
 entry_put order level entry = both (block_bytes order (out-Level level).block_length (out-Level level).fields (out-Block entry).fields) (tail_bytes order level entry)
 
--- A piece stands behind the bytes that were there, which then are as many as `taken` counts; the innermost writer goes on as
+-- ---- stretches of a body
+
+-- What stands of a message behind other bytes: its bytes, if there are some; and how many bytes the body has behind it, by its
+-- limit and the bytes before, or the first misfit.
+pub record Stretch : Type 0 where
+  pub bytes : Option (List ℕ)
+  pub taken : ℕ → ℕ → Taken
+
+-- a data part
+abbrev pub part_stretch : Order → DataField → DataVal → Stretch
+part_stretch order part value = record { bytes = part_bytes order part value; taken = λ limit before. part_taken limit before part value }
+
+-- the data of a block
+abbrev pub parts_stretch : Order → Level → Block → Stretch
+parts_stretch order level block = record {
+  bytes = parts_bytes order (out-Level level).parts (out-Block block).parts;
+  taken = λ limit before. parts_taken limit (length (out-Level level).fields + length (out-Level level).groups) before (out-Level level).parts (out-Block block).parts;
+}
+
+-- a group, its dimension first
+abbrev pub group_stretch : Order → Group → GroupVal → Stretch
+group_stretch order group value = record { bytes = group_bytes order group value; taken = λ limit before. group_taken limit before group value }
+
+-- the groups of a block
+abbrev pub groups_stretch : Order → Level → Block → Stretch
+groups_stretch order level block = record {
+  bytes = groups_put order (out-Level level).groups (out-Block block).groups;
+  taken = λ limit before. groups_room limit (length (out-Level level).fields) before (out-Level level).groups (out-Block block).groups;
+}
+
+-- the groups of a block, and then its data
+abbrev pub tail_stretch : Order → Level → Block → Stretch
+tail_stretch order level block = record { bytes = tail_bytes order level block; taken = λ limit before. tail_taken limit before level block }
+
+-- an entry
+abbrev pub entry_stretch : Order → Level → Block → Stretch
+entry_stretch order level entry = record { bytes = entry_put order level entry; taken = λ limit before. entry_room limit level before entry }
+
+-- the entries of a group
+abbrev pub entries_stretch : Order → Level → List Block → Stretch
+entries_stretch order level entries = record {
+  bytes = all_bytes (λ entry. entry_put order level entry) entries;
+  taken = λ limit before. each_taken (λ at entry. entry_room limit level at entry) 0 before entries;
+}
+
+-- the stretch has no misfit, and room behind what is held
+abbrev pub HasRoom : Stretch → Held → Type 0
+HasRoom stretch held = refusal_of (stretch.taken held.limit (length held.bytes)) ≡ None
+
+-- the innermost writer's block, behind its last group or data
+abbrev pub behind_all : WireSchema → List Frame → Frame
+behind_all schema frames = Tail (level_of frames) (parts_in_tail schema (level_of frames))
+
+-- The stretch stands behind the bytes that were there, which then are as many as it counts; the innermost writer goes on as
 -- that one.
-pub record Puts (piece : Option (List ℕ)) (taken : Taken) (top : Frame) (old new : Held) : Type 0 where
-  pub bytes : behind old.bytes piece ≡ Some new.bytes
-  pub counted : taken ≡ Ok (length new.bytes)
+pub record Puts (stretch : Stretch) (top : Frame) (old new : Held) : Type 0 where
+  pub bytes : behind old.bytes stretch.bytes ≡ Some new.bytes
+  pub counted : stretch.taken old.limit (length old.bytes) ≡ Ok (length new.bytes)
   pub frames : new.frames ≡ top ∷ drop 1 old.frames
   pub limit : new.limit ≡ old.limit
 

@@ -44,14 +44,13 @@ fn put_message(layout: &Layout, msg: &Msg, buf: &mut FrameBuf) -> usize
     ensures length { result ≡ length buf.new.bytes }
     ensures limit { buf.new.limit ≡ buf.old.limit }
 {
-    let root = layout.root(msg.template);
     let level = layout.message(msg.template);
     match buf.begin(layout, msg.template) {
         Ok(mut fields) => {
             fill_block(layout, level, &msg.block, fields.buf);
             match fields.buf.done(layout) {
                 Ok(mut tail) => {
-                    put_tail(layout, root, level, &msg.block, tail.buf);
+                    put_tail(layout, level, &msg.block, tail.buf);
                     tail.finish()
                 }
                 Err(_) => unreachable!(),

@@ -1,70 +1,14 @@
 // The first misfit of a message.
 ghost use Rattle.std.specs.Prelude.{◌≡◌, ◌∷◌, [], ◌<◌, ◌≤◌, ◌+◌, if◌then◌else◌, length};
+ghost use Rattle.field_bytes.specs.Faults.{code_of};
+ghost use Rattle.kind_bytes.specs.Misfits.{unfit_of};
 ghost use Rattle.sbe_wire.specs.Misfit.{inside_step, is_full};
 ghost use Rattle.tree_codec.specs.Shapes.{misfit_of};
 
-use sbe_types::{Path, Step};
+use field_bytes::FieldCause;
+use kind_bytes::{Trail, Unfit as ValueUnfit};
+use sbe_types::Step;
 use sbe_wire::NCode;
-use std::marker::Model;
-
-/// The steps to a misfit. They stand at the end of the array, since each level adds its own in front on the way
-/// out.
-#[derive(Drop)]
-pub(crate) struct Trail {
-    steps: [Step; 20],
-    start: usize,
-}
-
-impl Model for Trail {
-    ghost use Rattle.std.specs.Prelude.{List, drop, ◌≤◌, ◌≡◌, length};
-    ghost use Rattle.sbe_types.specs.declared.path.Step.{Step};
-
-    ghost Value = { List Step };
-
-    ghost view = { λ trail. drop trail.start trail.steps };
-
-    ghost invariant = { λ trail. (trail.start ≤ 20) × (length trail.steps ≡ 20) };
-}
-
-impl Trail {
-    /// No step.
-    fn new() -> Trail
-        ensures { result ≡ [] }
-    {
-        Trail {
-            steps: [Step::Part(0); 20],
-            start: 20,
-        }
-    }
-
-    /// The same steps as a path.
-    pub(crate) fn to_path(&self) -> Path
-        ensures { result ≡ self.now }
-    {
-        let mut path = Path::new();
-        for step in &self.steps[self.start..] {
-            path.push(*step);
-        }
-        path
-    }
-
-    /// Forgets all steps.
-    fn clear(&mut self)
-        ensures { self.new ≡ [] }
-    {
-        self.start = 20;
-    }
-
-    /// Adds a step in front.
-    #[tactic(auto, using(flyweight_view::proofs::Trails::one_in_front, flyweight_view::proofs::Trails::room))]
-    fn push_front(&mut self, step: Step)
-        requires { length self.old < 20 }
-        ensures { self.new ≡ step ∷ self.old }
-    {
-        self.start -= 1;
-        self.steps[self.start] = step;
-    }
-}
 
 /// The first misfit that was found, lent to the walk over a message so that nothing wide is handed back.
 #[derive(Drop)]
@@ -93,6 +37,22 @@ impl Unfit {
     {
         self.code = code;
         self.path.clear();
+        self.detail = detail;
+    }
+
+    /// Tells the misfit of a value.
+    #[cold]
+    pub(crate) fn take(&mut self, value: ValueUnfit)
+        ensures told { misfit_of self.new ≡ unfit_of value }
+        ensures path { self.new.path ≡ value.path }
+    {
+        let ValueUnfit {
+            cause,
+            path,
+            detail,
+        } = value;
+        self.code = code_of(cause);
+        self.path = path;
         self.detail = detail;
     }
 
@@ -132,5 +92,18 @@ fn is_full(code: NCode) -> bool
         | NCode::Count
         | NCode::Length
         | NCode::Shape => false,
+    }
+}
+
+/// The code of a cause.
+fn code_of(cause: FieldCause) -> NCode
+    ensures { result ≡ code_of cause }
+{
+    match cause {
+        FieldCause::Range => NCode::Range,
+        FieldCause::EnumUnknown => NCode::EnumUnknown,
+        FieldCause::SetUnknown => NCode::SetUnknown,
+        FieldCause::TextByte => NCode::TextByte,
+        FieldCause::Kind => NCode::Kind,
     }
 }

@@ -61,10 +61,12 @@ impl FrameBuf {
         self.room.bytes()
     }
 
-    /// The most bytes that a body may have.
+    /// The most bytes that a body may have. Whatever stands in the buffer is within it.
     pub fn limit(&self) -> usize
-        ensures { result ≡ self.now.limit }
+        ensures same { result ≡ self.now.limit }
+        ensures within { length self.now.bytes ≤ self.now.limit }
     {
+        let _len = self.room.len();
         self.room.limit()
     }
 

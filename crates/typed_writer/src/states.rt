@@ -139,7 +139,10 @@ impl<'b> FieldsW<'b> {
         ensures err_reference { IfErr result (λ u. u.fields.buf.ghost_name ≡ self.entry.buf.ghost_name) }
         ensures ok { IfOk result (λ t. t.buf.now ≡ goes_on_as self.entry.buf.now (Frame.Tail (level_of self.entry.buf.now.frames) 0)) }
         ensures depth { IfOk result (λ t. t.depth ≡ length self.entry.buf.now.frames) }
+        ensures ready { IfOk result (λ t. AppendsParts self.entry.layout.now t.buf.now) }
+        ensures layout { IfOk result (λ t. t.layout.now ≡ self.entry.layout.now) }
         ensures err { IfErr result (λ u. u.fields.buf.now ≡ self.entry.buf.now) }
+        ensures unset { first_unset self.entry.layout.now (level_of self.entry.buf.now.frames) self.entry.buf.now.set ≡ option_map (λ u. u.unset) (result_err result) }
     {
         let FieldsW { buf, layout } = self;
         if let Some(unset) = buf.unset(layout) {

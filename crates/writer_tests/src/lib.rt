@@ -1,5 +1,12 @@
-//! Tests of the typed writer over a schema file.
+//! Tests of the typed writer over schema files.
 #![tactic(auto)]
 
 #[cfg(test)]
 mod messages;
+#[cfg(test)]
+mod nested;
+mod nests;
+#[cfg(test)]
+mod orders;
+#[cfg(test)]
+mod values;

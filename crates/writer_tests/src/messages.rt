@@ -1,6 +1,7 @@
 //! A message of two numbers, written through the states.
 
 use layout_compile::{Layout, compile};
+use sample_schemas::FileParts;
 use sbe_schema::read_schema;
 use sbe_types::{Kind, Value};
 use schema_check::check;
@@ -8,15 +9,14 @@ use std::alloc::Global;
 use std::test::Fail;
 use typed_writer::{FrameBuf, start};
 
-const FILE: &str = r#"{"messageSchema":{"package":"demo","id":7,"content":[{"types":{"content":[
-    {"composite":{"name":"messageHeader","content":[
-        {"type":{"name":"blockLength","primitiveType":"uint16"}},
-        {"type":{"name":"templateId","primitiveType":"uint16"}},
-        {"type":{"name":"schemaId","primitiveType":"uint16"}},
-        {"type":{"name":"version","primitiveType":"uint16"}}]}}]}},
+const FILE: FileParts<'static> = FileParts {
+    attributes: r#""id":7"#,
+    types: "",
+    messages: r#",
     {"message":{"name":"Ping","id":1,"content":[
         {"field":{"name":"a","id":1001,"type":"uint16"}},
-        {"field":{"name":"b","id":1002,"type":"int32","presence":"optional"}}]}}]}}"#;
+        {"field":{"name":"b","id":1002,"type":"int32","presence":"optional"}}]}}"#,
+};
 
 /// What the writer answers on its way, and how many bytes the body has.
 #[derive(Clone, Copy, Debug, PartialEq, Eq)]
@@ -31,7 +31,8 @@ struct Told {
 }
 
 fn layout_of(alloc: Global) -> Result<Layout, Fail> {
-    let schema = read_schema(alloc, FILE.as_bytes())?;
+    let text = FILE.text(alloc)?;
+    let schema = read_schema(alloc, text.as_bytes())?;
     let checked = check(alloc, schema)?;
     Ok(compile(alloc, &checked)?)
 }

@@ -1,13 +1,12 @@
-use Rattle.std.proofs.Common.{rules, ap, sym, ◌∙◌}
-use Rattle.schema_facts.specs.Levels.{level_at}
+use Rattle.std.proofs.Common.{rules, refl, ap, sym, ◌∙◌}
+use Rattle.schema_facts.specs.Levels.{level_at, root_of}
+use Rattle.typed_writer.specs.Held.{Held}
+use Rattle.typed_writer.specs.States.{parts_done}
 use Rattle.flyweight_view.proofs.Bodies.{root_level}
 use Rattle.tree_codec.proofs.FillSteps.{some_none}
-use Rattle.tree_codec.proofs.PutRoots.{begin_never_refused, message_roomy, message_written, root_all_set, root_begun, root_tail_room, template_there}
+use Rattle.tree_codec.proofs.PutRoots.{begin_never_refused, message_roomy, message_written, root_all_set, root_begun, root_tail_level, root_tail_room, template_there}
 use Rattle.tree_codec.proofs.ShapesBelow.{shaped}
 use Rattle.tree_codec.proofs.encoding.put_message.Goals as goal
-
-pub root-root-requires : goal.root-root-requires
-root-root-requires c = template_there c.args.layout.now c.args.msg.now c.args.buf.now.limit c.requires.fits
 
 pub message-level-requires : goal.message-level-requires
 message-level-requires c = template_there c.args.layout.now c.args.msg.now c.args.buf.now.limit c.requires.fits
@@ -17,9 +16,9 @@ fill_block-requires-clause-level c =
     let schema = c.args.layout.now in
     let m = c.args.msg.now in
     let level = c.message-level.result.now in
-    let n = c.root-root.result in
-    let at = root_level schema m.template n level c.root-root.ensures c.message-level.ensures in
-    ap (level_at schema) (root_begun schema m level c.args.buf.now n c.requires.schema.checked c.message-level.ensures at c.root-root.ensures c.requires.fits c.in-Ok.fields.buf.now c.in-Ok.ensures.ok) ∙ at
+    let n = root_of schema m.template in
+    let at = root_level schema m.template n level refl c.message-level.ensures in
+    ap (level_at schema) (root_begun schema m level c.args.buf.now n c.requires.schema.checked c.message-level.ensures at refl c.requires.fits c.in-Ok.fields.buf.now c.in-Ok.ensures.ok) ∙ at
 
 pub fill_block-requires-clause-many : goal.fill_block-requires-clause-many
 fill_block-requires-clause-many c =
@@ -30,7 +29,17 @@ pub fill_block-requires-clause-fits : goal.fill_block-requires-clause-fits
 fill_block-requires-clause-fits c = (message_roomy c.args.layout.now c.args.msg.now c.args.buf.now.limit c.message-level.result.now c.message-level.ensures c.requires.fits).fits
 
 pub put_tail-requires-clause-level : goal.put_tail-requires-clause-level
-put_tail-requires-clause-level c = root_level c.args.layout.now c.args.msg.now.template c.root-root.result c.message-level.result.now c.root-root.ensures c.message-level.ensures
+put_tail-requires-clause-level c =
+    let schema = c.args.layout.now in
+    let m = c.args.msg.now in
+    let level = c.message-level.result.now in
+    let n = root_of schema m.template in
+    let at = root_level schema m.template n level refl c.message-level.ensures in
+    root_tail_level schema m level c.args.buf.now n c.requires.schema.checked c.message-level.ensures at refl c.requires.fits c.in-Ok.fields.buf.now c.in-Ok.ensures.ok
+    c.fill_block.new.buf c.fill_block.ensures.fills c.in-Ok-done.tail.buf.now c.in-Ok-done.ensures.ok
+
+pub put_tail-requires-clause-at : goal.put_tail-requires-clause-at
+put_tail-requires-clause-at c = ap (λ (h : Held). parts_done h.frames) c.in-Ok-done.ensures.ok
 
 pub put_tail-requires-clause-shape : goal.put_tail-requires-clause-shape
 put_tail-requires-clause-shape c = (message_roomy c.args.layout.now c.args.msg.now c.args.buf.now.limit c.message-level.result.now c.message-level.ensures c.requires.fits).shape
@@ -40,9 +49,9 @@ put_tail-requires-clause-room c =
     let schema = c.args.layout.now in
     let m = c.args.msg.now in
     let level = c.message-level.result.now in
-    let n = c.root-root.result in
-    let at = root_level schema m.template n level c.root-root.ensures c.message-level.ensures in
-    root_tail_room schema m level c.args.buf.now n c.requires.schema.checked c.message-level.ensures at c.root-root.ensures c.requires.fits c.in-Ok.fields.buf.now c.in-Ok.ensures.ok
+    let n = root_of schema m.template in
+    let at = root_level schema m.template n level refl c.message-level.ensures in
+    root_tail_room schema m level c.args.buf.now n c.requires.schema.checked c.message-level.ensures at refl c.requires.fits c.in-Ok.fields.buf.now c.in-Ok.ensures.ok
     c.fill_block.new.buf c.fill_block.ensures.fills c.in-Ok-done.tail.buf.now c.in-Ok-done.ensures.ok
 
 pub unreachable-requires : goal.unreachable-requires
@@ -50,27 +59,27 @@ unreachable-requires c =
     let schema = c.args.layout.now in
     let m = c.args.msg.now in
     let level = c.message-level.result.now in
-    let n = c.root-root.result in
-    let at = root_level schema m.template n level c.root-root.ensures c.message-level.ensures in
+    let n = root_of schema m.template in
+    let at = root_level schema m.template n level refl c.message-level.ensures in
     some_none (sym c.in-Err-done.ensures.unset
-    ∙ root_all_set schema m level c.args.buf.now n c.requires.schema.checked c.message-level.ensures at c.root-root.ensures c.requires.fits c.in-Ok.fields.buf.now c.in-Ok.ensures.ok c.fill_block.new.buf c.fill_block.ensures.fills)
+    ∙ root_all_set schema m level c.args.buf.now n c.requires.schema.checked c.message-level.ensures at refl c.requires.fits c.in-Ok.fields.buf.now c.in-Ok.ensures.ok c.fill_block.new.buf c.fill_block.ensures.fills)
 
 pub unreachable-requires-in-Err : goal.unreachable-requires-in-Err
 unreachable-requires-in-Err c =
     let schema = c.args.layout.now in
     let m = c.args.msg.now in
     let level = c.message-level.result.now in
-    let n = c.root-root.result in
-    let at = root_level schema m.template n level c.root-root.ensures c.message-level.ensures in
-    begin_never_refused schema m level c.args.buf.now n c.requires.schema.checked c.message-level.ensures at c.root-root.ensures c.requires.fits c.in-Err.field-0 c.in-Err.ensures.refused
+    let n = root_of schema m.template in
+    let at = root_level schema m.template n level refl c.message-level.ensures in
+    begin_never_refused schema m level c.args.buf.now n c.requires.schema.checked c.message-level.ensures at refl c.requires.fits c.in-Err.field-0 c.in-Err.ensures.refused
 
 pub returns-clause-written : goal.returns-clause-written
 returns-clause-written c =
     let schema = c.args.layout.now in
     let m = c.args.msg.now in
     let level = c.message-level.result.now in
-    let n = c.root-root.result in
-    let at = root_level schema m.template n level c.root-root.ensures c.message-level.ensures in
-    message_written schema m level c.args.buf.now n c.requires.schema.checked c.message-level.ensures at c.root-root.ensures c.requires.fits c.in-Ok.fields.buf.now c.in-Ok.ensures.ok
+    let n = root_of schema m.template in
+    let at = root_level schema m.template n level refl c.message-level.ensures in
+    message_written schema m level c.args.buf.now n c.requires.schema.checked c.message-level.ensures at refl c.requires.fits c.in-Ok.fields.buf.now c.in-Ok.ensures.ok
     c.fill_block.new.buf c.fill_block.ensures.fills c.in-Ok-done.tail.buf.now c.in-Ok-done.ensures.ok c.put_tail.new.buf c.put_tail.ensures.puts
     ∙ search rules

@@ -1,19 +1,16 @@
 use Rattle.std.proofs.Common.{◌+◌, ◌*◌}
 use Rattle.sbe_types.specs.declared.schema.Group.{out-Group}
 use Rattle.schema_facts.specs.CheckedLevels.{groups_deep}
-use Rattle.layout_compile.proofs.GroupWalk.{GroupsFrom}
+use Rattle.typed_writer.specs.States.{level_of}
 use Rattle.tree_codec.proofs.PutGroups.{EntriesAt, GroupsAt}
 use Rattle.tree_codec.proofs.puts.+put.Given as goal
 
 abbrev pub invariant-put_groups-loop-i : goal.invariant-put_groups-loop-i
 invariant-put_groups-loop-i l =
-    record {
-      from : GroupsFrom l.layout l.n l.i l.child;
-      walk : GroupsAt l.layout l.n l.level l.block l.i l.fn.buf l.buf;
-    }
+    GroupsAt l.layout (level_of l.fn.buf.frames) l.level l.block l.i l.fn.buf l.buf
 
 abbrev pub invariant-put_entries-loop-i : goal.invariant-put_entries-loop-i
-invariant-put_entries-loop-i l = EntriesAt l.layout l.n l.level l.entries l.i l.fn.buf l.buf
+invariant-put_entries-loop-i l = EntriesAt l.layout (level_of l.fn.buf.frames) l.level l.entries l.i l.fn.buf l.buf
 
 abbrev pub decreases-put_entry : goal.decreases-put_entry
 decreases-put_entry l = 5 * groups_deep l.level.now + 3
