@@ -2,8 +2,4 @@
 #![tactic(auto)]
 
 #[cfg(test)]
-mod entries;
-#[cfg(test)]
-mod events;
-#[cfg(test)]
-mod schemas;
+mod decoded;

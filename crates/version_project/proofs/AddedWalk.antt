@@ -15,17 +15,11 @@ use Rattle.version_laws.specs.Answer.{dotted}
 use Rattle.version_laws.specs.Differ.{is_old, group_since, group_name}
 use Rattle.version_laws.specs.Forward.{NamePath, or_later, below, added_part, added_in, added_group, added_below, has_old_part, has_old_group, early_part, early_group, added_at_root, added_of, added_among}
 use Rattle.version_laws.specs.Projected.{old_part}
-use Rattle.version_project.specs.Additions.{added_each, early_each}
+use Rattle.version_project.specs.Additions.{text, inside_text, added_each, early_each}
 use Rattle.version_project.specs.IsPlain.{old_group}
 use Rattle.version_project.specs.Sought.{Finds}
 use Rattle.version_project.proofs.Items.{drop_at}
 use Rattle.version_project.proofs.OldParts.{old_has, old_lacks, name_is, old_has_group, old_lacks_group}
-
-abbrev pub text : Option NamePath → Option (List ℕ)
-text = option_map dotted
-
-abbrev pub inside_text : List ℕ → Option (List ℕ) → Option (List ℕ)
-inside_text name = option_map (λ inner. name ++ codes "." ++ inner)
 
 -- ---- paths have names
 

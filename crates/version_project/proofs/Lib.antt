@@ -1,7 +1,6 @@
 pub mod Items
 pub mod OldParts
 pub mod Opens
-pub mod DataWalk
 pub mod ProjectWalk
 pub mod PairWalk
 pub mod Alike

@@ -5,13 +5,14 @@ use Rattle.std.specs.Prelude.{slice_get}
 use denote.Hole.Carrier as carrier
 use Rattle.sbe_types.specs.declared.schema.Level as levels
 use Rattle.sbe_types.specs.declared.schema.Group as groups_of
+use Rattle.sbe_types.specs.declared.schema.DataField.{DataField}
 use Rattle.sbe_types.specs.declared.schema.Group.{Group, Group', out-Group}
 use Rattle.sbe_types.specs.declared.schema.Level.{Level, Level', out-Level, Row_of-Group, end_of-Group, more_of-Group, items-the_row-Group, items_shown-the_row-Group-0}
 use Rattle.version_laws.specs.declared.difference.Difference.{Difference}
 use Rattle.version_laws.specs.declared.difference.Reason.{Reason}
 use Rattle.version_laws.specs.declared.difference.Reason.TheVariants as reason
-use Rattle.version_laws.specs.Differ.{differs, or_else, unless_for, in_part, is_old, group_name, group_since, group_reason, no_fields, fields_differ, parts_differ, level_differs, groups_differ, group_differs}
-use Rattle.version_project.specs.Paired.{paired, group_compare, groups_compare}
+use Rattle.version_laws.specs.Differ.{differs, or_else, unless_for, in_part, is_old, group_name, group_since, group_reason, data_reason, no_fields, fields_differ, parts_differ, level_differs, groups_differ, group_differs}
+use Rattle.version_project.specs.Paired.{paired, group_compare, groups_compare, data_compare, parts_compare}
 use Rattle.version_project.proofs.Items.{drop_at, item_at}
 use Rattle.version_project.proofs.OldParts.{name_is}
 
@@ -57,6 +58,21 @@ else_unless : (n : List ℕ) (r : Option Reason) (d more : Option Difference) �
 else_unless n None d more = refl
 else_unless n (Some r) d more = refl
 
+parts_found : (version : ℕ) (olds news : List DataField) → parts_differ version olds news ≡ parts_compare version olds news
+parts_found version [] [] = refl
+parts_found version (f ∷ fs) [] = refl
+parts_found version [] (g ∷ gs) = ap (λ m. cond (is_old version g.since) (differs g.name reason.Part) m) (parts_found version [] gs)
+parts_found version (f ∷ fs) (g ∷ gs) =
+    ap (λ m. cond (is_old version g.since) m (parts_differ version (f ∷ fs) gs))
+    (else_unless f.name (data_reason f g) None (parts_differ version fs gs) ∙ ap (or_else (data_compare f g)) (parts_found version fs gs))
+    ∙ ap (λ m. cond (is_old version g.since) (or_else (data_compare f g) (parts_compare version fs gs)) m) (parts_found version (f ∷ fs) gs)
+
+pub data_stops : (f g : DataField) (r : Option Reason) (why : Reason) → r ≡ data_reason f g → r ≡ Some why → differs f.name why ≡ data_compare f g
+data_stops f g r why is some = ap (λ r. unless_for f.name r None) (sym some ∙ is)
+
+pub data_passes : (f g : DataField) (r : Option Reason) → r ≡ data_reason f g → r ≡ None → None ≡ data_compare f g
+data_passes f g r is none = ap (λ r. unless_for f.name r None) (sym none ∙ is)
+
 rows_found : (version : ℕ) (more : Bool) {n : _} (olds : Row_of-Group n) {k : _} (news : Row_of-Group k) → groups_differ version more olds news ≡ groups_compare version more (items-the_row-Group _ olds) (items-the_row-Group _ news)
 unfolding groups_differ
 rows_found version more end_of-Group end_of-Group = refl
@@ -69,12 +85,13 @@ rows_found version more (more_of-Group f fs) (more_of-Group g gs) =
 
 pub level_opens : (version : ℕ) (more : Bool) (old new : Level) →
     level_differs version more old new ≡ or_else (fields_differ version more no_fields (out-Level old).fields (out-Level new).fields)
-    (or_else (groups_compare version more (out-Level old).groups (out-Level new).groups) (parts_differ version (out-Level old).parts (out-Level new).parts))
+    (or_else (groups_compare version more (out-Level old).groups (out-Level new).groups) (parts_compare version (out-Level old).parts (out-Level new).parts))
 unfolding level_differs levels.out-Level carrier.out
 level_opens version more (Level' _ _ _ _ _ fs m os ps) (Level' _ _ _ _ _ gs n ns qs) =
     ap (λ d. or_else (fields_differ version more no_fields fs gs) (or_else d (parts_differ version ps qs)))
     (rows_found version more os ns ∙ ap (λ l. groups_compare version more l (items-the_row-Group _ ns)) (sym (items_shown-the_row-Group-0 m os))
     ∙ ap (λ l. groups_compare version more (out-Level (Level' [] 0 [] 0 0 [] m os [])).groups l) (sym (items_shown-the_row-Group-0 n ns)))
+    ∙ ap (λ d. or_else (fields_differ version more no_fields fs gs) (or_else (groups_compare version more (out-Level (Level' [] 0 [] 0 0 [] m os [])).groups (out-Level (Level' [] 0 [] 0 0 [] n ns [])).groups) d)) (parts_found version ps qs)
 
 pub group_opens : (version : ℕ) (more : Bool) (f g : Group) →
     group_compare version more f g ≡ unless_for (out-Level (out-Group f).level).name (group_reason f g) (in_part (out-Level (out-Group f).level).name (level_differs version more (out-Group f).level (out-Group g).level))
@@ -83,19 +100,19 @@ group_opens version more (Group' od old) (Group' dim level) = refl
 
 pub fields_tell : (version : ℕ) (more : Bool) (old new : Level) (d : Difference) (x : Option Difference) → x ≡ fields_differ version more no_fields (out-Level old).fields (out-Level new).fields → x ≡ Some d → Some d ≡ level_differs version more old new
 fields_tell version more old new d x a h =
-    sym (level_opens version more old new ∙ ap (λ x. or_else x (or_else (groups_compare version more (out-Level old).groups (out-Level new).groups) (parts_differ version (out-Level old).parts (out-Level new).parts))) (sym a ∙ h))
+    sym (level_opens version more old new ∙ ap (λ x. or_else x (or_else (groups_compare version more (out-Level old).groups (out-Level new).groups) (parts_compare version (out-Level old).parts (out-Level new).parts))) (sym a ∙ h))
 
 pub groups_tell : (version : ℕ) (more : Bool) (old new : Level) (d : Difference) (x y : Option Difference) → x ≡ fields_differ version more no_fields (out-Level old).fields (out-Level new).fields → x ≡ None →
     y ≡ groups_compare version more (out-Level old).groups (out-Level new).groups → y ≡ Some d → Some d ≡ level_differs version more old new
 groups_tell version more old new d x y a none b h =
-    sym (level_opens version more old new ∙ ap (λ x. or_else x (or_else (groups_compare version more (out-Level old).groups (out-Level new).groups) (parts_differ version (out-Level old).parts (out-Level new).parts))) (sym a ∙ none)
-    ∙ ap (λ y. or_else y (parts_differ version (out-Level old).parts (out-Level new).parts)) (sym b ∙ h))
+    sym (level_opens version more old new ∙ ap (λ x. or_else x (or_else (groups_compare version more (out-Level old).groups (out-Level new).groups) (parts_compare version (out-Level old).parts (out-Level new).parts))) (sym a ∙ none)
+    ∙ ap (λ y. or_else y (parts_compare version (out-Level old).parts (out-Level new).parts)) (sym b ∙ h))
 
 pub parts_tell : (version : ℕ) (more : Bool) (old new : Level) (x y : Option Difference) → x ≡ fields_differ version more no_fields (out-Level old).fields (out-Level new).fields → x ≡ None →
-    y ≡ groups_compare version more (out-Level old).groups (out-Level new).groups → y ≡ None → parts_differ version (out-Level old).parts (out-Level new).parts ≡ level_differs version more old new
+    y ≡ groups_compare version more (out-Level old).groups (out-Level new).groups → y ≡ None → parts_compare version (out-Level old).parts (out-Level new).parts ≡ level_differs version more old new
 parts_tell version more old new x y a none b end =
-    sym (level_opens version more old new ∙ ap (λ x. or_else x (or_else (groups_compare version more (out-Level old).groups (out-Level new).groups) (parts_differ version (out-Level old).parts (out-Level new).parts))) (sym a ∙ none)
-    ∙ ap (λ y. or_else y (parts_differ version (out-Level old).parts (out-Level new).parts)) (sym b ∙ end))
+    sym (level_opens version more old new ∙ ap (λ x. or_else x (or_else (groups_compare version more (out-Level old).groups (out-Level new).groups) (parts_compare version (out-Level old).parts (out-Level new).parts))) (sym a ∙ none)
+    ∙ ap (λ y. or_else y (parts_compare version (out-Level old).parts (out-Level new).parts)) (sym b ∙ end))
 
 pub group_ends : (version : ℕ) (more : Bool) (f g : Group) (r : Option Reason) (x d : Option Difference) → r ≡ group_reason f g → r ≡ None → x ≡ level_differs version more (out-Group f).level (out-Group g).level →
     d ≡ in_part (out-Level (out-Group f).level).name x → d ≡ group_compare version more f g

@@ -1,12 +1,22 @@
 -- Added groups and data, over lists of groups.
-use Rattle.std.specs.Prelude.{ℕ, ◌||◌, if◌then◌else◌, Some, None, Option, List, [], ◌∷◌}
+use Rattle.std.specs.Prelude.{ℕ, ◌||◌, if◌then◌else◌, Some, None, Option, List, [], ◌∷◌, ◌++◌, codes}
 use Rattle.std.specs.List.{list_any}
+use Rattle.std.specs.Option.{option_map}
 use Rattle.sbe_types.specs.declared.schema.DataField.{DataField}
 use Rattle.sbe_types.specs.declared.schema.Group.{Group}
+use Rattle.version_laws.specs.Answer.{dotted}
 use Rattle.version_laws.specs.Differ.{is_old, group_since, group_name}
 use Rattle.version_laws.specs.Forward.{NamePath, or_later, below, added_below, early_part}
 use Rattle.version_laws.specs.Projected.{old_part}
 use Rattle.version_project.specs.IsPlain.{old_group}
+
+-- the text of a path
+abbrev pub text : Option NamePath → Option (List ℕ)
+text = option_map dotted
+
+-- the text of a path inside a part of that name
+abbrev pub inside_text : List ℕ → Option (List ℕ) → Option (List ℕ)
+inside_text name = option_map (λ inner. name ++ codes "." ++ inner)
 
 -- the first of an entry's groups that is added, or of what is added inside them
 abbrev pub added_each : ℕ → List Group → Option NamePath

@@ -1,10 +1,12 @@
 -- Old parts and new ones, in order: each new part that old knows is compared with the next old one.
 use Rattle.std.specs.Prelude.{ℕ, Bool, if◌then◌else◌, Option, None, List, [], ◌∷◌}
+use Rattle.sbe_types.specs.declared.schema.DataField.{DataField}
 use Rattle.sbe_types.specs.declared.schema.Group.{Group}
 use Rattle.version_laws.specs.declared.difference.Difference.{Difference}
 use Rattle.version_laws.specs.declared.difference.Reason.TheVariants as reason
 use Rattle.version_project.specs.IsPlain.{old_group}
-use Rattle.version_laws.specs.Differ.{differs, or_else, unless_for, in_part, group_name, group_reason, group_differs}
+use Rattle.version_laws.specs.Differ.{differs, or_else, unless_for, in_part, data_reason, group_name, group_reason, group_differs}
+use Rattle.version_laws.specs.Projected.{old_part}
 
 -- two lists compared part by part
 abbrev pub paired : {P : Type 0} → (P → Bool) → (P → List ℕ) → (P → P → Option Difference) → List P → List P → Option Difference
@@ -24,3 +26,15 @@ group_compare version more f g =
 -- two lists of groups compared
 abbrev pub groups_compare : ℕ → Bool → List Group → List Group → Option Difference
 groups_compare version more olds news = paired (old_group version) group_name (group_compare version more) olds news
+
+-- the name of a data
+abbrev pub data_name : DataField → List ℕ
+data_name p = p.name
+
+-- two data compared
+abbrev pub data_compare : DataField → DataField → Option Difference
+data_compare f g = unless_for f.name (data_reason f g) None
+
+-- two lists of data compared
+abbrev pub parts_compare : ℕ → List DataField → List DataField → Option Difference
+parts_compare version olds news = paired (old_part version) data_name data_compare olds news

@@ -1,13 +1,10 @@
 //! The first added group or data that an older reader can't pass over.
-ghost use Rattle.std.specs.Prelude.{◌≡◌, ◌++◌, IfOk, Some, codes};
-ghost use Rattle.std.specs.Option.{option_map};
-ghost use Rattle.sbe_wire.specs.Faults.{message_named};
-ghost use Rattle.sbe_types.specs.declared.schema.Level.{out-Level};
-ghost use Rattle.version_laws.specs.Answer.{dotted};
+ghost use Rattle.std.specs.Prelude.{◌≡◌, IfOk, Some};
 ghost use Rattle.version_laws.specs.Differ.{group_name};
 ghost use Rattle.version_laws.specs.Forward.{below, added_part, added_in, added_below};
 ghost use Rattle.version_laws.specs.Forward.{early_part, added_at_root, added_of, added_among, first_added};
-ghost use Rattle.version_project.specs.Additions.{added_each};
+ghost use Rattle.version_project.specs.Additions.{text, inside_text, added_each};
+ghost use Rattle.version_project.specs.Sought.{namesake};
 
 use crate::differ::message_of;
 use crate::known::{has_old_group, has_old_part};
@@ -21,7 +18,7 @@ pub(crate) fn first_added(
     old: &WireSchema,
     new: &WireSchema,
 ) -> Result<Option<Text>, NoMem>
-    ensures { IfOk result (λ path. path ≡ option_map dotted (first_added old.now new.now)) }
+    ensures { IfOk result (λ path. path ≡ text (first_added old.now new.now)) }
 {
     added_among(alloc, old.version, &old.messages, &new.messages)
 }
@@ -33,7 +30,7 @@ fn added_among(
     olds: &List<Level>,
     news: &List<Level>,
 ) -> Result<Option<Text>, NoMem>
-    ensures { IfOk result (λ path. path ≡ option_map dotted (added_among version olds.now news.now)) }
+    ensures { IfOk result (λ path. path ≡ text (added_among version olds.now news.now)) }
 {
     for i in 0..news.len() {
         if let Some(path) = added_of(alloc, version, olds, news.at(i))? {
@@ -50,7 +47,7 @@ fn added_of(
     olds: &List<Level>,
     new: &Level,
 ) -> Result<Option<Text>, NoMem>
-    ensures { IfOk result (λ path. path ≡ option_map dotted (added_of version new.now (message_named 0 (out-Level new.now).id olds.now))) }
+    ensures { IfOk result (λ path. path ≡ text (added_of version new.now (namesake new.now olds.now))) }
 {
     match message_of(olds, new.id) {
         None => Ok(None),
@@ -63,7 +60,7 @@ fn added_of(
 
 /// The first added group or data of a message that stands before one that old has, or inside an entry.
 fn added_at_root(alloc: Global, version: u32, level: &Level) -> Result<Option<Text>, NoMem>
-    ensures { IfOk result (λ path. path ≡ option_map dotted (added_at_root version level.now)) }
+    ensures { IfOk result (λ path. path ≡ text (added_at_root version level.now)) }
 {
     for i in 0..level.groups.len() {
         let group = level.groups.at(i);
@@ -82,7 +79,7 @@ fn added_at_root(alloc: Global, version: u32, level: &Level) -> Result<Option<Te
 
 /// The first added data that stands before one that old has.
 fn early_part(alloc: Global, version: u32, parts: &List<DataField>) -> Result<Option<Text>, NoMem>
-    ensures { IfOk result (λ path. path ≡ option_map dotted (early_part version parts.now)) }
+    ensures { IfOk result (λ path. path ≡ text (early_part version parts.now)) }
 {
     for i in 0..parts.len() {
         let part = parts.at(i);
@@ -96,7 +93,7 @@ fn early_part(alloc: Global, version: u32, parts: &List<DataField>) -> Result<Op
 /// The first added group or data of an entry.
 #[cycle(added)]
 fn added_in(alloc: Global, version: u32, level: &Level) -> Result<Option<Text>, NoMem>
-    ensures { IfOk result (λ path. path ≡ option_map dotted (added_in version level.now)) }
+    ensures { IfOk result (λ path. path ≡ text (added_in version level.now)) }
 {
     if let Some(path) = added_group(alloc, version, &level.groups)? {
         return Ok(Some(path));
@@ -107,7 +104,7 @@ fn added_in(alloc: Global, version: u32, level: &Level) -> Result<Option<Text>, 
 /// The first of an entry's groups that is added, or of what is added inside them.
 #[cycle(added)]
 fn added_group(alloc: Global, version: u32, groups: &List<Group>) -> Result<Option<Text>, NoMem>
-    ensures { IfOk result (λ path. path ≡ option_map dotted (added_each version groups.now)) }
+    ensures { IfOk result (λ path. path ≡ text (added_each version groups.now)) }
 {
     for i in 0..groups.len() {
         let group = groups.at(i);
@@ -124,7 +121,7 @@ fn added_group(alloc: Global, version: u32, groups: &List<Group>) -> Result<Opti
 /// The first added group or data in the entries of a group.
 #[cycle(added)]
 fn added_below(alloc: Global, version: u32, group: &Group) -> Result<Option<Text>, NoMem>
-    ensures { IfOk result (λ path. path ≡ option_map dotted (below (group_name group.now) (added_below version group.now))) }
+    ensures { IfOk result (λ path. path ≡ text (below (group_name group.now) (added_below version group.now))) }
 {
     let path = added_in(alloc, version, &group.level)?;
     inside(alloc, &group.level.name, path)
@@ -132,7 +129,7 @@ fn added_below(alloc: Global, version: u32, group: &Group) -> Result<Option<Text
 
 /// The first of an entry's data that is added.
 fn added_part(alloc: Global, version: u32, parts: &List<DataField>) -> Result<Option<Text>, NoMem>
-    ensures { IfOk result (λ path. path ≡ option_map dotted (added_part version parts.now)) }
+    ensures { IfOk result (λ path. path ≡ text (added_part version parts.now)) }
 {
     for i in 0..parts.len() {
         let part = parts.at(i);
@@ -152,7 +149,7 @@ fn named(alloc: Global, name: &Text) -> Result<Option<Text>, NoMem>
 
 /// A path inside a part of that name: the name, a dot, and the path.
 fn inside(alloc: Global, name: &Text, path: Option<Text>) -> Result<Option<Text>, NoMem>
-    ensures { IfOk result (λ outer. outer ≡ option_map (λ inner. name.now ++ codes "." ++ inner) path) }
+    ensures { IfOk result (λ outer. outer ≡ inside_text name.now path) }
 {
     let Some(inner) = path else {
         return Ok(None);

@@ -1,6 +1,7 @@
 // The first difference between the data of two levels.
 ghost use Rattle.std.specs.Prelude.{◌≡◌, IfOk};
-ghost use Rattle.version_laws.specs.Differ.{data_reason, parts_differ};
+ghost use Rattle.version_laws.specs.Differ.{data_reason};
+ghost use Rattle.version_project.specs.Paired.{parts_compare};
 
 use crate::differ::found::at_part;
 use crate::differ::leaves::{is_same_leaf, is_same_name};
@@ -16,7 +17,7 @@ pub(crate) fn parts_differ(
     olds: &List<DataField>,
     news: &List<DataField>,
 ) -> Result<Option<Difference>, NoMem>
-    ensures { IfOk result (λ found. found ≡ parts_differ version olds.now news.now) }
+    ensures { IfOk result (λ found. found ≡ parts_compare version olds.now news.now) }
 {
     let mut i = 0usize;
     for new in news.as_slice() {

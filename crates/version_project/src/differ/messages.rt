@@ -2,12 +2,11 @@
 ghost use Rattle.std.specs.Prelude.{◌≡◌, IfOk};
 ghost use Rattle.std.specs.List.{AllByRecursion};
 ghost use Rattle.sbe_types.specs.declared.kind.Kind.{Comp};
-ghost use Rattle.sbe_types.specs.declared.schema.Level.{Level, out-Level};
 ghost use Rattle.sbe_wire.specs.Faults.{message_named};
 ghost use Rattle.schema_facts.specs.Measured.{IsMeasured, IsNarrow};
 ghost use Rattle.version_laws.specs.Differ.{differ, message_differs, messages_differ, schema_reason, same_order};
 ghost use Rattle.version_project.specs.Narrow.{IsNarrowLevel};
-ghost use Rattle.version_project.specs.Sought.{Finds};
+ghost use Rattle.version_project.specs.Sought.{Finds, namesake};
 
 use crate::differ::found::{at_part, inside};
 use crate::differ::leaves::is_same_name;
@@ -106,7 +105,7 @@ fn message_differs(
 ) -> Result<Option<Difference>, NoMem>
     requires old { IsNarrowLevel old.now }
     requires new { AllByRecursion IsNarrowLevel news.now }
-    ensures { IfOk result (λ found. found ≡ message_differs version more old.now (message_named 0 (out-Level old.now).id news.now)) }
+    ensures { IfOk result (λ found. found ≡ message_differs version more old.now (namesake old.now news.now)) }
 {
     let Some(place) = message_of(news, old.id) else {
         return at_part(alloc, &old.name, Reason::Message);

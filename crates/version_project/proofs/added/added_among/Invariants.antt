@@ -1,8 +1,7 @@
 use Rattle.std.proofs.Common.{◌≡◌, drop}
-use Rattle.std.specs.Option.{option_map}
-use Rattle.version_laws.specs.Answer.{dotted}
 use Rattle.version_laws.specs.Forward.{added_among}
+use Rattle.version_project.specs.Additions.{text}
 use Rattle.version_project.proofs.added.added_among.Given as goal
 
 abbrev pub invariant-loop-i : goal.invariant-loop-i
-invariant-loop-i l = option_map dotted (added_among l.fn.version l.fn.olds (drop l.i l.fn.news)) ≡ option_map dotted (added_among l.fn.version l.fn.olds l.fn.news)
+invariant-loop-i l = text (added_among l.fn.version l.fn.olds (drop l.i l.fn.news)) ≡ text (added_among l.fn.version l.fn.olds l.fn.news)
