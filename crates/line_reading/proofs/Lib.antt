@@ -1,4 +1,3 @@
-pub mod Computing
 pub mod NameSteps
 pub mod ListSteps
 pub mod ItemSteps

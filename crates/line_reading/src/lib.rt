@@ -14,7 +14,6 @@ mod objects;
 mod parts;
 mod refusals;
 mod texts;
-pub mod worked;
 
 pub use message::msg_of_line;
 pub use refusals::{JCode, LineFault};

@@ -20,7 +20,8 @@ use whole_rows::{BLOCKS, ENTRIES, Line, MESSAGES, MISSING, TEMPLATES, UNKNOWN};
 const FIELDS: &str = r#""n":0,"u":0,"c":"A","t":"","o":[],"e":"Buy","f":[],"px":{"mantissa":1}"#;
 
 fn schema_of(alloc: Global) -> Result<Checked, Fail> {
-    let schema = read_schema(alloc, SCHEMA.as_bytes())?;
+    let text = SCHEMA.text(alloc)?;
+    let schema = read_schema(alloc, text.as_bytes())?;
     Ok(check(alloc, schema)?)
 }
 
@@ -34,9 +35,9 @@ fn add_fault(out: &mut String, alloc: Global, fault: &LineFault) -> Result<(), A
 }
 
 /// What a whole line is told to be.
-fn told(alloc: Global, checked: &Checked, line: &str) -> Result<String, AllocError> {
+fn told(alloc: Global, checked: &Checked, line: &[u8]) -> Result<String, AllocError> {
     let mut out = String::new(alloc);
-    match msg_of_line(alloc, checked, line.as_bytes()) {
+    match msg_of_line(alloc, checked, line) {
         Ok(message) => add_message(alloc, &mut out, &message)?,
         Err(fault) => add_fault(&mut out, alloc, &fault)?,
     }
@@ -60,89 +61,54 @@ fn field_told(alloc: Global, checked: &Checked, row: &Row) -> Result<String, All
     Ok(out)
 }
 
-fn expect_fields(rt: &impl Abort, alloc: Global, rows: &[Row]) -> Result<(), Fail> {
-    let checked = schema_of(alloc)?;
+fn expect_fields(
+    rt: &impl Abort,
+    alloc: Global,
+    checked: &Checked,
+    rows: &[Row],
+) -> Result<(), Fail> {
     for row in rows {
-        let found = field_told(alloc, &checked, row)?;
+        let found = field_told(alloc, checked, row)?;
         assert_eq!(rt; found.as_str(), row.told, "{}", row.put);
     }
     Ok(())
 }
 
-fn expect_lines(rt: &impl Abort, alloc: Global, rows: &[Line]) -> Result<(), Fail> {
-    let checked = schema_of(alloc)?;
+fn expect_lines(
+    rt: &impl Abort,
+    alloc: Global,
+    checked: &Checked,
+    rows: &[Line],
+) -> Result<(), Fail> {
     for row in rows {
-        let found = told(alloc, &checked, row.line)?;
+        let found = told(alloc, checked, row.line.as_bytes())?;
         assert_eq!(rt; found.as_str(), row.told, "{}", row.line);
     }
     Ok(())
 }
 
+/// Numbers, chars, texts, arrays, enums, sets, constants and composites.
 #[test]
-fn numbers_are_integers_of_64_bits(rt: HostRuntime) -> Result<(), Fail> {
-    expect_fields(&rt, rt.alloc(), &NUMBERS)
+fn fields_become_values(rt: HostRuntime) -> Result<(), Fail> {
+    const TABLES: [&[Row]; 9] = [
+        &NUMBERS, &CHARS, &TEXTS, &HEX, &ARRAYS, &ENUMS, &SETS, &CONSTANTS, &PRICES,
+    ];
+    let checked = schema_of(rt.alloc())?;
+    for rows in TABLES {
+        expect_fields(&rt, rt.alloc(), &checked, rows)?;
+    }
+    Ok(())
 }
 
-#[test]
-fn chars_are_one_byte(rt: HostRuntime) -> Result<(), Fail> {
-    expect_fields(&rt, rt.alloc(), &CHARS)
-}
-
-#[test]
-fn texts_are_strings_or_hex(rt: HostRuntime) -> Result<(), Fail> {
-    expect_fields(&rt, rt.alloc(), &TEXTS)?;
-    expect_fields(&rt, rt.alloc(), &HEX)
-}
-
-#[test]
-fn arrays_are_judged_element_by_element(rt: HostRuntime) -> Result<(), Fail> {
-    expect_fields(&rt, rt.alloc(), &ARRAYS)
-}
-
-#[test]
-fn enums_are_names_or_integers(rt: HostRuntime) -> Result<(), Fail> {
-    expect_fields(&rt, rt.alloc(), &ENUMS)
-}
-
-#[test]
-fn sets_are_choices_or_bits(rt: HostRuntime) -> Result<(), Fail> {
-    expect_fields(&rt, rt.alloc(), &SETS)
-}
-
-#[test]
-fn constants_are_their_values(rt: HostRuntime) -> Result<(), Fail> {
-    expect_fields(&rt, rt.alloc(), &CONSTANTS)
-}
-
-#[test]
-fn composites_are_objects(rt: HostRuntime) -> Result<(), Fail> {
-    expect_fields(&rt, rt.alloc(), &PRICES)
-}
-
+/// Messages; what is judged first; unknown keys and missing ones at each level; and the order in blocks and entries.
 #[test]
 fn lines_become_messages(rt: HostRuntime) -> Result<(), Fail> {
-    expect_lines(&rt, rt.alloc(), &MESSAGES)
-}
-
-#[test]
-fn templates_and_versions_are_judged_first(rt: HostRuntime) -> Result<(), Fail> {
-    expect_lines(&rt, rt.alloc(), &TEMPLATES)
-}
-
-#[test]
-fn unknown_keys_are_told_at_each_level(rt: HostRuntime) -> Result<(), Fail> {
-    expect_lines(&rt, rt.alloc(), &UNKNOWN)
-}
-
-#[test]
-fn what_is_missing_is_told_at_its_place(rt: HostRuntime) -> Result<(), Fail> {
-    expect_lines(&rt, rt.alloc(), &MISSING)
-}
-
-#[test]
-fn blocks_are_judged_in_order(rt: HostRuntime) -> Result<(), Fail> {
-    expect_lines(&rt, rt.alloc(), &BLOCKS)?;
-    expect_lines(&rt, rt.alloc(), &ENTRIES)
+    const TABLES: [&[Line]; 6] = [&MESSAGES, &TEMPLATES, &UNKNOWN, &MISSING, &BLOCKS, &ENTRIES];
+    let checked = schema_of(rt.alloc())?;
+    for rows in TABLES {
+        expect_lines(&rt, rt.alloc(), &checked, rows)?;
+    }
+    Ok(())
 }
 
 /// A line with an unknown key, whose value is so many arrays inside one another.
@@ -164,9 +130,9 @@ fn depth_is_bounded(rt: HostRuntime) -> Result<(), Fail> {
     let alloc = rt.alloc();
     let checked = schema_of(alloc)?;
     let line = deep_line(alloc, 126)?;
-    assert_eq!(rt; told(alloc, &checked, line.as_str())?.as_str(), "J03 zz");
+    assert_eq!(rt; told(alloc, &checked, line.as_bytes())?.as_str(), "J03 zz");
     let line = deep_line(alloc, 127)?;
-    assert_eq!(rt; told(alloc, &checked, line.as_str())?.as_str(), "J01 ");
+    assert_eq!(rt; told(alloc, &checked, line.as_bytes())?.as_str(), "J01 ");
     Ok(())
 }
 
@@ -181,12 +147,7 @@ fn bytes_that_are_no_text_are_no_line(rt: HostRuntime) -> Result<(), Fail> {
         b" ",
         b"\r",
     ] {
-        let mut out = String::new(alloc);
-        match msg_of_line(alloc, &checked, line) {
-            Ok(_message) => out.push_str("message")?,
-            Err(fault) => add_fault(&mut out, alloc, &fault)?,
-        }
-        assert_eq!(rt; out.as_str(), "J01 ");
+        assert_eq!(rt; told(alloc, &checked, line)?.as_str(), "J01 ");
     }
     Ok(())
 }

@@ -1,19 +1,11 @@
 //! The schema of the lines.
 
+use sample_schemas::FileParts;
+
 /// A message of each kind of field, and messages with groups and data.
-pub const SCHEMA: &str = r#"{"messageSchema":{"package":"demo","id":7,"version":0,"content":[
-    {"types":{"content":[
-        {"composite":{"name":"messageHeader","content":[
-            {"type":{"name":"blockLength","primitiveType":"uint16"}},
-            {"type":{"name":"templateId","primitiveType":"uint16"}},
-            {"type":{"name":"schemaId","primitiveType":"uint16"}},
-            {"type":{"name":"version","primitiveType":"uint16"}}]}},
-        {"composite":{"name":"groupSizeEncoding","content":[
-            {"type":{"name":"blockLength","primitiveType":"uint16"}},
-            {"type":{"name":"numInGroup","primitiveType":"uint16"}}]}},
-        {"composite":{"name":"varData16","content":[
-            {"type":{"name":"length","primitiveType":"uint16"}},
-            {"type":{"name":"varData","primitiveType":"uint8","length":0}}]}},
+pub const SCHEMA: FileParts<'static> = FileParts {
+    attributes: r#""id":7,"version":0"#,
+    types: r#",
         {"type":{"name":"Small","primitiveType":"int8","presence":"optional","nullValue":127}},
         {"type":{"name":"Text","primitiveType":"char","length":4}},
         {"type":{"name":"Octets","primitiveType":"uint8","length":3}},
@@ -27,7 +19,8 @@ pub const SCHEMA: &str = r#"{"messageSchema":{"package":"demo","id":7,"version":
             {"choice":{"name":"A","text":0}}]}},
         {"composite":{"name":"Price","content":[
             {"type":{"name":"mantissa","primitiveType":"int64"}},
-            {"type":{"name":"exponent","primitiveType":"int8","presence":"constant","text":-2}}]}}]}},
+            {"type":{"name":"exponent","primitiveType":"int8","presence":"constant","text":-2}}]}}"#,
+    messages: r#",
     {"message":{"name":"Ping","id":1,"content":[
         {"field":{"name":"a","id":1001,"type":"uint16"}},
         {"field":{"name":"b","id":1002,"type":"int32","presence":"optional"}}]}},
@@ -54,4 +47,5 @@ pub const SCHEMA: &str = r#"{"messageSchema":{"package":"demo","id":7,"version":
         {"field":{"name":"f","id":9,"type":"Flags"}},
         {"field":{"name":"px","id":10,"type":"Price"}},
         {"field":{"name":"k","id":11,"type":"Usd"}},
-        {"field":{"name":"v","id":12,"type":"Side","presence":"constant","valueRef":"Side.Sell"}}]}}]}}"#;
+        {"field":{"name":"v","id":12,"type":"Side","presence":"constant","valueRef":"Side.Sell"}}]}}"#,
+};

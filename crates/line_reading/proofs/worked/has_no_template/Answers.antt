@@ -1,7 +1,0 @@
-use Rattle.std.proofs.Common.{refl}
-use Rattle.line_reading.proofs.Computing.{computing}
-use Rattle.line_reading.proofs.worked.has_no_template.Goals as goal
-
-pub returns : goal.returns
-unfolding computing
-returns c = refl

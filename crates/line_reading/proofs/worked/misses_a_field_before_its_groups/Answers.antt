@@ -1,7 +1,0 @@
-use Rattle.std.proofs.Common.{refl}
-use Rattle.line_reading.proofs.Computing.{computing}
-use Rattle.line_reading.proofs.worked.misses_a_field_before_its_groups.Goals as goal
-
-pub returns : goal.returns
-unfolding computing
-returns c = refl

@@ -1,0 +1,7 @@
+use Rattle.std.proofs.Common.{refl}
+use Rattle.line_rows.proofs.Computing.{computing}
+use Rattle.line_rows.proofs.worked.has_a_list_for_groups.Goals as goal
+
+pub returns : goal.returns
+unfolding computing
+returns c = refl

@@ -1,0 +1,7 @@
+use Rattle.std.proofs.Common.{refl}
+use Rattle.line_rows.proofs.Computing.{computing}
+use Rattle.line_rows.proofs.worked.has_no_such_template.Goals as goal
+
+pub returns : goal.returns
+unfolding computing
+returns c = refl

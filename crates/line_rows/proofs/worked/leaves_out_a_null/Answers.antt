@@ -1,0 +1,7 @@
+use Rattle.std.proofs.Common.{refl}
+use Rattle.line_rows.proofs.Computing.{computing}
+use Rattle.line_rows.proofs.worked.leaves_out_a_null.Goals as goal
+
+pub returns : goal.returns
+unfolding computing
+returns c = refl
