@@ -1,3 +1,4 @@
 mod NumberThere
 mod Adding
 mod Within
+mod OrderBytes

@@ -2,3 +2,4 @@ pub mod Schemas
 pub mod Sums
 pub mod Orders
 pub mod Lines
+pub mod Bodies

@@ -1,25 +1,64 @@
 -- A message that is written part by part.
-use Rattle.std.specs.Prelude.{◌≡◌, ◌<◌, ℕ, length}
+use Rattle.std.specs.Prelude.{◌≡◌, ◌<◌, ℕ, ℤ, Option, List, [], ◌∷◌, length, map}
+use Rattle.std.specs.Option.{option_and_then}
+use Rattle.sbe_types.specs.declared.message.Block.{Block}
+use Rattle.sbe_types.specs.declared.message.DataVal.TheVariants as dataval
+use Rattle.sbe_types.specs.declared.message.GroupVal.TheVariants as groupval
+use Rattle.sbe_types.specs.declared.message.Msg.{Msg}
+use Rattle.sbe_types.specs.declared.message.Value.TheVariants as value
+use Rattle.sbe_types.specs.declared.schema.Level.{Level}
 use Rattle.sbe_types.specs.declared.schema.WireSchema.{WireSchema}
-use Rattle.schema_facts.specs.Levels.{fields_at, groups_at, parts_at, root_of}
+use Rattle.sbe_types.specs.Wire.{both}
+use Rattle.sbe_wire.specs.Canonical.{all_bytes}
+use Rattle.schema_facts.specs.Levels.{fields_at, groups_at, level_at, parts_at, root_of}
 use Rattle.layout_compile.specs.Parts.{group_number}
 use Rattle.typed_writer.specs.Held.{Held}
 use Rattle.typed_writer.specs.States.{level_of}
+use Rattle.typed_writer.specs.Steps.{dimension_in}
+use Rattle.tree_codec.specs.Puts.{entry_put}
 
 -- the number of the level of an order's legs
 abbrev pub legs_of : WireSchema → ℕ
 legs_of schema = group_number schema (root_of schema 0) 0
 
--- The first message has a field, one group whose entries have a field and nothing behind their block, and one data part.
+-- The first message has one field, one group whose entries have one field and nothing behind their block, and one data part.
 pub record IsOrderSchema (schema : WireSchema) : Type 0 where
   pub message : 0 < length schema.messages
-  pub fields : 0 < length (fields_at schema (root_of schema 0))
+  pub fields : length (fields_at schema (root_of schema 0)) ≡ 1
   pub groups : length (groups_at schema (root_of schema 0)) ≡ 1
   pub parts : length (parts_at schema (root_of schema 0)) ≡ 1
-  pub leg_fields : 0 < length (fields_at schema (legs_of schema))
+  pub leg_fields : length (fields_at schema (legs_of schema)) ≡ 1
   pub leg_groups : length (groups_at schema (legs_of schema)) ≡ 0
   pub leg_parts : length (parts_at schema (legs_of schema)) ≡ 0
 
 -- the innermost writer is that of the legs
 abbrev pub AtLegs : WireSchema → Held → Type 0
 AtLegs schema held = level_of held.frames ≡ legs_of schema
+
+-- ---- an order as a message
+
+-- the entry of a leg
+abbrev pub leg_block : ℤ → Block
+leg_block quantity = record { fields = value.Num quantity ∷ []; groups = []; parts = [] }
+
+-- the root of an order: its number, the quantity of each leg, and its note
+abbrev pub order_block : ℤ → List ℤ → List ℕ → Block
+order_block number legs note = record {
+  fields = value.Num number ∷ [];
+  groups = groupval.Entries (map leg_block legs) ∷ [];
+  parts = dataval.Bytes note ∷ [];
+}
+
+-- the order as the first message of a schema of this version
+abbrev pub order_message : ℕ → ℤ → List ℤ → List ℕ → Msg
+order_message version number legs note = record { template = 0; version = version; block = order_block number legs note }
+
+-- ---- its bytes
+
+-- those of a leg
+abbrev pub leg_bytes : WireSchema → ℤ → Option (List ℕ)
+leg_bytes schema quantity = option_and_then (λ (level : Level). entry_put schema.order level (leg_block quantity)) (level_at schema (legs_of schema))
+
+-- those of all legs behind their dimension
+abbrev pub legs_bytes : WireSchema → List ℤ → Option (List ℕ)
+legs_bytes schema legs = both (dimension_in schema (legs_of schema) (length legs)) (all_bytes (leg_bytes schema) legs)

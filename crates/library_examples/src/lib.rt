@@ -2,11 +2,13 @@
 //! the bytes; an order is written part by part; the template of a line of JSON is told.
 #![tactic(auto)]
 
+mod bodies;
 mod lines;
 mod orders;
 mod schemas;
 mod sums;
 
+pub use bodies::{BodyErr, body_of_line};
 pub use lines::template_of;
 pub use orders::{Order, OrderErr, write_order};
 pub use schemas::{LoadErr, load};

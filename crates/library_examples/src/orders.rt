@@ -1,9 +1,11 @@
 // An order, written part by part.
 ghost use Rattle.std.specs.Prelude.{◌≡◌, ◌∷◌, [], ◌-◌, ◌<◌, drop, length, true, OnOk, IfOk};
+ghost use Rattle.sbe_wire.specs.Canonical.{canonical};
 ghost use Rattle.schema_facts.specs.Levels.{root_of};
-ghost use Rattle.layout_compile.specs.Parts.{group_number};
+ghost use Rattle.flyweight_view.specs.Ready.{IsReadySchema};
+ghost use Rattle.typed_writer.specs.Empty.{behind};
 ghost use Rattle.typed_writer.specs.States.{entries_left, level_of, AppendsEntries, AppendsParts};
-ghost use Rattle.library_examples.specs.Orders.{AtLegs, IsOrderSchema};
+ghost use Rattle.library_examples.specs.Orders.{leg_bytes, legs_bytes, order_message, AtLegs, IsOrderSchema};
 
 use layout_compile::Layout;
 use sbe_types::Value;
@@ -34,9 +36,8 @@ pub enum OrderErr {
     Full(Full),
 }
 
-/// Writes an order as the first message of a schema, and tells how many bytes its body has. The message has a number
-/// as its first field, one group whose entries have a number as their first field, and one data part. It takes no
-/// memory.
+/// Writes an order as the first message of a schema, and tells how many bytes its body has. The message has one field,
+/// one group whose entries have one field, and one data part. It takes no memory.
 ///
 /// # Errors
 ///
@@ -46,9 +47,11 @@ pub fn write_order(
     order: &Order<'_>,
     buffer: &mut FrameBuf,
 ) -> Result<usize, OrderErr>
+    ensures body { OnOk result (canonical layout.now (order_message layout.now.version order.now.number order.now.legs.now order.now.note.now) ≡ Some buffer.new.bytes) }
     ensures length { IfOk result (λ n. n ≡ length buffer.new.bytes) }
     ensures whole { OnOk result (buffer.new.frames ≡ []) }
 {
+    let _schema = layout.schema();
     if !is_order(layout) {
         return Err(OrderErr::Schema);
     }
@@ -85,21 +88,23 @@ fn is_order(layout: &Layout) -> bool
         return false;
     }
     let (fields, groups, parts) = layout.counts(root);
-    if fields == 0 || groups != 1 || parts != 1 {
+    if fields != 1 || groups != 1 || parts != 1 {
         return false;
     }
     let (fields, groups, parts) = layout.counts(layout.group(root, 0));
-    fields > 0 && groups == 0 && parts == 0
+    fields == 1 && groups == 0 && parts == 0
 }
 
 /// Appends the group with an entry for each leg.
 fn write_legs(layout: &Layout, tail: &mut TailW<'_>, legs: &[i128]) -> Result<(), OrderErr>
+    requires ready { IsReadySchema layout.now }
     requires schema { IsOrderSchema layout.now }
     requires state { AppendsParts layout.now tail.old.buf.now }
     requires at { tail.old.buf.now.frames ≡ Frame.Tail (root_of layout.now 0) 0 ∷ [] }
     ensures same_reference { tail.new.buf.ghost_name ≡ tail.old.buf.ghost_name }
     ensures same_layout { tail.new.layout ≡ tail.old.layout }
     ensures ready { OnOk result (AppendsParts layout.now tail.new.buf.now) }
+    ensures bytes { OnOk result (behind tail.old.buf.now.bytes (legs_bytes layout.now legs.now) ≡ Some tail.new.buf.now.bytes) }
     ensures behind { OnOk result (tail.new.buf.now.frames ≡ Frame.Tail (root_of layout.now 0) 1 ∷ []) }
 {
     let Ok(count) = u32::try_from(legs.len()) else {
@@ -119,12 +124,14 @@ fn write_legs(layout: &Layout, tail: &mut TailW<'_>, legs: &[i128]) -> Result<()
 
 /// Appends the entry of a leg. It needs an entry that is still to come.
 fn write_leg(layout: &Layout, entries: &mut EntriesW<'_>, quantity: i128) -> Result<(), OrderErr>
+    requires ready { IsReadySchema layout.now }
     requires schema { IsOrderSchema layout.now }
     requires state { AppendsEntries layout.now entries.old.buf.now }
     requires some { 0 < entries_left entries.old.buf.now.frames }
     requires legs { AtLegs layout.now entries.old.buf.now }
     ensures same_reference { entries.new.buf.ghost_name ≡ entries.old.buf.ghost_name }
     ensures same_layout { entries.new.layout ≡ entries.old.layout }
+    ensures bytes { OnOk result (behind entries.old.buf.now.bytes (leg_bytes layout.now quantity) ≡ Some entries.new.buf.now.bytes) }
     ensures next { OnOk result (entries.new.buf.now.frames ≡ Frame.Entries (level_of entries.old.buf.now.frames) (entries_left entries.old.buf.now.frames - 1) ∷ drop 1 entries.old.buf.now.frames) }
 {
     match entries.buf.entry(layout) {

@@ -1,6 +1,22 @@
-use Rattle.std.proofs.Common.{sym, subst}
+use Rattle.std.proofs.Common.{◌≡◌, ◌≤◌, length, rules, refl, sym, subst, ◌∙◌, arith}
 use Rattle.typed_writer.specs.States.{AppendsEntries}
+use Rattle.typed_writer.specs.Steps.{Groups, ends}
+use Rattle.library_examples.proofs.OrderBytes.{legs_written}
 use Rattle.library_examples.proofs.orders.write_legs.Goals as goal
 
 pub end-requires-clause-state : goal.end-requires-clause-state
 end-requires-clause-state c = subst (λ s. AppendsEntries s c.loop-quantity.entries.buf.now) (sym c.loop-quantity.invariant.layout) c.loop-quantity.invariant.state
+
+pub returns-after-loop-quantity-clause-bytes : goal.returns-after-loop-quantity-clause-bytes
+returns-after-loop-quantity-clause-bytes c =
+    let schema = c.args.layout.now in
+    let legs = c.args.legs.now in
+    let old = c.args.tail.now.buf.now in
+    let opened = c.in-Ok-group.entries.buf.now in
+    let i = c.loop-quantity.quantity-index in
+    let many : c.in-Ok.count ≡ length legs = search rules in
+    let groups = subst (λ k. Groups schema k old opened) many c.in-Ok-group.ensures.ok in
+    let over : length legs ≤ i = omega (arith, c.loop-quantity-test.false, c.loop-quantity.auto.quantity-index-end) in
+    let last = c.loop-quantity.entries.buf.now in
+    legs_written schema c.requires.ready c.requires.schema legs i old opened last (ends last) c.requires.at groups over c.loop-quantity.invariant.left refl
+    ∙ search rules

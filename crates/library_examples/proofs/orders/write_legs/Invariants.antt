@@ -1,8 +1,10 @@
-use Rattle.std.proofs.Common.{◌≡◌, ◌-◌, ◌∷◌, [], length}
+use Rattle.std.proofs.Common.{◌≡◌, ◌-◌, ◌∷◌, [], drop, length}
+use Rattle.sbe_wire.specs.Canonical.{all_bytes}
 use Rattle.schema_facts.specs.Levels.{root_of}
 use Rattle.typed_writer.specs.declared.stack.Frame.TheVariants.{Entries, Tail}
+use Rattle.typed_writer.specs.Empty.{behind}
 use Rattle.typed_writer.specs.States.{AppendsEntries}
-use Rattle.library_examples.specs.Orders.{legs_of}
+use Rattle.library_examples.specs.Orders.{leg_bytes, legs_of}
 use Rattle.library_examples.proofs.orders.write_legs.Given as goal
 
 abbrev pub invariant-loop-quantity : goal.invariant-loop-quantity
@@ -12,4 +14,5 @@ invariant-loop-quantity l =
       layout : l.entries.layout.now ≡ l.layout;
       state : AppendsEntries l.layout l.entries.buf.now;
       at : l.entries.buf.now.frames ≡ Entries (legs_of l.layout) (length l.legs - l.quantity-index) ∷ Tail (root_of l.layout 0) 1 ∷ [];
+      left : behind l.entries.buf.now.bytes (all_bytes (leg_bytes l.layout) (drop l.quantity-index l.legs)) ≡ behind l.initial.entries.buf.now.bytes (all_bytes (leg_bytes l.layout) l.legs);
     }

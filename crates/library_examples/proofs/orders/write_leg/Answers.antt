@@ -1,0 +1,25 @@
+use Rattle.std.proofs.Common.{rules, refl, subst, ◌∙◌}
+use mir.Syntax.{w128}
+use Rattle.std.proofs.lemmas.Int.{to_z-of_z}
+use Rattle.sbe_types.specs.declared.message.Value.TheVariants as value
+use Rattle.typed_writer.specs.declared.stack.Frame.TheVariants.{Tail}
+use Rattle.typed_writer.specs.States.{SetsFields, level_of}
+use Rattle.typed_writer.specs.Steps.{SetsField, ends}
+use Rattle.library_examples.proofs.OrderBytes.{leg_written}
+use Rattle.library_examples.proofs.orders.write_leg.Goals as goal
+
+pub returns-in-Ok-done-clause-bytes : goal.returns-in-Ok-done-clause-bytes
+returns-in-Ok-done-clause-bytes c =
+    let schema = c.args.layout.now in
+    let quantity = c.args.quantity in
+    let opened = c.in-Ok.fields.buf.now in
+    let filled = c.set.new.self.buf.now in
+    let tailed = c.in-Ok-done.tail.buf.now in
+    let same = c.in-Ok.ensures.layout in
+    let back = to_z-of_z w128 quantity c.ranges.quantity in
+    let now = subst (λ s. SetsFields s filled) same c.in-Ok-set.ensures.ready in
+    let told = subst (λ q. SetsField c.in-Ok.fields.layout.now (level_of opened.frames) 0 (value.Num q) opened filled) back c.in-Ok-set.ensures.ok in
+    let sets = subst (λ s. SetsField s (level_of opened.frames) 0 (value.Num quantity) opened filled) same told in
+    leg_written schema c.requires.ready c.requires.schema quantity (Tail (level_of filled.frames) 0) c.args.entries.now.buf.now opened filled tailed (ends tailed) c.requires.legs c.in-Ok.ensures.ok
+    c.in-Ok.ensures.ready now sets c.in-Ok-done.ensures.ok refl
+    ∙ search rules

@@ -1,0 +1,36 @@
+use Rattle.std.proofs.Common.{◌≡◌, FitsSigned, rules, subst, ◌∙◌}
+use mir.Syntax.{w128}
+use Rattle.std.proofs.lemmas.Int.{to_z-of_z}
+use Rattle.sbe_types.specs.declared.message.Value.TheVariants as value
+use Rattle.flyweight_view.proofs.ReadyTold.{ready_schema}
+use Rattle.typed_writer.specs.declared.stack.Frame.TheVariants.{Tail}
+use Rattle.typed_writer.specs.States.{SetsFields, level_of}
+use Rattle.typed_writer.specs.Steps.{Adds, SetsField}
+use Rattle.library_examples.specs.Orders.{IsOrderSchema}
+use Rattle.library_examples.proofs.OrderBytes.{order_written}
+use Rattle.library_examples.proofs.orders.write_order.Goals as goal
+
+pub write_legs-requires-clause-ready : goal.write_legs-requires-clause-ready
+write_legs-requires-clause-ready c = ready_schema c.args.layout.now c.schema-schema.ensures.order
+
+pub returns-in-Ok-data-clause-body : goal.returns-in-Ok-data-clause-body
+returns-in-Ok-data-clause-body c =
+    let schema = c.args.layout.now in
+    let number = c.args.order.now.number in
+    let note = c.args.order.now.note.now in
+    let begun = c.in-Ok.fields.buf.now in
+    let filled = c.set.new.self.buf.now in
+    let mid = c.write_legs.new.tail.buf.now in
+    let last = c.data.new.self.buf.now in
+    let is : IsOrderSchema schema = search rules in
+    let same = c.in-Ok.ensures.layout in
+    let now = subst (λ s. SetsFields s filled) same c.in-Ok-set.ensures.ready in
+    let fits : FitsSigned w128 number = search rules in
+    let back = to_z-of_z w128 number fits in
+    let told = subst (λ q. SetsField c.in-Ok.fields.layout.now (level_of begun.frames) 0 (value.Num q) begun filled) back c.in-Ok-set.ensures.ok in
+    let sets = subst (λ s. SetsField s (level_of begun.frames) 0 (value.Num number) begun filled) same told in
+    let layout : c.write_legs.new.tail.layout.now ≡ schema = search rules in
+    let adds = subst (λ s. Adds s note mid last) layout c.in-Ok-data.ensures.ok in
+    order_written schema (ready_schema schema c.schema-schema.ensures.order) is number c.args.order.now.legs.now note (Tail (level_of filled.frames) 0) c.args.buffer.now begun filled c.in-Ok-done.tail.buf.now mid last
+    c.in-Ok.ensures.ok c.in-Ok.ensures.ready now sets c.in-Ok-done.ensures.ok c.in_ok-write_legs-in-Ok-done.ensures.bytes c.in_ok-write_legs-in-Ok-done.ensures.behind adds
+    ∙ search rules

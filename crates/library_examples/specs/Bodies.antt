@@ -1,0 +1,22 @@
+-- What is told of the body of a line.
+use Rattle.std.specs.Prelude.{◌≡◌, ℕ, List, Some, Ok}
+use Rattle.sbe_types.specs.declared.schema.WireSchema.{WireSchema}
+use Rattle.sbe_types.specs.declared.message.Msg.{Msg}
+use Rattle.sbe_wire.specs.Canonical.{canonical}
+use Rattle.sbe_wire.specs.Misfit.{misfit}
+use Rattle.line_reading.specs.Lines.{tree_of}
+use Rattle.tree_codec.specs.Sized.{sized_err}
+use Rattle.library_examples.specs.declared.bodies.BodyErr.{BodyErr}
+use Rattle.library_examples.specs.declared.bodies.BodyErr.TheVariants.{Line, Misfit}
+use Rattle.library_examples.specs.Lines.{IsRefused}
+
+-- The line holds a message, and this is its canonical body.
+pub record IsBodyOf (schema : WireSchema) (line body : List ℕ) : Type 0 where
+  pub message : Msg
+  pub held : tree_of schema line ≡ Ok message
+  pub written : canonical schema message ≡ Some body
+
+-- the line holds no message; or it holds one, and this is the first misfit of it within the limit
+abbrev pub IsNoBody : WireSchema → List ℕ → ℕ → BodyErr → Type 0
+IsNoBody schema line limit (Line fault) = IsRefused schema line fault
+IsNoBody schema line limit (Misfit e) = (m : Msg) × (tree_of schema line ≡ Ok m) × (misfit schema m limit ≡ Some (sized_err e))
