@@ -1,0 +1,9 @@
+pub mod Zeros
+pub mod CleanKinds
+pub mod CleanFields
+pub mod Named
+pub mod Chains
+pub mod CleanParts
+pub mod CleanGroups
+pub mod CleanLevels
+pub mod CleanMessages

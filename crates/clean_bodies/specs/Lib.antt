@@ -1,0 +1,5 @@
+pub mod Clean
+pub mod Good
+pub mod Says
+pub mod Whole
+pub mod Steps

@@ -1,0 +1,6 @@
+pub mod AllZeros
+pub mod Members
+pub mod Fields
+pub mod Saying
+pub mod Parts
+pub mod Entries

@@ -1,0 +1,129 @@
+// Headers and dimensions.
+ghost use Rattle.std.specs.Prelude.{◌≡◌, ◌≤◌, true, length, IfSome};
+ghost use Rattle.sbe_types.specs.Places.{end_past};
+ghost use Rattle.clean_bodies.specs.Says.{SaysNumber, SayNumbers};
+ghost use Rattle.clean_walk.specs.Heads.{number_of_name};
+
+use crate::places::{begin_of, natural_at};
+use crate::zeros::is_zero;
+use sbe_types::{Kind, Member, Order};
+
+/// The numbers of a header or of a dimension (SBE 1.0, "Message structure" and "Repeating group encoding").
+#[derive(Clone, Copy)]
+pub(crate) enum Numbers {
+    Header {
+        block: u32,
+        template: u32,
+        schema: u32,
+        version: u32,
+    },
+    Dimension {
+        block: u32,
+        count: u32,
+    },
+}
+
+impl Numbers {
+    /// The number of that name.
+    fn of_name(self, name: &[u8]) -> u32
+        ensures { result ≡ number_of_name self name.now }
+    {
+        match self {
+            Numbers::Header {
+                block,
+                template,
+                schema,
+                version,
+            } => {
+                if name == b"blockLength".as_slice() {
+                    block
+                } else if name == b"templateId".as_slice() {
+                    template
+                } else if name == b"schemaId".as_slice() {
+                    schema
+                } else {
+                    version
+                }
+            }
+            Numbers::Dimension { block, count } => {
+                if name == b"blockLength".as_slice() {
+                    block
+                } else {
+                    count
+                }
+            }
+        }
+    }
+}
+
+/// Whether members are each the number of its name, with zeros between them.
+pub(crate) fn say(order: Order, members: &[Member], numbers: Numbers, bytes: &[u8]) -> bool
+    ensures { result ≡ true → SayNumbers order (number_of_name numbers) 0 members.now bytes.now }
+{
+    let mut end = 0usize;
+    for member in members {
+        let number = numbers.of_name(member.name.as_slice());
+        match past_number(order, end, member, number, bytes) {
+            Some(next) => end = next,
+            None => return false,
+        }
+    }
+    true
+}
+
+/// Where a member ends behind members that end at `end`, if it is that number and zeros stand before it.
+#[tactic(auto, using(crate::proofs::Saying::past_leaf))]
+fn past_number(
+    order: Order,
+    end: usize,
+    member: &Member,
+    number: u32,
+    bytes: &[u8],
+) -> Option<usize>
+    requires { end ≤ length bytes.now }
+    ensures says { IfSome result (λ next. SaysNumber order number end member.now bytes.now) }
+    ensures end { IfSome result (λ next. next ≡ end_past end member.now.offset member.now.kind) }
+    ensures within { IfSome result (λ next. next ≤ length bytes.now) }
+{
+    let Kind::Leaf(leaf) = &member.kind else {
+        return None;
+    };
+    let begin = begin_of(end, member.offset);
+    let next = begin.checked_add(leaf.prim.width())?;
+    if leaf.length != 1 || begin < end || next > bytes.len() || !is_zero(&bytes[end..begin]) {
+        return None;
+    }
+    let read = natural_at(order, leaf.prim, &bytes[begin..next])?;
+    if read != number {
+        return None;
+    }
+    Some(next)
+}
+
+/// The number of a member that begins behind `end`, and where it ends; none where it is no number of 32 bits.
+fn number_in(order: Order, end: usize, member: &Member, bytes: &[u8]) -> Option<(u32, usize)> {
+    let Kind::Leaf(leaf) = &member.kind else {
+        return None;
+    };
+    let begin = begin_of(end, member.offset);
+    let next = begin.checked_add(leaf.prim.width())?;
+    if next > bytes.len() {
+        return None;
+    }
+    let number = natural_at(order, leaf.prim, &bytes[begin..next])?;
+    Some((number, next))
+}
+
+/// The number of the first member that isn't the block length. Nothing is said of it: whoever takes it asks whether the
+/// members say it.
+pub(crate) fn count_in(order: Order, members: &[Member], bytes: &[u8]) -> Option<u32> {
+    let mut end = 0usize;
+    for member in members {
+        let (number, next) = number_in(order, end, member, bytes)?;
+        if member.name.as_slice() != b"blockLength".as_slice() {
+            return Some(number);
+        }
+        end = next;
+    }
+    None
+}

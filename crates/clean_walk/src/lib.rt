@@ -1,0 +1,11 @@
+//! Whether the bytes of a body are the canonical ones of the message that lies in it: one walk by the schema.
+#![tactic(auto)]
+
+mod blocks;
+mod heads;
+mod kinds;
+mod places;
+mod walk;
+mod zeros;
+
+pub use walk::is_clean_body;

@@ -1,0 +1,49 @@
+// Numbers as their bits. No clause speaks of them.
+ghost use Rattle.std.specs.Prelude.{◌≡◌, length};
+
+/// The last bits, the least first.
+#[inline(always)]
+pub(crate) fn little(bits: u64, out: &mut [u8])
+    ensures { length out.new ≡ length out.old }
+{
+    let bytes = bits.to_le_bytes();
+    let wide = out.len();
+    if wide == 8 {
+        out.copy_from_slice(&bytes);
+    } else if wide == 4 {
+        out.copy_from_slice(&bytes[..4]);
+    } else if wide == 2 {
+        out.copy_from_slice(&bytes[..2]);
+    } else if wide == 1 {
+        out.copy_from_slice(&bytes[..1]);
+    }
+}
+
+/// The last bits, the least last.
+#[inline(always)]
+pub(crate) fn big(bits: u64, out: &mut [u8])
+    ensures { length out.new ≡ length out.old }
+{
+    let bytes = bits.to_be_bytes();
+    let wide = out.len();
+    if wide == 8 {
+        out.copy_from_slice(&bytes);
+    } else if wide == 4 {
+        out.copy_from_slice(&bytes[4..]);
+    } else if wide == 2 {
+        out.copy_from_slice(&bytes[6..]);
+    } else if wide == 1 {
+        out.copy_from_slice(&bytes[7..]);
+    }
+}
+
+/// The bits of a number, in two's complement; 0 where it has more than 64.
+pub(crate) fn bits_of(number: i128) -> u64 {
+    match u64::try_from(number) {
+        Ok(bits) => bits,
+        Err(_) => match i64::try_from(number) {
+            Ok(signed) => signed.cast_unsigned(),
+            Err(_) => 0,
+        },
+    }
+}

@@ -1,0 +1,148 @@
+// The blocks that seem to stand at a place of a line. No clause speaks of them.
+use crate::cursor::Cursor;
+use crate::draft::Draft;
+use crate::kinds::{begin_of, past, value_in};
+use crate::parts::{parts_in, past_parts};
+use sbe_types::{Field, Group, Kind, Level, Member, Order};
+
+/// The object of a message's root or of an entry, without the closing bracket.
+#[cycle(level)]
+pub(crate) fn block_in(
+    cursor: &mut Cursor<'_>,
+    order: Order,
+    level: &Level,
+    draft: &mut Draft,
+) -> bool {
+    if !cursor.takes_text(b"{\"data\":{") {
+        return false;
+    }
+    let mut data = cursor.again();
+    let parts = level.parts.as_slice();
+    if !past_parts(cursor, parts) || !cursor.takes_text(b"},\"fields\":{") {
+        return false;
+    }
+    let Some(at) = draft.zeros(level.block_length as usize) else {
+        return false;
+    };
+    if !fields_in(cursor, order, level.fields.as_slice(), draft, at)
+        || !cursor.takes_text(b"},\"groups\":{")
+    {
+        return false;
+    }
+    groups_in(cursor, order, level.groups.as_slice(), draft)
+        && cursor.takes(b'}')
+        && parts_in(&mut data, order, parts, draft)
+}
+
+/// The fields of a block that begins at a place of the draft.
+fn fields_in(
+    cursor: &mut Cursor<'_>,
+    order: Order,
+    fields: &[Field],
+    draft: &mut Draft,
+    at: usize,
+) -> bool {
+    let mut later = false;
+    let mut end = 0usize;
+    for field in fields {
+        let place = at.saturating_add(begin_of(end, field.offset));
+        if !cursor.takes_key(later, field.name.as_slice())
+            || !value_in(cursor, order, &field.kind, draft, place)
+        {
+            return false;
+        }
+        end = past(end, field.offset, &field.kind);
+        later = true;
+    }
+    true
+}
+
+/// The groups of a block.
+#[cycle(level)]
+fn groups_in(cursor: &mut Cursor<'_>, order: Order, groups: &[Group], draft: &mut Draft) -> bool {
+    let mut later = false;
+    for group in groups {
+        if !cursor.takes_key(later, group.level.name.as_slice())
+            || !group_in(cursor, order, group, draft)
+        {
+            return false;
+        }
+        later = true;
+    }
+    true
+}
+
+/// The dimension and the entries of a group.
+#[cycle(level)]
+fn group_in(cursor: &mut Cursor<'_>, order: Order, group: &Group, draft: &mut Draft) -> bool {
+    let dim = group.dim.as_slice();
+    let Some(at) = draft.zeros(dim_width(dim)) else {
+        return false;
+    };
+    match entries_in(cursor, order, &group.level, draft) {
+        Some(count) => put_dim(order, dim, group.level.block_length, count, draft, at),
+        None => false,
+    }
+}
+
+/// The entries of a group, and how many there are.
+#[cycle(level)]
+fn entries_in(
+    cursor: &mut Cursor<'_>,
+    order: Order,
+    level: &Level,
+    draft: &mut Draft,
+) -> Option<u32> {
+    if !cursor.takes(b'[') {
+        return None;
+    }
+    let mut count = 0u32;
+    for _ in cursor.rest() {
+        if cursor.next() != b'{' {
+            break;
+        }
+        if !block_in(cursor, order, level, draft) || !cursor.takes(b'}') {
+            return None;
+        }
+        count = count.saturating_add(1);
+        cursor.takes(b',');
+    }
+    if !cursor.takes(b']') {
+        return None;
+    }
+    Some(count)
+}
+
+/// How many bytes a dimension has.
+fn dim_width(members: &[Member]) -> usize {
+    let mut end = 0usize;
+    for member in members {
+        end = past(end, member.offset, &member.kind);
+    }
+    end
+}
+
+/// The numbers of a dimension that begins at a place of the draft.
+fn put_dim(
+    order: Order,
+    members: &[Member],
+    block: u32,
+    count: u32,
+    draft: &mut Draft,
+    at: usize,
+) -> bool {
+    let mut end = 0usize;
+    for member in members {
+        let Kind::Leaf(leaf) = &member.kind else {
+            return false;
+        };
+        let is_block = member.name.as_slice() == b"blockLength".as_slice();
+        let number = if is_block { block } else { count };
+        let place = at.saturating_add(begin_of(end, member.offset));
+        if !draft.put_bits(order, leaf.prim, number as u64, place) {
+            return false;
+        }
+        end = past(end, member.offset, &member.kind);
+    }
+    true
+}

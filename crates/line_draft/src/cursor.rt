@@ -1,0 +1,92 @@
+// A place in a line that seems to be printed. What is read here is a guess, and no clause speaks of it.
+ghost use Rattle.std.specs.Prelude.{◌≤◌, length};
+
+/// A line, and how many of its bytes were passed.
+#[derive(Drop)]
+pub(crate) struct Cursor<'a> {
+    line: &'a [u8],
+    at: usize,
+    ghost within: { at ≤ length line.now },
+}
+
+impl<'a> Cursor<'a> {
+    /// The first byte of a line.
+    pub(crate) fn new(line: &'a [u8]) -> Cursor<'a> {
+        Cursor { line, at: 0 }
+    }
+
+    /// The same place once more.
+    pub(crate) fn again(&self) -> Cursor<'a> {
+        Cursor {
+            line: self.line,
+            at: self.at,
+        }
+    }
+
+    /// The bytes that are still to come.
+    #[inline(always)]
+    pub(crate) fn rest(&self) -> &'a [u8] {
+        &self.line[self.at..]
+    }
+
+    /// The next byte; behind the last, 00.
+    #[inline(always)]
+    pub(crate) fn next(&self) -> u8 {
+        if self.at < self.line.len() {
+            self.line[self.at]
+        } else {
+            0
+        }
+    }
+
+    /// Passes so many bytes, or all that are left.
+    #[inline(always)]
+    pub(crate) fn pass(&mut self, count: usize) {
+        if count <= self.line.len() - self.at {
+            self.at += count;
+        } else {
+            self.at = self.line.len();
+        }
+    }
+
+    /// Passes a byte, if it comes next.
+    #[inline(always)]
+    pub(crate) fn takes(&mut self, byte: u8) -> bool {
+        if self.at < self.line.len() && self.line[self.at] == byte {
+            self.at += 1;
+            return true;
+        }
+        false
+    }
+
+    /// Passes a text, if it comes next.
+    #[inline(always)]
+    pub(crate) fn takes_text(&mut self, text: &[u8]) -> bool {
+        if text.len() <= self.line.len() - self.at
+            && &self.line[self.at..self.at + text.len()] == text
+        {
+            self.at += text.len();
+            return true;
+        }
+        false
+    }
+
+    /// Passes the key of a member, if it comes next, behind a comma where another stands before.
+    #[inline(always)]
+    pub(crate) fn takes_key(&mut self, later: bool, name: &[u8]) -> bool {
+        (!later || self.takes(b','))
+            && self.takes(b'"')
+            && self.takes_text(name)
+            && self.takes(b'"')
+            && self.takes(b':')
+    }
+
+    /// The bytes before the next byte of that value, which are passed with it; none where it doesn't come.
+    #[inline(always)]
+    pub(crate) fn up_to(&mut self, stop: u8) -> Option<&'a [u8]> {
+        let rest = self.rest();
+        let end = rest.iter().position(|b| *b == stop)?;
+        self.pass(end + 1);
+        Some(&rest[..end])
+    }
+}

@@ -1,0 +1,95 @@
+ghost use Rattle.std.specs.Prelude.{◌≡◌, []};
+
+use crate::bits::{big, little};
+use sbe_types::{Order, Prim};
+use std::marker::Model;
+
+/// How many bytes a draft has room for. A longer body goes the general way.
+pub const DRAFT_BYTES: usize = 4096;
+
+/// Bytes that are written as a body. It takes no memory but its own.
+#[derive(Drop)]
+pub struct Draft {
+    room: [u8; DRAFT_BYTES],
+    len: usize,
+}
+
+impl Model for Draft {
+    ghost use Rattle.std.specs.Prelude.{◌≡◌, ◌≤◌, ℕ, List, take, length};
+    ghost use Rattle.line_draft.specs.declared.draft.TheConstants.{DRAFT_BYTES};
+
+    ghost Value = { List ℕ };
+
+    ghost view = { λ draft. take draft.len draft.room };
+
+    ghost invariant = { λ draft. (length draft.room ≡ DRAFT_BYTES) × (draft.len ≤ DRAFT_BYTES) };
+}
+
+impl Draft {
+    /// A draft without bytes.
+    pub fn new() -> Draft
+        ensures { result ≡ [] }
+    {
+        Draft {
+            room: [0; DRAFT_BYTES],
+            len: 0,
+        }
+    }
+
+    /// The bytes.
+    pub fn bytes(&self) -> &[u8]
+        ensures { result.now ≡ self.now }
+    {
+        &self.room[..self.len]
+    }
+
+    /// Lets go of the bytes.
+    pub(crate) fn clear(&mut self) {
+        self.len = 0;
+    }
+
+    /// Appends so many zeros, and tells where they begin; none where there is no room.
+    #[inline(always)]
+    pub(crate) fn zeros(&mut self, many: usize) -> Option<usize> {
+        let at = self.len;
+        if many > DRAFT_BYTES - at {
+            return None;
+        }
+        self.room[at..at + many].fill(0);
+        self.len = at + many;
+        Some(at)
+    }
+
+    /// Counts so many bytes more, which were put behind the last; false where there is no room.
+    pub(crate) fn passes(&mut self, many: usize) -> bool {
+        if many > DRAFT_BYTES - self.len {
+            return false;
+        }
+        self.len += many;
+        true
+    }
+
+    /// Writes bytes at a place; false where they don't lie there.
+    #[inline(always)]
+    pub(crate) fn put(&mut self, at: usize, bytes: &[u8]) -> bool {
+        if at > DRAFT_BYTES || bytes.len() > DRAFT_BYTES - at {
+            return false;
+        }
+        self.room[at..at + bytes.len()].copy_from_slice(bytes);
+        true
+    }
+
+    /// Writes a number of a primitive, as its bits, at a place; false where there is no room.
+    #[inline(always)]
+    pub(crate) fn put_bits(&mut self, order: Order, prim: Prim, bits: u64, at: usize) -> bool {
+        let wide = prim.width();
+        if at > DRAFT_BYTES - wide {
+            return false;
+        }
+        match order {
+            Order::Little => little(bits, &mut self.room[at..at + wide]),
+            Order::Big => big(bits, &mut self.room[at..at + wide]),
+        }
+        true
+    }
+}

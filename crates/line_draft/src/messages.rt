@@ -1,0 +1,53 @@
+use crate::blocks::block_in;
+use crate::cursor::Cursor;
+use crate::draft::Draft;
+use crate::kinds::{begin_of, past};
+use crate::tail::template_in;
+use sbe_types::{Kind, Level, WireSchema};
+
+/// Writes the body of the message that a line seems to hold, if it was printed by the schema. False where it can't have been, or
+/// where there is no room.
+pub fn draft_body(schema: &WireSchema, line: &[u8], draft: &mut Draft) -> bool {
+    draft.clear();
+    let levels = schema.messages.as_slice();
+    match template_in(levels, line) {
+        Some(template) => message_in(schema, &levels[template], line, draft),
+        None => false,
+    }
+}
+
+/// The header and the root of a message of this level.
+fn message_in(schema: &WireSchema, level: &Level, line: &[u8], draft: &mut Draft) -> bool {
+    let mut cursor = Cursor::new(line);
+    put_header(schema, level, draft) && block_in(&mut cursor, schema.order, level, draft)
+}
+
+/// The number of a header's member.
+fn header_number(schema: &WireSchema, level: &Level, name: &[u8]) -> u32 {
+    if name == b"blockLength".as_slice() {
+        level.block_length
+    } else if name == b"templateId".as_slice() {
+        level.id
+    } else if name == b"schemaId".as_slice() {
+        schema.id
+    } else {
+        schema.version
+    }
+}
+
+/// The header of a message of this level.
+fn put_header(schema: &WireSchema, level: &Level, draft: &mut Draft) -> bool {
+    let mut end = 0usize;
+    for member in schema.header.members.as_slice() {
+        let Kind::Leaf(leaf) = &member.kind else {
+            return false;
+        };
+        let place = begin_of(end, member.offset);
+        end = past(end, member.offset, &member.kind);
+        let number = header_number(schema, level, member.name.as_slice());
+        if !draft.put_bits(schema.order, leaf.prim, number as u64, place) {
+            return false;
+        }
+    }
+    draft.passes(end)
+}

@@ -1,0 +1,3 @@
+pub mod BodyBytes
+pub mod ByteRows
+pub mod OwnBodies

@@ -1,0 +1,8 @@
+//! The body of the message that a line holds, for lines in the form in which messages are printed: the message that the line
+//! seems to hold is written and printed again, and only the same line counts.
+#![tactic(auto)]
+
+mod body;
+mod constants;
+
+pub use body::body_of_line;
