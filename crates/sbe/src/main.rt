@@ -5,7 +5,8 @@ mod pages;
 
 use pages::{Page, page_of};
 use sbe_base::{
-    DirFiles, FlushFirst, NoMem, SharedWriter, Status, StdSink, StdSource, settled, write_all_to,
+    BufferedSource, DirFiles, FlushFirst, NoMem, SharedWriter, Status, StdSink, settled,
+    write_all_to,
 };
 use sbe_cli::run;
 use std::env;
@@ -64,7 +65,7 @@ fn run_words<W: Write + Drop>(
         alloc,
         words,
         &mut DirFiles::new(*rt),
-        &mut StdSource::new(input),
+        &mut BufferedSource::new(input),
         &mut StdSink::new(output),
         &mut StdSink::new(FlushFirst::new(rt.stderr(), output)),
     )

@@ -8,6 +8,7 @@ Usage:
   sbe check SCHEMA
   sbe compat OLD NEW
   sbe dump SCHEMA [OPTION VALUE]..
+  sbe build SCHEMA [OPTION VALUE]..
   sbe --help | -h
   sbe --version
 
@@ -15,25 +16,26 @@ check judges a message schema, and prints a line of JSON for each of its message
 compat prints whether a reader of OLD and a reader of NEW understand each other's messages: both ways,
 one way (NEW reads those of OLD), or not, with the first difference.
 dump reads SBE frames from standard input, and prints each message as a line of JSON.
+build reads such lines from standard input, and writes each message as an SBE frame.
 SCHEMA, OLD and NEW are files of message schemas. Their names don't begin with `--`.
 
-Options of dump, in any order behind the file:
-  --also SCHEMA      one more schema; a frame is read by the one whose id it has
-                     (at most 15 times; the schema of a message is then printed)
+Options of dump and build, in any order behind the file:
+  --also SCHEMA      one more schema, for dump alone; a frame is read by the one whose id
+                     it has (at most 15 times; the schema of a message is then printed)
   --max-frame BYTES  the most bytes of a frame, its head included
                      (64 to 16777216, default 65536; at most once)
   --max-input BYTES  the most bytes of the input
                      (1 to 1099511627776, default 4294967296; at most once)
 
-Answers go to standard output, each before the next frame is waited for. Why a run
-ends early is noted on standard error, as a line of JSON.
+Answers go to standard output, each before the next frame or line is waited for. Why a run
+ends early is noted on standard error, as a line of JSON; and why build refuses a line.
 
 Exit status:
    0  the schemas are in order; the input was read to its end, and nothing was refused
    1  the input was read to its end, and at least one message was refused; or NEW doesn't extend OLD
    2  the words are no command
    3  a schema was refused
-   5  the input is no row of whole frames, or a frame is longer than its limit
+   5  the input is no row of whole frames, or a frame or line is longer than its limit
    6  a schema's file could not be read
    7  standard input could not be read
    8  standard output or standard error could not be written
@@ -46,6 +48,7 @@ Examples:
   sbe compat feed.json feed2.json
   sbe dump feed.json < frames.bin
   sbe dump feed.json --also orders.json < frames.bin
+  sbe build feed.json < lines.jsonl > frames.bin
 ";
 
 /// What `--version` prints.
@@ -101,11 +104,12 @@ mod tests {
     use std::alloc::Global;
     use std::test::Fail;
 
-    const EXAMPLES: [&str; 4] = [
+    const EXAMPLES: [&str; 5] = [
         "  sbe check feed.json",
         "  sbe compat feed.json feed2.json",
         "  sbe dump feed.json < frames.bin",
         "  sbe dump feed.json --also orders.json < frames.bin",
+        "  sbe build feed.json < lines.jsonl > frames.bin",
     ];
 
     fn page_at(alloc: Global, texts: &[&str]) -> Result<Option<Page>, Fail> {

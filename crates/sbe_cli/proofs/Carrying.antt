@@ -1,21 +1,23 @@
 -- A run that carried out a job, by its status.
-use Rattle.std.proofs.Common.{◌≡◌, inl, inr, ℕ, Bool, true, false, cond, List, [], ◌∷◌, ◌++◌, Option, Some, None, Result, Ok, refl, sym, ap, ◌∙◌, subst}
+use Rattle.std.proofs.Common.{◌≡◌, inl, inr, ℕ, Bool, true, false, cond, List, [], ◌∷◌, ◌++◌, Option, Some, Result, Ok, refl, sym, ap, ◌∙◌, subst}
 use Rattle.std.specs.Prelude.{nat_lt}
 use Rattle.sbe_base.proofs.Known.{appends_more}
 use Rattle.sbe_base.specs.Causes.{AppendsPart}
 use Rattle.sbe_base.specs.declared.status.Status.{Status}
 use Rattle.sbe_base.specs.declared.status.Status.TheVariants as status
-use Rattle.sbe_cli.specs.Words.{command_of, reads_input}
-use Rattle.sbe_cli.specs.Splits.{is_read, PieceEnd, End, EndInside, HeadFault, LineOver, InputLimit}
-use Rattle.sbe_cli.specs.Replies.{Written, Reply, reading_of, written_of, then_written}
+use Rattle.command_words.specs.Words.{command_of, reads_input, reads_frames}
+use Rattle.command_jobs.specs.Splits.{is_read, is_framed, PieceEnd, End, EndInside, HeadFault, LineOver, InputLimit}
+use Rattle.replies.specs.Reply.{Written, Reply, written_of, then_written}
+use Rattle.command_jobs.specs.Replies.{reading_of}
 use Rattle.sbe_cli.specs.Report.{Outcome, end_status, JobReport, JudgedReport, CommandReport, Report}
-use Rattle.sbe_cli.specs.Outside.{Sinks, Outside, Wrote, Breaks, Told, noted, failed}
-use Rattle.sbe_cli.specs.Steps.{IsReady, IsReadAs, JudgedAs, IsReported, Ends, Stalls, Fails, ended_at, stalled_at, failed_at, wanting_at, Course, Drains}
+use Rattle.replies.specs.Outside.{Sinks, Outside, Wrote, Breaks, Told, noted, failed}
+use Rattle.command_jobs.specs.Jobs.{IsReady, IsReadAs}
+use Rattle.sbe_cli.specs.Steps.{JudgedAs, IsReported, running, Ends, Stalls, Fails, ended_at, stalled_at, failed_at, wanting_at, Course, Drains}
 use Rattle.sbe_cli.specs.Runs.{desk, Known, IsJob, written_in, read_line, AllAnswered, StandsAtRead, StandsAtWrite, at_reply, at_end, at_read, NotesPart, Fronts, HasRead, Runs}
-use Rattle.sbe_cli.specs.declared.files.RefusedFile.{RefusedFile}
-use Rattle.sbe_cli.specs.declared.job.Job.{Job}
-use Rattle.sbe_cli.specs.declared.words.Command.{Command}
-use Rattle.sbe_cli.proofs.Folding.{IsPlacedJob, ready_placed}
+use Rattle.schema_files.specs.declared.files.RefusedFile.{RefusedFile}
+use Rattle.command_jobs.specs.declared.job.Job.{Job}
+use Rattle.command_words.specs.declared.words.Command.{Command}
+use Rattle.command_jobs.proofs.Folding.{IsPlacedJob, ready_placed}
 use Rattle.sbe_cli.proofs.Reporting.{judged_once, one_report}
 use Rattle.sbe_cli.proofs.Running.{failed_since}
 use Rattle.sbe_cli.proofs.Standing.{whole_part, part_of, reported_told, Leading, leading, all_written, is_report, output_whole, notes_part, reported, given, whole_given, was_given, line_told, answers_written, line_part, begun_last, replied_last, broken_output, broken_notes}
@@ -51,7 +53,11 @@ module _ (words : List (List ℕ)) (old new : Outside) (command : Command) (is_c
 
   -- the job takes something of the input exactly where the words say so
   reads : reads_input (command_of words) ≡ is_read (reading_of job)
-  reads = ap reads_input is_command ∙ sym as_command
+  reads = ap reads_input is_command ∙ sym as_command.0
+
+  -- and frames
+  reads_so : reads_frames (command_of words) ≡ is_framed (reading_of job)
+  reads_so = ap reads_frames is_command ∙ sym as_command.1
 
   is_job : (contents : List ℕ → Option (List ℕ)) (input : List ℕ) → Known old contents input → IsJob words contents job
   is_job contents input known = (command, is_command, judged contents known.files)
@@ -81,45 +87,45 @@ module _ (words : List (List ℕ)) (old new : Outside) (command : Command) (is_c
       AreFronts outcome = AppendsPart old.streams.sinks.output.told new.streams.sinks.output.told outcome.output × NotesPart words old new outcome.notes
 
       led : (outcome : Outcome) → JobReport job input outcome → Leading written outcome
-      led outcome report = leading job placed input outcome report course.progress.pieces course.progress.left written course.kept course.progress.begins course.progress.replies
+      led outcome report = leading job placed input outcome report course.ahead.met_end course.progress.pieces course.progress.left written course.kept course.progress.begins course.progress.replies
 
-      ended_fronts : (outcome : Outcome) → Report words contents input outcome → Ends (record { job = job; kept = course.kept; ended = None }) course.mid new.streams course.progress.left code → AreFronts outcome
+      ended_fronts : (outcome : Outcome) → Report words contents input outcome → Ends (running job course.kept course.ahead) course.mid new.streams course.progress.left code → AreFronts outcome
       ended_fronts outcome report ends =
-          let whole = all_written job course.kept old.streams course.mid new.streams input course.progress code ends in
-          let mine = as_report contents input whole known (is_report job course.kept old.streams course.mid new.streams input course.progress code ends) in
+          let whole = all_written (running job course.kept course.ahead) old.streams course.mid new.streams input course.progress code ends in
+          let mine = as_report contents input whole known (is_report (running job course.kept course.ahead) old.streams course.mid new.streams input course.progress code ends) in
           let same : whole ≡ outcome = one_report contents input words whole outcome mine report in
           subst AreFronts same (
-            whole_part old.streams.sinks.output.told new.streams.sinks.output.told whole.output (output_whole job course.kept old.streams course.mid new.streams input course.progress code ends),
-            inl (notes_part job course.kept old.streams course.mid new.streams input course.progress code ends),
+            whole_part old.streams.sinks.output.told new.streams.sinks.output.told whole.output (output_whole (running job course.kept course.ahead) old.streams course.mid new.streams input course.progress code ends),
+            inl (notes_part (running job course.kept course.ahead) old.streams course.mid new.streams input course.progress code ends),
           )
 
-      stalled_fronts : (outcome : Outcome) → Report words contents input outcome → Stalls (record { job = job; kept = course.kept; ended = None }) course.mid new.streams course.progress.left code → AreFronts outcome
+      stalled_fronts : (outcome : Outcome) → Report words contents input outcome → Stalls (running job course.kept course.ahead) course.mid new.streams course.progress.left code → AreFronts outcome
       stalled_fronts outcome report stalls =
           let front = led outcome (of_report contents input outcome known report) in
-          let taken = given job course.kept old.streams course.mid new.streams input course.progress code stalls in (
+          let taken = given (running job course.kept course.ahead) old.streams course.mid new.streams input course.progress code stalls in (
             part_of old.streams.sinks.output.told new.streams.sinks.output.told written.output front.output outcome.output
-                (whole_part old.streams.sinks.output.told new.streams.sinks.output.told written.output (answers_written job course.kept old.streams course.mid new.streams input course.progress code stalls)) front.output_is,
+                (whole_part old.streams.sinks.output.told new.streams.sinks.output.told written.output (answers_written (running job course.kept course.ahead) old.streams course.mid new.streams input course.progress code stalls)) front.output_is,
             inr (
               written.notes,
               front.notes,
               read_line taken,
               front.notes_is,
-              inr (failed_since course.calm.input stalls.fault, (taken, was_given job course.kept old.streams course.mid new.streams input course.progress code stalls known.source, refl)),
-              line_part job course.kept old.streams course.mid new.streams input course.progress code stalls,
+              inr (failed_since course.calm.input stalls.fault, (taken, was_given (running job course.kept course.ahead) old.streams course.mid new.streams input course.progress code stalls known.source, refl)),
+              line_part (running job course.kept course.ahead) old.streams course.mid new.streams input course.progress code stalls,
             ),
           )
 
       failed_fronts : (outcome : Outcome) → Report words contents input outcome →
-          Fails (record { job = job; kept = course.kept; ended = None }) new.streams course.progress.left (λ reply. Breaks course.mid.sinks new.streams.sinks (written_of reply)) → AreFronts outcome
+          Fails (running job course.kept course.ahead) new.streams course.progress.left (λ reply. Breaks course.mid.sinks new.streams.sinks (written_of reply)) → AreFronts outcome
       failed_fronts outcome report fail =
           let last = λ (reply : Reply). Breaks course.mid.sinks new.streams.sinks (written_of reply) in
           let all = then_written written (written_of fail.reply) in
-          let front = leading job placed input outcome (of_report contents input outcome known report) (course.progress.pieces ++ fail.piece ∷ []) fail.left all _
-          (begun_last job course.kept old.streams course.mid new.streams input course.progress code last fail) (replied_last job course.kept old.streams course.mid new.streams input course.progress code last fail) in (
+          let front = leading job placed input outcome (of_report contents input outcome known report) fail.ahead.met_end (course.progress.pieces ++ fail.piece ∷ []) fail.left all _
+          (begun_last (running job course.kept course.ahead) old.streams course.mid new.streams input course.progress code last fail) (replied_last (running job course.kept course.ahead) old.streams course.mid new.streams input course.progress code last fail) in (
             part_of old.streams.sinks.output.told new.streams.sinks.output.told all.output front.output outcome.output
-                (broken_output job course.kept old.streams course.mid new.streams input course.progress code (written_of fail.reply) fail.wrote) front.output_is,
+                (broken_output (running job course.kept course.ahead) old.streams course.mid new.streams input course.progress code (written_of fail.reply) fail.wrote) front.output_is,
             inl (part_of old.streams.sinks.notes.told new.streams.sinks.notes.told all.notes front.notes outcome.notes
-                (broken_notes job course.kept old.streams course.mid new.streams input course.progress code (written_of fail.reply) fail.wrote) front.notes_is),
+                (broken_notes (running job course.kept course.ahead) old.streams course.mid new.streams input course.progress code (written_of fail.reply) fail.wrote) front.notes_is),
           )
 
       wanting_fronts : (outcome : Outcome) → Report words contents input outcome → new.streams.sinks ≡ course.mid.sinks → AreFronts outcome
@@ -143,9 +149,9 @@ module _ (words : List (List ℕ)) (old new : Outside) (command : Command) (is_c
       reports_by : IsReported code → (outcome : Outcome) × Report words contents input outcome × (code ≡ outcome.status) × Wrote old.streams.sinks new.streams.sinks (written_in outcome)
       reports_by r = elim course.halts [
         | ended_at e ↦
-            let whole = all_written job course.kept old.streams course.mid new.streams input course.progress code e in
-            let told = reported job course.kept old.streams course.mid new.streams input course.progress code e r in
-            (whole, as_report contents input whole known (is_report job course.kept old.streams course.mid new.streams input course.progress code e), told.0, told.1)
+            let whole = all_written (running job course.kept course.ahead) old.streams course.mid new.streams input course.progress code e in
+            let told = reported (running job course.kept course.ahead) old.streams course.mid new.streams input course.progress code e r in
+            (whole, as_report contents input whole known (is_report (running job course.kept course.ahead) old.streams course.mid new.streams input course.progress code e), told.0, told.1)
         | stalled_at s ↦ absurd (no_fault code status.ReadFault r (λ x. x) (reported_told _ _ course.mid.sinks.notes new.streams.sinks.notes code s.noted r).0)
         | failed_at f c ↦ absurd (no_fault code status.WriteFault r (λ x. x) c)
         | wanting_at f c ↦ absurd (no_fault code status.NoMemory r (λ x. x) c)
@@ -153,13 +159,13 @@ module _ (words : List (List ℕ)) (old new : Outside) (command : Command) (is_c
 
       -- ---- what stands after a fault
 
-      answered : (s : Stalls (record { job = job; kept = course.kept; ended = None }) course.mid new.streams course.progress.left code) →
-          AllAnswered words contents (given job course.kept old.streams course.mid new.streams input course.progress code s) written
+      answered : (s : Stalls (running job course.kept course.ahead) course.mid new.streams course.progress.left code) →
+          AllAnswered words contents (given (running job course.kept course.ahead) old.streams course.mid new.streams input course.progress code s) written
       answered s = record {
         job = job;
         is_job = is_job contents input known;
         pieces = course.progress.pieces;
-        whole = whole_given job course.kept old.streams course.mid new.streams input course.progress code s;
+        whole = whole_given (running job course.kept course.ahead) old.streams course.mid new.streams input course.progress code s;
         kept = course.kept;
         replies = course.progress.replies;
       }
@@ -167,7 +173,7 @@ module _ (words : List (List ℕ)) (old new : Outside) (command : Command) (is_c
       stands_at_read : code ≡ status.ReadFault → StandsAtRead words old new contents
       stands_at_read is = elim course.halts [
         | ended_at e ↦ ended_apart e.end course.kept.refused e.noted
-        | stalled_at s ↦ stalled s (line_told job course.kept old.streams course.mid new.streams input course.progress code s)
+        | stalled_at s ↦ stalled s (line_told (running job course.kept course.ahead) old.streams course.mid new.streams input course.progress code s)
         | failed_at f c ↦ absurd (apart_write (sym is ∙ c))
         | wanting_at f c ↦ absurd (apart_want (sym is ∙ c))
       ]
@@ -184,16 +190,16 @@ module _ (words : List (List ℕ)) (old new : Outside) (command : Command) (is_c
             | failed c p f ↦ absurd (apart_write (sym is ∙ c))
           ]
 
-          stalled : (s : Stalls (record { job = job; kept = course.kept; ended = None }) course.mid new.streams course.progress.left code) →
-              Told (read_line (given job course.kept old.streams course.mid new.streams input course.progress code s)) status.ReadFault course.mid.sinks.notes new.streams.sinks.notes code → StandsAtRead words old new contents
+          stalled : (s : Stalls (running job course.kept course.ahead) course.mid new.streams course.progress.left code) →
+              Told (read_line (given (running job course.kept course.ahead) old.streams course.mid new.streams input course.progress code s)) status.ReadFault course.mid.sinks.notes new.streams.sinks.notes code → StandsAtRead words old new contents
           stalled s told = elim told [
             | noted c a k ↦ (
-              given job course.kept old.streams course.mid new.streams input course.progress code s,
+              given (running job course.kept course.ahead) old.streams course.mid new.streams input course.progress code s,
               written,
-              was_given job course.kept old.streams course.mid new.streams input course.progress code s known.source,
+              was_given (running job course.kept course.ahead) old.streams course.mid new.streams input course.progress code s known.source,
               answered s,
               record {
-                output = answers_written job course.kept old.streams course.mid new.streams input course.progress code s;
+                output = answers_written (running job course.kept course.ahead) old.streams course.mid new.streams input course.progress code s;
                 notes = appends_more old.streams.sinks.notes.told course.mid.sinks.notes.told new.streams.sinks.notes.told written.notes _ course.progress.wrote.notes a;
               },
             )
@@ -203,20 +209,22 @@ module _ (words : List (List ℕ)) (old new : Outside) (command : Command) (is_c
       stands_at_write : code ≡ status.WriteFault → StandsAtWrite words old new contents input
       stands_at_write is = elim course.halts [
         | ended_at e ↦
-            let whole = all_written job course.kept old.streams course.mid new.streams input course.progress code e in
-            at_end whole (as_report contents input whole known (is_report job course.kept old.streams course.mid new.streams input course.progress code e))
-            (output_whole job course.kept old.streams course.mid new.streams input course.progress code e) (notes_part job course.kept old.streams course.mid new.streams input course.progress code e)
-        | stalled_at s ↦ at_read (given job course.kept old.streams course.mid new.streams input course.progress code s) written
-            (was_given job course.kept old.streams course.mid new.streams input course.progress code s known.source) (answered s)
-            (answers_written job course.kept old.streams course.mid new.streams input course.progress code s) (line_part job course.kept old.streams course.mid new.streams input course.progress code s)
+            let whole = all_written (running job course.kept course.ahead) old.streams course.mid new.streams input course.progress code e in
+            at_end whole (as_report contents input whole known (is_report (running job course.kept course.ahead) old.streams course.mid new.streams input course.progress code e))
+            (output_whole (running job course.kept course.ahead) old.streams course.mid new.streams input course.progress code e) (notes_part (running job course.kept course.ahead) old.streams course.mid new.streams input course.progress code e)
+        | stalled_at s ↦ at_read (given (running job course.kept course.ahead) old.streams course.mid new.streams input course.progress code s) written
+            (was_given (running job course.kept course.ahead) old.streams course.mid new.streams input course.progress code s known.source) (answered s)
+            (answers_written (running job course.kept course.ahead) old.streams course.mid new.streams input course.progress code s) (line_part (running job course.kept course.ahead) old.streams course.mid new.streams input course.progress code s)
         | failed_at f c ↦ at_reply (record {
           job = job;
           is_job = is_job contents input known;
           pieces = course.progress.pieces;
           last = f.piece;
           left = f.left;
+          ahead = f.ahead;
+          only_lines = f.only_lines;
           source = f.source;
-          begins = begun_last job course.kept old.streams course.mid new.streams input course.progress code (λ reply. Breaks course.mid.sinks new.streams.sinks (written_of reply)) f;
+          begins = begun_last (running job course.kept course.ahead) old.streams course.mid new.streams input course.progress code (λ reply. Breaks course.mid.sinks new.streams.sinks (written_of reply)) f;
           kept = course.kept;
           written = written;
           replies = course.progress.replies;
@@ -263,7 +271,7 @@ module _ (words : List (List ℕ)) (old new : Outside) (command : Command) (is_c
       runs_read words old new (d.causes.read refl) (λ contents input known. stands_at_read status.ReadFault d contents input known refl) (fronts status.ReadFault d) (touched_by status.ReadFault d)
   carried status.WriteFault files d =
       runs_write words old new (d.causes.write refl) (λ contents input known. stands_at_write status.WriteFault d contents input known refl) (fronts status.WriteFault d) (touched_by status.WriteFault d)
-  carried status.NoMemory files d = runs_wanting words old new (fronts status.NoMemory d) (λ takes. absurd (apart (sym (sym reads ∙ takes) ∙ d.memory refl))) (touched_by status.NoMemory d)
+  carried status.NoMemory files d = runs_wanting words old new (fronts status.NoMemory d) (λ takes. absurd (apart (sym (sym reads_so ∙ takes) ∙ d.memory refl))) (touched_by status.NoMemory d)
   carried status.Usage files d = absurd d.causes.late
   carried status.SchemaRefused files d = absurd d.causes.late
   carried status.MapRefused files d = absurd d.causes.late

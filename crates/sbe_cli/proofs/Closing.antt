@@ -14,34 +14,38 @@ use Rattle.frame_stream.specs.declared.held.Ended.TheVariants as ended
 use Rattle.frame_stream.specs.declared.stream.Taken.TheVariants as taken
 use Rattle.frame_stream.specs.declared.stream.StreamErr.TheVariants as err
 use Rattle.frame_stream.specs.Stream.{StreamState, told_by, Takes, TakeCause}
-use Rattle.sbe_cli.specs.Splits.{Once, Whole, End, Splits, Begins}
-use Rattle.sbe_cli.specs.Replies.{Written, Reply, counted_by, written_of}
+use Rattle.command_jobs.specs.Splits.{Once, Whole, End, Splits, Begins}
+use Rattle.replies.specs.Reply.{Written, Reply, written_of}
+use Rattle.command_jobs.specs.Replies.{counted_by, reply_of, whole_reply}
 use Rattle.sbe_cli.specs.Report.{end_notes, end_status, done_status}
 use Rattle.sbe_cli.specs.Stops.{stop_line, stop_status}
-use Rattle.sbe_cli.specs.Outside.{Object, Sinks, Streams, Breaks, at_output, at_notes, Failed, Told, noted, failed}
-use Rattle.sbe_cli.specs.Steps.{PumpState, IsReadyFrame, behind, IsStepStatus, Fails, Halts, ended_at, failed_at, wanting_at, Causes}
-use Rattle.sbe_cli.specs.Drafts.{Delivers, DeliversDraft}
-use Rattle.sbe_cli.specs.Pumps.{Stands, StandsOnce, CanCount, reply_of, whole_reply, once_pump, Answers}
-use Rattle.sbe_cli.specs.declared.job.FrameJob.{FrameJob}
-use Rattle.sbe_cli.specs.declared.job.OnceJob.{OnceJob}
-use Rattle.sbe_cli.specs.declared.job.Verdict.{Verdict}
-use Rattle.sbe_cli.specs.declared.pump.Kept.{Kept}
+use Rattle.replies.specs.Outside.{Object, Sinks, Streams, Breaks, at_output, at_notes, Failed, Told, noted, failed}
+use Rattle.sbe_cli.specs.Steps.{PumpState, behind, IsStepStatus, Fails, Halts, ended_at, failed_at, wanting_at, Causes}
+use Rattle.command_jobs.specs.Jobs.{IsReadyFrame}
+use Rattle.replies.specs.Drafts.{Delivers, DeliversDraft}
+use Rattle.sbe_cli.specs.Pumps.{Stands, StandsOnce, CanCount, once_pump, Answers}
+use Rattle.command_jobs.specs.declared.job.FrameJob.{FrameJob}
+use Rattle.command_jobs.specs.declared.job.OnceJob.{OnceJob}
+use Rattle.replies.specs.declared.verdict.Verdict.{Verdict}
+use Rattle.command_jobs.specs.declared.kept.Kept.{Kept}
 use Rattle.sbe_cli.specs.declared.stop.Stop.{Stop}
 use Rattle.sbe_cli.specs.declared.stop.Stop.TheVariants as stop
-use Rattle.sbe_cli.proofs.Folding.{whole_replied}
+use Rattle.sbe_cli.specs.Ahead.{none_ahead}
+use Rattle.sbe_cli.proofs.Following.{told_of, follows_all}
+use Rattle.command_jobs.proofs.Folding.{whole_replied}
 use Rattle.sbe_cli.proofs.Splitting.{once_none, once_one}
 use Rattle.sbe_cli.proofs.Stepping.{refused_one, translated_one, piece_end, pump, ends, stalls_at, fails, goes}
 
 -- ---- the statuses of the ends
 
 -- a status of an end is a step's, and no fault
-record IsEnd (code : Status) : Type 0 where
-  step : IsStepStatus code
-  memory : code ≡ status.NoMemory → ⊥
-  write : code ≡ status.WriteFault → ⊥
-  read : code ≡ status.ReadFault → ⊥
+pub record IsEnd (code : Status) : Type 0 where
+  pub step : IsStepStatus code
+  pub memory : code ≡ status.NoMemory → ⊥
+  pub write : code ≡ status.WriteFault → ⊥
+  pub read : code ≡ status.ReadFault → ⊥
 
-done_is : (some : Bool) → IsEnd (cond some status.SomeRefused status.Done)
+pub done_is : (some : Bool) → IsEnd (cond some status.SomeRefused status.Done)
 done_is true = record { step = tt; memory = λ h. cc; write = λ h. cc; read = λ h. cc }
 done_is false = record { step = tt; memory = λ h. cc; write = λ h. cc; read = λ h. cc }
 
@@ -52,7 +56,7 @@ end_is (ended.Head h) refused = record { step = tt; memory = λ h. cc; write = �
 end_is ended.Over refused = record { step = tt; memory = λ h. cc; write = λ h. cc; read = λ h. cc }
 
 -- nothing more is noted
-wrote_none : (old new : Sinks) → new ≡ old → Appends old.notes.told new.notes.told []
+pub wrote_none : (old new : Sinks) → new ≡ old → Appends old.notes.told new.notes.told []
 wrote_none old new same = subst (λ (s : Sinks). Appends old.notes.told s.notes.told []) (sym same) (Appends-nil old.notes.told)
 
 noted_none : (old new : Object (List ℕ)) (notes : List ℕ) → new ≡ old → notes ≡ [] → Appends old.told new.told notes
@@ -62,17 +66,17 @@ noted_none old new notes same none = subst (λ n. Appends old.told new.told n) (
 
 module _ (before after : Streams) where
   -- a write failed, or memory was wanting
-  write_causes : (code : Status) → code ≡ status.WriteFault → Failed before.sinks.output after.sinks.output ⊎ Failed before.sinks.notes after.sinks.notes → Causes before after code
+  pub write_causes : (code : Status) → code ≡ status.WriteFault → Failed before.sinks.output after.sinks.output ⊎ Failed before.sinks.notes after.sinks.notes → Causes before after code
   write_causes code is fault = subst (λ (s : Status). Causes before after s) (sym is) (record { calm = λ r. absurd r; read = λ e. cc; write = λ e. fault; late = tt })
 
-  want_causes : (code : Status) → code ≡ status.NoMemory → Causes before after code
+  pub want_causes : (code : Status) → code ≡ status.NoMemory → Causes before after code
   want_causes code is = subst (λ (s : Status). Causes before after s) (sym is) (record { calm = λ r. absurd r; read = λ e. cc; write = λ e. cc; late = tt })
 
-  break_causes : (code : Status) (written : Written) → code ≡ status.WriteFault → Breaks before.sinks after.sinks written → Causes before after code
+  pub break_causes : (code : Status) (written : Written) → code ≡ status.WriteFault → Breaks before.sinks after.sinks written → Causes before after code
   break_causes code written is breaks = write_causes code is (elim breaks [ at_output p s f ↦ inl f | at_notes a s p f ↦ inr f ])
 
   -- an end that was told
-  end_causes : (code : Status) (line : List ℕ) (last : Status) → IsEnd last → after.input.faults ≡ before.input.faults → after.sinks.output ≡ before.sinks.output →
+  pub end_causes : (code : Status) (line : List ℕ) (last : Status) → IsEnd last → after.input.faults ≡ before.input.faults → after.sinks.output ≡ before.sinks.output →
       Told line last before.sinks.notes after.sinks.notes code → Causes before after code
   end_causes code line last is input output told = elim told [
     | noted c a k ↦ record {
@@ -95,7 +99,7 @@ module _ (before after : Streams) where
       apart_write e = cc
 
   -- a read that failed
-  read_causes : (code : Status) (line : List ℕ) → Failed before.input after.input → Told line status.ReadFault before.sinks.notes after.sinks.notes code → Causes before after code
+  pub read_causes : (code : Status) (line : List ℕ) → Failed before.input after.input → Told line status.ReadFault before.sinks.notes after.sinks.notes code → Causes before after code
   read_causes code line fault told = elim told [
     | noted c a k ↦ subst (λ (s : Status). Causes before after s) (sym c) (record { calm = λ r. absurd r; read = λ e. fault; write = λ e. cc; late = tt })
     | failed c p f ↦ write_causes code c (inr f)
@@ -105,13 +109,13 @@ module _ (before after : Streams) where
 
 module _ (job : FrameJob) (limits : Limits) (kept : Kept) (before after : Streams) where
   closed : (code : Status) → ((input : List ℕ) → before.input.told ≡ Some input → Halts (pump job limits kept) before after input code) → Causes before after code → (code ≡ status.NoMemory → ⊥) →
-      Answers (pump job limits kept) before after (Err code)
-  closed code halts causes never = record { halts = halts; causes = causes; kept = refl; memory = λ e. absurd (never e); unread = λ none. cc }
+      Answers (pump job limits kept) none_ahead before after (Err code)
+  closed code halts causes never = record { halts = λ i follows. halts i (told_of before.input.told i follows); causes = causes; kept = refl; memory = λ e. absurd (never e); unread = λ none. cc }
 
   module _ (st st' : StreamState) (stands : Stands limits st kept) where
     -- an end that needs no note
     pub closed_end : (code : Status) → Takes st st' before.input.told after.input.told (Ok taken.End) → after.input.faults ≡ before.input.faults → after.sinks ≡ before.sinks →
-        code ≡ done_status kept.refused → Answers (pump job limits kept) before after (Err code)
+        code ≡ done_status kept.refused → Answers (pump job limits kept) none_ahead before after (Err code)
     closed_end code takes input sinks done =
         let output = ap (λ s. s.output) sinks in
         let told : Told [] (end_status End kept.refused) before.sinks.notes after.sinks.notes code =
@@ -123,7 +127,7 @@ module _ (job : FrameJob) (limits : Limits) (kept : Kept) (before after : Stream
     -- an end that is noted
     pub closed_with : (e : Ended) (s : Stop) (code : Status) → Takes st st' before.input.told after.input.told (told_by e) → after.input.faults ≡ before.input.faults → after.sinks.output ≡ before.sinks.output →
         stop_line s ≡ end_notes (piece_end e) kept.bytes limits.input → stop_status s ≡ end_status (piece_end e) kept.refused →
-        Told (stop_line s) (stop_status s) before.sinks.notes after.sinks.notes code → Answers (pump job limits kept) before after (Err code)
+        Told (stop_line s) (stop_status s) before.sinks.notes after.sinks.notes code → Answers (pump job limits kept) none_ahead before after (Err code)
     closed_with e s code takes input output line last told =
         let heard : Told (end_notes (piece_end e) kept.bytes limits.input) (end_status (piece_end e) kept.refused) before.sinks.notes after.sinks.notes code =
         subst (λ (c : Status). Told (end_notes (piece_end e) kept.bytes limits.input) c before.sinks.notes after.sinks.notes code) last (subst (λ l. Told l (stop_status s) before.sinks.notes after.sinks.notes code) line told) in
@@ -134,7 +138,7 @@ module _ (job : FrameJob) (limits : Limits) (kept : Kept) (before after : Stream
     -- a read that failed
     pub closed_read : (code : Status) → Takes st st' before.input.told after.input.told (Err err.ReadFault) → first_item st'.frame st'.held ≡ None →
         TakeCause before.input.faults after.input.faults (Err err.ReadFault) → after.sinks.output ≡ before.sinks.output →
-        Told (stop_line (stop.ReadFault st'.taken)) status.ReadFault before.sinks.notes after.sinks.notes code → Answers (pump job limits kept) before after (Err code)
+        Told (stop_line (stop.ReadFault st'.taken)) status.ReadFault before.sinks.notes after.sinks.notes code → Answers (pump job limits kept) none_ahead before after (Err code)
     closed_read code takes none cause output told =
         let fault : Failed before.input after.input = record { rose = cause.1; later = cause.0 } in
         closed code (λ i source. stalls_at job limits kept st st' stands before after code i takes none fault output told source)
@@ -147,14 +151,14 @@ module _ (job : FrameJob) (limits : Limits) (kept : Kept) (before after : Stream
 
       -- a frame whose answer is written
       pub went : (verdict : Verdict) → Delivers reply before.sinks.output after.sinks.output (Ok verdict) → after.sinks.notes ≡ before.sinks.notes → after.input.faults ≡ before.input.faults →
-          Answers (pump job limits kept) before after (Ok (record { bytes = h.length; verdict = verdict }))
+          Answers (pump job limits kept) none_ahead before after (Ok (record { bytes = h.length; verdict = verdict }))
       went verdict wrote notes input =
-          subst (λ (v : Verdict). Answers (pump job limits kept) before after (Ok (record { bytes = h.length; verdict = v }))) (sym wrote.3)
+          subst (λ (v : Verdict). Answers (pump job limits kept) none_ahead before after (Ok (record { bytes = h.length; verdict = v }))) (sym wrote.3)
           (goes job limits kept st st' stands before after status.Done h takes size ready (record { output = wrote.0; notes = noted_none before.sinks.notes after.sinks.notes reply.notes notes wrote.2 })
           (record { input = input; output = wrote.1; notes = ap (λ (o : Object (List ℕ)). o.faults) notes }))
 
       -- a frame whose answer is written in part
-      pub stopped : (e : WriteFault) → Delivers reply before.sinks.output after.sinks.output (Err e) → after.sinks.notes ≡ before.sinks.notes → Answers (pump job limits kept) before after (Err status.WriteFault)
+      pub stopped : (e : WriteFault) → Delivers reply before.sinks.output after.sinks.output (Err e) → after.sinks.notes ≡ before.sinks.notes → Answers (pump job limits kept) none_ahead before after (Err status.WriteFault)
       stopped e wrote notes =
           let b : Breaks before.sinks after.sinks (written_of reply) = at_output wrote.0 notes wrote.1 in
           closed status.WriteFault (λ i source. failed_at (fails job limits kept st st' stands before after status.WriteFault h takes size ready i (λ r. Breaks before.sinks after.sinks (written_of r)) b source) refl)
@@ -166,14 +170,14 @@ module _ (job : OnceJob) (kept : Kept) (stands : StandsOnce kept) (before after 
   abbrev pub whole : PumpState
   whole = once_pump job kept
 
-  closed_once : (code : Status) → ((input : List ℕ) → before.input.told ≡ Some input → Halts whole before after input code) → Causes before after code → Answers whole before after (Err code)
-  closed_once code halts causes = record { halts = halts; causes = causes; kept = refl; memory = λ e. refl; unread = λ none. same }
+  closed_once : (code : Status) → ((input : List ℕ) → before.input.told ≡ Some input → Halts whole before after input code) → Causes before after code → Answers whole none_ahead before after (Err code)
+  closed_once code halts causes = record { halts = λ i follows. halts i (told_of before.input.told i follows); causes = causes; kept = refl; memory = λ e. refl; unread = λ none. same }
 
   source_so : (input : List ℕ) → before.input.told ≡ Some input → after.input.told ≡ Some input
   source_so input source = ap (λ o. o.told) same ∙ source
 
   -- the job was done before
-  pub done_once : (code : Status) → 0 < kept.items → after.sinks ≡ before.sinks → code ≡ done_status kept.refused → Answers whole before after (Err code)
+  pub done_once : (code : Status) → 0 < kept.items → after.sinks ≡ before.sinks → code ≡ done_status kept.refused → Answers whole none_ahead before after (Err code)
   done_once code some sinks done =
       let output = ap (λ s. s.output) sinks in
       let one : kept.items ≡ 1 = omega (arith, stands.items, some) in
@@ -188,13 +192,15 @@ module _ (job : OnceJob) (kept : Kept) (stands : StandsOnce kept) (before after 
     begins_whole : (input : List ℕ) → Begins (behind Once kept) input (Whole ∷ []) input
     begins_whole input = subst (λ r. Begins r input (Whole ∷ []) input) (sym (once_none kept none)) (inr refl, refl)
 
-    pub went_once : (verdict : Verdict) → DeliversDraft (whole_reply job) before.sinks after.sinks (Ok verdict) → Answers whole before after (Ok (record { bytes = 0; verdict = verdict }))
+    pub went_once : (verdict : Verdict) → DeliversDraft (whole_reply job) before.sinks after.sinks (Ok verdict) → Answers whole none_ahead before after (Ok (record { bytes = 0; verdict = verdict }))
     went_once verdict wrote = record {
-      answers = λ input source. record {
+      unmet = refl;
+      ahead = refl;
+      answers = λ input follows. record {
         piece = Whole;
         reply = whole_reply job;
         left = input;
-        source = source_so input source;
+        source = follows_all after.input.told input (source_so input (told_of before.input.told input follows));
         taken = begins_whole input;
         replied = whole_replied job;
         wrote = wrote.0.0;
@@ -215,13 +221,16 @@ module _ (job : OnceJob) (kept : Kept) (stands : StandsOnce kept) (before after 
       piece = Whole;
       reply = whole_reply job;
       left = input;
-      source = source_so input source;
+      unmet = refl;
+      ahead = none_ahead;
+      only_lines = refl;
+      source = follows_all after.input.told input (source_so input source);
       taken = begins_whole input;
       replied = whole_replied job;
       wrote = wrote;
     }
 
-    pub stopped_once : (code : Status) → DeliversDraft (whole_reply job) before.sinks after.sinks (Err code) → Answers whole before after (Err code)
+    pub stopped_once : (code : Status) → DeliversDraft (whole_reply job) before.sinks after.sinks (Err code) → Answers whole none_ahead before after (Err code)
     stopped_once code d = elim d [
       | inl b ↦ closed_once code (λ i source. failed_at (fails_once i (λ r. Breaks before.sinks after.sinks (written_of r)) b.1 source) b.0) (break_causes before after code (written_of (whole_reply job)) b.0 b.1)
       | inr w ↦ closed_once code (λ i source. wanting_at (fails_once i (λ r. after.sinks ≡ before.sinks) w.1 source) w.0) (want_causes before after code w.0)

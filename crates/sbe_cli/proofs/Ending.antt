@@ -5,16 +5,17 @@ use Rattle.std.proofs.KnownBytes.{Appends-nil}
 use Rattle.sbe_base.specs.Causes.{AppendsPart}
 use Rattle.sbe_base.specs.declared.status.Status.{Status}
 use Rattle.sbe_base.specs.declared.status.Status.TheVariants as status
-use Rattle.sbe_cli.specs.Words.{command_of}
+use Rattle.command_words.specs.Words.{command_of}
 use Rattle.sbe_cli.specs.Report.{Outcome, CommandReport, Report, only_noted}
-use Rattle.sbe_cli.specs.Stops.{stop_line, refusal_line, refusal_status, usage_line}
-use Rattle.sbe_cli.specs.Outside.{Object, Desk, Streams, Outside, Failed, Told, noted, failed}
+use Rattle.sbe_cli.specs.Stops.{stop_line, usage_line}
+use Rattle.schema_files.specs.Refusals.{refusal_line, refusal_status}
+use Rattle.replies.specs.Outside.{Object, Desk, Streams, Outside, Failed, Told, noted, failed}
 use Rattle.sbe_cli.specs.Steps.{PumpState, Opens, JudgedAs, Declines, refuses, fails, wants, IsReported, Drains}
 use Rattle.sbe_cli.specs.Runs.{desk, Known, NamesFile, at_end, at_file, NotesPart, Fronts, HasRead, Runs, CarriesOut}
-use Rattle.sbe_cli.specs.declared.files.FileRole.{FileRole}
-use Rattle.sbe_cli.specs.declared.files.RefusedFile.{RefusedFile}
+use Rattle.schema_files.specs.declared.files.FileRole.{FileRole}
+use Rattle.schema_files.specs.declared.files.RefusedFile.{RefusedFile}
 use Rattle.sbe_cli.specs.declared.stop.Stop.TheVariants as stop
-use Rattle.sbe_cli.specs.declared.words.Command.{Command}
+use Rattle.command_words.specs.declared.words.Command.{Command}
 use Rattle.sbe_cli.proofs.Reporting.{one_report}
 use Rattle.sbe_cli.proofs.Standing.{whole_part}
 use Rattle.sbe_cli.proofs.Carrying.{carried}

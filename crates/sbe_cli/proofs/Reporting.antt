@@ -2,25 +2,28 @@
 use Rattle.std.proofs.Common.{◌≡◌, ℕ, List, Option, Some, None, Result, Ok, Err, refl, sym, ap, ◌∙◌, subst}
 use Rattle.sbe_types.specs.declared.schema.WireSchema.{WireSchema}
 use Rattle.open_framing.specs.Heads.{IsBytes}
-use Rattle.sbe_cli.specs.Splits.{Piece, PieceEnd}
-use Rattle.sbe_cli.specs.Replies.{Written, reading_of, none_kept, Replies}
-use Rattle.sbe_cli.specs.Report.{Outcome, two_judged, Judges, closed, JobReport, JudgedReport, CommandReport, Report}
-use Rattle.sbe_cli.specs.Words.{command_of}
-use Rattle.sbe_cli.specs.Judged.{file_schema, refused_as, JudgesSchemas}
+use Rattle.command_jobs.specs.Splits.{Piece, PieceEnd}
+use Rattle.replies.specs.Reply.{Written}
+use Rattle.command_jobs.specs.Replies.{reading_of, none_kept, Replies}
+use Rattle.sbe_cli.specs.Report.{Outcome, closed, JobReport, JudgedReport, CommandReport, Report}
+use Rattle.command_jobs.specs.Jobs.{two_judged, Judges}
+use Rattle.command_words.specs.Words.{command_of}
+use Rattle.schema_files.specs.Judged.{file_schema, refused_as, JudgesSchemas}
 use Rattle.dump_lines.specs.declared.schemas.Schemas.{Schemas}
-use Rattle.sbe_cli.specs.declared.files.FileRefusal.{FileRefusal}
-use Rattle.sbe_cli.specs.declared.files.FileRole.TheVariants as role
-use Rattle.sbe_cli.specs.declared.files.RefusedFile.{RefusedFile}
-use Rattle.sbe_cli.specs.declared.job.Job.{Job}
-use Rattle.sbe_cli.specs.declared.job.Job.TheVariants as jobs
-use Rattle.sbe_cli.specs.declared.job.FrameJob.TheVariants as frames
-use Rattle.sbe_cli.specs.declared.job.OnceJob.TheVariants as once
-use Rattle.sbe_cli.specs.declared.pump.Kept.{Kept}
-use Rattle.sbe_cli.specs.declared.words.Command.{Command}
-use Rattle.sbe_cli.specs.declared.words.Command.TheVariants.{Check, Compat, Dump}
-use Rattle.sbe_cli.proofs.Judging.{schemas_once, schemas_some, schemas_good}
+use Rattle.schema_files.specs.declared.files.FileRefusal.{FileRefusal}
+use Rattle.schema_files.specs.declared.files.FileRole.TheVariants as role
+use Rattle.schema_files.specs.declared.files.RefusedFile.{RefusedFile}
+use Rattle.command_jobs.specs.declared.job.Job.{Job}
+use Rattle.command_jobs.specs.declared.job.Job.TheVariants as jobs
+use Rattle.command_jobs.specs.declared.job.FrameJob.TheVariants as frames
+use Rattle.command_jobs.specs.declared.job.LineJob.TheVariants as lines
+use Rattle.command_jobs.specs.declared.job.OnceJob.TheVariants as once
+use Rattle.command_jobs.specs.declared.kept.Kept.{Kept}
+use Rattle.command_words.specs.declared.words.Command.{Command}
+use Rattle.command_words.specs.declared.words.Command.TheVariants.{Check, Compat, Dump, Build}
+use Rattle.schema_files.proofs.Judging.{file_checked, schemas_once, schemas_some, schemas_good}
 use Rattle.sbe_cli.proofs.Splitting.{splits_once, splits_some}
-use Rattle.sbe_cli.proofs.Folding.{IsPlacedJob, replies_once, replies_some, splits_suit}
+use Rattle.command_jobs.proofs.Folding.{IsPlacedJob, replies_once, replies_some, splits_suit}
 
 -- ---- a job has one report
 
@@ -72,6 +75,10 @@ judged_once (Dump name also limits) contents (Ok x) (Ok y) h k =
 judged_once (Dump name also limits) contents (Ok x) (Err f) h k = absurd (all_never (schemas_once contents name also (Ok h.0) (Err f) h.1 k))
 judged_once (Dump name also limits) contents (Err f) (Ok y) h k = absurd (all_never (schemas_once contents name also (Ok k.0) (Err f) k.1 h))
 judged_once (Dump name also limits) contents (Err f) (Err g) h k = ap Err (file_same (schemas_once contents name also (Err f) (Err g) h k))
+judged_once (Build name limits) contents (Ok x) (Ok y) h k = ap Ok (h.2 ∙ ap (λ (s : WireSchema). jobs.Lines (lines.Build s) limits) (ok_same (sym h.1 ∙ k.1)) ∙ sym k.2)
+judged_once (Build name limits) contents (Ok x) (Err f) h k = absurd (never (sym h.1 ∙ k.1))
+judged_once (Build name limits) contents (Err f) (Ok y) h k = absurd (never (sym k.1 ∙ h.1))
+judged_once (Build name limits) contents (Err f) (Err g) h k = ap Err (h.2 ∙ ap (refused_as role.Schema) (err_same (sym h.1 ∙ k.1)) ∙ sym k.2)
 
 pub some_judged : (command : Command) (contents : List ℕ → Option (List ℕ)) → (r : Result Job RefusedFile) × Judges command contents r
 some_judged (Check name) contents = by (file_schema (contents name)) refl
@@ -85,6 +92,11 @@ some_judged (Dump name also limits) contents = by (schemas_some contents name al
     by : (r : Result Schemas RefusedFile) × JudgesSchemas contents name also r → (judged : Result Job RefusedFile) × Judges (Dump name also limits) contents judged
     by (Ok schemas, h) = (Ok (jobs.Frames (frames.Dump schemas) limits), (schemas, h, refl))
     by (Err f, h) = (Err f, h)
+some_judged (Build name limits) contents = by (file_schema (contents name)) refl
+  where
+    by : (r : Result WireSchema FileRefusal) → file_schema (contents name) ≡ r → (judged : Result Job RefusedFile) × Judges (Build name limits) contents judged
+    by (Ok schema) h = (Ok (jobs.Lines (lines.Build schema) limits), (schema, h, refl))
+    by (Err f) h = (Err (refused_as role.Schema f), (f, h, refl))
 
 pub judged_placed : (command : Command) (contents : List ℕ → Option (List ℕ)) (job : Job) → Judges command contents (Ok job) → IsPlacedJob job
 judged_placed (Check name) contents job h = subst IsPlacedJob (sym h.2) tt
@@ -95,6 +107,7 @@ judged_placed (Compat older newer) contents job h = two_placed (file_schema (con
     two_placed (Ok first) (Err why) e = cc
     two_placed (Ok first) (Ok second) e = subst IsPlacedJob (sym (job_same e)) tt
 judged_placed (Dump name also limits) contents job h = subst IsPlacedJob (sym h.2) (schemas_good contents name also h.0 h.1)
+judged_placed (Build name limits) contents job h = subst IsPlacedJob (sym h.2) (file_checked (contents name) h.0 h.1)
 
 -- ---- there is one report
 

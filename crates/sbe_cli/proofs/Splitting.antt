@@ -1,21 +1,23 @@
 -- Pieces at the front of an input are the first of those that it splits into.
-use Rattle.std.proofs.Common.{◌≡◌, ◌⊎◌, inl, inr, Bool, true, false, cond, ℕ, ◌+◌, ◌-◌, ◌≤◌, List, [], ◌∷◌, ◌++◌, length, take, map, Option, Some, None, refl, sym, ap, ◌∙◌, subst, arith, append_assoc, length-append}
+use Rattle.std.proofs.Common.{◌≡◌, ◌⊎◌, inl, inr, Bool, true, false, cond, ℕ, zero, suc, ◌+◌, ◌-◌, ◌≤◌, ◌<◌, List, [], ◌∷◌, ◌++◌, length, take, map, Option, Some, None, refl, sym, ap, ◌∙◌, subst, arith, append_assoc, length-append}
 use Rattle.std.specs.Prelude.{nat_lt, ◌==◌}
 use Rattle.std.proofs.lemmas.Bool.Decides.{nat_tests}
 use Rattle.std.specs.List.{AllByRecursion}
-use Rattle.std.proofs.lemmas.List.{append_cancel_left}
+use Rattle.std.proofs.lemmas.List.{append-nil, append_cancel_left}
 use Rattle.std.proofs.lemmas.List.Concat.{flat_map-append}
 use Rattle.std.proofs.Math.Seq.{take-append-add}
 use Rattle.open_framing.specs.Heads.{IsBytes}
 use Rattle.open_framing.specs.Pieces.{Pieces, joined}
 use Rattle.open_framing.specs.Frames.{Item, frame_of, IsFrame, first_item, Cut, CutEnd, cut_of}
+use Rattle.open_framing.specs.Frames as frames
 use Rattle.open_framing.specs.Lines.{IsLine, LineEnd, first_line, lines_of}
 use Rattle.open_framing.specs.Lines as lines
 use Rattle.open_framing.proofs.FrameLemmas.{cut_more, cut_once, cut_found, frame_complete}
 use Rattle.open_framing.proofs.LineLemmas.{lines_once, lines_found, lines_more, line_complete}
-use Rattle.sbe_cli.specs.Splits.{Reading, Frames, Lines, Once, Nothing, Piece, Frame, Line, Whole, piece_bytes, PieceEnd, End, frames_end, lines_end, Splits, Leads, Begins, Holds}
+use Rattle.command_jobs.specs.Splits.{Reading, Frames, Lines, Once, Nothing, Piece, Frame, Line, Whole, piece_bytes, ended_piece, line_pieces, PieceEnd, End, frames_end, lines_end, Splits, Leads, Begins, Holds}
+use Rattle.sbe_cli.specs.Ahead.{Reaches}
 use Rattle.sbe_cli.specs.Steps.{behind}
-use Rattle.sbe_cli.specs.declared.pump.Kept.{Kept}
+use Rattle.command_jobs.specs.declared.kept.Kept.{Kept}
 
 -- ---- there is one way to split, and there is one
 
@@ -31,7 +33,7 @@ splits_once (Frames limits) stream xs ys a b h k =
     (h.3 ∙ ap (map Frame) same.0 ∙ sym k.3, h.4 ∙ ap frames_end same.1 ∙ sym k.4)
 splits_once (Lines input) stream xs ys a b h k =
     let same = lines_once stream input h.0 k.0 h.1 k.1 h.2 k.2 in
-    (h.3 ∙ ap (map Line) same.0 ∙ sym k.3, h.4 ∙ ap lines_end same.1 ∙ sym k.4)
+    (h.3 ∙ ap (line_pieces (length stream)) same.0 ∙ sym k.3, h.4 ∙ ap lines_end same.1 ∙ sym k.4)
 splits_once Once stream xs ys a b h k = (h.0 ∙ sym k.0, h.1 ∙ sym k.1)
 splits_once Nothing stream xs ys a b h k = (h.0 ∙ sym k.0, h.1 ∙ sym k.1)
 
@@ -41,7 +43,7 @@ splits_some (Frames limits) stream good =
     (map Frame cut.0, frames_end cut.1, (cut.0, cut.1, cut_found stream limits.frame limits.input good, refl, refl))
 splits_some (Lines input) stream good =
     let cut = lines_of stream input in
-    (map Line cut.0, lines_end cut.1, (cut.0, cut.1, lines_found stream input, refl, refl))
+    (line_pieces (length stream) cut.0, lines_end cut.1, (cut.0, cut.1, lines_found stream input, refl, refl))
 splits_some Once stream good = (Whole ∷ [], End, (refl, refl))
 splits_some Nothing stream good = ([], End, (refl, refl))
 
@@ -88,6 +90,34 @@ map_more : {X Y : Type 0} (f : X → Y) (xs ys : List X) → map f (xs ++ ys) �
 map_more f [] ys = refl
 map_more f (x ∷ xs) ys = ap (λ r. f x ∷ r) (map_more f xs ys)
 
+-- ---- lines as pieces
+
+-- a byte more is there
+pub has_end : (line : List ℕ) (count : ℕ) → length line < count → nat_lt (length line) count ≡ true
+has_end line count h = grind (arith, nat_tests, h)
+
+pub ended_size : (line : List ℕ) → length (lines.ended line) ≡ length line + 1
+ended_size line = omega (arith, length-append line (lines.line_end ∷ []))
+
+same_line : (line : List ℕ) (more : List Piece) (t u : Bool) → t ≡ u → ◌≡◌ {A = List Piece} (Line line t ∷ more) (Line line u ∷ more)
+same_line line more t u e = ap (λ b. Line line b ∷ more) e
+
+-- lines whose ends are there, and then those of the rest
+pieces_counted : (all more : List (List ℕ)) (count rest : ℕ) → count ≡ length (joined lines.ended all) + rest → line_pieces count (all ++ more) ≡ map ended_piece all ++ line_pieces rest more
+pieces_counted [] more count rest e = let same : count ≡ rest = omega (arith, e) in ap (λ n. line_pieces n more) same
+pieces_counted (x ∷ all) more count rest e =
+    let size : length (joined lines.ended (x ∷ all)) ≡ (length x + 1) + length (joined lines.ended all) = length-append (lines.ended x) (joined lines.ended all) ∙ ap (λ n. n + length (joined lines.ended all)) (ended_size x) in
+    let there : length x < count = omega (arith, e, size) in
+    let left : count - (length x + 1) ≡ length (joined lines.ended all) + rest = omega (arith, e, size) in
+    same_line x (line_pieces (count - (length x + 1)) (all ++ more)) (nat_lt (length x) count) true (has_end x count there)
+    ∙ ap (λ z. ended_piece x ∷ z) (pieces_counted all more (count - (length x + 1)) rest left)
+
+pub pieces_on : (all more : List (List ℕ)) (stream rest : List ℕ) → stream ≡ joined lines.ended all ++ rest → line_pieces (length stream) (all ++ more) ≡ map ended_piece all ++ line_pieces (length rest) more
+pieces_on all more stream rest e = pieces_counted all more (length stream) (length rest) (ap length e ∙ length-append (joined lines.ended all) rest)
+
+pub pieces_ended : (all : List (List ℕ)) (stream rest : List ℕ) → stream ≡ joined lines.ended all ++ rest → line_pieces (length stream) all ≡ map ended_piece all
+pieces_ended all stream rest e = ap (line_pieces (length stream)) (sym (append-nil all)) ∙ pieces_on all [] stream rest e ∙ append-nil (map ended_piece all)
+
 -- ---- pieces at the front are the first ones
 
 pub begins_first : (reading : Reading) (stream : List ℕ) (xs ys : List Piece) (rest : List ℕ) (end : PieceEnd) → Begins reading stream xs rest → Splits reading stream ys end → (tail : List Piece) × (ys ≡ xs ++ tail)
@@ -99,8 +129,9 @@ begins_first (Lines input) stream xs ys rest end h k =
     let front = taken_front stream (joined lines.ended h.0) rest input h.1.whole h.2 in
     let last = lines.last_of (nat_lt input (length stream)) k.2.rest in
     let found = leads_first IsLine lines.ended first_line line_complete h.0 k.2.before (take input stream) _ k.2.rest front h.1.each k.2.pieces in (
-      map Line (found.0 ++ last.0),
-      k.3 ∙ ap (map Line) (k.2.all ∙ ap (λ z. z ++ last.0) found.1 ∙ append_assoc h.0 found.0 last.0) ∙ map_more Line h.0 (found.0 ++ last.0) ∙ ap (λ z. z ++ map Line (found.0 ++ last.0)) (sym h.3),
+      line_pieces (length rest) (found.0 ++ last.0),
+      k.3 ∙ ap (line_pieces (length stream)) (k.2.all ∙ ap (λ z. z ++ last.0) found.1 ∙ append_assoc h.0 found.0 last.0) ∙ pieces_on h.0 (found.0 ++ last.0) stream rest h.1.whole
+          ∙ ap (λ z. z ++ line_pieces (length rest) (found.0 ++ last.0)) (sym h.3),
     )
 begins_first Once stream xs ys rest end h k = elim h.0 [
   | inl none ↦ (ys, ap (λ z. z ++ ys) (sym none))
@@ -120,7 +151,7 @@ frames_bytes : (items : List Item) → joined piece_bytes (map Frame items) ≡ 
 frames_bytes [] = refl
 frames_bytes (item ∷ items) = ap (λ r. frame_of item ++ r) (frames_bytes items)
 
-lines_bytes : (all : List (List ℕ)) → joined piece_bytes (map Line all) ≡ joined lines.ended all
+lines_bytes : (all : List (List ℕ)) → joined piece_bytes (map ended_piece all) ≡ joined lines.ended all
 lines_bytes [] = refl
 lines_bytes (line ∷ all) = ap (λ r. lines.ended line ++ r) (lines_bytes all)
 
@@ -132,7 +163,7 @@ pub record Counts (kept : Kept) (pieces : List Piece) : Type 0 where
 frames_counted : (kept : Kept) (pieces : List Piece) (items : List Item) → Counts kept pieces → pieces ≡ map Frame items → kept.bytes ≡ length (joined frame_of items)
 frames_counted kept pieces items c e = c.bytes ∙ ap (λ ps. length (joined piece_bytes ps)) e ∙ ap length (frames_bytes items)
 
-lines_counted : (kept : Kept) (pieces : List Piece) (all : List (List ℕ)) → Counts kept pieces → pieces ≡ map Line all → kept.bytes ≡ length (joined lines.ended all)
+lines_counted : (kept : Kept) (pieces : List Piece) (all : List (List ℕ)) → Counts kept pieces → pieces ≡ map ended_piece all → kept.bytes ≡ length (joined lines.ended all)
 lines_counted kept pieces all c e = c.bytes ∙ ap (λ ps. length (joined piece_bytes ps)) e ∙ ap length (lines_bytes all)
 
 no_more : {x : Piece} {xs : List Piece} → ◌≡◌ {A = List Piece} [] (x ∷ xs) → ⊥
@@ -184,7 +215,7 @@ begins_more (Lines input) kept stream mid rest xs ys c h k = (
   h.0 ++ k.0,
   leads_on IsLine lines.ended stream mid rest h.0 k.0 h.1 k.1,
   omega (arith, ap length (joined_more IsLine lines.ended h.0 k.0), length-append (joined lines.ended h.0) (joined lines.ended k.0), h.2, k.2, lines_counted kept xs h.0 c h.3),
-  ap (λ z. z ++ ys) h.3 ∙ ap (λ z. map Line h.0 ++ z) k.3 ∙ sym (map_more Line h.0 k.0),
+  ap (λ z. z ++ ys) h.3 ∙ ap (λ z. map ended_piece h.0 ++ z) k.3 ∙ sym (map_more ended_piece h.0 k.0),
 )
 begins_more Once kept stream mid rest xs ys c h k = elim h.0 [
   | inl none ↦
@@ -198,6 +229,16 @@ begins_more Nothing kept stream mid rest xs ys c h k = (ap (λ z. z ++ ys) h.0 �
 
 -- ---- an end behind pieces is the end of all
 
+cuts_on : (items more : List Item) (rest : List ℕ) (limit n : ℕ) (end : CutEnd) → AllByRecursion (IsFrame limit) items → Cut rest limit n more end →
+    Cut (joined frame_of items ++ rest) limit (length (joined frame_of items) + n) (items ++ more) end
+cuts_on [] more rest limit n end all cut = let same : n ≡ 0 + n = omega arith in subst (λ k. Cut rest limit k more end) same cut
+cuts_on (x ∷ items) behind_all rest limit n end all cut =
+    let later = cuts_on items behind_all rest limit n end all.1 cut in
+    let more = cut_more (joined frame_of items ++ rest) limit (length (joined frame_of items) + n) x (items ++ behind_all) end all.0 later in
+    let size : length (frame_of x) + (length (joined frame_of items) + n) ≡ length (frame_of x ++ joined frame_of items) + n = omega (arith, length-append (frame_of x) (joined frame_of items)) in
+    subst (λ s. Cut s limit (length (frame_of x ++ joined frame_of items) + n) (x ∷ (items ++ behind_all)) end) (sym (append_assoc (frame_of x) (joined frame_of items) rest))
+    (subst (λ k. Cut (frame_of x ++ (joined frame_of items ++ rest)) limit k (x ∷ (items ++ behind_all)) end) size more)
+
 cut_items : (items : List Item) (rest : List ℕ) (limit n : ℕ) (end : CutEnd) → AllByRecursion (IsFrame limit) items → Cut rest limit n [] end →
     Cut (joined frame_of items ++ rest) limit (length (joined frame_of items) + n) items end
 cut_items [] rest limit n end all cut = let same : n ≡ 0 + n = omega arith in subst (λ k. Cut rest limit k [] end) same cut
@@ -208,20 +249,33 @@ cut_items (x ∷ items) rest limit n end all cut =
     subst (λ s. Cut s limit (length (frame_of x ++ joined frame_of items) + n) (x ∷ items) end) (sym (append_assoc (frame_of x) (joined frame_of items) rest))
     (subst (λ k. Cut (frame_of x ++ (joined frame_of items ++ rest)) limit k (x ∷ items) end) size more)
 
-lines_items : (all : List (List ℕ)) (rest : List ℕ) (n : ℕ) (end : LineEnd) → AllByRecursion IsLine all → lines.Lines rest n [] end →
-    lines.Lines (joined lines.ended all ++ rest) (length (joined lines.ended all) + n) all end
-lines_items [] rest n end good cut = let same : n ≡ 0 + n = omega arith in subst (λ k. lines.Lines rest k [] end) same cut
-lines_items (x ∷ all) rest n end good cut =
-    let later = lines_items all rest n end good.1 cut in
-    let more = lines_more (joined lines.ended all ++ rest) (length (joined lines.ended all) + n) x all end good.0 later in
+lines_items : (all more : List (List ℕ)) (rest : List ℕ) (n : ℕ) (end : LineEnd) → AllByRecursion IsLine all → lines.Lines rest n more end →
+    lines.Lines (joined lines.ended all ++ rest) (length (joined lines.ended all) + n) (all ++ more) end
+lines_items [] more rest n end good cut = let same : n ≡ 0 + n = omega arith in subst (λ k. lines.Lines rest k more end) same cut
+lines_items (x ∷ all) behind_all rest n end good cut =
+    let later = lines_items all behind_all rest n end good.1 cut in
+    let more = lines_more (joined lines.ended all ++ rest) (length (joined lines.ended all) + n) x (all ++ behind_all) end good.0 later in
     let size : length (lines.ended x) + (length (joined lines.ended all) + n) ≡ length (lines.ended x ++ joined lines.ended all) + n = omega (arith, length-append (lines.ended x) (joined lines.ended all)) in
-    subst (λ s. lines.Lines s (length (lines.ended x ++ joined lines.ended all) + n) (x ∷ all) end) (sym (append_assoc (lines.ended x) (joined lines.ended all) rest))
-    (subst (λ k. lines.Lines (lines.ended x ++ (joined lines.ended all ++ rest)) k (x ∷ all) end) size more)
+    subst (λ s. lines.Lines s (length (lines.ended x ++ joined lines.ended all) + n) (x ∷ (all ++ behind_all)) end) (sym (append_assoc (lines.ended x) (joined lines.ended all) rest))
+    (subst (λ k. lines.Lines (lines.ended x ++ (joined lines.ended all ++ rest)) k (x ∷ (all ++ behind_all)) end) size more)
 
 -- what maps to nothing is nothing
 none_mapped : {X : Type 0} (f : X → Piece) (xs : List X) → [] ≡ map f xs → xs ≡ []
 none_mapped f [] e = refl
 none_mapped f (x ∷ xs) e = absurd (no_more e)
+
+-- no pieces are of no lines
+no_lines : (count : ℕ) (all : List (List ℕ)) → [] ≡ line_pieces count all → all ≡ []
+no_lines count [] e = refl
+no_lines count (x ∷ all) e = absurd (no_more e)
+
+-- the lines of the rest stand behind those at the front
+lines_on : (input : ℕ) (kept : Kept) (stream rest : List ℕ) (xs : List Piece) (all more : List (List ℕ)) (end : LineEnd) → Counts kept xs →
+    Leads IsLine lines.ended stream all rest × (length (joined lines.ended all) ≤ input) × (xs ≡ map ended_piece all) → lines.Lines rest (input - kept.bytes) more end → lines.Lines stream input (all ++ more) end
+lines_on input kept stream rest xs all more end c h cut =
+    let size : length (joined lines.ended all) + (input - kept.bytes) ≡ input = omega (arith, h.1, lines_counted kept xs all c h.2) in
+    let found = lines_items all more rest (input - kept.bytes) end h.0.each cut in
+    subst (λ s. lines.Lines s input (all ++ more) end) (sym h.0.whole) (subst (λ n. lines.Lines (joined lines.ended all ++ rest) n (all ++ more) end) size found)
 
 pub splits_behind : (reading : Reading) (kept : Kept) (stream rest : List ℕ) (xs : List Piece) (end : PieceEnd) → Counts kept xs → Begins reading stream xs rest → Splits (behind reading kept) rest [] end → Splits reading stream xs end
 splits_behind (Frames limits) kept stream rest xs end c h k =
@@ -235,15 +289,9 @@ splits_behind (Frames limits) kept stream rest xs end c h k =
       k.4,
     )
 splits_behind (Lines input) kept stream rest xs end c h k =
-    let size : length (joined lines.ended h.0) + (input - kept.bytes) ≡ input = omega (arith, h.2, lines_counted kept xs h.0 c h.3) in
-    let none : lines.Lines rest (input - kept.bytes) [] k.1 = subst (λ (all : List (List ℕ)). lines.Lines rest (input - kept.bytes) all k.1) (none_mapped Line k.0 k.3) k.2 in
-    let all = lines_items h.0 rest (input - kept.bytes) k.1 h.1.each none in (
-      h.0,
-      k.1,
-      subst (λ s. lines.Lines s input h.0 k.1) (sym h.1.whole) (subst (λ n. lines.Lines (joined lines.ended h.0 ++ rest) n h.0 k.1) size all),
-      h.3,
-      k.4,
-    )
+    let all = lines_on input kept stream rest xs h.0 k.0 k.1 c (h.1, h.2, h.3) k.2 in
+    let none : k.0 ≡ [] = no_lines (length rest) k.0 k.3 in
+    (h.0, k.1, subst (λ (ls : List (List ℕ)). lines.Lines stream input ls k.1) (ap (λ (ls : List (List ℕ)). h.0 ++ ls) none ∙ append-nil h.0) all, h.3 ∙ sym (pieces_ended h.0 stream rest h.1.whole), k.4)
 splits_behind Once kept stream rest xs end c h k = elim h.0 [
   | inl none ↦ let there : Splits Once rest [] end = subst (λ r. Splits r rest [] end) (once_left kept xs c none) k in absurd (no_more there.0)
   | inr one ↦ let there : Splits Nothing rest [] end = subst (λ r. Splits r rest [] end) (once_done kept xs c one) k in (one, there.1)
@@ -263,7 +311,7 @@ holds_behind (Frames limits) kept stream held left xs c h k =
     )
 holds_behind (Lines input) kept stream held left xs c h k =
     let bytes : joined piece_bytes xs ≡ joined lines.ended h.0 = ap (joined piece_bytes) h.3 ∙ lines_bytes h.0 in
-    let none : [] ≡ k.0 = sym (none_mapped Line k.0 k.3) in
+    let none : [] ≡ k.0 = sym (none_mapped ended_piece k.0 k.3) in
     let rest : held ≡ k.1 = k.2.whole ∙ ap (λ (all : List (List ℕ)). joined lines.ended all ++ k.1) (sym none) in (
       (h.0, held, record { whole = ap (λ b. b ++ held) bytes; each = h.1.each; longest = λ x more is e. k.2.longest x more is (sym rest ∙ e) }, h.3),
       h.1.whole ∙ ap (λ b. b ++ (held ++ left)) (sym bytes) ∙ sym (append_assoc (joined piece_bytes xs) held left),
@@ -274,3 +322,69 @@ holds_behind Once kept stream held left xs c h k = by (kept.items == 0) k
     by true f = absurd f
     by false f = absurd f
 holds_behind Nothing kept stream held left xs c h k = absurd k
+
+-- ---- an input whose end was met
+
+-- all pieces of the rest stand behind those at the front
+splits_more : (reading : Reading) (kept : Kept) (stream rest : List ℕ) (xs ys : List Piece) (end : PieceEnd) → Counts kept xs → Begins reading stream xs rest → Splits (behind reading kept) rest ys end → Splits reading stream (xs ++ ys) end
+splits_more (Frames limits) kept stream rest xs ys end c h k =
+    let size : length (joined frame_of h.0) + (limits.input - kept.bytes) ≡ limits.input = omega (arith, h.2, frames_counted kept xs h.0 c h.3) in
+    let all = cuts_on h.0 k.0 rest limits.frame (limits.input - kept.bytes) k.1 h.1.each k.2 in (
+      h.0 ++ k.0,
+      k.1,
+      subst (λ s. Cut s limits.frame limits.input (h.0 ++ k.0) k.1) (sym h.1.whole) (subst (λ n. Cut (joined frame_of h.0 ++ rest) limits.frame n (h.0 ++ k.0) k.1) size all),
+      ap (λ z. z ++ ys) h.3 ∙ ap (λ z. map Frame h.0 ++ z) k.3 ∙ sym (map_more Frame h.0 k.0),
+      k.4,
+    )
+splits_more (Lines input) kept stream rest xs ys end c h k = (
+  h.0 ++ k.0,
+  k.1,
+  lines_on input kept stream rest xs h.0 k.0 k.1 c (h.1, h.2, h.3) k.2,
+  ap (λ z. z ++ ys) h.3 ∙ ap (λ z. map ended_piece h.0 ++ z) k.3 ∙ sym (pieces_on h.0 k.0 stream rest h.1.whole),
+  k.4,
+)
+splits_more Once kept stream rest xs ys end c h k = elim h.0 [
+  | inl none ↦ let there : Splits Once rest ys end = subst (λ r. Splits r rest ys end) (once_left kept xs c none) k in (ap (λ z. z ++ ys) none ∙ there.0, there.1)
+  | inr one ↦ let there : Splits Nothing rest ys end = subst (λ r. Splits r rest ys end) (once_done kept xs c one) k in (ap (λ z. z ++ ys) one ∙ ap (λ z. Whole ∷ z) there.0, there.1)
+]
+splits_more Nothing kept stream rest xs ys end c h k = (ap (λ z. z ++ ys) h.0 ∙ k.0, k.1)
+
+-- pieces go on behind those that an input begins with
+pub reaches_more : (met : Bool) (reading : Reading) (kept : Kept) (stream mid rest : List ℕ) (xs ys : List Piece) → Counts kept xs → Begins reading stream xs mid → Reaches met (behind reading kept) mid ys rest →
+    Reaches met reading stream (xs ++ ys) rest
+reaches_more false reading kept stream mid rest xs ys c h k = begins_more reading kept stream mid rest xs ys c h k
+reaches_more true reading kept stream mid rest xs ys c h k = (splits_more reading kept stream mid xs ys End c h k.0, k.1)
+
+-- what an input reaches is the first of its pieces
+pub reaches_first : (met : Bool) (reading : Reading) (stream : List ℕ) (xs ys : List Piece) (rest : List ℕ) (end : PieceEnd) → Reaches met reading stream xs rest → Splits reading stream ys end → (tail : List Piece) × (ys ≡ xs ++ tail)
+reaches_first false reading stream xs ys rest end h k = begins_first reading stream xs ys rest end h k
+reaches_first true reading stream xs ys rest end h k = ([], (splits_once reading stream ys xs end End k h.0).0 ∙ sym (append-nil xs))
+
+pub taken_none : (n : ℕ) → ◌≡◌ {A = List ℕ} (take n []) []
+taken_none zero = refl
+taken_none (suc n) = refl
+
+pub rest_none : (xs ys : List ℕ) → [] ≡ xs ++ ys → ys ≡ []
+rest_none [] ys e = sym e
+rest_none (x ∷ xs) ys e = cc
+
+pub none_below : (n : ℕ) → nat_lt n 0 ≡ false
+none_below n = grind (arith, nat_tests)
+
+-- nothing ends with nothing left
+cut_of_none : (limit n : ℕ) (items : List Item) (end : CutEnd) → Cut [] limit n items end → end ≡ frames.End
+cut_of_none limit n items end h =
+    let rest : h.rest ≡ [] = rest_none (joined frame_of items) h.rest (sym (taken_none n) ∙ h.pieces.whole) in
+    h.ends ∙ ap (λ r. frames.end_of limit (nat_lt n 0) r) rest ∙ ap (λ t. frames.end_of limit t []) (none_below n)
+
+lines_of_none : (n : ℕ) (all : List (List ℕ)) (end : LineEnd) → lines.Lines [] n all end → end ≡ lines.End
+lines_of_none n all end h =
+    let rest : h.rest ≡ [] = rest_none (joined lines.ended h.before) h.rest (sym (taken_none n) ∙ h.pieces.whole) in
+    h.ends ∙ ap (λ r. (lines.last_of (nat_lt n 0) r).1) rest ∙ ap (λ t. (lines.last_of t []).1) (none_below n)
+
+-- where the end was met, nothing else can be
+pub none_ended : (reading : Reading) (kept : Kept) (stream : List ℕ) (xs : List Piece) (end : PieceEnd) → Counts kept xs → Splits reading stream xs End → Splits (behind reading kept) [] [] end → end ≡ End
+none_ended (Frames limits) kept stream xs end c h k = k.4 ∙ ap frames_end (cut_of_none limits.frame (limits.input - kept.bytes) k.0 k.1 k.2)
+none_ended (Lines input) kept stream xs end c h k = k.4 ∙ ap lines_end (lines_of_none (input - kept.bytes) k.0 k.1 k.2)
+none_ended Once kept stream xs end c h k = let there : Splits Nothing [] [] end = subst (λ r. Splits r [] [] end) (once_done kept xs c h.0) k in there.1
+none_ended Nothing kept stream xs end c h k = k.1

@@ -1,5 +1,5 @@
 -- What a job that has ended has written, beside its report.
-use Rattle.std.proofs.Common.{◌≡◌, ℕ, ◌+◌, List, [], ◌∷◌, ◌++◌, length, Option, Some, None, refl, sym, ap, ◌∙◌, subst, arith, append_assoc, length-append}
+use Rattle.std.proofs.Common.{◌≡◌, ℕ, ◌+◌, Bool, true, false, List, [], ◌∷◌, ◌++◌, length, Option, Some, refl, sym, ap, ◌∙◌, subst, arith, append_assoc, length-append}
 use Rattle.std.proofs.lemmas.List.{append-nil}
 use Rattle.std.specs.Io.KnownBytes.{Appends, Consumes}
 use Rattle.sbe_base.proofs.Known.{appends_more}
@@ -7,18 +7,20 @@ use Rattle.sbe_base.specs.Causes.{AppendsPart}
 use Rattle.sbe_base.specs.declared.status.Status.{Status}
 use Rattle.sbe_base.specs.declared.status.Status.TheVariants as status
 use Rattle.open_framing.specs.Pieces.{joined}
-use Rattle.sbe_cli.specs.Splits.{Piece, piece_bytes, Begins, Holds, most_taken}
-use Rattle.sbe_cli.specs.Replies.{Written, Reply, reading_of, none_kept, counted, written_of, then_written, Replies}
+use Rattle.command_jobs.specs.Splits.{Reading, Piece, PieceEnd, piece_bytes, Begins, Splits, Holds, most_taken}
+use Rattle.sbe_cli.specs.Ahead.{Reaches}
+use Rattle.replies.specs.Reply.{Written, Reply, written_of, then_written}
+use Rattle.command_jobs.specs.Replies.{reading_of, none_kept, counted, Replies}
 use Rattle.sbe_cli.specs.Report.{Outcome, end_notes, closed, JobReport}
 use Rattle.sbe_cli.specs.Stops.{stop_line}
-use Rattle.sbe_cli.specs.Outside.{Object, Streams, Wrote, Breaks, at_output, at_notes, Told, noted, failed}
-use Rattle.sbe_cli.specs.Steps.{PumpState, IsReported, Ends, Stalls, Fails, Progress}
+use Rattle.replies.specs.Outside.{Object, Streams, Wrote, Breaks, at_output, at_notes, Told, noted, failed}
+use Rattle.sbe_cli.specs.Steps.{PumpState, behind, IsReported, Ends, Stalls, Fails, Progress}
 use Rattle.sbe_cli.specs.Runs.{read_line}
-use Rattle.sbe_cli.specs.declared.job.Job.{Job}
-use Rattle.sbe_cli.specs.declared.pump.Kept.{Kept}
+use Rattle.command_jobs.specs.declared.job.Job.{Job}
+use Rattle.command_jobs.specs.declared.kept.Kept.{Kept}
 use Rattle.sbe_cli.specs.declared.stop.Stop.TheVariants as stop
-use Rattle.sbe_cli.proofs.Folding.{IsPlacedJob, replies_more, replies_front}
-use Rattle.sbe_cli.proofs.Splitting.{begins_first, begins_more, splits_behind, holds_behind}
+use Rattle.command_jobs.proofs.Folding.{IsPlacedJob, replies_more, replies_front}
+use Rattle.sbe_cli.proofs.Splitting.{Counts, reaches_first, reaches_more, splits_behind, none_ended, holds_behind}
 use Rattle.sbe_cli.proofs.Running.{counts}
 
 -- ---- parts
@@ -66,9 +68,9 @@ pub record Leading (written : Written) (outcome : Outcome) : Type 0 where
   pub notes_is : outcome.notes ≡ written.notes ++ notes
 
 module _ (job : Job) (placed : IsPlacedJob job) (input : List ℕ) (outcome : Outcome) (report : JobReport job input outcome) where
-  pub leading : (pieces : List Piece) (left : List ℕ) (written : Written) (kept : Kept) → Begins (reading_of job) input pieces left → Replies job none_kept pieces written kept → Leading written outcome
-  leading pieces left written kept begins replies =
-      let first = begins_first (reading_of job) input pieces report.0 left report.1 begins report.4 in
+  pub leading : (met : Bool) (pieces : List Piece) (left : List ℕ) (written : Written) (kept : Kept) → Reaches met (reading_of job) input pieces left → Replies job none_kept pieces written kept → Leading written outcome
+  leading met pieces left written kept begins replies =
+      let first = reaches_first met (reading_of job) input pieces report.0 left report.1 begins report.4 in
       let all : Replies job none_kept (pieces ++ first.0) report.2 report.3 = subst (λ (ps : List Piece). Replies job none_kept ps report.2 report.3) first.1 report.5 in
       let front = replies_front job none_kept report.3 kept pieces first.0 report.2 written placed all replies in
       let end = end_notes report.1 report.3.bytes (most_taken (reading_of job)) in
@@ -81,9 +83,19 @@ module _ (job : Job) (placed : IsPlacedJob job) (input : List ℕ) (outcome : Ou
 
 -- ---- the ways to end
 
-module _ (job : Job) (kept : Kept) (old mid new : Streams) (input : List ℕ) (progress : Progress job kept old mid input) (code : Status) where
-  abbrev pub pump : PumpState
-  pump = record { job = job; kept = kept; ended = None }
+-- where the pieces end, behind those that an input reaches
+ends_behind : (met : Bool) (reading : Reading) (kept : Kept) (stream rest : List ℕ) (xs : List Piece) (end : PieceEnd) → Counts kept xs → Reaches met reading stream xs rest → Splits (behind reading kept) rest [] end → Splits reading stream xs end
+ends_behind false reading kept stream rest xs end c h k = splits_behind reading kept stream rest xs end c h k
+ends_behind true reading kept stream rest xs end c h k =
+    let none : Splits (behind reading kept) [] [] end = subst (λ r. Splits (behind reading kept) r [] end) h.1 k in
+    subst (Splits reading stream xs) (sym (none_ended reading kept stream xs end c h.0 none)) h.0
+
+module _ (pump : PumpState) (old mid new : Streams) (input : List ℕ) (progress : Progress pump old mid input) (code : Status) where
+  abbrev job : Job
+  job = pump.job
+
+  abbrev kept : Kept
+  kept = pump.kept
 
   -- the pieces ended: all is answered, and the report is this one
   module _ (ends : Ends pump mid new progress.left code) where
@@ -96,7 +108,7 @@ module _ (job : Job) (kept : Kept) (old mid new : Streams) (input : List ℕ) (p
       ends.end,
       progress.written,
       kept,
-      splits_behind (reading_of job) kept input progress.left progress.pieces ends.end (counts job kept progress.pieces progress.written progress.replies) progress.begins ends.split,
+      ends_behind pump.ahead.met_end (reading_of job) kept input progress.left progress.pieces ends.end (counts job kept progress.pieces progress.written progress.replies) progress.begins ends.split,
       progress.replies,
       refl,
     )
@@ -118,7 +130,7 @@ module _ (job : Job) (kept : Kept) (old mid new : Streams) (input : List ℕ) (p
     given = joined piece_bytes progress.pieces ++ stalls.held
 
     begun : Begins (reading_of job) input progress.pieces (stalls.held ++ stalls.left)
-    begun = subst (Begins (reading_of job) input progress.pieces) stalls.taken progress.begins
+    begun = subst (Begins (reading_of job) input progress.pieces) stalls.taken (subst (λ b. Reaches b (reading_of job) input progress.pieces progress.left) stalls.unmet progress.begins)
 
     held_so : Holds (reading_of job) given progress.pieces × (input ≡ given ++ stalls.left)
     held_so = holds_behind (reading_of job) kept input stalls.held stalls.left progress.pieces (counts job kept progress.pieces progress.written progress.replies) begun stalls.part
@@ -146,8 +158,10 @@ module _ (job : Job) (kept : Kept) (old mid new : Streams) (input : List ℕ) (p
 
   -- a write failed, or memory was wanting: nothing behind the next piece was taken
   module _ (IsWritten : Reply → Type 0) (fails : Fails pump new progress.left IsWritten) where
-    pub begun_last : Begins (reading_of job) input (progress.pieces ++ fails.piece ∷ []) fails.left
-    begun_last = begins_more (reading_of job) kept input progress.left fails.left progress.pieces (fails.piece ∷ []) (counts job kept progress.pieces progress.written progress.replies) progress.begins fails.taken
+    pub begun_last : Reaches fails.ahead.met_end (reading_of job) input (progress.pieces ++ fails.piece ∷ []) fails.left
+    begun_last =
+        let begun = subst (λ b. Reaches b (reading_of job) input progress.pieces progress.left) fails.unmet progress.begins in
+        reaches_more fails.ahead.met_end (reading_of job) kept input progress.left fails.left progress.pieces (fails.piece ∷ []) (counts job kept progress.pieces progress.written progress.replies) begun fails.taken
 
     pub replied_last : Replies job none_kept (progress.pieces ++ fails.piece ∷ []) (then_written progress.written (written_of fails.reply)) (counted kept fails.piece fails.reply.verdict)
     replied_last = replies_more job none_kept kept progress.pieces fails.piece progress.written fails.reply progress.replies fails.replied

@@ -21,20 +21,24 @@ use Rattle.frame_stream.specs.declared.stream.Taken.TheVariants as taken
 use Rattle.frame_stream.specs.declared.stream.StreamErr.{StreamErr}
 use Rattle.frame_stream.specs.declared.stream.StreamErr.TheVariants as err
 use Rattle.frame_stream.specs.Stream.{StreamState, room, told_by, Takes, TakesFrom, TakesBy, BodyOf}
-use Rattle.sbe_cli.specs.Splits.{Reading, Frames, Frame, PieceEnd, End, EndInside, HeadFault, InputLimit, frames_end, Splits, Begins, Holds}
-use Rattle.sbe_cli.specs.Replies.{Reply, IsFrameReply, refusals, translations, counted, counted_by, written_of}
+use Rattle.command_jobs.specs.Splits.{Reading, Frames, Frame, PieceEnd, End, EndInside, HeadFault, InputLimit, frames_end, Splits, Begins, Holds}
+use Rattle.replies.specs.Reply.{Reply, written_of}
+use Rattle.command_jobs.specs.Replies.{IsFrameReply, refusals, translations, counted, counted_by, reply_of}
 use Rattle.sbe_cli.specs.Report.{end_notes, end_status}
 use Rattle.sbe_cli.specs.Stops.{stop_line}
-use Rattle.sbe_cli.specs.Outside.{Streams, Wrote, Failed, Calm, Told}
-use Rattle.sbe_cli.specs.Steps.{PumpState, IsReadyFrame, Goes, Fails, Halts, ended_at, stalled_at}
-use Rattle.sbe_cli.specs.Pumps.{IsBounded, Stands, CanCount, reply_of, running, frames_pump}
-use Rattle.sbe_cli.specs.declared.job.FrameJob.{FrameJob}
-use Rattle.sbe_cli.specs.declared.job.Job.TheVariants as jobs
-use Rattle.sbe_cli.specs.declared.job.Verdict.{Verdict}
-use Rattle.sbe_cli.specs.declared.job.Verdict.TheVariants.{Answered, Refused, Translated}
-use Rattle.sbe_cli.specs.declared.pump.Kept.{Kept}
+use Rattle.replies.specs.Outside.{Streams, Wrote, Failed, Calm, Told}
+use Rattle.sbe_cli.specs.Steps.{PumpState, running, Goes, Fails, Halts, ended_at, stalled_at}
+use Rattle.command_jobs.specs.Jobs.{IsReadyFrame, IsBounded}
+use Rattle.sbe_cli.specs.Pumps.{Stands, CanCount, frames_pump}
+use Rattle.command_jobs.specs.declared.job.FrameJob.{FrameJob}
+use Rattle.command_jobs.specs.declared.job.Job.TheVariants as jobs
+use Rattle.replies.specs.declared.verdict.Verdict.{Verdict}
+use Rattle.replies.specs.declared.verdict.Verdict.TheVariants.{Answered, Refused, Translated}
+use Rattle.command_jobs.specs.declared.kept.Kept.{Kept}
 use Rattle.sbe_cli.specs.declared.stop.Stop.TheVariants as stop
-use Rattle.sbe_cli.proofs.Folding.{frame_placed, frame_replied}
+use Rattle.sbe_cli.specs.Ahead.{none_ahead}
+use Rattle.sbe_cli.proofs.Following.{told_of, follows_all}
+use Rattle.command_jobs.proofs.Folding.{frame_placed, frame_replied}
 use Rattle.sbe_cli.proofs.Splitting.{some_same, none_some}
 
 -- ---- a cut that ends with nothing left
@@ -156,6 +160,7 @@ module _ (job : FrameJob) (limits : Limits) (kept : Kept) where
           let h = took st st' before.input.told after.input.told (Err err.ReadFault) input stands.held takes.from source in
           let at : st'.taken ≡ kept.bytes + length st'.held = omega (arith, stands.room, stands.input, takes.falls, takes.input, takes.within) in
           stalled_at (record {
+            unmet = refl;
             held = st'.held;
             left = h.0;
             source = h.1;
@@ -221,16 +226,30 @@ module _ (job : FrameJob) (limits : Limits) (kept : Kept) where
           pub fails : (input : List ℕ) (IsWritten : Reply → Type 0) → IsWritten (reply_of job kept item) → before.input.told ≡ Some input → Fails pump after input IsWritten
           fails input IsWritten wrote source =
               let f = took st st' before.input.told after.input.told (Ok (taken.Frame h)) input stands.held takes.from source in
-              record { piece = Frame item; reply = reply_of job kept item; left = f.0; source = f.1; taken = begins input f.0 f.2; replied = replied; wrote = wrote }
+              record {
+                piece = Frame item;
+                reply = reply_of job kept item;
+                left = f.0;
+                unmet = refl;
+                ahead = none_ahead;
+                only_lines = refl;
+                source = follows_all after.input.told f.0 f.1;
+                taken = begins input f.0 f.2;
+                replied = replied;
+                wrote = wrote;
+              }
 
           pub goes : Wrote before.sinks after.sinks (written_of (reply_of job kept item)) → Calm before after →
-              Goes pump (running (jobs.Frames job limits) (counted_by kept h.length (reply_of job kept item).verdict)) before after
+              Goes pump (running (jobs.Frames job limits) (counted_by kept h.length (reply_of job kept item).verdict) none_ahead) before after
           goes wrote calm =
               let counts : counted_by kept h.length (reply_of job kept item).verdict ≡ counted kept (Frame item) (reply_of job kept item).verdict = ap (λ n. counted_by kept n (reply_of job kept item).verdict) (sym frame_size) in
               record {
-                answers = λ input source.
+                answers = λ input follows.
+                    let source = told_of before.input.told input follows in
                     let f = took st st' before.input.told after.input.told (Ok (taken.Frame h)) input stands.held takes.from source in
-                    record { piece = Frame item; reply = reply_of job kept item; left = f.0; source = f.1; taken = begins input f.0 f.2; replied = replied; wrote = wrote; kept = counts };
+                    record { piece = Frame item; reply = reply_of job kept item; left = f.0; source = follows_all after.input.told f.0 f.1; taken = begins input f.0 f.2; replied = replied; wrote = wrote; kept = counts };
+                unmet = refl;
+                ahead = refl;
                 calm = calm;
                 runs = refl;
                 job = refl;

@@ -1,26 +1,25 @@
 -- What stands inside a pump, and what the calls below its steps give.
-use Rattle.std.specs.Prelude.{◌≡◌, ◌≤◌, ◌<◌, ◌+◌, ◌-◌, ◌^◌, Option, Some, None, Result, Ok, Err, [], ⊤}
+use Rattle.std.specs.Prelude.{◌≡◌, ◌⊎◌, Bool, true, false, ◌≤◌, ◌<◌, ◌+◌, ◌-◌, ◌^◌, Option, Some, None, Result, Ok, Err, [], length, ⊤}
 use Rattle.sbe_base.specs.declared.status.Limits.{Limits}
 use Rattle.sbe_base.specs.declared.status.Status.{Status}
 use Rattle.sbe_base.specs.declared.status.Status.TheVariants as status
-use Rattle.open_framing.specs.Frames.{Item}
+use Rattle.open_framing.specs.Lines.{longest_line}
 use Rattle.frame_stream.specs.Stream.{StreamState, room}
-use Rattle.schema_lines.specs.Lines.{message_lines}
-use Rattle.dump_lines.specs.Dumped.{dumped}
-use Rattle.version_laws.specs.Answer.{compat}
-use Rattle.sbe_cli.specs.Dump.{verdict_of}
-use Rattle.sbe_cli.specs.Compat.{compared_line, compared_verdict}
-use Rattle.sbe_cli.specs.Replies.{Reply, counted_by}
-use Rattle.sbe_cli.specs.Outside.{Streams}
-use Rattle.sbe_cli.specs.Steps.{IsReadyFrame, PumpState, Goes, Closes, opened}
-use Rattle.sbe_cli.specs.declared.job.Job.{Job}
-use Rattle.sbe_cli.specs.declared.job.Job.TheVariants as jobs
-use Rattle.sbe_cli.specs.declared.job.FrameJob.{FrameJob}
-use Rattle.sbe_cli.specs.declared.job.FrameJob.TheVariants.{Dump}
-use Rattle.sbe_cli.specs.declared.job.OnceJob.{OnceJob}
-use Rattle.sbe_cli.specs.declared.job.OnceJob.TheVariants.{Check, Compat}
-use Rattle.sbe_cli.specs.declared.job.Verdict.TheVariants.{Answered}
-use Rattle.sbe_cli.specs.declared.pump.Kept.{Kept}
+use Rattle.frame_stream.specs.LineTakes.{LineState, line_bytes, line_room}
+use Rattle.frame_stream.specs.declared.lines.LineEnded.{LineEnded}
+use Rattle.frame_stream.specs.declared.lines.LineEnded.TheVariants as line_ended
+use Rattle.command_jobs.specs.Replies.{counted_by}
+use Rattle.replies.specs.Outside.{Streams}
+use Rattle.sbe_cli.specs.Ahead.{Ahead, none_ahead}
+use Rattle.build_lines.specs.Build.{body_limit}
+use Rattle.command_jobs.specs.Jobs.{IsBounded, IsReadyFrame, IsReadyLine}
+use Rattle.sbe_cli.specs.Steps.{PumpState, Goes, Closes, running, opened}
+use Rattle.command_jobs.specs.declared.job.Job.{Job}
+use Rattle.command_jobs.specs.declared.job.Job.TheVariants as jobs
+use Rattle.command_jobs.specs.declared.job.FrameJob.{FrameJob}
+use Rattle.command_jobs.specs.declared.job.LineJob.{LineJob}
+use Rattle.command_jobs.specs.declared.job.OnceJob.{OnceJob}
+use Rattle.command_jobs.specs.declared.kept.Kept.{Kept}
 use Rattle.sbe_cli.specs.declared.pump.Step.{Step}
 use Rattle.sbe_cli.specs.declared.pump.Step.TheVariants.{Ended}
 use Rattle.sbe_cli.specs.declared.pump.Tally.{Tally}
@@ -32,18 +31,23 @@ use Rattle.sbe_cli.specs.declared.pump.Work.TheVariants as work
 -- The job of work.
 abbrev pub job_of : Work → Job
 job_of (work.Frames on) = jobs.Frames on.job on.limits
+job_of (work.Lines on) = jobs.Lines on.job on.limits
 job_of (work.Once job) = jobs.Once job
 
--- the bounds that buffers and numbers need
-pub record IsBounded (limits : Limits) : Type 0 where
-  pub low : 64 ≤ limits.frame
-  pub high : limits.frame ≤ 16_777_216
-  pub input : limits.input ≤ 2 ^ 40
+-- a stream gives no more lines
+abbrev pub is_at_end : Option LineEnded → Bool
+is_at_end None = false
+is_at_end (Some end) = true
 
--- the bounds of a job that takes frames
-abbrev pub IsBoundedJob : Job → Type 0
-IsBoundedJob (jobs.Frames job limits) = IsBounded limits
-IsBoundedJob (jobs.Once job) = ⊤
+-- what a stream of lines knows behind the last one
+abbrev pub lines_ahead : LineState → Ahead
+lines_ahead stream = record { held = stream.held; met_end = is_at_end stream.ended }
+
+-- what work knows of the input behind its pieces
+abbrev pub ahead_of : Work → Ahead
+ahead_of (work.Frames on) = none_ahead
+ahead_of (work.Lines on) = lines_ahead on.stream
+ahead_of (work.Once job) = none_ahead
 
 -- Before its end a stream holds nothing, what was taken of it is counted, and no number is above it.
 pub record Stands (limits : Limits) (stream : StreamState) (kept : Kept) : Type 0 where
@@ -56,6 +60,24 @@ pub record Stands (limits : Limits) (stream : StreamState) (kept : Kept) : Type 
   pub refused : kept.refused ≤ kept.items
   pub translated : kept.translated ≤ kept.items
 
+-- The same of a stream of lines, which may hold bytes that were read ahead, and may have met the end.
+pub record StandsLines (limits : Limits) (stream : LineState) (kept : Kept) : Type 0 where
+  pub runs : (stream.ended ≡ None) ⊎ (stream.ended ≡ Some line_ended.End)
+  pub within : stream.taken ≤ stream.input
+  pub input : stream.input ≡ limits.input
+  pub room : kept.bytes + line_room stream ≡ limits.input
+  pub items : kept.items ≤ kept.bytes
+  pub refused : kept.refused ≤ kept.items
+  pub translated : kept.translated ≤ kept.items
+
+-- A line was taken, whose bytes are not counted yet.
+pub record HasTaken (limits : Limits) (stream : LineState) (kept : Kept) : Type 0 where
+  pub runs : (stream.ended ≡ None) ⊎ ((stream.ended ≡ Some line_ended.End) × (stream.held ≡ []))
+  pub within : stream.taken ≤ stream.input
+  pub input : stream.input ≡ limits.input
+  pub room : kept.bytes + (line_bytes stream + line_room stream) ≡ limits.input
+  pub line : length stream.line ≤ longest_line
+
 -- One job is done, or none yet, and it took nothing of the input.
 pub record StandsOnce (kept : Kept) : Type 0 where
   pub items : kept.items ≤ 1
@@ -66,11 +88,13 @@ pub record StandsOnce (kept : Kept) : Type 0 where
 -- what holds of work at every moment
 abbrev pub IsSoundWork : Work → Type 0
 IsSoundWork (work.Frames on) = IsReadyFrame on.job × IsBounded on.limits
+IsSoundWork (work.Lines on) = IsReadyLine on.job × IsBounded on.limits × (on.buffer.limit ≡ body_limit on.limits.frame)
 IsSoundWork (work.Once job) = ⊤
 
 -- what holds of work before its end
 abbrev pub StandsSo : Work → Kept → Type 0
 StandsSo (work.Frames on) kept = Stands on.limits on.stream kept
+StandsSo (work.Lines on) kept = StandsLines on.limits on.stream kept
 StandsSo (work.Once job) kept = StandsOnce kept
 
 -- What holds of a pump at every moment.
@@ -87,35 +111,22 @@ pub record CanCount (kept : Kept) (tally : Tally) : Type 0 where
 
 -- ---- answers
 
--- what the code puts for a frame
-abbrev pub reply_of : FrameJob → Kept → Item → Reply
-reply_of (Dump schemas) kept item = record {
-  output = (dumped schemas kept.items item).line;
-  notes = [];
-  verdict = verdict_of (dumped schemas kept.items item).is_message;
-}
-
--- what the code puts for a job over its files
-abbrev pub whole_reply : OnceJob → Reply
-whole_reply (Check schema) = record { output = message_lines schema.messages; notes = []; verdict = Answered }
-whole_reply (Compat older newer) = record { output = compared_line (compat older newer); notes = []; verdict = compared_verdict (compat older newer) }
-
--- a pump that has not ended
-abbrev pub running : Job → Kept → PumpState
-running job kept = record { job = job; kept = kept; ended = None }
-
--- the same of a job that answers frames
+-- a pump of a job that answers frames
 abbrev pub frames_pump : FrameJob → Limits → Kept → PumpState
-frames_pump job limits kept = running (jobs.Frames job limits) kept
+frames_pump job limits kept = running (jobs.Frames job limits) kept none_ahead
 
--- the same of a job over its files
+-- a pump of a job that answers lines
+abbrev pub lines_pump : LineJob → Limits → Kept → LineState → PumpState
+lines_pump job limits kept stream = running (jobs.Lines job limits) kept (lines_ahead stream)
+
+-- a pump of a job over its files
 abbrev pub once_pump : OnceJob → Kept → PumpState
-once_pump job kept = running (jobs.Once job) kept
+once_pump job kept = running (jobs.Once job) kept none_ahead
 
--- a piece was answered, of which this is counted; or the pump ends with this status
-abbrev pub Answers : PumpState → Streams → Streams → Result Tally Status → Type 0
-Answers pump before after (Ok tally) = Goes pump (running pump.job (counted_by pump.kept tally.bytes tally.verdict)) before after
-Answers pump before after (Err code) = Closes pump (record { job = pump.job; kept = pump.kept; ended = Some code }) before after code
+-- a piece was answered, of which this is counted, or the pump ends with this status; it then knows this of its input
+abbrev pub Answers : PumpState → Ahead → Streams → Streams → Result Tally Status → Type 0
+Answers pump ahead before after (Ok tally) = Goes pump (running pump.job (counted_by pump.kept tally.bytes tally.verdict) ahead) before after
+Answers pump ahead before after (Err code) = Closes pump (record { job = pump.job; kept = pump.kept; ahead = ahead; ended = Some code }) before after code
 
 -- an answer that ends a pump
 abbrev pub EndsAs : Step → Option Status → Status → Type 0

@@ -2,46 +2,24 @@
 use Rattle.std.specs.Prelude.{◌≡◌, ℕ, ◌+◌, nat_lt, if◌then◌else◌, Option, Some, None, Result, Ok, Err, List, [], ◌++◌, codes}
 use Rattle.sbe_base.specs.declared.status.Status.{Status}
 use Rattle.sbe_base.specs.declared.status.Status.TheVariants as status
-use Rattle.sbe_types.specs.declared.schema.WireSchema.{WireSchema}
 use Rattle.open_framing.specs.Lines.{longest_line}
-use Rattle.dump_lines.specs.declared.schemas.Schemas.{Schemas}
-use Rattle.sbe_cli.specs.Splits.{Reading, Piece, PieceEnd, End, EndInside, HeadFault, LineOver, InputLimit, Splits, most_taken}
-use Rattle.sbe_cli.specs.Replies.{Written, reading_of, none_kept, Replies}
-use Rattle.sbe_cli.specs.Stops.{usage_line, fault_line, head_line, at_line, refusal_line, refusal_status}
-use Rattle.sbe_cli.specs.Words.{command_of}
-use Rattle.sbe_cli.specs.Judged.{file_schema, refused_as, JudgesSchemas}
-use Rattle.sbe_cli.specs.declared.files.FileRefusal.{FileRefusal}
-use Rattle.sbe_cli.specs.declared.files.FileRole.TheVariants as role
-use Rattle.sbe_cli.specs.declared.files.RefusedFile.{RefusedFile}
-use Rattle.sbe_cli.specs.declared.job.Job.{Job}
-use Rattle.sbe_cli.specs.declared.job.Job.TheVariants as jobs
-use Rattle.sbe_cli.specs.declared.job.FrameJob.TheVariants as frames
-use Rattle.sbe_cli.specs.declared.job.OnceJob.TheVariants as once
-use Rattle.sbe_cli.specs.declared.pump.Kept.{Kept}
-use Rattle.sbe_cli.specs.declared.words.Command.{Command}
-use Rattle.sbe_cli.specs.declared.words.Command.TheVariants.{Check, Compat, Dump}
+use Rattle.command_jobs.specs.Splits.{Reading, Piece, PieceEnd, End, EndInside, HeadFault, LineOver, InputLimit, Splits, most_taken}
+use Rattle.replies.specs.Reply.{Written}
+use Rattle.command_jobs.specs.Replies.{reading_of, none_kept, Replies}
+use Rattle.sbe_cli.specs.Stops.{usage_line, fault_line, head_line, at_line}
+use Rattle.command_jobs.specs.Jobs.{Judges}
+use Rattle.schema_files.specs.Refusals.{refusal_line, refusal_status}
+use Rattle.command_words.specs.Words.{command_of}
+use Rattle.schema_files.specs.declared.files.RefusedFile.{RefusedFile}
+use Rattle.command_jobs.specs.declared.job.Job.{Job}
+use Rattle.command_jobs.specs.declared.kept.Kept.{Kept}
+use Rattle.command_words.specs.declared.words.Command.{Command}
 
 -- the output, the notes and the status of a run
 pub record Outcome : Type 0 where
   pub output : List ℕ
   pub notes : List ℕ
   pub status : Status
-
--- ---- the files
-
--- The comparison of an older schema with a newer one. The older file is judged whole before the newer: its refusal comes first.
-abbrev pub two_judged : Result WireSchema FileRefusal → Result WireSchema FileRefusal → Result Job RefusedFile
-two_judged (Err why) newer = Err (refused_as role.Old why)
-two_judged (Ok older) (Err why) = Err (refused_as role.New why)
-two_judged (Ok older) (Ok newer) = Ok (jobs.Once (once.Compat older newer))
-
--- The job of a command whose files are accepted, or the first refusal of a file.
-abbrev pub Judges : Command → (List ℕ → Option (List ℕ)) → Result Job RefusedFile → Type 0
-Judges (Check name) contents (Ok job) = (schema : WireSchema) × (file_schema (contents name) ≡ Ok schema) × (job ≡ jobs.Once (once.Check schema))
-Judges (Check name) contents (Err file) = (why : FileRefusal) × (file_schema (contents name) ≡ Err why) × (file ≡ refused_as role.Schema why)
-Judges (Compat older newer) contents judged = judged ≡ two_judged (file_schema (contents older)) (file_schema (contents newer))
-Judges (Dump name also limits) contents (Ok job) = (schemas : Schemas) × JudgesSchemas contents name also (Ok schemas) × (job ≡ jobs.Frames (frames.Dump schemas) limits)
-Judges (Dump name also limits) contents (Err file) = JudgesSchemas contents name also (Err file)
 
 -- ---- the end
 

@@ -1,8 +1,8 @@
 -- Texts that the laws are computed on.
-use Rattle.std.specs.Prelude.{ℕ, List, [], ◌∷◌, ◌++◌, codes}
+use Rattle.std.specs.Prelude.{ℕ, true, false, List, [], ◌∷◌, ◌++◌, codes}
 use Rattle.open_framing.specs.Frames.{Item}
 use Rattle.open_framing.specs.Rows.{ping, ping_item}
-use Rattle.sbe_cli.specs.Splits.{Piece, Frame}
+use Rattle.command_jobs.specs.Splits.{Piece, Frame, Line}
 
 -- the same message in a frame of the other byte order
 abbrev pub big_endian_item : Item
@@ -65,3 +65,11 @@ absent_old = codes "{\"absent\":\"old\"}\n"
 -- The note where the schema is in XML.
 abbrev pub refused_xml : List ℕ
 refused_xml = codes "{\"file\":\"schema\",\"refused\":\"S01\",\"path\":\"\"}\n"
+
+-- Three lines of four bytes: the second has none, the last one lacks its end.
+abbrev pub three_lines : List Piece
+three_lines = Line (codes "a") true ∷ Line [] true ∷ Line (codes "b") false ∷ []
+
+-- The note where the line behind five bytes is too long.
+abbrev pub over_line : List ℕ
+over_line = codes "{\"framing\":\"LineOver\",\"at\":5,\"number\":1048577}\n"

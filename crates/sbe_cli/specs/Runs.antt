@@ -4,19 +4,22 @@ use Rattle.std.specs.Io.KnownBytes.{Consumes, Appends}
 use Rattle.sbe_base.specs.Causes.{AppendsPart}
 use Rattle.sbe_base.specs.declared.status.Status.{Status}
 use Rattle.sbe_base.specs.declared.status.Status.TheVariants as status
-use Rattle.sbe_cli.specs.Words.{command_of, reads_input}
-use Rattle.sbe_cli.specs.Splits.{Piece, Begins, Holds}
-use Rattle.sbe_cli.specs.Replies.{Written, Reply, reading_of, IsReply, none_kept, written_of, Replies}
-use Rattle.sbe_cli.specs.Report.{Outcome, Judges, Report}
+use Rattle.command_words.specs.Words.{command_of, reads_input, reads_frames}
+use Rattle.command_jobs.specs.Splits.{Piece, Holds}
+use Rattle.sbe_cli.specs.Ahead.{Ahead, IsAhead, Follows, Reaches}
+use Rattle.replies.specs.Reply.{Written, Reply, written_of}
+use Rattle.command_jobs.specs.Replies.{reading_of, IsReply, none_kept, Replies}
+use Rattle.sbe_cli.specs.Report.{Outcome, Report}
+use Rattle.command_jobs.specs.Jobs.{Judges, IsReady, IsReadAs}
 use Rattle.sbe_cli.specs.Stops.{stop_line}
-use Rattle.sbe_cli.specs.Outside.{Desk, Sinks, Streams, Outside, Wrote, Breaks, Failed, Calm}
-use Rattle.sbe_cli.specs.Steps.{IsReady, IsReadAs, JudgedAs, Declines, Drains, IsReported, IsStepStatus}
-use Rattle.sbe_cli.specs.Judged.{HasFile}
-use Rattle.sbe_cli.specs.declared.files.FileRole.{FileRole}
-use Rattle.sbe_cli.specs.declared.job.Job.{Job}
-use Rattle.sbe_cli.specs.declared.pump.Kept.{Kept}
+use Rattle.replies.specs.Outside.{Desk, Sinks, Streams, Outside, Wrote, Breaks, Failed, Calm}
+use Rattle.sbe_cli.specs.Steps.{JudgedAs, Declines, Drains, IsReported, IsStepStatus}
+use Rattle.schema_files.specs.Judged.{HasFile}
+use Rattle.schema_files.specs.declared.files.FileRole.{FileRole}
+use Rattle.command_jobs.specs.declared.job.Job.{Job}
+use Rattle.command_jobs.specs.declared.kept.Kept.{Kept}
 use Rattle.sbe_cli.specs.declared.stop.Stop.TheVariants as stop
-use Rattle.sbe_cli.specs.declared.words.Command.{Command}
+use Rattle.command_words.specs.declared.words.Command.{Command}
 
 -- the files and the notes
 abbrev pub desk : Outside → Desk
@@ -66,15 +69,17 @@ StandsAtRead words old new contents =
     (taken : List ℕ) × (written : Written) × Consumes old.streams.input.told new.streams.input.told taken × AllAnswered words contents taken written
     × Wrote old.streams.sinks new.streams.sinks (record { output = written.output; notes = written.notes ++ read_line taken })
 
--- A write of the answer to the last of these pieces failed. The others' answers are written, and nothing behind it was taken.
+-- A write of the answer to the last of these pieces failed. The others' answers are written, and nothing behind it was taken, but for what was read ahead of lines.
 pub record AtReply (words : List (List ℕ)) (contents : List ℕ → Option (List ℕ)) (input : List ℕ) (old new : Streams) : Type 0 where
   pub job : Job
   pub is_job : IsJob words contents job
   pub pieces : List Piece
   pub last : Piece
   pub left : List ℕ
-  pub source : new.input.told ≡ Some left
-  pub begins : Begins (reading_of job) input (pieces ++ last ∷ []) left
+  pub ahead : Ahead
+  pub only_lines : IsAhead (reading_of job) ahead
+  pub source : Follows ahead new.input.told left
+  pub begins : Reaches ahead.met_end (reading_of job) input (pieces ++ last ∷ []) left
   pub kept : Kept
   pub written : Written
   pub replies : Replies job none_kept pieces written kept
@@ -144,8 +149,8 @@ pub record Runs (words : List (List ℕ)) (old new : Outside) (code : Status) : 
   pub read_stands : code ≡ status.ReadFault → (contents : List ℕ → Option (List ℕ)) (input : List ℕ) → Known old contents input → StandsAtRead words old new contents
   pub write_stands : code ≡ status.WriteFault → (contents : List ℕ → Option (List ℕ)) (input : List ℕ) → Known old contents input → StandsAtWrite words old new contents input
   pub fronts : Fronts words old new
-  -- where the words are a command that reads the input, memory is wanting only before anything was read or written
-  pub memory : reads_input (command_of words) ≡ true → code ≡ status.NoMemory → new.streams ≡ old.streams
+  -- where the words are a command that reads frames, memory is wanting only before anything was read or written
+  pub memory : reads_frames (command_of words) ≡ true → code ≡ status.NoMemory → new.streams ≡ old.streams
   -- the source is as it was where the words are no command that reads it, or the run ended before its items
   pub untouched : reads_input (command_of words) ≡ false → new.streams.input ≡ old.streams.input
   pub unread : (IsStepStatus code → ⊥) → new.streams.input ≡ old.streams.input

@@ -2,50 +2,40 @@
 use Rattle.std.specs.Prelude.{◌≡◌, ◌≤◌, ◌<◌, ◌⊎◌, ◌==◌, if◌then◌else◌, ℕ, ◌+◌, ◌-◌, true, false, Option, Some, None, Result, Ok, Err, List, [], ◌∷◌, ◌++◌, length, ⊤}
 use Rattle.sbe_base.specs.declared.status.Status.{Status}
 use Rattle.sbe_base.specs.declared.status.Status.TheVariants as status
-use Rattle.dump_lines.specs.Dumped.{AreInOrder}
-use Rattle.sbe_cli.specs.Splits.{Reading, Frames, Lines, Once, Nothing, Piece, PieceEnd, End, is_read, most_pieces, Splits, Begins, Holds, most_taken}
-use Rattle.sbe_cli.specs.Replies.{Written, Reply, reading_of, IsReply, none_kept, counted, written_of, Replies}
+use Rattle.command_jobs.specs.Splits.{Reading, Frames, Lines, Once, Nothing, Piece, PieceEnd, End, is_read, is_framed, most_pieces, Splits, Holds, most_taken}
+use Rattle.sbe_cli.specs.Ahead.{Ahead, none_ahead, IsAhead, Follows, Reaches}
+use Rattle.replies.specs.Reply.{Written, Reply, written_of}
+use Rattle.command_jobs.specs.Replies.{reading_of, IsReply, none_kept, counted, Replies}
 use Rattle.sbe_cli.specs.Stops.{stop_line, stop_status}
-use Rattle.sbe_cli.specs.Words.{reads_input}
-use Rattle.sbe_cli.specs.Report.{Judges, end_notes, end_status}
-use Rattle.sbe_cli.specs.Outside.{Streams, Desk, Wrote, Breaks, Failed, Calm, Told}
-use Rattle.sbe_cli.specs.Judged.{HasFile}
-use Rattle.sbe_cli.specs.declared.files.FileRole.{FileRole}
-use Rattle.sbe_cli.specs.declared.files.RefusedFile.{RefusedFile}
-use Rattle.sbe_cli.specs.declared.job.Job.{Job}
-use Rattle.sbe_cli.specs.declared.job.Job.TheVariants as jobs
-use Rattle.sbe_cli.specs.declared.job.FrameJob.{FrameJob}
-use Rattle.sbe_cli.specs.declared.job.FrameJob.TheVariants.{Dump}
-use Rattle.sbe_cli.specs.declared.pump.Kept.{Kept}
+use Rattle.command_jobs.specs.Jobs.{IsReadAs, IsReady, Judges}
+use Rattle.sbe_cli.specs.Report.{end_notes, end_status}
+use Rattle.replies.specs.Outside.{Streams, Desk, Wrote, Breaks, Failed, Calm, Told}
+use Rattle.schema_files.specs.Judged.{HasFile}
+use Rattle.schema_files.specs.declared.files.FileRole.{FileRole}
+use Rattle.schema_files.specs.declared.files.RefusedFile.{RefusedFile}
+use Rattle.command_jobs.specs.declared.job.Job.{Job}
+use Rattle.command_jobs.specs.declared.kept.Kept.{Kept}
 use Rattle.sbe_cli.specs.declared.pump.Step.{Step}
 use Rattle.sbe_cli.specs.declared.pump.Step.TheVariants.{Went, Ended}
 use Rattle.sbe_cli.specs.declared.stop.Stop.TheVariants as stop
-use Rattle.sbe_cli.specs.declared.words.Command.{Command}
+use Rattle.command_words.specs.declared.words.Command.{Command}
 
--- what a pump does, what it has done, and its last answer
+-- what a pump does, what it has done, what it knows of its input behind that, and its last answer
 pub record PumpState : Type 0 where
   pub job : Job
   pub kept : Kept
+  pub ahead : Ahead
   pub ended : Option Status
-
--- frames can be answered so
-abbrev pub IsReadyFrame : FrameJob → Type 0
-IsReadyFrame (Dump schemas) = AreInOrder schemas
-
--- a job that can be carried out
-abbrev pub IsReady : Job → Type 0
-IsReady (jobs.Frames job limits) = IsReadyFrame job
-IsReady (jobs.Once job) = ⊤
-
--- the job takes something of the input exactly where its command does
-abbrev pub IsReadAs : Command → Job → Type 0
-IsReadAs command job = is_read (reading_of job) ≡ reads_input (Some command)
 
 -- ---- the start
 
+-- a pump that has not ended
+abbrev pub running : Job → Kept → Ahead → PumpState
+running job kept ahead = record { job = job; kept = kept; ahead = ahead; ended = None }
+
 -- A pump that has done nothing yet.
 abbrev pub opened : Job → PumpState
-opened job = record { job = job; kept = none_kept; ended = None }
+opened job = running job none_kept none_ahead
 
 -- the files judge the command so, where they tell what they hold
 abbrev pub JudgedAs : Command → Desk → Result Job RefusedFile → Type 0
@@ -77,20 +67,22 @@ behind Nothing kept = Nothing
 abbrev pub reading_on : PumpState → Reading
 reading_on pump = behind (reading_of pump.job) pump.kept
 
--- The next piece of the input was taken, nothing behind it, and its answer was written; the numbers count it.
+-- The next piece of what follows was taken, and its answer was written; the numbers count it.
 pub record TakesPiece (old new : PumpState) (before after : Streams) (input : List ℕ) : Type 0 where
   pub piece : Piece
   pub reply : Reply
   pub left : List ℕ
-  pub source : after.input.told ≡ Some left
-  pub taken : Begins (reading_on old) input (piece ∷ []) left
+  pub source : Follows new.ahead after.input.told left
+  pub taken : Reaches new.ahead.met_end (reading_on old) input (piece ∷ []) left
   pub replied : IsReply old.job old.kept piece reply
   pub wrote : Wrote before.sinks after.sinks (written_of reply)
   pub kept : new.kept ≡ counted old.kept piece reply.verdict
 
--- a step that answers a piece
+-- A step that answers a piece. Behind a frame nothing was taken.
 pub record Goes (old new : PumpState) (before after : Streams) : Type 0 where
-  pub answers : (input : List ℕ) → before.input.told ≡ Some input → TakesPiece old new before after input
+  pub answers : (input : List ℕ) → Follows old.ahead before.input.told input → TakesPiece old new before after input
+  pub unmet : old.ahead.met_end ≡ false
+  pub ahead : IsAhead (reading_of new.job) new.ahead
   pub calm : Calm before after
   pub runs : new.ended ≡ None
   pub job : new.job ≡ old.job
@@ -114,6 +106,7 @@ pub record Ends (pump : PumpState) (before after : Streams) (input : List ℕ) (
 
 -- A read failed. What was taken before is no whole piece.
 pub record Stalls (pump : PumpState) (before after : Streams) (input : List ℕ) (code : Status) : Type 0 where
+  pub unmet : pump.ahead.met_end ≡ false
   pub held : List ℕ
   pub left : List ℕ
   pub source : after.input.told ≡ Some left
@@ -123,13 +116,16 @@ pub record Stalls (pump : PumpState) (before after : Streams) (input : List ℕ)
   pub output : after.sinks.output ≡ before.sinks.output
   pub noted : Told (stop_line (stop.ReadFault (pump.kept.bytes + length held))) status.ReadFault before.sinks.notes after.sinks.notes code
 
--- A write of the next piece's answer failed, or memory for it was wanting. Nothing behind the piece was taken.
+-- A write of the next piece's answer failed, or memory for it was wanting. Nothing behind a frame was taken.
 pub record Fails (pump : PumpState) (after : Streams) (input : List ℕ) (IsWritten : Reply → Type 0) : Type 0 where
   pub piece : Piece
   pub reply : Reply
   pub left : List ℕ
-  pub source : after.input.told ≡ Some left
-  pub taken : Begins (reading_on pump) input (piece ∷ []) left
+  pub unmet : pump.ahead.met_end ≡ false
+  pub ahead : Ahead
+  pub only_lines : IsAhead (reading_of pump.job) ahead
+  pub source : Follows ahead after.input.told left
+  pub taken : Reaches ahead.met_end (reading_on pump) input (piece ∷ []) left
   pub replied : IsReply pump.job pump.kept piece reply
   pub wrote : IsWritten reply
 
@@ -179,11 +175,11 @@ pub record Causes (before after : Streams) (code : Status) : Type 0 where
 
 -- a step that ends the pump
 pub record Closes (old new : PumpState) (before after : Streams) (code : Status) : Type 0 where
-  pub halts : (input : List ℕ) → before.input.told ≡ Some input → Halts old before after input code
+  pub halts : (input : List ℕ) → Follows old.ahead before.input.told input → Halts old before after input code
   pub causes : Causes before after code
-  pub kept : new ≡ record { job = old.job; kept = old.kept; ended = Some code }
-  -- a job that reads the input never wants memory
-  pub memory : code ≡ status.NoMemory → is_read (reading_of old.job) ≡ false
+  pub kept : new ≡ record { job = old.job; kept = old.kept; ahead = new.ahead; ended = Some code }
+  -- a job that answers frames never wants memory
+  pub memory : code ≡ status.NoMemory → is_framed (reading_of old.job) ≡ false
   pub unread : is_read (reading_of old.job) ≡ false → after.input ≡ before.input
 
 -- A piece is answered, or the pump ends; a pump that has ended answers the same again, and leaves all as it was.
@@ -195,26 +191,27 @@ Steps old new before after (Ended code) =
 -- ---- many steps
 
 -- These pieces of the input were taken and answered, and the numbers count them.
-pub record Progress (job : Job) (kept : Kept) (old now : Streams) (input : List ℕ) : Type 0 where
+pub record Progress (pump : PumpState) (old now : Streams) (input : List ℕ) : Type 0 where
   pub pieces : List Piece
   pub left : List ℕ
   pub written : Written
-  pub source : now.input.told ≡ Some left
-  pub begins : Begins (reading_of job) input pieces left
-  pub replies : Replies job none_kept pieces written kept
+  pub source : Follows pump.ahead now.input.told left
+  pub begins : Reaches pump.ahead.met_end (reading_of pump.job) input pieces left
+  pub replies : Replies pump.job none_kept pieces written pump.kept
   pub wrote : Wrote old.sinks now.sinks written
 
 -- how far a job has come, and how it then ends
 pub record Course (job : Job) (old new : Streams) (input : List ℕ) (code : Status) : Type 0 where
   pub kept : Kept
+  pub ahead : Ahead
   pub mid : Streams
-  pub progress : Progress job kept old mid input
+  pub progress : Progress (running job kept ahead) old mid input
   pub calm : Calm old mid
-  pub halts : Halts (record { job = job; kept = kept; ended = None }) mid new progress.left code
+  pub halts : Halts (running job kept ahead) mid new progress.left code
 
 -- a job that is carried out to its end
 pub record Drains (job : Job) (old new : Streams) (code : Status) : Type 0 where
   pub course : (input : List ℕ) → old.input.told ≡ Some input → Course job old new input code
   pub causes : Causes old new code
-  pub memory : code ≡ status.NoMemory → is_read (reading_of job) ≡ false
+  pub memory : code ≡ status.NoMemory → is_framed (reading_of job) ≡ false
   pub unread : is_read (reading_of job) ≡ false → new.input ≡ old.input

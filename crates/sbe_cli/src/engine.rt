@@ -1,12 +1,12 @@
 ghost use Rattle.std.specs.Prelude.{◌≡◌, map, string_bytes};
-ghost use Rattle.sbe_cli.specs.Outside.{object_of, streams_of, outside_of};
-ghost use Rattle.sbe_cli.specs.Words.{HasLimits};
+ghost use Rattle.replies.specs.Outside.{object_of, streams_of, outside_of};
+ghost use Rattle.command_words.specs.Words.{HasLimits};
 ghost use Rattle.sbe_cli.specs.Runs.{Runs, CarriesOut};
 ghost use Rattle.sbe_cli.specs.Steps.{Drains, opened};
 
 use crate::pump::{Pump, Step};
 use crate::stop::{Stop, tell};
-use crate::words::{Command, WordsErr, read_words};
+use command_words::{Command, WordsErr, read_words};
 use sbe_base::{Files, Sink, Source, Status};
 use std::alloc::Global;
 

@@ -1,17 +1,19 @@
 ghost use Rattle.std.specs.Prelude.{◌≡◌, IfOk};
 ghost use Rattle.frame_stream.specs.Stream.{opened as opened_stream};
-ghost use Rattle.sbe_cli.specs.Outside.{object_of, streams_of};
-ghost use Rattle.sbe_cli.specs.Replies.{counted_by};
-ghost use Rattle.sbe_cli.specs.Steps.{IsReadyFrame};
-ghost use Rattle.sbe_cli.specs.Drafts.{Delivers};
-ghost use Rattle.sbe_cli.specs.Pumps.{IsBounded, Stands, CanCount, reply_of, frames_pump, Answers};
+ghost use Rattle.sbe_cli.specs.Ahead.{none_ahead};
+ghost use Rattle.replies.specs.Outside.{object_of, streams_of};
+ghost use Rattle.command_jobs.specs.Replies.{counted_by, reply_of};
+ghost use Rattle.command_jobs.specs.Jobs.{IsReadyFrame, IsBounded};
+ghost use Rattle.replies.specs.Drafts.{Delivers};
+ghost use Rattle.sbe_cli.specs.Pumps.{Stands, CanCount, frames_pump, Answers};
 
-use crate::job::{FrameJob, Verdict, answer_frame};
-use crate::pump::{Kept, Tally, done};
+use crate::pump::{Tally, done};
 use crate::stop::{Stop, tell};
+use command_jobs::{FrameJob, Kept, answer_frame};
 use frame_stream::{FrameStream, StreamErr, Taken};
 use lists::NoMem;
 use open_framing::Head;
+use replies::Verdict;
 use sbe_base::{Limits, Sink, Source, Status, WriteFault};
 use std::alloc::Global;
 
@@ -35,7 +37,7 @@ impl FrameWork {
         requires ready { IsReadyFrame self.old.job }
         requires bounded { IsBounded self.old.limits }
         requires stands { Stands self.old.limits self.old.stream kept }
-        ensures answers { Answers (frames_pump self.old.job self.old.limits kept)
+        ensures answers { Answers (frames_pump self.old.job self.old.limits kept) none_ahead
             (streams_of (object_of (I.left input.old) (I.faults input.old)) (object_of (O.held output.old) (O.faults output.old)) (object_of (N.held notes.old) (N.faults notes.old)))
             (streams_of (object_of (I.left input.new) (I.faults input.new)) (object_of (O.held output.new) (O.faults output.new)) (object_of (N.held notes.new) (N.faults notes.new)))
             result }

@@ -1,35 +1,25 @@
 ghost use Rattle.std.specs.Prelude.{◌≡◌, IfOk};
-ghost use Rattle.sbe_cli.specs.Outside.{object_of, streams_of, desk_of};
-ghost use Rattle.sbe_cli.specs.Words.{HasLimits};
-ghost use Rattle.sbe_cli.specs.Replies.{none_kept, counted_by};
+ghost use Rattle.replies.specs.Outside.{object_of, streams_of, desk_of};
+ghost use Rattle.sbe_cli.specs.Ahead.{none_ahead};
+ghost use Rattle.command_words.specs.Words.{HasLimits};
+ghost use Rattle.command_jobs.specs.Replies.{none_kept, counted_by};
 ghost use Rattle.sbe_cli.specs.Report.{done_status};
-ghost use Rattle.sbe_cli.specs.Steps.{IsReady, Opens, Steps};
-ghost use Rattle.sbe_cli.specs.Pumps.{IsBoundedJob, job_of, IsSoundWork, StandsSo, CanCount, running, Answers, EndsAs, IsOpened};
+ghost use Rattle.command_jobs.specs.Jobs.{IsReady, IsBoundedJob};
+ghost use Rattle.sbe_cli.specs.Steps.{Opens, Steps, running};
+ghost use Rattle.sbe_cli.specs.Pumps.{ahead_of, job_of, IsSoundWork, StandsSo, CanCount, Answers, EndsAs, IsOpened};
 
-use crate::draft::Draft;
-use crate::files::JobStop;
 use crate::frames::{FrameWork, open_frames};
-use crate::job::{Job, OnceJob, Verdict, load_job};
+use crate::lines::{LineWork, open_lines};
 use crate::once::answer_once;
 use crate::stop::{Stop, tell};
-use crate::words::Command;
+use command_jobs::{Job, Kept, OnceJob, load_job};
+use command_words::Command;
 use lists::NoMem;
+use replies::{Draft, Verdict};
 use sbe_base::{Files, Sink, Source, Status};
+use schema_files::JobStop;
 use std::alloc::Global;
 use std::marker::Model;
-
-/// What a pump has done so far.
-#[derive(Clone, Copy, Debug, PartialEq, Eq)]
-pub struct Kept {
-    /// How many items were answered.
-    pub items: u64,
-    /// How many of them were refused.
-    pub refused: u64,
-    /// How many of them were translated.
-    pub translated: u64,
-    /// The bytes of the items in the input.
-    pub bytes: u64,
-}
 
 /// What is counted of an item that was answered.
 #[derive(Clone, Copy, Debug, PartialEq, Eq)]
@@ -52,6 +42,7 @@ pub enum Step {
 #[derive(Drop)]
 pub enum Work {
     Frames(FrameWork),
+    Lines(LineWork),
     Once(OnceJob),
 }
 
@@ -66,7 +57,7 @@ pub struct Pump {
 
 impl Model for Pump {
     ghost use Rattle.sbe_cli.specs.Steps.{PumpState};
-    ghost use Rattle.sbe_cli.specs.Pumps.{IsPump, job_of};
+    ghost use Rattle.sbe_cli.specs.Pumps.{IsPump, ahead_of, job_of};
     ghost use Rattle.std.specs.Coded.{codes};
     ghost use Rattle.sbe_types.specs.contracts.kind.Kind as kind;
     ghost use Rattle.sbe_types.specs.contracts.schema.Level as level;
@@ -75,7 +66,7 @@ impl Model for Pump {
 
     ghost coded = { Prim.hlevel (codes, kind.the_row.coded, level.the_row.coded) };
 
-    ghost view = { λ pump. record { job = job_of pump.work; kept = pump.kept; ended = pump.ended } };
+    ghost view = { λ pump. record { job = job_of pump.work; kept = pump.kept; ahead = ahead_of pump.work; ended = pump.ended } };
 
     ghost invariant = { λ pump. IsPump pump.work pump.kept pump.ended };
 }
@@ -108,7 +99,7 @@ impl Pump {
     }
 
     /// Answers the next item of the input, or ends. What an item gives is written before a byte behind it is asked
-    /// for. A pump that has ended gives the same answer again, and reads and writes nothing.
+    /// for; lines are read ahead inside their buffer. A pump that has ended gives the same answer again, and reads and writes nothing.
     pub fn step<I: Source, O: Sink, N: Sink>(
         &mut self,
         input: &mut I,
@@ -143,11 +134,16 @@ impl Work {
         requires bounded { IsBoundedJob job }
         ensures job { IfOk result (λ work. job_of work ≡ job) }
         ensures sound { IfOk result (λ work. IsSoundWork work) }
+        ensures ahead { IfOk result (λ work. ahead_of work ≡ none_ahead) }
         ensures stands { IfOk result (λ work. StandsSo work none_kept) }
     {
         match job {
             Job::Frames { job, limits } => match open_frames(alloc, job, limits) {
                 Ok(work) => Ok(Work::Frames(work)),
+                Err(e) => Err(e),
+            },
+            Job::Lines { job, limits } => match open_lines(alloc, job, limits) {
+                Ok(work) => Ok(Work::Lines(work)),
                 Err(e) => Err(e),
             },
             Job::Once(job) => Ok(Work::Once(job)),
@@ -165,7 +161,7 @@ impl Work {
     ) -> Result<Tally, Status>
         requires sound { IsSoundWork self.old }
         requires stands { StandsSo self.old kept }
-        ensures answers { Answers (running (job_of self.old) kept)
+        ensures answers { Answers (running (job_of self.old) kept (ahead_of self.old)) (ahead_of self.new)
             (streams_of (object_of (I.left input.old) (I.faults input.old)) (object_of (O.held output.old) (O.faults output.old)) (object_of (N.held notes.old) (N.faults notes.old)))
             (streams_of (object_of (I.left input.new) (I.faults input.new)) (object_of (O.held output.new) (O.faults output.new)) (object_of (N.held notes.new) (N.faults notes.new)))
             result }
@@ -176,6 +172,7 @@ impl Work {
     {
         match self {
             Work::Frames(work) => work.answer_next(kept, input, output, notes),
+            Work::Lines(work) => work.answer_next(kept, input, output, notes),
             Work::Once(job) => answer_once(job, kept, draft, output, notes),
         }
     }

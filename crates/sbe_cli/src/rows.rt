@@ -4,19 +4,21 @@ ghost use Rattle.std.specs.Prelude.{◌≡◌, ◌∷◌, ◌++◌, [], ℕ, Lis
 ghost use Rattle.sbe_base.specs.declared.status.Limits.{Limits};
 ghost use Rattle.sbe_base.specs.declared.status.Status.TheVariants as status;
 ghost use Rattle.dump_lines.specs.Dumped.{AreInOrder};
-ghost use Rattle.sbe_cli.specs.Judged.{alone, refused_as};
+ghost use Rattle.schema_files.specs.Judged.{alone, refused_as};
 ghost use Rattle.sbe_types.specs.declared.schema.WireSchema.{WireSchema};
-ghost use Rattle.sbe_cli.specs.declared.files.FileRefusal.{FileRefusal};
-ghost use Rattle.sbe_cli.specs.declared.files.FileRole.TheVariants as role;
+ghost use Rattle.schema_files.specs.declared.files.FileRefusal.{FileRefusal};
+ghost use Rattle.schema_files.specs.declared.files.FileRole.TheVariants as role;
 ghost use Rattle.sbe_wire.specs.Rows.Schemas.{schema7, event0, event2, one_data};
 ghost use Rattle.version_laws.specs.Rows.{ping_wide, one_data1};
-ghost use Rattle.sbe_cli.specs.Splits.{Frames, End, EndInside, InputLimit};
-ghost use Rattle.sbe_cli.specs.Replies.{Replies, none_kept, none_written};
-ghost use Rattle.sbe_cli.specs.Report.{Report, JobReport, closed, two_judged};
-ghost use Rattle.sbe_cli.specs.Rows.{two_pieces, ping_line, six_lines, two_way, one_way, other_kind, refused_second, refused_xml, usage, absent, absent_old, ends_inside, over_limit};
-ghost use Rattle.sbe_cli.specs.declared.job.Job.TheVariants as jobs;
-ghost use Rattle.sbe_cli.specs.declared.job.FrameJob.TheVariants as frame;
-ghost use Rattle.sbe_cli.specs.declared.job.OnceJob.TheVariants as once;
+ghost use Rattle.command_jobs.specs.Splits.{Frames, Lines, End, EndInside, LineOver, InputLimit, line_pieces};
+ghost use Rattle.command_jobs.specs.Replies.{Replies, none_kept};
+ghost use Rattle.replies.specs.Reply.{none_written};
+ghost use Rattle.sbe_cli.specs.Report.{Report, JobReport, closed};
+ghost use Rattle.command_jobs.specs.Jobs.{two_judged};
+ghost use Rattle.sbe_cli.specs.Rows.{two_pieces, ping_line, six_lines, two_way, one_way, other_kind, refused_second, refused_xml, usage, absent, absent_old, ends_inside, over_limit, over_line, three_lines};
+ghost use Rattle.command_jobs.specs.declared.job.Job.TheVariants as jobs;
+ghost use Rattle.command_jobs.specs.declared.job.FrameJob.TheVariants as frame;
+ghost use Rattle.command_jobs.specs.declared.job.OnceJob.TheVariants as once;
 
 /// No words are no command.
 pub fn no_words()
@@ -82,4 +84,11 @@ pub fn ends()
         ≡ record { output = []; notes = ends_inside; status = status.FramingRefused } }
     ensures limit { (frame : ℕ) → closed (Frames (record { frame = frame; input = 30 })) InputLimit none_written (record { items = 1; refused = 0; translated = 0; bytes = 20 })
         ≡ record { output = []; notes = over_limit; status = status.InputLimit } }
+{}
+
+/// Lines of an input, and a line that is too long behind five bytes.
+pub fn lines_of_an_input()
+    ensures pieces { line_pieces 4 (codes "a" ∷ [] ∷ codes "b" ∷ []) ≡ three_lines }
+    ensures over { (limit : ℕ) → closed (Lines limit) LineOver none_written (record { items = 1; refused = 0; translated = 0; bytes = 5 })
+        ≡ record { output = []; notes = over_line; status = status.FramingRefused } }
 {}

@@ -1,13 +1,12 @@
 ghost use Rattle.std.specs.Prelude.{◌≡◌};
 ghost use Rattle.tree_json.specs.Writes.{output, Writes};
-ghost use Rattle.sbe_cli.specs.Outside.{Told, object_of};
+ghost use Rattle.replies.specs.Outside.{Told, object_of};
 ghost use Rattle.sbe_cli.specs.Stops.{stop_status, stop_line, at_line, head_line, fault_line};
 ghost use Rattle.sbe_cli.specs.declared.stop.Stop.TheVariants as stop;
 
-use crate::files::{FileRole, RefusedFile};
-use crate::refusal::{put_refusal, put_role, refusal_status};
-use open_framing::HeadErr;
+use open_framing::{HeadErr, LONGEST_LINE};
 use sbe_base::{Sink, Status, WriteFault};
+use schema_files::{FileRole, RefusedFile, put_refusal, put_role, refusal_status};
 use tree_json::{Chunk, put_count};
 
 /// What is noted where a run stops before its end.
@@ -25,6 +24,8 @@ pub enum Stop {
     EndInside(u64, u64),
     /// The head at this byte of the input is at fault.
     Head(HeadErr, u64),
+    /// The line at this byte of the input is over the limit of a line.
+    LineOver(u64),
     /// The input has more bytes than this limit.
     InputLimit(u64),
 }
@@ -39,7 +40,9 @@ impl Stop {
             Stop::FileFault(_) => Status::FileFault,
             Stop::Refused(file) => refusal_status(&file.why),
             Stop::ReadFault(_) => Status::ReadFault,
-            Stop::EndInside(_, _) | Stop::Head(_, _) => Status::FramingRefused,
+            Stop::EndInside(_, _) | Stop::Head(_, _) | Stop::LineOver(_) => {
+                Status::FramingRefused
+            }
             Stop::InputLimit(_) => Status::InputLimit,
         }
     }
@@ -72,6 +75,7 @@ fn put_stop<N: Sink>(chunk: &mut Chunk, notes: &mut N, stop: &Stop)
         Stop::ReadFault(at) => put_at(chunk, notes, b"{\"fault\":\"Read\",\"at\":", *at),
         Stop::EndInside(held, at) => put_fault(chunk, notes, b"EndInside", *at, *held),
         Stop::Head(fault, at) => put_head_fault(chunk, notes, *fault, *at),
+        Stop::LineOver(at) => put_fault(chunk, notes, b"LineOver", *at, LONGEST_LINE as u64 + 1),
         Stop::InputLimit(limit) => { put_at(chunk, notes, b"{\"limit\":\"Input\",\"at\":", *limit) }
     }
 }

@@ -1,5 +1,5 @@
+use command_words::{Command, FORMS, WordsErr, read_words};
 use sbe_base::{Limits, NoMem};
-use sbe_cli::{Command, FORMS, WordsErr, read_words};
 use std::alloc::Global;
 use std::test::Fail;
 
@@ -74,7 +74,10 @@ fn reads_a_dump(rt: HostRuntime) -> Result<(), Fail> {
                 assert_eq!(rt; schema.as_str(), "S");
                 assert_eq!(rt; *limits, Limits { frame, input }, "{texts:?}");
             }
-            Command::Check { .. } | Command::Compat { .. } => assert!(rt; false, "{texts:?}"),
+            Command::Check { .. } | Command::Compat { .. } | Command::Build { .. } => assert!(rt;
+                false,
+                "{texts:?}"
+            ),
         }
     }
     Ok(())
@@ -108,7 +111,10 @@ fn reads_further_schemas(rt: HostRuntime) -> Result<(), Fail> {
                     assert_eq!(rt; also.at(i).as_str(), names[i], "{texts:?}");
                 }
             }
-            Command::Check { .. } | Command::Compat { .. } => assert!(rt; false, "{texts:?}"),
+            Command::Check { .. } | Command::Compat { .. } | Command::Build { .. } => assert!(rt;
+                false,
+                "{texts:?}"
+            ),
         }
     }
     Ok(())
@@ -137,7 +143,10 @@ fn reads_a_check(rt: HostRuntime) -> Result<(), Fail> {
         let command = command_of(rt.alloc(), &["check", name])?;
         match &command {
             Command::Check { schema } => assert_eq!(rt; schema.as_str(), name),
-            Command::Compat { .. } | Command::Dump { .. } => assert!(rt; false, "{name}"),
+            Command::Compat { .. } | Command::Dump { .. } | Command::Build { .. } => assert!(rt;
+                false,
+                "{name}"
+            ),
         }
     }
     Ok(())
@@ -153,7 +162,46 @@ fn reads_a_comparison(rt: HostRuntime) -> Result<(), Fail> {
                 assert_eq!(rt; older.as_str(), first);
                 assert_eq!(rt; newer.as_str(), second);
             }
-            Command::Check { .. } | Command::Dump { .. } => assert!(rt; false, "{first} {second}"),
+            Command::Check { .. } | Command::Dump { .. } | Command::Build { .. } => assert!(rt;
+                false,
+                "{first} {second}"
+            ),
+        }
+    }
+    Ok(())
+}
+
+#[test]
+fn reads_a_build(rt: HostRuntime) -> Result<(), Fail> {
+    let rows: [(&[&str], usize, u64); 5] = [
+        (&["build", "S"], FRAME, INPUT),
+        (&["build", "S", "--max-frame", "64"], 64, INPUT),
+        (
+            &["build", "S", "--max-frame", "16777216"],
+            16_777_216,
+            INPUT,
+        ),
+        (
+            &["build", "S", "--max-input", "1099511627776"],
+            FRAME,
+            1_099_511_627_776,
+        ),
+        (
+            &["build", "S", "--max-input", "1", "--max-frame", "100"],
+            100,
+            1,
+        ),
+    ];
+    for (texts, frame, input) in rows {
+        let command = command_of(rt.alloc(), texts)?;
+        match &command {
+            Command::Build { schema, limits } => {
+                assert_eq!(rt; schema.as_str(), "S");
+                assert_eq!(rt; *limits, Limits { frame, input }, "{texts:?}");
+            }
+            Command::Check { .. } | Command::Compat { .. } | Command::Dump { .. } => {
+                assert!(rt; false, "{texts:?}")
+            }
         }
     }
     Ok(())
@@ -179,7 +227,9 @@ fn names_a_file(rt: HostRuntime) -> Result<(), Fail> {
         let command = command_of(rt.alloc(), &["dump", name])?;
         match &command {
             Command::Dump { schema, .. } => assert_eq!(rt; schema.as_str(), name),
-            Command::Check { .. } | Command::Compat { .. } => assert!(rt; false),
+            Command::Check { .. } | Command::Compat { .. } | Command::Build { .. } => assert!(rt;
+                false
+            ),
         }
     }
     Ok(())
@@ -187,7 +237,7 @@ fn names_a_file(rt: HostRuntime) -> Result<(), Fail> {
 
 #[test]
 fn refuses_other_words(rt: HostRuntime) -> Result<(), Fail> {
-    let rows: [&[&str]; 69] = [
+    let rows: [&[&str]; 81] = [
         &[],
         &[""],
         &["dump"],
@@ -269,6 +319,18 @@ fn refuses_other_words(rt: HostRuntime) -> Result<(), Fail> {
         &["compat", "S", "T", "--max-frame", "64"],
         &["compat", "S", "T", "--max-input", "1"],
         &["Compat", "S", "T"],
+        &["build"],
+        &["build", ""],
+        &["build", "--S"],
+        &["build", "--max-frame", "64"],
+        &["build", "S", ""],
+        &["build", "S", "T"],
+        &["build", "S", "--max-frame"],
+        &["build", "S", "--max-frame", "64", "--max-frame", "64"],
+        &["build", "S", "--also", "T"],
+        &["build", "S", "--max-frame", "63"],
+        &["build", "S", "--max-input", "0"],
+        &["Build", "S"],
         &["--help"],
         &["-h"],
         &["--version"],
@@ -289,9 +351,8 @@ fn refuses_other_words(rt: HostRuntime) -> Result<(), Fail> {
 
 #[test]
 fn refuses_commands_that_are_to_come(rt: HostRuntime) -> Result<(), Fail> {
-    let rows: [&[&str]; 7] = [
+    let rows: [&[&str]; 6] = [
         &["check", "S", "M"],
-        &["build", "S"],
         &["fixcheck", "M"],
         &["tofix", "S", "M"],
         &["tosbe", "S", "M"],
@@ -367,7 +428,7 @@ fn refuses_numbers_of_no_range(rt: HostRuntime) -> Result<(), Fail> {
 
 #[test]
 fn lists_its_forms(rt: HostRuntime) -> Result<(), Fail> {
-    let words = ["check", "compat", "dump"];
+    let words = ["check", "compat", "dump", "build"];
     assert_eq!(rt; FORMS.len(), words.len());
     for (form, word) in FORMS.iter().zip(words.iter()) {
         assert_eq!(rt; form.row().word(), *word);

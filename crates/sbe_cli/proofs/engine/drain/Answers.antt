@@ -1,4 +1,4 @@
-use Rattle.sbe_cli.specs.Outside.{Streams}
+use Rattle.replies.specs.Outside.{Streams}
 use Rattle.sbe_cli.proofs.Running.{runs_new, runs_more, drained}
 use Rattle.sbe_cli.proofs.engine.drain.Goals as goal
 

@@ -1,6 +1,6 @@
 use Rattle.std.proofs.Common.{◌-◌}
-use Rattle.sbe_cli.specs.Splits.{most_pieces}
-use Rattle.sbe_cli.specs.Replies.{reading_of}
+use Rattle.command_jobs.specs.Splits.{most_pieces}
+use Rattle.command_jobs.specs.Replies.{reading_of}
 use Rattle.sbe_cli.proofs.Running.{IsRunning}
 use Rattle.sbe_cli.proofs.engine.drain.Given as goal
 

@@ -1,5 +1,5 @@
 use Rattle.std.proofs.Common.{refl, arith}
-use Rattle.sbe_cli.specs.Outside.{Streams}
+use Rattle.replies.specs.Outside.{Streams}
 use Rattle.sbe_cli.proofs.Closing.{went_once, stopped_once}
 use Rattle.sbe_cli.proofs.once.answer_once.Goals as goal
 

@@ -3,10 +3,10 @@ use denote.Hole.Carrier as carrier
 use Rattle.sbe_types.specs.declared.schema.Level as level
 use Rattle.version_laws.specs.Differ.{level_differs, groups_differ, group_differs}
 use Rattle.version_laws.specs.Forward.{added_in, added_group, added_below, added_at_root}
-use Rattle.sbe_cli.specs.Splits.{Whole, End}
-use Rattle.sbe_cli.specs.Replies.{none_written}
+use Rattle.command_jobs.specs.Splits.{Whole, End}
+use Rattle.replies.specs.Reply.{none_written}
 use Rattle.sbe_cli.specs.Rows.{two_way}
-use Rattle.sbe_cli.specs.declared.job.Verdict.TheVariants.{Answered}
+use Rattle.replies.specs.declared.verdict.Verdict.TheVariants.{Answered}
 use Rattle.sbe_cli.proofs.rows.goes_both_ways.Goals as goal
 
 pub returns : goal.returns

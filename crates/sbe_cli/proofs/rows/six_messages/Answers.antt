@@ -3,10 +3,10 @@ use denote.Hole.Carrier as carrier
 use Rattle.sbe_types.specs.declared.schema.Level as level
 use Rattle.std.specs.Fmt.{digits}
 use Rattle.schema_lines.specs.Counts.{groups_in, groups_among, groups_with, parts_in, parts_among, parts_with}
-use Rattle.sbe_cli.specs.Splits.{Whole, End}
-use Rattle.sbe_cli.specs.Replies.{none_written}
+use Rattle.command_jobs.specs.Splits.{Whole, End}
+use Rattle.replies.specs.Reply.{none_written}
 use Rattle.sbe_cli.specs.Rows.{six_lines}
-use Rattle.sbe_cli.specs.declared.job.Verdict.TheVariants.{Answered}
+use Rattle.replies.specs.declared.verdict.Verdict.TheVariants.{Answered}
 use Rattle.sbe_cli.proofs.rows.six_messages.Goals as goal
 
 pub returns : goal.returns

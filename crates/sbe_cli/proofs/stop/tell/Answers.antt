@@ -1,6 +1,6 @@
 use Rattle.std.proofs.Common.{sym, subst}
 use Rattle.sbe_base.specs.declared.status.Status.{Status}
-use Rattle.sbe_cli.specs.Outside.{Told, object_of}
+use Rattle.replies.specs.Outside.{Told, object_of}
 use Rattle.sbe_cli.specs.Stops.{stop_line, stop_status}
 use Rattle.sbe_cli.proofs.Telling.{told_whole, told_broken}
 use Rattle.sbe_cli.proofs.stop.tell.Goals as goal

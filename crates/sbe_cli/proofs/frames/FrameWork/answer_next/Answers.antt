@@ -1,6 +1,6 @@
 use Rattle.std.proofs.Common.{refl}
 use Rattle.frame_stream.specs.declared.held.Ended.TheVariants as ended
-use Rattle.sbe_cli.specs.Outside.{Streams}
+use Rattle.replies.specs.Outside.{Streams}
 use Rattle.sbe_cli.specs.declared.stop.Stop.TheVariants as stop
 use Rattle.sbe_cli.proofs.Closing.{went, stopped, closed_end, closed_with, closed_read}
 use Rattle.sbe_cli.proofs.frames.FrameWork.answer_next.Goals as goal

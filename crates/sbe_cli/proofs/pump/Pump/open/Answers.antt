@@ -1,4 +1,4 @@
-use Rattle.sbe_cli.specs.Outside.{Desk}
+use Rattle.replies.specs.Outside.{Desk}
 use Rattle.sbe_cli.specs.Steps.{fails}
 use Rattle.sbe_cli.proofs.Opening.{declined, same_object}
 use Rattle.sbe_cli.proofs.pump.Pump.open.Goals as goal

@@ -1,0 +1,10 @@
+//! What `build` answers to a line: the frame of its message, or a note of why there is none.
+#![tactic(auto)]
+
+mod built;
+pub mod rows;
+mod target;
+mod unbuilt;
+
+pub use built::answer_built;
+pub use target::Target;

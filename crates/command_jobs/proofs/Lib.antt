@@ -1,0 +1,4 @@
+pub mod Putting
+pub mod Replied
+pub mod JobLoading
+pub mod Folding

@@ -1,0 +1,4 @@
+pub mod WordLists
+pub mod WordNumbers
+pub mod WordOptions
+pub mod WordLimits

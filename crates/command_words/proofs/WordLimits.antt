@@ -1,0 +1,43 @@
+-- The limits that options give lie in their ranges.
+use Rattle.std.proofs.Common.{◌≡◌, ◌≤◌, ◌^◌, ℕ, Bool, true, false, ◌&&◌, nat_le, List, [], ◌∷◌, Option, Some, None, IfSome, refl, sym, subst, arith, if◌then◌else◌}
+use Rattle.std.proofs.lemmas.Bool.{leb-true}
+use Rattle.std.specs.Str.Parse.{digits_value}
+use Rattle.sbe_base.specs.declared.status.Limits.{Limits}
+use Rattle.command_words.specs.declared.words.options.NumberRange.{NumberRange}
+use Rattle.command_words.specs.declared.words.options.TheConstants.{FRAME_RANGE, INPUT_RANGE, MAX_FRAME, MAX_INPUT}
+use Rattle.command_words.specs.Words.{is_number, limits_from, limits_of, number_by, number_given, number_within, values_of}
+
+abbrev InRange : NumberRange → ℕ → Type 0
+InRange range n = (range.least ≤ n) × (n ≤ range.most)
+
+number_if_in : (range : NumberRange) (number least most : Bool) (n : ℕ) → (least ≡ true → range.least ≤ n) → (most ≡ true → n ≤ range.most) →
+    IfSome (if number && least && most then Some n else None) (λ n. InRange range n)
+number_if_in range false least most n low high = tt
+number_if_in range true false most n low high = tt
+number_if_in range true true false n low high = tt
+number_if_in range true true true n low high = (low refl, high refl)
+
+word_within : (range : NumberRange) (word : List ℕ) → IfSome (number_within range.least range.most word) (λ n. InRange range n)
+word_within range word =
+    number_if_in range (is_number word) (nat_le range.least (digits_value 10 word)) (nat_le (digits_value 10 word) range.most) (digits_value 10 word)
+    (leb-true range.least (digits_value 10 word)) (leb-true (digits_value 10 word) range.most)
+
+by_range : (range : NumberRange) (values : List (List ℕ)) → InRange range range.default → IfSome (number_by range values) (λ n. InRange range n)
+by_range range [] default = default
+by_range range (value ∷ []) default = word_within range value
+by_range range (value ∷ again ∷ more) default = tt
+
+abbrev pub AreLimits : Limits → Type 0
+AreLimits limits = (64 ≤ limits.frame) × (limits.frame ≤ 16_777_216) × (1 ≤ limits.input) × (limits.input ≤ 2 ^ 40)
+
+from_both : (frame input : Option ℕ) → IfSome frame (λ n. InRange FRAME_RANGE n) → IfSome input (λ n. InRange INPUT_RANGE n) → IfSome (limits_from frame input) (λ limits. AreLimits limits)
+from_both None input f i = tt
+from_both (Some frame) None f i = tt
+from_both (Some frame) (Some input) f i = (f.0, f.1, i.0, i.1)
+
+pub limits_within : (pairs : List (List ℕ)) (limits : Limits) → Some limits ≡ limits_of pairs → AreLimits limits
+limits_within pairs limits is =
+    let all : IfSome (limits_of pairs) (λ limits. AreLimits limits) =
+    from_both (number_given MAX_FRAME.now FRAME_RANGE pairs) (number_given MAX_INPUT.now INPUT_RANGE pairs)
+    (by_range FRAME_RANGE (values_of MAX_FRAME.now pairs) (omega arith, omega arith)) (by_range INPUT_RANGE (values_of MAX_INPUT.now pairs) (omega arith, omega arith)) in
+    subst (λ o. IfSome o (λ limits. AreLimits limits)) (sym is) all

@@ -1,0 +1,182 @@
+-- What words say.
+use Rattle.std.specs.Prelude.{◌≡◌, ◌≤◌, ◌^◌, ℕ, Bool, true, false, ◌&&◌, ◌==◌, not, nat_lt, nat_le, if◌then◌else◌, List, [], ◌∷◌, codes, length, take, drop, find, Option, Some, None, Result, Ok, Err, ⊤}
+use Rattle.std.specs.Option.{option_and_then}
+use Rattle.std.specs.List.{list_all, list_any}
+use Rattle.std.specs.Str.{bytes_eq, all_ascii_digits}
+use Rattle.std.specs.Str.Parse.{digits_value}
+use Rattle.sbe_base.specs.declared.status.Limits.{Limits}
+use Rattle.command_words.specs.declared.words.Command.{Command}
+use Rattle.command_words.specs.declared.words.Command.TheVariants.{Check, Compat, Dump, Build}
+use Rattle.command_words.specs.declared.words.WordsErr.{WordsErr}
+use Rattle.command_words.specs.declared.words.WordsErr.TheVariants.{Usage, Memory}
+use Rattle.command_words.specs.declared.words.forms.Form.{Form}
+use Rattle.command_words.specs.declared.words.forms.Form.TheVariants as form
+use Rattle.command_words.specs.declared.words.forms.TheConstants.{FORMS}
+use Rattle.command_words.specs.declared.words.options.NumberRange.{NumberRange}
+use Rattle.command_words.specs.declared.words.options.TheConstants.{ALSO, MOST_ALSO, MAX_FRAME, MAX_INPUT, FRAME_RANGE, INPUT_RANGE}
+
+-- ---- one word
+
+-- A file's name isn't empty and doesn't begin with `--`.
+abbrev pub is_file_name : List ℕ → Bool
+is_file_name word = nat_lt 0 (length word) && not (bytes_eq (take 2 word) (codes "--"))
+
+-- it isn't empty, and no zero stands in front of more
+abbrev pub begins_a_number : List ℕ → Bool
+begins_a_number [] = false
+begins_a_number (digit ∷ []) = true
+begins_a_number (digit ∷ next ∷ more) = not (digit == 48)
+
+-- A number is decimal digits without a sign, and without a leading zero except `0` itself.
+abbrev pub is_number : List ℕ → Bool
+is_number word = begins_a_number word && all_ascii_digits word
+
+-- the number that a word writes, where it is at least the one and at most the other
+abbrev pub number_within : ℕ → ℕ → List ℕ → Option ℕ
+number_within least most word = if is_number word && nat_le least (digits_value 10 word) && nat_le (digits_value 10 word) most then Some (digits_value 10 word) else None
+
+-- ---- options: words in pairs, the option's word and its value
+
+-- all words are pairs, and each begins with one of these options
+abbrev pub are_options : List (List ℕ) → List (List ℕ) → Bool
+are_options options [] = true
+are_options options (word ∷ []) = false
+are_options options (word ∷ value ∷ more) = list_any (λ option. bytes_eq option word) options && are_options options more
+
+-- all values that pairs give an option
+abbrev pub values_of : List ℕ → List (List ℕ) → List (List ℕ)
+values_of option [] = []
+values_of option (word ∷ []) = []
+values_of option (word ∷ value ∷ more) = if bytes_eq word option then value ∷ values_of option more else values_of option more
+
+-- the number of an option with these values: its default without any, and a number of its range with one
+abbrev pub number_by : NumberRange → List (List ℕ) → Option ℕ
+number_by range [] = Some range.default
+number_by range (value ∷ []) = number_within range.least range.most value
+number_by range (value ∷ again ∷ more) = None
+
+-- the number that pairs give this option
+abbrev pub number_given : List ℕ → NumberRange → List (List ℕ) → Option ℕ
+number_given option range pairs = number_by range (values_of option pairs)
+
+-- limits of both numbers, where both are there
+abbrev pub limits_from : Option ℕ → Option ℕ → Option Limits
+limits_from (Some frame) (Some input) = Some (record { frame = frame; input = input })
+limits_from (Some frame) None = None
+limits_from None input = None
+
+-- the limits that pairs give a run
+abbrev pub limits_of : List (List ℕ) → Option Limits
+limits_of pairs = limits_from (number_given MAX_FRAME.now FRAME_RANGE pairs) (number_given MAX_INPUT.now INPUT_RANGE pairs)
+
+-- these values, where they are so many at most and each is a file's name
+abbrev pub names_by : ℕ → List (List ℕ) → Option (List (List ℕ))
+names_by most values = if nat_le (length values) most && list_all is_file_name values then Some values else None
+
+-- the names of files that pairs give this option, which may stand so often
+abbrev pub names_given : List ℕ → ℕ → List (List ℕ) → Option (List (List ℕ))
+names_given option most pairs = names_by most (values_of option pairs)
+
+-- ---- forms: a command's word, names of files, and options
+
+-- what words of a form begin with, how many names of files follow, and which options
+pub record FormRow : Type 0 where
+  pub word : List ℕ
+  pub files : ℕ
+  pub options : List (List ℕ)
+
+-- the table of forms
+abbrev pub row_of : Form → FormRow
+row_of form.Check = record { word = codes "check"; files = 1; options = [] }
+row_of form.Compat = record { word = codes "compat"; files = 2; options = [] }
+row_of form.Dump = record { word = codes "dump"; files = 1; options = MAX_FRAME.now ∷ MAX_INPUT.now ∷ ALSO.now ∷ [] }
+row_of form.Build = record { word = codes "build"; files = 1; options = MAX_FRAME.now ∷ MAX_INPUT.now ∷ [] }
+
+-- the words have the form of this row, whatever values its options have
+abbrev pub fits : FormRow → List (List ℕ) → Bool
+fits row [] = false
+fits row (word ∷ rest) =
+    bytes_eq word row.word && nat_le row.files (length rest)
+    && list_all is_file_name (take row.files rest) && are_options row.options (drop row.files rest)
+
+-- `check S`
+abbrev pub check_of : List (List ℕ) → Option Command
+check_of (word ∷ schema ∷ []) = Some (Check schema)
+check_of (word ∷ schema ∷ next ∷ more) = None
+check_of (word ∷ []) = None
+check_of [] = None
+
+-- `compat OLD NEW`
+abbrev pub compat_of : List (List ℕ) → Option Command
+compat_of (word ∷ older ∷ newer ∷ []) = Some (Compat older newer)
+compat_of (word ∷ older ∷ newer ∷ next ∷ more) = None
+compat_of (word ∷ older ∷ []) = None
+compat_of (word ∷ []) = None
+compat_of [] = None
+
+-- a dump of these files, where their names and the limits are there
+abbrev pub dump_from : List ℕ → Option Limits → Option (List (List ℕ)) → Option Command
+dump_from schema None also = None
+dump_from schema (Some limits) None = None
+dump_from schema (Some limits) (Some also) = Some (Dump schema also limits)
+
+-- `dump S`, with further schemas and the limits of its options
+abbrev pub dump_of : List (List ℕ) → Option Command
+dump_of (word ∷ schema ∷ pairs) = dump_from schema (limits_of pairs) (names_given ALSO.now MOST_ALSO pairs)
+dump_of (word ∷ []) = None
+dump_of [] = None
+
+-- a build of these frames, where the limits are there
+abbrev pub build_from : List ℕ → Option Limits → Option Command
+build_from schema None = None
+build_from schema (Some limits) = Some (Build schema limits)
+
+-- `build S`, with the limits of its options
+abbrev pub build_of : List (List ℕ) → Option Command
+build_of (word ∷ schema ∷ pairs) = build_from schema (limits_of pairs)
+build_of (word ∷ []) = None
+build_of [] = None
+
+-- what words of this form say, if the values of their options may be so
+abbrev pub said_by : Form → List (List ℕ) → Option Command
+said_by form.Check words = check_of words
+said_by form.Compat words = compat_of words
+said_by form.Dump words = dump_of words
+said_by form.Build words = build_of words
+
+-- The command that words say: that of the first form that they have, with each option at most once and a right value.
+abbrev pub command_of : List (List ℕ) → Option Command
+command_of words = option_and_then (λ form. said_by form words) (find (λ form. fits (row_of form) words) FORMS)
+
+-- what was answered is what the words say, or that they say nothing, unless memory ran out
+abbrev pub Says : {T : Type 0} → Result T WordsErr → Option T → Type 0
+Says (Ok x) said = said ≡ Some x
+Says (Err Usage) said = said ≡ None
+Says (Err Memory) said = ⊤
+
+-- whether a command takes anything of the input
+abbrev pub reads_input : Option Command → Bool
+reads_input None = false
+reads_input (Some (Check name)) = false
+reads_input (Some (Compat older newer)) = false
+reads_input (Some (Dump name also limits)) = true
+reads_input (Some (Build name limits)) = true
+
+-- whether a command takes frames of the input
+abbrev pub reads_frames : Option Command → Bool
+reads_frames None = false
+reads_frames (Some (Check name)) = false
+reads_frames (Some (Compat older newer)) = false
+reads_frames (Some (Dump name also limits)) = true
+reads_frames (Some (Build name limits)) = false
+
+-- 64 to 16,777,216 bytes a frame, and 1 to 1,099,511,627,776 bytes in all
+abbrev pub AreInRange : Limits → Type 0
+AreInRange limits = (64 ≤ limits.frame) × (limits.frame ≤ 16_777_216) × (1 ≤ limits.input) × (limits.input ≤ 2 ^ 40)
+
+-- the limits of a command, where it has some, are in their ranges
+abbrev pub HasLimits : Command → Type 0
+HasLimits (Check schema) = ⊤
+HasLimits (Compat older newer) = ⊤
+HasLimits (Dump schema also limits) = AreInRange limits
+HasLimits (Build schema limits) = AreInRange limits

@@ -1,0 +1,79 @@
+-- What the outside tells at one time.
+use Rattle.std.specs.Prelude.{◌≡◌, ◌≤◌, ℕ, List, Option}
+use Rattle.std.specs.Io.KnownBytes.{Appends}
+use Rattle.sbe_base.specs.Causes.{AppendsPart, Rose}
+use Rattle.sbe_base.specs.declared.status.Status.{Status}
+use Rattle.sbe_base.specs.declared.status.Status.TheVariants as answer
+use Rattle.replies.specs.Reply.{Written}
+
+-- what an object tells of its content, and how often it has failed
+pub record Object (T : Type 0) : Type 0 where
+  pub told : Option T
+  pub faults : ℕ
+
+-- where the answers and the notes go
+pub record Sinks : Type 0 where
+  pub output : Object (List ℕ)
+  pub notes : Object (List ℕ)
+
+-- where the items come from, and where the answers go
+pub record Streams : Type 0 where
+  pub input : Object (List ℕ)
+  pub sinks : Sinks
+
+-- The files, and the streams.
+pub record Outside : Type 0 where
+  pub files : Object (List ℕ → Option (List ℕ))
+  pub streams : Streams
+
+-- what the files tell of each name, and the notes
+pub record Desk : Type 0 where
+  pub files : Object (List ℕ → Option (List ℕ))
+  pub notes : Object (List ℕ)
+
+-- the same from their parts
+abbrev pub object_of : {T : Type 0} → Option T → ℕ → Object T
+object_of told faults = record { told = told; faults = faults }
+
+-- Output and notes together.
+abbrev pub sinks_of : Object (List ℕ) → Object (List ℕ) → Sinks
+sinks_of output notes = record { output = output; notes = notes }
+
+-- Input, output and notes together.
+abbrev pub streams_of : Object (List ℕ) → Object (List ℕ) → Object (List ℕ) → Streams
+streams_of input output notes = record { input = input; sinks = sinks_of output notes }
+
+-- All objects together.
+abbrev pub outside_of : Object (List ℕ → Option (List ℕ)) → Streams → Outside
+outside_of files streams = record { files = files; streams = streams }
+
+-- The files and the notes together.
+abbrev pub desk_of : Object (List ℕ → Option (List ℕ)) → Object (List ℕ) → Desk
+desk_of files notes = record { files = files; notes = notes }
+
+-- output and notes grew by this
+pub record Wrote (old new : Sinks) (written : Written) : Type 0 where
+  pub output : Appends old.output.told new.output.told written.output
+  pub notes : Appends old.notes.told new.notes.told written.notes
+
+-- a call failed: the count rose, or stands at its last value
+pub record Failed {T : Type 0} (old new : Object T) : Type 0 where
+  pub rose : Rose old.faults new.faults
+  pub later : old.faults ≤ new.faults
+
+-- an answer is written in part, the output first
+pub data Breaks (old new : Sinks) (written : Written) : Type 0 where
+  at_output : AppendsPart old.output.told new.output.told written.output → new.notes ≡ old.notes → Failed old.output new.output → Breaks old new written
+  at_notes : Appends old.output.told new.output.told written.output → new.output.faults ≡ old.output.faults
+      → AppendsPart old.notes.told new.notes.told written.notes → Failed old.notes new.notes → Breaks old new written
+
+-- no count changed
+pub record Calm (old new : Streams) : Type 0 where
+  pub input : new.input.faults ≡ old.input.faults
+  pub output : new.sinks.output.faults ≡ old.sinks.output.faults
+  pub notes : new.sinks.notes.faults ≡ old.sinks.notes.faults
+
+-- A line is noted and this status answered, or the write failed.
+pub data Told (line : List ℕ) (status : Status) (old new : Object (List ℕ)) (code : Status) : Type 0 where
+  noted : code ≡ status → Appends old.told new.told line → new.faults ≡ old.faults → Told line status old new code
+  failed : code ≡ answer.WriteFault → AppendsPart old.told new.told line → Failed old new → Told line status old new code

@@ -1,0 +1,76 @@
+ghost use Rattle.std.specs.Prelude.{◌≡◌, []};
+ghost use Rattle.replies.specs.Outside.{object_of, sinks_of};
+ghost use Rattle.replies.specs.Reply.{Reply};
+ghost use Rattle.replies.specs.Drafts.{drafted, Drafts, Writes, DeliversDraft};
+
+use crate::verdict::Verdict;
+use lists::NoMem;
+use sbe_base::{Sink, Status, WriteFault, write_all_to};
+use std::alloc::Global;
+
+/// The answer to one piece, before it is written.
+#[derive(Drop)]
+pub struct Draft {
+    pub output: Vec<u8>,
+    pub notes: Vec<u8>,
+}
+
+impl Draft {
+    /// A draft that holds nothing.
+    pub fn new(alloc: Global) -> Draft
+        ensures output { result.output.items ≡ [] }
+        ensures notes { result.notes.items ≡ [] }
+    {
+        Draft {
+            output: Vec::new(alloc),
+            notes: Vec::new(alloc),
+        }
+    }
+
+    /// Empties it.
+    pub fn clear(&mut self)
+        ensures output { self.new.output.items ≡ [] }
+        ensures notes { self.new.notes.items ≡ [] }
+    {
+        self.output.clear();
+        self.notes.clear();
+    }
+}
+
+/// Writes an answer that was put into a draft, or answers the status that the run then ends with.
+pub fn deliver<O: Sink, N: Sink>(
+    put: Result<Verdict, NoMem>,
+    draft: &Draft,
+    output: &mut O,
+    notes: &mut N,
+) -> Result<Verdict, Status>
+    ensures { (reply : Reply) → Drafts reply draft.now put → DeliversDraft reply
+        (sinks_of (object_of (O.held output.old) (O.faults output.old)) (object_of (N.held notes.old) (N.faults notes.old)))
+        (sinks_of (object_of (O.held output.new) (O.faults output.new)) (object_of (N.held notes.new) (N.faults notes.new)))
+        result }
+{
+    let Ok(verdict) = put else {
+        return Err(Status::NoMemory);
+    };
+    match write_draft(draft, output, notes) {
+        Ok(()) => Ok(verdict),
+        Err(_) => Err(Status::WriteFault),
+    }
+}
+
+/// Writes what a draft holds, the output first.
+fn write_draft<O: Sink, N: Sink>(
+    draft: &Draft,
+    output: &mut O,
+    notes: &mut N,
+) -> Result<(), WriteFault>
+    ensures { Writes (drafted draft.now)
+        (sinks_of (object_of (O.held output.old) (O.faults output.old)) (object_of (N.held notes.old) (N.faults notes.old)))
+        (sinks_of (object_of (O.held output.new) (O.faults output.new)) (object_of (N.held notes.new) (N.faults notes.new)))
+        result }
+{
+    match write_all_to(output, draft.output.as_slice()) {
+        Ok(()) => write_all_to(notes, draft.notes.as_slice()),
+        Err(fault) => Err(fault),
+    }
+}

@@ -1,5 +1,0 @@
-use Rattle.sbe_cli.proofs.Putting.{then_put}
-use Rattle.sbe_cli.proofs.compat.put_one_way.Goals as goal
-
-pub returns : goal.returns
-returns c = then_put c.in_ok-put.ensures (then_put c.in_ok-put_json_text.ensures c.put-2.ensures)

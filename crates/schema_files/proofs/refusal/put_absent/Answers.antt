@@ -1,0 +1,5 @@
+use Rattle.tree_json.proofs.Written.{then_writes}
+use Rattle.schema_files.proofs.refusal.put_absent.Goals as goal
+
+pub returns : goal.returns
+returns g c = then_writes c.put.ensures (then_writes c.put_role.ensures c.put-2.ensures)

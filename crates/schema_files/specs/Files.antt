@@ -1,0 +1,86 @@
+-- What loading a file answers.
+use Rattle.std.specs.Prelude.{◌≡◌, ◌≤◌, ℕ, List, Option, Some, Result, Ok, Err, ⊤}
+use Rattle.sbe_base.specs.Causes.{Rose}
+use Rattle.sbe_types.specs.declared.schema.WireSchema.{WireSchema}
+use Rattle.schema_files.specs.Judged.{file_schema, refused_as, IsWithin, JoinsFrom, JudgesSchemas, JudgesMore}
+use Rattle.schema_files.specs.declared.files.FileRefusal.{FileRefusal}
+use Rattle.schema_files.specs.declared.files.LoadStop.{LoadStop}
+use Rattle.schema_files.specs.declared.files.LoadStop.TheVariants.{Refused, Fault, NoMemory}
+use Rattle.schema_files.specs.declared.files.FileRole.{FileRole}
+use Rattle.schema_files.specs.declared.files.RefusedFile.{RefusedFile}
+use Rattle.schema_files.specs.declared.files.JobStop.{JobStop}
+use Rattle.schema_files.specs.declared.files.JobStop.TheVariants as stop
+use Rattle.dump_lines.specs.declared.schemas.Schemas.{Schemas}
+
+-- what bytes are judged as, unless memory was wanting
+abbrev pub Reads : Result WireSchema FileRefusal → Result WireSchema LoadStop → Type 0
+Reads judged (Ok schema) = judged ≡ Ok schema
+Reads judged (Err (Refused refusal)) = judged ≡ Err refusal
+Reads judged (Err Fault) = ⊥
+Reads judged (Err NoMemory) = ⊤
+
+-- the same of a file, unless the files failed
+abbrev pub LoadsAs : Result WireSchema FileRefusal → Result WireSchema LoadStop → Type 0
+LoadsAs judged (Ok schema) = judged ≡ Ok schema
+LoadsAs judged (Err (Refused refusal)) = judged ≡ Err refusal
+LoadsAs judged (Err Fault) = ⊤
+LoadsAs judged (Err NoMemory) = ⊤
+
+-- the same of a name, where the files tell what they hold
+abbrev pub LoadsChecked : Option (List ℕ → Option (List ℕ)) → List ℕ → Result WireSchema LoadStop → Type 0
+LoadsChecked told name result = (contents : List ℕ → Option (List ℕ)) → told ≡ Some contents → LoadsAs (file_schema (contents name)) result
+
+-- a fault only where the count rose, and every other answer leaves it
+abbrev pub LoadCause : {T : Type 0} → ℕ → ℕ → Result T LoadStop → Type 0
+LoadCause before now (Ok x) = now ≡ before
+LoadCause before now (Err Fault) = (before ≤ now) × Rose before now
+LoadCause before now (Err (Refused refusal)) = now ≡ before
+LoadCause before now (Err NoMemory) = now ≡ before
+
+-- the same stop, of a file in that role
+abbrev pub stop_of : FileRole → LoadStop → JobStop
+stop_of role (Refused why) = stop.Refused (refused_as role why)
+stop_of role Fault = stop.Fault role
+stop_of role NoMemory = stop.NoMemory
+
+-- a fault of the files only where the count rose, and every other answer leaves it
+abbrev pub JobCause : {T : Type 0} → ℕ → ℕ → Result T JobStop → Type 0
+JobCause before now (Ok x) = now ≡ before
+JobCause before now (Err (stop.Fault role)) = (before ≤ now) × Rose before now
+JobCause before now (Err (stop.Refused file)) = now ≡ before
+JobCause before now (Err stop.NoMemory) = now ≡ before
+
+-- ---- several schemas
+
+-- what a further file is judged as, unless the files failed or memory was wanting
+abbrev pub JoinsAs : Schemas → Result WireSchema FileRefusal → Result WireSchema LoadStop → Type 0
+JoinsAs schemas file (Ok schema) = JoinsFrom schemas file (Ok schema)
+JoinsAs schemas file (Err (Refused why)) = JoinsFrom schemas file (Err why)
+JoinsAs schemas file (Err Fault) = ⊤
+JoinsAs schemas file (Err NoMemory) = ⊤
+
+-- the same of a name, where the files tell what they hold
+abbrev pub LoadsJoining : Option (List ℕ → Option (List ℕ)) → Schemas → List ℕ → Result WireSchema LoadStop → Type 0
+LoadsJoining told schemas name result = (contents : List ℕ → Option (List ℕ)) → told ≡ Some contents → JoinsAs schemas (file_schema (contents name)) result
+
+-- what files are judged as, unless they failed or memory was wanting
+abbrev pub JudgedSo : (Result Schemas RefusedFile → Type 0) → Result Schemas JobStop → Type 0
+JudgedSo Judges (Ok schemas) = Judges (Ok schemas)
+JudgedSo Judges (Err (stop.Refused file)) = Judges (Err file)
+JudgedSo Judges (Err (stop.Fault role)) = ⊤
+JudgedSo Judges (Err stop.NoMemory) = ⊤
+
+-- the same of further names behind schemas that are taken, where the files tell what they hold
+abbrev pub LoadsMore : Option (List ℕ → Option (List ℕ)) → Schemas → List (List ℕ) → Result Schemas JobStop → Type 0
+LoadsMore told schemas also result = (contents : List ℕ → Option (List ℕ)) → told ≡ Some contents → JudgedSo (JudgesMore contents schemas 1 also) result
+
+-- the same of all names
+abbrev pub LoadsSchemas : Option (List ℕ → Option (List ℕ)) → List ℕ → List (List ℕ) → Result Schemas JobStop → Type 0
+LoadsSchemas told name also result = (contents : List ℕ → Option (List ℕ)) → told ≡ Some contents → JudgedSo (JudgesSchemas contents name also) result
+
+-- the file that failed is one of so many further ones, or the first
+abbrev pub FailsAt : ℕ → Result Schemas JobStop → Type 0
+FailsAt many (Ok schemas) = ⊤
+FailsAt many (Err (stop.Refused file)) = ⊤
+FailsAt many (Err (stop.Fault role)) = IsWithin many role
+FailsAt many (Err stop.NoMemory) = ⊤

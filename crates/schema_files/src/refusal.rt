@@ -1,0 +1,125 @@
+//! How a refused file is noted.
+
+ghost use Rattle.std.specs.Prelude.{◌≡◌};
+ghost use Rattle.tree_json.specs.Writes.{output, Writes};
+ghost use Rattle.schema_files.specs.Refusals.{cause_code, rule_code, refused_file, refusal_line, refusal_status, role_name, why_line};
+ghost use Rattle.schema_files.specs.declared.files.FileRefusal.TheVariants as file;
+
+use crate::files::{FileRefusal, FileRole, RefusedFile};
+use json_elements::Cause;
+use sbe_base::{Sink, Status};
+use schema_check::CCode;
+use tree_json::{Chunk, put_count, put_text};
+
+/// The status of a run that ends at a refused file.
+pub fn refusal_status(refusal: &FileRefusal) -> Status
+    ensures { result ≡ refusal_status refusal.now }
+{
+    match refusal {
+        FileRefusal::Absent => Status::NoFile,
+        FileRefusal::TooLong
+        | FileRefusal::Unread(_, _)
+        | FileRefusal::Broken(_, _)
+        | FileRefusal::SameId
+        | FileRefusal::FormDiffers => Status::SchemaRefused,
+    }
+}
+
+/// Writes the line that a refused file is noted by.
+pub fn put_refusal<N: Sink>(chunk: &mut Chunk, notes: &mut N, file: &RefusedFile)
+    ensures { Writes (output (N.held notes.old) (N.faults notes.old) chunk.old)
+        (output (N.held notes.new) (N.faults notes.new) chunk.new) (refusal_line file.now) }
+{
+    let role = file.role;
+    match &file.why {
+        FileRefusal::Absent => put_absent(chunk, notes, role),
+        FileRefusal::TooLong => put_refused(chunk, notes, role, "S06", &[]),
+        FileRefusal::Unread(cause, path) => {
+            put_refused(chunk, notes, role, cause_code(*cause), path.as_slice())
+        }
+        FileRefusal::Broken(rule, path) => {
+            put_refused(chunk, notes, role, rule_code(*rule), path.as_slice())
+        }
+        FileRefusal::SameId => put_refused(chunk, notes, role, "X01", &[]),
+        FileRefusal::FormDiffers => put_refused(chunk, notes, role, "X02", &[]),
+    }
+}
+
+/// Writes the name of a file by its role.
+pub fn put_role<N: Sink>(chunk: &mut Chunk, notes: &mut N, role: FileRole)
+    ensures { Writes (output (N.held notes.old) (N.faults notes.old) chunk.old)
+        (output (N.held notes.new) (N.faults notes.new) chunk.new) (role_name role) }
+{
+    match role {
+        FileRole::Schema => chunk.put(notes, b"schema"),
+        FileRole::Also(number) => {
+            chunk.put(notes, b"also");
+            put_count(chunk, notes, number as u64);
+        }
+        FileRole::Old => chunk.put(notes, b"old"),
+        FileRole::New => chunk.put(notes, b"new"),
+    }
+}
+
+fn put_absent<N: Sink>(chunk: &mut Chunk, notes: &mut N, role: FileRole)
+    ensures { Writes (output (N.held notes.old) (N.faults notes.old) chunk.old)
+        (output (N.held notes.new) (N.faults notes.new) chunk.new) (why_line role file.Absent) }
+{
+    chunk.put(notes, b"{\"absent\":\"");
+    put_role(chunk, notes, role);
+    chunk.put(notes, b"\"}\n");
+}
+
+fn put_refused<N: Sink>(chunk: &mut Chunk, notes: &mut N, role: FileRole, code: &str, path: &[u8])
+    ensures { Writes (output (N.held notes.old) (N.faults notes.old) chunk.old)
+        (output (N.held notes.new) (N.faults notes.new) chunk.new) (refused_file role code.now path.now) }
+{
+    chunk.put(notes, b"{\"file\":\"");
+    put_role(chunk, notes, role);
+    chunk.put(notes, b"\",\"refused\":\"");
+    chunk.put(notes, code.as_bytes());
+    chunk.put(notes, b"\",\"path\":");
+    put_text(chunk, notes, path);
+    chunk.put(notes, b"}\n");
+}
+
+/// The code of why a file holds no schema.
+fn cause_code(cause: Cause) -> &'static str
+    ensures { result.now ≡ cause_code cause }
+{
+    match cause {
+        Cause::Xml => "S01",
+        Cause::NotJson => "S02",
+        Cause::Shape => "S03",
+        Cause::Missing => "S04",
+        Cause::BadAttribute => "S05",
+        Cause::Limit => "S06",
+    }
+}
+
+/// The code of a rule that a schema breaks.
+fn rule_code(rule: CCode) -> &'static str
+    ensures { result.now ≡ rule_code rule }
+{
+    match rule {
+        CCode::DuplicateType => "C01",
+        CCode::UnknownType => "C02",
+        CCode::Float => "C03",
+        CCode::Cycle => "C04",
+        CCode::BadEncoding => "C05",
+        CCode::BadNumber => "C06",
+        CCode::DuplicateValue => "C07",
+        CCode::Offset => "C08",
+        CCode::BlockShort => "C09",
+        CCode::BadHeader => "C10",
+        CCode::BadDimension => "C11",
+        CCode::BadData => "C12",
+        CCode::DuplicateName => "C13",
+        CCode::Order => "C14",
+        CCode::Since => "C15",
+        CCode::EmptyGroup => "C16",
+        CCode::Depth => "C17",
+        CCode::Width => "C18",
+        CCode::Presence => "C19",
+    }
+}
