@@ -4,6 +4,7 @@ pub mod Hex
 pub mod Inside
 pub mod Listed
 pub mod Looks
+pub mod LaneRuns
 pub mod MembersFit
 pub mod PiecesFit
 pub mod PiecesShow

@@ -2,5 +2,6 @@ pub mod Texts
 pub mod Pieces
 pub mod Judged
 pub mod Quick
+pub mod Runs
 pub mod Tables
 pub mod Worked

@@ -12,6 +12,7 @@ ghost use Rattle.flat_rows.specs.Quick.{is_between, is_none, is_text_within, is_
 ghost use Rattle.flat_rows.specs.Tables.{stands_for, IsRow, IsTable, RowsFit};
 
 use crate::rows::{FlatRow, FlatRows, Look, Quick};
+use crate::runs::run_between;
 use byteorder::{ByteOrder, LittleEndian};
 use sbe_types::{Kind, Leaf, LeafCause, LeafFault, NamedList, Order, Prim, get_num, leaf_judge};
 
@@ -127,10 +128,9 @@ fn is_text(quick: &Quick, bytes: &[u8]) -> bool
 {
     let low = as_byte(quick.low);
     let high = as_byte(quick.high);
-    for byte in bytes {
-        if !is_between(quick, low, high, *byte) {
-            return *byte == 0;
-        }
+    let run = run_between(low, high, bytes);
+    if run < bytes.len() {
+        return bytes[run] == 0;
     }
     true
 }
@@ -142,16 +142,6 @@ fn as_byte(n: i64) -> u8
     ensures { pos result ≡ n }
 {
     n as u8
-}
-
-/// Whether a byte lies in the range, which is that of the two bytes.
-#[inline(always)]
-fn is_between(quick: &Quick, low: u8, high: u8, byte: u8) -> bool
-    requires low { quick.now.low ≡ pos low }
-    requires high { quick.now.high ≡ pos high }
-    ensures { result ≡ is_between quick.now (pos byte) }
-{
-    low <= byte && byte <= high
 }
 
 /// Whether one look shows that bytes are a value of a kind that is no enum.

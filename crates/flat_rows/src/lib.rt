@@ -7,6 +7,7 @@ mod make;
 mod places;
 mod quick;
 mod rows;
+mod runs;
 mod texts;
 mod worked;
 
@@ -15,4 +16,5 @@ pub use laws::{pieces_that_show_are_a_block, values_lie_in_the_block};
 pub use make::flat_rows_of;
 pub use places::{begin_of, end_behind, end_of, width_of};
 pub use rows::{FlatRow, FlatRows, Look, Quick};
+pub use runs::first_set;
 pub use worked::{no_fields_are_a_bracket, pieces_of_worked_fields};

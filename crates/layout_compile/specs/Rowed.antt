@@ -1,6 +1,7 @@
 -- What the rows of a layout say of the schema's levels, fields and numbers.
-use Rattle.std.specs.Prelude.{◌≡◌, ℕ, suc, ◌+◌, max, not, ◌&&◌, if◌then◌else◌, Option, Some, None, List, [], ◌∷◌, length, map, slice_get, ⊤, codes}
+use Rattle.std.specs.Prelude.{◌≡◌, ℕ, suc, ◌+◌, max, true, not, ◌&&◌, if◌then◌else◌, Option, Some, None, List, [], ◌∷◌, length, map, slice_get, ⊤, codes}
 use Rattle.sbe_types.specs.declared.kind.Member.{Member}
+use Rattle.sbe_types.specs.declared.kind.Primitive.TheVariants.{U16}
 use Rattle.sbe_types.specs.declared.schema.Field.{Field}
 use Rattle.sbe_types.specs.declared.schema.DataField.{DataField}
 use Rattle.sbe_types.specs.declared.schema.Level.{Level, out-Level}
@@ -34,6 +35,18 @@ pub record DimIs (row : DimRow) (dim : List Member) : Type 0 where
   pub block : SpotIs dim (codes "blockLength") row.block
   pub count : SpotIs dim (codes "numInGroup") row.count
 
+-- the number stands there, and has two bytes
+pub record IsTwoBytes (place : ℕ) (row : SpotRow) : Type 0 where
+  pub place_is : row.place ≡ place
+  pub prim_is : row.leaf.prim ≡ U16
+
+-- the four numbers of a header have two bytes each, one behind another
+pub record IsUsual (row : HeaderRow) : Type 0 where
+  pub block : IsTwoBytes 0 row.block
+  pub template : IsTwoBytes 2 row.template
+  pub schema : IsTwoBytes 4 row.schema
+  pub version : IsTwoBytes 6 row.version
+
 -- the row of a header
 pub record HeaderIs (row : HeaderRow) (members : List Member) : Type 0 where
   pub width : row.width ≡ members_end 0 members
@@ -41,6 +54,7 @@ pub record HeaderIs (row : HeaderRow) (members : List Member) : Type 0 where
   pub template : SpotIs members (codes "templateId") row.template
   pub schema : SpotIs members (codes "schemaId") row.schema
   pub version : SpotIs members (codes "version") row.version
+  pub usual : row.is_usual ≡ true → IsUsual row
 
 -- a group has the row of its dimension, and a root has none
 abbrev pub DimOf : Option DimRow → Option (List Member) → Type 0

@@ -33,6 +33,7 @@ pub fn number_at(order: Order, spot: &SpotRow, bytes: &[u8]) -> u32
 }
 
 /// The number that the bytes of a small unsigned primitive show.
+#[inline(always)]
 pub fn small_number(order: Order, prim: Prim, bytes: &[u8]) -> u32
     requires small { IsSmall prim }
     requires wide { length bytes.now ≡ prim_width prim }

@@ -34,6 +34,8 @@ pub struct HeaderRow {
     pub schema: SpotRow,
     /// The number version.
     pub version: SpotRow,
+    /// These four have two bytes each, and stand one behind another from the first byte on, as in the standard's own header.
+    pub is_usual: bool,
 }
 
 /// A field: from which version on it stands, and where in the block.

@@ -1,5 +1,5 @@
 // The tables are made level by level, as the tree of the schema stands.
-ghost use Rattle.std.specs.Prelude.{◌≡◌, ℕ, ◌++◌, ◌∷◌, [], length, map, flat_map, None, Some, IfSome, IfOk, OnOk};
+ghost use Rattle.std.specs.Prelude.{◌≡◌, true, ℕ, ◌++◌, ◌∷◌, [], length, map, flat_map, None, Some, IfSome, IfOk, OnOk};
 ghost use Rattle.std.specs.Option.{option_map};
 ghost use Rattle.sbe_types.specs.declared.schema.Level.{out-Level};
 ghost use Rattle.sbe_wire.specs.Named.{spot_named, spot_of as spot_in};
@@ -8,7 +8,7 @@ ghost use Rattle.sbe_types.specs.declared.kind.Kind.{Comp};
 ghost use Rattle.sbe_types.specs.Places.{is_const};
 ghost use Rattle.schema_facts.specs.IsChecked.{IsChecked};
 ghost use Rattle.schema_facts.specs.Measured.{AreNarrowFields, IsNarrow, EndsWithin, HasCounter, IsDimension, IsHeader};
-ghost use Rattle.layout_compile.specs.Rowed.{as_spot, DimIs, FieldIs, FieldsAre, HeaderIs, SpotIs, newest_of, part_row, roots_from, rows_floor};
+ghost use Rattle.layout_compile.specs.Rowed.{as_spot, DimIs, FieldIs, FieldsAre, HeaderIs, IsTwoBytes, SpotIs, newest_of, part_row, roots_from, rows_floor};
 ghost use Rattle.layout_compile.specs.Grown.{Grown, LevelIs, Pushed, AreInOrder, AreOrdered};
 ghost use Rattle.layout_compile.specs.Tables.{AreTables};
 
@@ -19,7 +19,7 @@ use crate::numbers::{firsts_of, places_of};
 use crate::rows::{DimRow, FieldRow, HeaderRow, LevelRow, PartRow, SpotRow, Tables};
 use crate::templates::ids_of;
 use flat_rows::{begin_of, end_behind, end_of};
-use sbe_types::{DataField, Field, Group, Kind, Level, List, Member, NoMem, WireSchema};
+use sbe_types::{DataField, Field, Group, Kind, Level, List, Member, NoMem, Prim, WireSchema};
 use schema_check::Checked;
 use std::alloc::Global;
 
@@ -59,12 +59,48 @@ fn header_row(members: &List<Member>) -> HeaderRow
     requires { IsHeader members.now }
     ensures { HeaderIs result members.now }
 {
+    let block = counter_of(members, b"blockLength");
+    let template = counter_of(members, b"templateId");
+    let schema = counter_of(members, b"schemaId");
+    let version = counter_of(members, b"version");
+    let is_usual = are_usual(&block, &template, &schema, &version);
     HeaderRow {
         width: end_of(members),
-        block: counter_of(members, b"blockLength"),
-        template: counter_of(members, b"templateId"),
-        schema: counter_of(members, b"schemaId"),
-        version: counter_of(members, b"version"),
+        block,
+        template,
+        schema,
+        version,
+        is_usual,
+    }
+}
+
+/// Whether the four numbers of a header have two bytes each, and stand one behind another.
+fn are_usual(block: &SpotRow, template: &SpotRow, schema: &SpotRow, version: &SpotRow) -> bool
+    ensures block { result ≡ true → IsTwoBytes 0 block.now }
+    ensures template { result ≡ true → IsTwoBytes 2 template.now }
+    ensures schema { result ≡ true → IsTwoBytes 4 schema.now }
+    ensures version { result ≡ true → IsTwoBytes 6 version.now }
+{
+    is_two_bytes(block, 0)
+        && is_two_bytes(template, 2)
+        && is_two_bytes(schema, 4)
+        && is_two_bytes(version, 6)
+}
+
+/// Whether a number stands there, and has two bytes.
+fn is_two_bytes(spot: &SpotRow, place: u32) -> bool
+    ensures { result ≡ true → IsTwoBytes place spot.now }
+{
+    match spot.leaf.prim {
+        Prim::U16 => spot.place == place,
+        Prim::Char
+        | Prim::I8
+        | Prim::I16
+        | Prim::I32
+        | Prim::I64
+        | Prim::U8
+        | Prim::U32
+        | Prim::U64 => false,
     }
 }
 
