@@ -22,8 +22,9 @@ pub behind : (body : List ℕ) (at : ℕ) (f r : List ℕ) → drop at body ≡ 
 behind body at f r there = sym (drop-drop (length f) at body) ∙ ap (drop (length f)) there ∙ drop_at f r (length f) refl
 
 -- two pieces, one behind the other
-pub two_pieces : (body : List ℕ) (at mid next : ℕ) (front f b rest : List ℕ) (first second : Option (List ℕ)) → drop at body ≡ front ++ rest → front ≡ f ++ b →
-    ((r : List ℕ) → drop at body ≡ f ++ r → Ends at mid f first) → (drop mid body ≡ b ++ rest → Ends mid next b second) → Ends at next front (both first second)
+pub two_pieces : (body : List ℕ) (at mid next : ℕ) (front f b rest : List ℕ) (first second : Option (List ℕ))
+    → drop at body ≡ front ++ rest → front ≡ f ++ b → ((r : List ℕ) → drop at body ≡ f ++ r → Ends at mid f first)
+    → (drop mid body ≡ b ++ rest → Ends mid next b second) → Ends at next front (both first second)
 two_pieces body at mid next front f b rest first second there split one two =
     let there_f : drop at body ≡ f ++ (b ++ rest) = there ∙ ap (λ z. z ++ rest) split ∙ append_assoc f b rest in
     let here = one (b ++ rest) there_f in
@@ -39,12 +40,14 @@ two_pieces body at mid next front f b rest first second there split one two =
 abbrev pub Leads : (X : Type 0) → (X → ℕ → ℕ → Type 0) → List X → ℕ → ℕ → ℕ → Type 0
 Leads X S xs i at begin = (next : ℕ) → Chain X S (drop i xs) at next → Chain X S xs begin next
 
-pub chain_more : (X : Type 0) (S : X → ℕ → ℕ → Type 0) (xs : List X) (i at mid begin : ℕ) (x : X) → Leads X S xs i at begin → i < length xs → x ≡ get_or xs i x → S x at mid → Leads X S xs (i + 1) mid begin
+pub chain_more : (X : Type 0) (S : X → ℕ → ℕ → Type 0) (xs : List X) (i at mid begin : ℕ) (x : X)
+    → Leads X S xs i at begin → i < length xs → x ≡ get_or xs i x → S x at mid → Leads X S xs (i + 1) mid begin
 chain_more X S xs i at mid begin x leads below is here next rest =
     let split : drop i xs ≡ x ∷ drop (i + 1) xs = drop_more xs i x below ∙ ap (λ y. y ∷ drop (i + 1) xs) (sym is) in
     leads next (subst (λ ys. Chain X S ys at next) (sym split) (mid, here, rest))
 
-pub chain_done : (X : Type 0) (S : X → ℕ → ℕ → Type 0) (xs : List X) (i at begin : ℕ) → Leads X S xs i at begin → length xs ≤ i → Chain X S xs begin at
+pub chain_done : (X : Type 0) (S : X → ℕ → ℕ → Type 0) (xs : List X) (i at begin : ℕ) → Leads X S xs i at begin
+    → length xs ≤ i → Chain X S xs begin at
 chain_done X S xs i at begin leads past = leads at (subst (λ ys. Chain X S ys at at) (sym (drop_all i xs past)) refl)
 
 -- ---- so many times
@@ -53,7 +56,8 @@ chain_done X S xs i at begin leads past = leads at (subst (λ ys. Chain X S ys a
 abbrev pub LeadsTimes : (ℕ → ℕ → Type 0) → ℕ → ℕ → ℕ → ℕ → Type 0
 LeadsTimes S count i at begin = (next : ℕ) → Times S (count - i) at next → Times S count begin next
 
-pub times_more : (S : ℕ → ℕ → Type 0) (count i at mid begin : ℕ) → LeadsTimes S count i at begin → i < count → S at mid → LeadsTimes S count (i + 1) mid begin
+pub times_more : (S : ℕ → ℕ → Type 0) (count i at mid begin : ℕ) → LeadsTimes S count i at begin → i < count → S at mid
+    → LeadsTimes S count (i + 1) mid begin
 times_more S count i at mid begin leads below here next rest =
     let one : count - i ≡ suc (count - (i + 1)) = omega (arith, below) in
     leads next (subst (λ n. Times S n at next) (sym one) (mid, here, rest))
@@ -64,8 +68,9 @@ times_done S count i at begin leads past =
     leads at (subst (λ n. Times S n at at) (sym none) refl)
 
 -- items that lie one behind another, each of which is whole
-pub times_whole : (X : Type 0) (R : X → List ℕ → Type 0) (own : X → Option (List ℕ)) (body : List ℕ) (xs : List X) (n at next : ℕ) → length xs ≡ n →
-    Times (λ a m. IsWhole X R own body a m) n at next → (front rest : List ℕ) → drop at body ≡ front ++ rest → Joined R xs front → Ends at next front (all_bytes own xs)
+pub times_whole : (X : Type 0) (R : X → List ℕ → Type 0) (own : X → Option (List ℕ)) (body : List ℕ) (xs : List X) (n at next : ℕ)
+    → length xs ≡ n → Times (λ a m. IsWhole X R own body a m) n at next → (front rest : List ℕ)
+    → drop at body ≡ front ++ rest → Joined R xs front → Ends at next front (all_bytes own xs)
 times_whole X R own body [] zero at next many chain front rest there h = (omega (arith, chain, ap length h), ap Some (sym h))
 times_whole X R own body [] (suc n) at next many chain front rest there h = absurd (omega (arith, many))
 times_whole X R own body (x ∷ xs) zero at next many chain front rest there h = absurd (omega (arith, many))

@@ -29,8 +29,9 @@ fields_grow e (f ∷ fs) placed =
     omega (arith, here, there)
 
 module _ (order : Order) (version : ℕ) where
-  fields_clean : (e : ℕ) (fs : List Field) → ArePlaced e fs → AreWritableFields version fs → (vs : List Value) (b : List ℕ) → IsBytes b → fields_end e fs ≤ length b → FieldsLay order true version e fs vs b →
-      AreCleanFields e fs b → fields_bytes order e fs vs ≡ Some (between e (fields_end e fs) b)
+  fields_clean : (e : ℕ) (fs : List Field) → ArePlaced e fs → AreWritableFields version fs
+      → (vs : List Value) (b : List ℕ) → IsBytes b → fields_end e fs ≤ length b → FieldsLay order true version e fs vs b
+      → AreCleanFields e fs b → fields_bytes order e fs vs ≡ Some (between e (fields_end e fs) b)
   fields_clean e [] placed writable [] b good within h clean = ap Some (sym (between_none e b))
   fields_clean e [] placed writable (v ∷ vs) b good within h clean = absurd h
   fields_clean e (f ∷ fs) placed writable [] b good within h clean = absurd h
@@ -41,19 +42,23 @@ module _ (order : Order) (version : ℕ) where
       let zeros : List ℕ = replicate (cond (is_const kind) 0 (begin_of e offset - e)) 0 in
       let grows : next ≤ fields_end next fs = fields_grow next fs placed.2 in
       let behind : e ≤ next = part_grows e offset kind (is_const kind) refl placed.0 in
-      let shows : Shows order true kind v (part_in e offset kind b) = alive_from (Shows order true kind v (part_in e offset kind b)) (v ≡ value.Absent) version f.since writable.1 h.0 in
+      let shows : Shows order true kind v (part_in e offset kind b) =
+      alive_from (Shows order true kind v (part_in e offset kind b)) (v ≡ value.Absent) version f.since writable.1 h.0 in
       let here : wire_bytes order kind v ≡ Some (part_in e offset kind b) =
       kind_clean order kind placed.1 writable.0 v (part_in e offset kind b) (IsBytes-take _ _ (IsBytes-drop _ b good)) shows clean.1 in
       let there = fields_clean next fs placed.2 writable.2 vs b good within h.1 clean.2 in
-      let part = part_is e offset kind (is_const kind) refl placed.0 b (part_within e (length b) offset kind (is_const kind) (omega (arith, grows, within))) clean.0 in
+      let part =
+      part_is e offset kind (is_const kind) refl placed.0 b
+      (part_within e (length b) offset kind (is_const kind) (omega (arith, grows, within))) clean.0 in
       ap (λ o. both (both (Some zeros) o) (fields_bytes order next fs vs)) here
       ∙ ap (λ o. both (Some (zeros ++ part_in e offset kind b)) o) there
       ∙ ap (λ z. Some (z ++ between next (fields_end next fs) b)) part
       ∙ ap Some (joined e next (fields_end next fs) b behind grows)
 
   -- the block of a level whose fields end within it
-  pub block_clean : (fs : List Field) → ArePlaced 0 fs → AreWritableFields version fs → (vs : List Value) (b : List ℕ) → IsBytes b → fields_end 0 fs ≤ length b → FieldsLay order true version 0 fs vs b →
-      IsCleanBlock fs b → block_bytes order (length b) fs vs ≡ Some b
+  pub block_clean : (fs : List Field) → ArePlaced 0 fs → AreWritableFields version fs → (vs : List Value) (b : List ℕ)
+      → IsBytes b → fields_end 0 fs ≤ length b → FieldsLay order true version 0 fs vs b → IsCleanBlock fs b
+      → block_bytes order (length b) fs vs ≡ Some b
   block_clean fs placed writable vs b good within h clean =
       let n = fields_end 0 fs in
       let all : n - 0 ≡ n = omega arith in

@@ -49,23 +49,30 @@ module _ (place : Place) (level : Level) where
 
   -- ---- an entry
 
-  pub block_ends : IsGoodLevel version level → IsBytes body → (at : ℕ) → IsCleanBlock fields (take wide (drop at body)) → (entry : Block) (f r : List ℕ) → length f ≡ wide → drop at body ≡ f ++ r →
-      BlockLays order true version fields (out-Block entry).fields f → Ends at (at + wide) f (block_bytes order wide fields (out-Block entry).fields)
+  pub block_ends : IsGoodLevel version level → IsBytes body → (at : ℕ) → IsCleanBlock fields (take wide (drop at body))
+      → (entry : Block) (f r : List ℕ) → length f ≡ wide → drop at body ≡ f ++ r
+      → BlockLays order true version fields (out-Block entry).fields f
+      → Ends at (at + wide) f (block_bytes order wide fields (out-Block entry).fields)
   block_ends known good at clean entry f r long there h =
       let values = (out-Block entry).fields in
       let same : take wide (drop at body) ≡ f = ap (take wide) there ∙ take_at f r wide long in
       let bytes : IsBytes f = IsBytes-front f r (subst IsBytes there (IsBytes-drop at body good)) in
       let ends : fields_end 0 fields ≤ length f = subst (λ n. fields_end 0 fields ≤ n) (sym long) (ends_within version level known.writable) in
-      let is = block_clean order version fields (placed_fields level known.placed) (writable_fields version level known.writable) values f bytes ends h.1 (subst (IsCleanBlock fields) same clean) in
+      let is =
+      block_clean order version fields (placed_fields level known.placed) (writable_fields version level known.writable)
+      values f bytes ends h.1 (subst (IsCleanBlock fields) same clean) in
       (omega (arith, long), ap (λ n. block_bytes order n fields values) (sym long) ∙ is)
 
-  pub entry_whole : IsGoodLevel version level → IsBytes body → (at next : ℕ) → IsCleanBlock fields (take wide (drop at body)) → TailStep place level (at + wide) next → EntryStep place level at next
+  pub entry_whole : IsGoodLevel version level → IsBytes body → (at next : ℕ)
+      → IsCleanBlock fields (take wide (drop at body)) → TailStep place level (at + wide) next
+      → EntryStep place level at next
   entry_whole known good at next clean tail =
       whole_of Block (EntryIs order version level) (entry_bytes order level) body at next
       (λ entry front rest there h.
       let f : List ℕ = take wide front in
       let b : List ℕ = drop wide front in
-      two_pieces body at (at + wide) next front f b rest (block_bytes order wide fields (out-Block entry).fields) (tail_bytes order level entry) there (sym (take-append-drop wide front))
+      two_pieces body at (at + wide) next front f b rest (block_bytes order wide fields (out-Block entry).fields)
+      (tail_bytes order level entry) there (sym (take-append-drop wide front))
       (λ r t. block_ends known good at clean entry f r (length-take-le wide front h.0) t h.1)
       (λ t. (tail.ends entry b rest t h.2, tail.is entry b rest t h.2)))
 
@@ -79,9 +86,10 @@ module _ (place : Place) (level : Level) where
     abbrev pub DimSays : ℕ → ℕ → Type 0
     DimSays count at = SayNumbers order (dimension_numbers wide count) 0 dim (take (members_end 0 dim) (drop at body))
 
-    entries_end : (count at next : ℕ) → IsWritableDimension dim wide → IsBytes body → DimSays count at → Times (EntryStep place level) count (at + size) next →
-        (entries : List Block) (front rest : List ℕ) → drop at body ≡ front ++ rest → GroupLies TailIs order true version dim fields entries front →
-        Ends at next front (entries_bytes order dim wide (entry_bytes order level) (Some entries))
+    entries_end : (count at next : ℕ) → IsWritableDimension dim wide → IsBytes body → DimSays count at
+        → Times (EntryStep place level) count (at + size) next → (entries : List Block) (front rest : List ℕ)
+        → drop at body ≡ front ++ rest → GroupLies TailIs order true version dim fields entries front
+        → Ends at next front (entries_bytes order dim wide (entry_bytes order level) (Some entries))
     entries_end count at next writable good says steps entries front rest there h =
         let k : ℕ = h.0 in
         let head : List ℕ = h.1 in
@@ -93,21 +101,31 @@ module _ (place : Place) (level : Level) where
         let bytes : IsBytes head = IsBytes-front head (back ++ rest) (subst IsBytes start (IsBytes-drop at body good)) in
         let block : k ≡ wide = sym lays.says_block ∙ named_read order (dimension_numbers wide count) head dim there_says (codes "blockLength") writable.block in
         let many : length entries ≡ count =
-        sym lays.says_count ∙ named_read order (dimension_numbers wide count) head dim there_says (codes "numInGroup") (admitted_named dim (codes "numInGroup") (length entries) lays.admitted) in
+        sym lays.says_count
+        ∙ named_read order (dimension_numbers wide count) head dim there_says (codes "numInGroup")
+        (admitted_named dim (codes "numInGroup") (length entries) lays.admitted) in
         let own : named_bytes order (dimension_numbers wide (length entries)) 0 dim ≡ Some head =
-        ap (λ n. named_bytes order (dimension_numbers wide n) 0 dim) many ∙ named_are order (dimension_numbers wide count) head dim there_says bytes lays.wide in
-        let each : Joined (EntryIs order version level) entries back = subst (λ n. Joined (EntryLays TailIs order true version fields n) entries back) block h.5 in
-        two_pieces body at (at + size) next front head back rest (named_bytes order (dimension_numbers wide (length entries)) 0 dim) (all_bytes (entry_bytes order level) entries) there h.3
+        ap (λ n. named_bytes order (dimension_numbers wide n) 0 dim) many
+        ∙ named_are order (dimension_numbers wide count) head dim there_says bytes lays.wide in
+        let each : Joined (EntryIs order version level) entries back =
+        subst (λ n. Joined (EntryLays TailIs order true version fields n) entries back) block h.5 in
+        two_pieces body at (at + size) next front head back rest
+        (named_bytes order (dimension_numbers wide (length entries)) 0 dim) (all_bytes (entry_bytes order level) entries)
+        there h.3
         (λ r t. (ap (λ n. at + n) (sym lays.wide), own))
         (λ t. times_whole Block (EntryIs order version level) (entry_bytes order level) body entries count (at + size) next many steps back rest t each)
 
-    pub group_whole : (count at next : ℕ) → (out-Level level).since ≤ version → IsWritableDimension dim wide → IsBytes body → DimSays count at → Times (EntryStep place level) count (at + size) next →
-        GroupStep place (Group' dim level) at next
+    pub group_whole : (count at next : ℕ) → (out-Level level).since ≤ version → IsWritableDimension dim wide
+        → IsBytes body → DimSays count at → Times (EntryStep place level) count (at + size) next
+        → GroupStep place (Group' dim level) at next
     unfolding tail_bytes
     group_whole count at next known writable good says steps =
         whole_of GroupVal (λ v b. GroupLays order true version (Group' dim level) v b) (λ v. group_bytes order (Group' dim level) v) body at next
         (λ v front rest there h.
-        let lies = alive_from ((entries : List Block) × (v ≡ groupval.Entries entries) × GroupLies TailIs order true version dim fields entries front) ((v ≡ groupval.Absent) × (front ≡ [])) version
+        let lies =
+        alive_from
+        ((entries : List Block) × (v ≡ groupval.Entries entries) × GroupLies TailIs order true version dim fields entries front)
+        ((v ≡ groupval.Absent) × (front ≡ [])) version
         (out-Level level).since known h in
         let ends = entries_end count at next writable good says steps lies.0 front rest there lies.2 in
         let same : entries_in v ≡ Some lies.0 = ap entries_in lies.1 ∙ ap Some (items_hidden-the_row-Block-1 lies.0) in

@@ -1,119 +1,67 @@
 -- A value that clean bytes show has these bytes.
-use Rattle.std.proofs.Common.{◌≡◌, ℕ, zero, suc, ◌+◌, ◌*◌, ◌^◌, ◌-◌, ◌≤◌, Bool, true, false, cond, List, [], ◌∷◌, ◌++◌, length, take, drop, Some, None, pos, refl, sym, ap, ◌∙◌, subst, arith, length-append, length-drop}
-use Rattle.std.specs.Prelude.{replicate, ◌&&◌, ◌||◌, ◌==◌, not}
-use Rattle.std.proofs.lemmas.List.{take-append-drop, length-take-le}
-use Rattle.std.proofs.lemmas.Bool.Decides.{nat_tests}
+use Rattle.std.proofs.Common.{◌≡◌, ℕ, suc, ◌+◌, ◌*◌, ◌-◌, ◌≤◌, Bool, true, false, cond, List, [], ◌∷◌, ◌++◌, length, take, drop, Some, refl, sym, ap, ◌∙◌, subst, arith, length-append}
+use Rattle.std.specs.Prelude.{replicate}
 use Rattle.byte_digits.specs.Digits.{IsBytes}
 use Rattle.byte_digits.proofs.Bytes.{IsBytes-take, IsBytes-drop}
 use Rattle.sbe_types.specs.declared.kind.Order.{Order}
 use Rattle.sbe_types.specs.declared.kind.LeafShape.{LeafShape}
 use Rattle.sbe_types.specs.declared.kind.LeafShape.TheVariants.{Number, RangedText, EncodedText, Octets, Numbers}
 use Rattle.sbe_types.specs.declared.kind.Leaf.{Leaf as LeafOf}
-use Rattle.sbe_types.specs.declared.kind.Named.{Named}
-use Rattle.sbe_types.specs.declared.kind.Primitive.{Primitive}
 use Rattle.sbe_types.specs.declared.kind.Kind.{Kind, Leaf, Enum, Set, Const, Comp', Row_of-Member, end_of-Member, more_of-Member}
-use Rattle.sbe_types.specs.declared.message.Elem.{Elem}
 use Rattle.sbe_types.specs.declared.message.Value.{Value, items_hidden-the_row-Value-0}
-use Rattle.sbe_types.specs.declared.message.Value.TheVariants as value
-use Rattle.sbe_types.specs.Numbers.{number_of, bytes_of, prim_width, is_signed, natural, sum_in, signed_of}
+use Rattle.sbe_types.specs.Numbers.{number_of, prim_width}
 use Rattle.sbe_types.specs.Places.{width, is_const, begin_of, row_end}
-use Rattle.sbe_types.specs.Shown.{shown_set, has_listed_bits, is_optional}
-use Rattle.sbe_types.specs.Shows.{Shows, MembersShow, ShowsLeaf, ShowsText, ShowsElements, ShowsArray, EndsText, is_empty}
-use Rattle.sbe_types.specs.Wire.{both, padded, elements_bytes, array_bytes, text_bytes, leaf_bytes, set_bytes, wire_bytes, row_bytes}
+use Rattle.sbe_types.specs.Shown.{is_optional}
+use Rattle.sbe_types.specs.Shows.{Shows, MembersShow, ShowsLeaf, ShowsText, EndsText}
+use Rattle.sbe_types.specs.Wire.{both, text_bytes, leaf_bytes, wire_bytes, row_bytes}
 use Rattle.sbe_types.proofs.Inverse.{bytes_of-number_of}
 use Rattle.sbe_wire.specs.Placed.{BeginsBehind, IsPlacedKind, IsPlacedRow}
 use Rattle.sbe_wire.proofs.Values.{row_grows, const_width}
 use Rattle.writing_laws.specs.Writable.{IsWritableLeaf, IsWritableKind, IsWritableRow}
-use Rattle.writing_laws.proofs.Numerals.{none_some, some_is, number_wire, element_wire, enum_wire}
-use Rattle.writing_laws.proofs.KindBack.{prim_wide}
+use Rattle.writing_laws.proofs.Numerals.{number_wire, enum_wire}
+use Rattle.writing_laws.proofs.KindBack.{null_empty, array_back, set_back}
 use Rattle.clean_bodies.specs.Clean.{AreZeros, between, part_in, IsCleanText, IsCleanLeaf, HasCleanGap, IsCleanKind, AreCleanMembers}
 use Rattle.clean_bodies.proofs.Zeros.{joined, gap_zeros, between_none, whole_between}
 
 -- ---- a text
 
-null_empty : (leaf : LeafOf) (t : Bool) → is_optional leaf.presence ≡ t → (text : List ℕ) → text_bytes leaf (cond (t && is_empty text) value.Null (value.Text text)) ≡ Some (padded (width (Leaf leaf)) text)
-null_empty leaf true o [] = refl
-null_empty leaf true o (x ∷ xs) = refl
-null_empty leaf false o text = refl
-
 -- what stands behind a clean text is what pads it
-pads : (n : ℕ) (text after : List ℕ) → length text + length after ≡ n → EndsText after → IsCleanText (text ++ after) → after ≡ replicate (n - length text) 0
+pads : (n : ℕ) (text after : List ℕ) → length text + length after ≡ n → EndsText after → IsCleanText (text ++ after)
+    → after ≡ replicate (n - length text) 0
 pads n text [] long ends clean = let none : 0 ≡ n - length text = omega (arith, long) in ap (λ k. replicate k 0) none
 pads n text (x ∷ xs) long ends clean =
     let rest : AreZeros xs = clean text xs (ap (λ y. text ++ (y ∷ xs)) ends) in
     let many : suc (length xs) ≡ n - length text = omega (arith, long) in
     ap (λ y. y ∷ xs) ends ∙ ap (λ ys. 0 ∷ ys) rest ∙ ap (λ k. replicate k 0) many
 
-text_clean : (leaf : LeafOf) (v : Value) (b : List ℕ) → length b ≡ width (Leaf leaf) → ShowsText leaf v b → IsCleanText b → text_bytes leaf v ≡ Some b
+text_clean : (leaf : LeafOf) (v : Value) (b : List ℕ) → length b ≡ width (Leaf leaf) → ShowsText leaf v b
+    → IsCleanText b → text_bytes leaf v ≡ Some b
 text_clean leaf v b long h clean =
     let n = width (Leaf leaf) in
     let total : length h.0 + length h.1 ≡ n = omega (arith, long, ap length h.2, length-append h.0 h.1) in
     let zeros = pads n h.0 h.1 total h.3 (subst IsCleanText h.2 clean) in
     ap (text_bytes leaf) h.5 ∙ null_empty leaf (is_optional leaf.presence) refl h.0 ∙ ap (λ z. Some (h.0 ++ z)) (sym zeros) ∙ ap Some (sym h.2)
 
--- ---- an array
+-- ---- a leaf
 
 module _ (order : Order) (leaf : LeafOf) where
-  abbrev w : ℕ
-  w = prim_width leaf.prim
-
-  elements_back : (es : List Elem) (n : ℕ) (b : List ℕ) → length b ≡ w * n → IsBytes b → ShowsElements order leaf es b → (elements_bytes order leaf es ≡ Some b) × (length es ≡ n)
-  elements_back [] zero b long good h = (ap Some (sym h), refl)
-  elements_back [] (suc n) b long good h =
-      let step : w * suc n ≡ w * n + w = grind arith in
-      absurd (omega (arith, long, ap length h, step, prim_wide leaf.prim))
-  elements_back (e ∷ es) zero b long good h = absurd (omega (arith, long, h.0, prim_wide leaf.prim))
-  elements_back (e ∷ es) (suc n) b long good h =
-      let step : w * suc n ≡ w * n + w = grind arith in
-      let first : bytes_of order leaf.prim (number_of order leaf.prim (take w b)) ≡ Some (take w b) =
-      bytes_of-number_of order leaf.prim (take w b) (length-take-le w b h.0) (IsBytes-take w b good) in
-      let rest = elements_back es n (drop w b) (omega (arith, length-drop w b, long, step)) (IsBytes-drop w b good) h.2 in (
-        ap (λ o. both o (elements_bytes order leaf es)) (element_wire order leaf _ e h.1 ∙ first) ∙ ap (λ o. both (Some (take w b)) o) rest.0 ∙ ap Some (take-append-drop w b),
-        omega (arith, rest.1),
-      )
-
-  array_back : (v : Value) (b : List ℕ) → length b ≡ width (Leaf leaf) → IsBytes b → ShowsArray order leaf v b → array_bytes order leaf v ≡ Some b
-  array_back v b long good h =
-      let found = elements_back h.0 leaf.length b long good h.2 in
-      let many : length h.0 ≡ leaf.length = found.1 in
-      let same : (length h.0 == leaf.length) ≡ true = grind (arith, nat_tests) in
-      ap (array_bytes order leaf) h.1 ∙ ap (λ t. cond t (elements_bytes order leaf h.0) None) same ∙ found.0
-
-  leaf_clean : (s : LeafShape) → leaf.shape ≡ s → IsWritableLeaf leaf → (v : Value) (b : List ℕ) → length b ≡ width (Leaf leaf) → IsBytes b → ShowsLeaf order s leaf v b → IsCleanLeaf s b →
-      leaf_bytes order s leaf v ≡ Some b
+  leaf_clean : (s : LeafShape) → leaf.shape ≡ s → IsWritableLeaf leaf → (v : Value) (b : List ℕ) → length b ≡ width (Leaf leaf)
+      → IsBytes b → ShowsLeaf order s leaf v b → IsCleanLeaf s b → leaf_bytes order s leaf v ≡ Some b
   leaf_clean Number is writable v b long good h clean =
-      let one : width (Leaf leaf) ≡ w = ap (λ n. w * n) (writable.single is) ∙ omega arith in
-      let wide : length b ≡ w = long ∙ one in
+      let one : width (Leaf leaf) ≡ prim_width leaf.prim = ap (λ n. prim_width leaf.prim * n) (writable.single is) ∙ omega arith in
+      let wide : length b ≡ prim_width leaf.prim = long ∙ one in
       number_wire order leaf (number_of order leaf.prim b) v h ∙ bytes_of-number_of order leaf.prim b wide good
   leaf_clean RangedText is writable v b long good h clean = text_clean leaf v b long h clean
   leaf_clean EncodedText is writable v b long good h clean = text_clean leaf v b long h clean
-  leaf_clean Octets is writable v b long good h clean = array_back v b long good h
-  leaf_clean Numbers is writable v b long good h clean = array_back v b long good h
-
--- ---- a set
-
-set_by : (order : Order) (p : Primitive) (t : Bool) (n : ℕ) (v : Value) → cond t (Some (value.Set n)) None ≡ Some v → set_bytes order p v ≡ bytes_of order p (pos n)
-set_by order p true n v h = ap (set_bytes order p) (sym (some_is h))
-set_by order p false n v h = absurd (none_some h)
-
-pub unsigned_natural : (order : Order) (p : Primitive) (b : List ℕ) → is_signed p ≡ false → pos (natural (number_of order p b)) ≡ number_of order p b
-unsigned_natural order p b h =
-    let is : number_of order p b ≡ pos (sum_in order b) = ap (λ t. cond t (signed_of (256 ^ prim_width p) (sum_in order b)) (pos (sum_in order b))) h in
-    ap (λ n. pos (natural n)) is ∙ sym is
-
-set_back : (order : Order) (p : Primitive) (names : List Named) (v : Value) (b : List ℕ) → is_signed p ≡ false → length b ≡ prim_width p → IsBytes b →
-    shown_set names true (natural (number_of order p b)) ≡ Some v → set_bytes order p v ≡ Some b
-set_back order p names v b plain long good h =
-    set_by order p (has_listed_bits names 64 (natural (number_of order p b)) || not true) (natural (number_of order p b)) v h
-    ∙ ap (bytes_of order p) (unsigned_natural order p b plain)
-    ∙ bytes_of-number_of order p b long good
+  leaf_clean Octets is writable v b long good h clean = array_back order leaf v b long good h
+  leaf_clean Numbers is writable v b long good h clean = array_back order leaf v b long good h
 
 -- ---- one part behind another
 
 -- the zeros before a part and its bytes are the bytes up to its end
-pub part_is : (e : ℕ) (offset : _) (kind : Kind) (t : Bool) → is_const kind ≡ t → BeginsBehind e offset kind → (b : List ℕ) → (t ≡ false → begin_of e offset + width kind ≤ length b) →
-    HasCleanGap e offset kind b →
-    replicate (cond t 0 (begin_of e offset - e)) 0 ++ part_in e offset kind b ≡ between e (cond t e (begin_of e offset + width kind)) b
+pub part_is : (e : ℕ) (offset : _) (kind : Kind) (t : Bool) → is_const kind ≡ t → BeginsBehind e offset kind
+    → (b : List ℕ) → (t ≡ false → begin_of e offset + width kind ≤ length b) → HasCleanGap e offset kind b
+    → replicate (cond t 0 (begin_of e offset - e)) 0 ++ part_in e offset kind b ≡ between e (cond t e (begin_of e offset + width kind)) b
 part_is e offset kind true c behind b within gap =
     ap (λ n. take n (drop (begin_of e offset) b)) (const_width kind c) ∙ sym (between_none e b)
 part_is e offset kind false c behind b within gap =
@@ -126,20 +74,24 @@ part_is e offset kind false c behind b within gap =
     ∙ joined e begin (begin + width kind) b begins (omega arith)
 
 -- where the part ends, at e or behind
-pub part_grows : (e : ℕ) (offset : _) (kind : Kind) (t : Bool) → is_const kind ≡ t → BeginsBehind e offset kind → e ≤ cond t e (begin_of e offset + width kind)
+pub part_grows : (e : ℕ) (offset : _) (kind : Kind) (t : Bool) → is_const kind ≡ t → BeginsBehind e offset kind
+    → e ≤ cond t e (begin_of e offset + width kind)
 part_grows e offset kind true c behind = omega arith
 part_grows e offset kind false c behind = let begins : e ≤ begin_of e offset = behind c in omega (arith, begins)
 
-pub part_within : (e limit : ℕ) (offset : _) (kind : Kind) (t : Bool) → cond t e (begin_of e offset + width kind) ≤ limit → t ≡ false → begin_of e offset + width kind ≤ limit
+pub part_within : (e limit : ℕ) (offset : _) (kind : Kind) (t : Bool)
+    → cond t e (begin_of e offset + width kind) ≤ limit → t ≡ false → begin_of e offset + width kind ≤ limit
 part_within e limit offset kind t h is = subst (λ u. cond u e (begin_of e offset + width kind) ≤ limit) is h
 
 -- ---- a kind
 
 module _ (order : Order) where
   mutual
-    pub kind_clean : (kind : Kind) → IsPlacedKind kind → IsWritableKind kind → (v : Value) (b : List ℕ) → IsBytes b → Shows order true kind v b → IsCleanKind kind b → wire_bytes order kind v ≡ Some b
+    pub kind_clean : (kind : Kind) → IsPlacedKind kind → IsWritableKind kind → (v : Value) (b : List ℕ) → IsBytes b
+        → Shows order true kind v b → IsCleanKind kind b → wire_bytes order kind v ≡ Some b
     kind_clean (Leaf l) placed writable v b good h clean = leaf_clean order l l.shape refl writable v b h.0 good h.1 clean
-    kind_clean (Enum l names) placed writable v b good h clean = enum_wire order l names (number_of order l.prim b) v h.1 ∙ bytes_of-number_of order l.prim b h.0 good
+    kind_clean (Enum l names) placed writable v b good h clean =
+        enum_wire order l names (number_of order l.prim b) v h.1 ∙ bytes_of-number_of order l.prim b h.0 good
     kind_clean (Set p names) placed writable v b good h clean = set_back order p names v b writable.unsigned h.0 good h.1
     kind_clean (Const c) placed writable v b good h clean = ap (wire_bytes order (Const c)) h.1 ∙ ap Some (sym h.0)
     kind_clean (Comp' n members) placed writable v b good h clean =
@@ -148,8 +100,9 @@ module _ (order : Order) where
         ∙ row_clean 0 members placed writable h.1.0 b good (omega (arith, h.0)) h.1.2 clean
         ∙ ap Some (whole_between (row_end 0 members) b (sym h.0))
 
-    row_clean : (e : ℕ) {n : _} (row : Row_of-Member n) → IsPlacedRow e row → IsWritableRow row → (vs : List Value) (b : List ℕ) → IsBytes b → row_end e row ≤ length b → MembersShow order true e row vs b →
-        AreCleanMembers e row b → row_bytes order e row (Some vs) ≡ Some (between e (row_end e row) b)
+    row_clean : (e : ℕ) {n : _} (row : Row_of-Member n) → IsPlacedRow e row → IsWritableRow row
+        → (vs : List Value) (b : List ℕ) → IsBytes b → row_end e row ≤ length b → MembersShow order true e row vs b
+        → AreCleanMembers e row b → row_bytes order e row (Some vs) ≡ Some (between e (row_end e row) b)
     row_clean e end_of-Member placed writable [] b good within h clean = ap Some (sym (between_none e b))
     row_clean e end_of-Member placed writable (v ∷ vs) b good within h clean = absurd h
     row_clean e (more_of-Member name offset kind rest) placed writable [] b good within h clean = absurd h
@@ -161,7 +114,9 @@ module _ (order : Order) where
         let here : wire_bytes order kind v ≡ Some (part_in e offset kind b) =
         kind_clean kind placed.1 writable.0 v (part_in e offset kind b) (IsBytes-take _ _ (IsBytes-drop _ b good)) h.0 clean.1 in
         let there = row_clean next rest placed.2 writable.1 vs b good within h.1 clean.2 in
-        let part = part_is e offset kind (is_const kind) refl placed.0 b (part_within e (length b) offset kind (is_const kind) (omega (arith, grows, within))) clean.0 in
+        let part =
+        part_is e offset kind (is_const kind) refl placed.0 b
+        (part_within e (length b) offset kind (is_const kind) (omega (arith, grows, within))) clean.0 in
         ap (λ o. both (both (Some zeros) o) (row_bytes order next rest (Some vs))) here
         ∙ ap (λ o. both (Some (zeros ++ part_in e offset kind b)) o) there
         ∙ ap (λ z. Some (z ++ between next (row_end next rest) b)) part

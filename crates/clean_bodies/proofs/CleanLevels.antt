@@ -34,8 +34,10 @@ module _ (place : Place) where
   abbrev body : List ℕ
   body = place.body
 
-  groups_end : {n : _} (row : Row_of-Group n) (at next : ℕ) → Chain Group (GroupStep place) (items-the_row-Group _ row) at next → (vs : List GroupVal) (front rest : List ℕ) → drop at body ≡ front ++ rest → GroupsLay order true version row vs front →
-      Ends at next front (groups_bytes order row vs)
+  groups_end : {n : _} (row : Row_of-Group n) (at next : ℕ)
+      → Chain Group (GroupStep place) (items-the_row-Group _ row) at next → (vs : List GroupVal) (front rest : List ℕ)
+      → drop at body ≡ front ++ rest → GroupsLay order true version row vs front
+      → Ends at next front (groups_bytes order row vs)
   unfolding tail_bytes
   groups_end end_of-Group at next chain [] front rest there h = (omega (arith, chain, ap length h), ap Some (sym h))
   groups_end end_of-Group at next chain (v ∷ vs) front rest there h = absurd h
@@ -45,26 +47,33 @@ module _ (place : Place) where
       (λ r t. (chain.1.ends v h.0 r t h.3, chain.1.is v h.0 r t h.3))
       (λ t. groups_end row chain.0 next chain.2 vs h.1 rest t h.4)
 
-  pub tail_whole : (level : Level) (at mid next : ℕ) → Chain Group (GroupStep place) (out-Level level).groups at mid → Chain DataField (PartStep place) (out-Level level).parts mid next → TailStep place level at next
+  pub tail_whole : (level : Level) (at mid next : ℕ) → Chain Group (GroupStep place) (out-Level level).groups at mid
+      → Chain DataField (PartStep place) (out-Level level).parts mid next → TailStep place level at next
   unfolding tail_bytes levels.out-Level carrier.out
   tail_whole (Level' name id semantic since block_length fields n row parts) at mid next first second =
       let level : Level = Level' name id semantic since block_length fields n row parts in
-      let chain : Chain Group (GroupStep place) (items-the_row-Group _ row) at mid = subst (λ gs. Chain Group (GroupStep place) gs at mid) (items_shown-the_row-Group-0 n row) first in
+      let chain : Chain Group (GroupStep place) (items-the_row-Group _ row) at mid =
+      subst (λ gs. Chain Group (GroupStep place) gs at mid) (items_shown-the_row-Group-0 n row) first in
       whole_of Block (λ entry b. TailLays order true version level entry b) (tail_bytes order level) body at next
       (λ block front rest there h.
-      two_pieces body at mid next front h.0 h.1 rest (groups_bytes order row (out-Block block).groups) (parts_bytes order parts (out-Block block).parts) there h.2
+      two_pieces body at mid next front h.0 h.1 rest (groups_bytes order row (out-Block block).groups)
+      (parts_bytes order parts (out-Block block).parts) there h.2
       (λ r t. groups_end row at mid chain (out-Block block).groups h.0 r t h.3)
       (λ t. parts_end place parts mid next second (out-Block block).parts h.1 rest t h.4))
 
   -- the group that an item of the schema is
-  pub group_step : (g : Group) (count at next : ℕ) → IsGoodGroup version g → IsBytes body → DimSays place (out-Group g).level (out-Group g).dim count at →
-      Times (EntryStep place (out-Group g).level) count (at + members_end 0 (out-Group g).dim) next → GroupStep place g at next
+  pub group_step : (g : Group) (count at next : ℕ) → IsGoodGroup version g → IsBytes body
+      → DimSays place (out-Group g).level (out-Group g).dim count at
+      → Times (EntryStep place (out-Group g).level) count (at + members_end 0 (out-Group g).dim) next
+      → GroupStep place g at next
   unfolding groups.out-Group carrier.out
-  group_step (Group' dim level) count at next known good says steps = group_whole place level dim count at next known.writable.0 known.writable.1 good says steps
+  group_step (Group' dim level) count at next known good says steps =
+      group_whole place level dim count at next known.writable.0 known.writable.1 good says steps
 
 -- ---- what a level that is good has
 
-good_row : (current : ℕ) {n : _} (row : Row_of-Group n) → ArePlacedGroups row → AreWritableGroups current row → AllByRecursion (IsGoodGroup current) (items-the_row-Group _ row)
+good_row : (current : ℕ) {n : _} (row : Row_of-Group n) → ArePlacedGroups row → AreWritableGroups current row
+    → AllByRecursion (IsGoodGroup current) (items-the_row-Group _ row)
 good_row current end_of-Group placed writable = tt
 good_row current (more_of-Group g row) placed writable = (record { placed = placed.0; writable = writable.0 }, good_row current row placed.1 writable.1)
 
@@ -80,7 +89,8 @@ good_list current (p ∷ ps) h = (h.0, good_list current ps h.1)
 
 pub good_parts : (current : ℕ) (level : Level) → IsGoodLevel current level → All (IsWritablePart current) (out-Level level).parts
 unfolding levels.out-Level carrier.out
-good_parts current (Level' name id semantic since block_length fields n row parts) known = All-from_recursion (IsWritablePart current) parts (good_list current parts known.writable.3)
+good_parts current (Level' name id semantic since block_length fields n row parts) known =
+    All-from_recursion (IsWritablePart current) parts (good_list current parts known.writable.3)
 
 -- the level of a group's entries
 pub good_inner : (current : ℕ) (g : Group) → IsGoodGroup current g → IsGoodLevel current (out-Group g).level

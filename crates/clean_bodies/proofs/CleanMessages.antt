@@ -1,6 +1,6 @@
 -- A message whose body is its canonical one.
 use Rattle.std.proofs.Common.{◌≡◌, ℕ, true, List, [], ◌++◌, length, take, drop, Option, Some, sym, ap, ◌∙◌, subst, arith, append_assoc, append-nil, length-append}
-use Rattle.std.specs.Prelude.{codes, slice_get}
+use Rattle.std.specs.Prelude.{codes}
 use Rattle.std.proofs.lemmas.List.{take_at, drop_at}
 use Rattle.byte_digits.specs.Digits.{IsBytes}
 use Rattle.byte_digits.proofs.Bytes.{IsBytes-take}
@@ -8,15 +8,15 @@ use Rattle.sbe_types.specs.declared.kind.Member.{Member}
 use Rattle.sbe_types.specs.declared.schema.Level.{Level, out-Level}
 use Rattle.sbe_types.specs.declared.schema.WireSchema.{WireSchema}
 use Rattle.sbe_types.specs.declared.message.Block.{out-Block}
-use Rattle.sbe_types.specs.declared.message.Msg.{Msg}
 use Rattle.sbe_types.specs.Places.{members_end}
 use Rattle.sbe_types.specs.Wire.{both}
 use Rattle.sbe_wire.specs.Canonical.{header_numbers, named_bytes, canonical}
-use Rattle.sbe_wire.specs.Lays.{BlockLays, TailLays, Lays}
+use Rattle.sbe_wire.specs.Lays.{BlockLays, TailLays}
 use Rattle.sbe_wire.specs.Versions.{is_known}
 use Rattle.writing_laws.specs.Writable.{HasNamed}
 use Rattle.writing_laws.proofs.MessageWritten.{canonical_is}
 use Rattle.writing_laws.proofs.Own.{known_own, acting_own}
+use Rattle.clean_bodies.specs.Bodies.{IsCanonicalRoot}
 use Rattle.clean_bodies.specs.Good.{IsGoodLevel}
 use Rattle.clean_bodies.specs.Says.{SayNumbers}
 use Rattle.clean_bodies.specs.Steps.{Place, entry_bytes, EntryIs, EntryStep}
@@ -39,9 +39,9 @@ module _ (schema : WireSchema) (level : Level) (body : List ℕ) where
   place = record { order = schema.order; version = schema.version; body = body }
 
   -- a message of this root, whose parts were seen to be clean
-  pub message_clean : (next : ℕ) → IsGoodLevel schema.version level → HasNamed members (codes "blockLength") → IsBytes body → SayNumbers schema.order (header_numbers schema level) 0 members (take size body) →
-      EntryStep place level size next →
-      (m : Msg) → m.version ≡ schema.version → slice_get schema.messages m.template ≡ Some level → Lays schema m body → canonical schema m ≡ Some body
+  pub message_clean : (next : ℕ) → IsGoodLevel schema.version level → HasNamed members (codes "blockLength") → IsBytes body
+      → SayNumbers schema.order (header_numbers schema level) 0 members (take size body) → EntryStep place level size next
+      → IsCanonicalRoot schema level body
   message_clean next known named good says whole m own at h =
       let order = schema.order in
       let version = schema.version in
@@ -65,10 +65,13 @@ module _ (schema : WireSchema) (level : Level) (body : List ℕ) where
       h.6 ∙ append_assoc (header ++ block) tail rest ∙ append_assoc header block (tail ++ rest) in
       let front : take size body ≡ header = ap (take size) split ∙ take_at header (block ++ (tail ++ rest)) size head.wide in
       let behind : drop size body ≡ block ++ (tail ++ rest) = ap (drop size) split ∙ drop_at header (block ++ (tail ++ rest)) size head.wide in
-      let there_says : SayNumbers order (header_numbers schema level) 0 members header = subst (SayNumbers order (header_numbers schema level) 0 members) front says in
+      let there_says : SayNumbers order (header_numbers schema level) 0 members header =
+      subst (SayNumbers order (header_numbers schema level) 0 members) front says in
       let header_good : IsBytes header = subst IsBytes front (IsBytes-take size body good) in
-      let own_header : named_bytes order (header_numbers schema level) 0 members ≡ Some header = named_are order (header_numbers schema level) header members there_says header_good head.wide in
-      let long : length block ≡ wide = sym head.says_block ∙ named_read order (header_numbers schema level) header members there_says (codes "blockLength") named in
+      let own_header : named_bytes order (header_numbers schema level) 0 members ≡ Some header =
+      named_are order (header_numbers schema level) header members there_says header_good head.wide in
+      let long : length block ≡ wide =
+      sym head.says_block ∙ named_read order (header_numbers schema level) header members there_says (codes "blockLength") named in
       let front_is : take wide (block ++ tail) ≡ block = take_at block tail wide long in
       let back_is : drop wide (block ++ tail) ≡ tail = drop_at block tail wide long in
       let entry : EntryIs order version level m.block (block ++ tail) = (

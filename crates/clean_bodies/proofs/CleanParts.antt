@@ -31,10 +31,14 @@ module _ (place : Place) where
     abbrev w : ℕ
     w = prim_width p.length.prim
 
-    part_ends : (at many : ℕ) → p.since ≤ version → IsBytes body → number_of order p.length.prim (take w (drop at body)) ≡ pos many → (v : DataVal) (front rest : List ℕ) → drop at body ≡ front ++ rest → DataLays order version p v front →
-        Ends at (at + w + many) front (part_bytes order p v)
+    part_ends : (at many : ℕ) → p.since ≤ version → IsBytes body
+        → number_of order p.length.prim (take w (drop at body)) ≡ pos many → (v : DataVal) (front rest : List ℕ)
+        → drop at body ≡ front ++ rest → DataLays order version p v front
+        → Ends at (at + w + many) front (part_bytes order p v)
     part_ends at many known good says v front rest there h =
-        let lies = alive_from ((bytes : List ℕ) × (v ≡ dataval.Bytes bytes) × DataLies order p bytes front) ((v ≡ dataval.Absent) × (front ≡ [])) version p.since known h in
+        let lies =
+        alive_from ((bytes : List ℕ) × (v ≡ dataval.Bytes bytes) × DataLies order p bytes front)
+        ((v ≡ dataval.Absent) × (front ≡ [])) version p.since known h in
         let bytes : List ℕ = lies.0 in
         let found = lies.2 in
         let before : List ℕ = found.before in
@@ -49,12 +53,15 @@ module _ (place : Place) where
           ap (part_bytes order p) lies.1 ∙ ap (λ o. both o (Some bytes)) wire ∙ ap Some (sym found.whole),
         )
 
-    pub part_whole : (at many : ℕ) → p.since ≤ version → IsBytes body → number_of order p.length.prim (take w (drop at body)) ≡ pos many → PartStep place p at (at + w + many)
-    part_whole at many known good says = whole_of DataVal (DataLays order version p) (part_bytes order p) body at (at + w + many) (part_ends at many known good says)
+    pub part_whole : (at many : ℕ) → p.since ≤ version → IsBytes body
+        → number_of order p.length.prim (take w (drop at body)) ≡ pos many → PartStep place p at (at + w + many)
+    part_whole at many known good says =
+        whole_of DataVal (DataLays order version p) (part_bytes order p) body at (at + w + many) (part_ends at many known good says)
 
   -- parts one behind another
-  pub parts_end : (ps : List DataField) (at next : ℕ) → Chain DataField (PartStep place) ps at next → (vs : List DataVal) (front rest : List ℕ) → drop at body ≡ front ++ rest → JoinedBoth (DataLays order version) ps vs front →
-      Ends at next front (parts_bytes order ps vs)
+  pub parts_end : (ps : List DataField) (at next : ℕ) → Chain DataField (PartStep place) ps at next
+      → (vs : List DataVal) (front rest : List ℕ) → drop at body ≡ front ++ rest
+      → JoinedBoth (DataLays order version) ps vs front → Ends at next front (parts_bytes order ps vs)
   parts_end [] at next chain [] front rest there h = (omega (arith, chain, ap length h), ap Some (sym h))
   parts_end [] at next chain (v ∷ vs) front rest there h = absurd h
   parts_end (p ∷ ps) at next chain [] front rest there h = absurd h

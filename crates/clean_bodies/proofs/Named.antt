@@ -47,7 +47,8 @@ module _ (order : Order) (numbers : List ℕ → ℕ) (b : List ℕ) where
     ahead : e ≤ next
     ahead = let is = next_is in let behind = here.behind in omega (arith, is, behind)
 
-    bytes_are : IsBytes b → next ≤ length b → both (Some (replicate (begin - e) 0)) (number_bytes_in order m.kind (numbers m.name)) ≡ Some (between e next b)
+    bytes_are : IsBytes b → next ≤ length b
+        → both (Some (replicate (begin - e) 0)) (number_bytes_in order m.kind (numbers m.name)) ≡ Some (between e next b)
     bytes_are good within =
         let is = next_is in
         let behind : e ≤ begin = here.behind in
@@ -56,7 +57,8 @@ module _ (order : Order) (numbers : List ℕ → ℕ) (b : List ℕ) where
         let size : w ≡ next - begin = omega (arith, is) in
         let wire : bytes_of order leaf.prim (pos (numbers m.name)) ≡ Some slice =
         ap (bytes_of order leaf.prim) (sym here.is)
-        ∙ bytes_of-number_of order leaf.prim slice (slice_long begin w b (omega (arith, is, within))) (IsBytes-take w (drop begin b) (IsBytes-drop begin b good)) in
+        ∙ bytes_of-number_of order leaf.prim slice (slice_long begin w b (omega (arith, is, within)))
+        (IsBytes-take w (drop begin b) (IsBytes-drop begin b good)) in
         ap (λ k. both (Some zeros) (number_bytes_in order k (numbers m.name))) here.number
         ∙ ap (both (Some zeros)) wire
         ∙ ap (λ z. Some (z ++ slice)) (gap_zeros e begin b behind (omega (arith, is, within)) here.gap)
@@ -72,7 +74,8 @@ module _ (order : Order) (numbers : List ℕ → ℕ) (b : List ℕ) where
       let rest = members_grow (end_past e m.offset m.kind) ms h.1 in
       omega (arith, first, rest)
 
-  members_bytes : (e : ℕ) (ms : List Member) → SayNumbers order numbers e ms b → IsBytes b → members_end e ms ≤ length b → named_bytes order numbers e ms ≡ Some (between e (members_end e ms) b)
+  members_bytes : (e : ℕ) (ms : List Member) → SayNumbers order numbers e ms b → IsBytes b → members_end e ms ≤ length b
+      → named_bytes order numbers e ms ≡ Some (between e (members_end e ms) b)
   members_bytes e [] h good within = ap Some (sym (between_none e b))
   members_bytes e (m ∷ ms) h good within =
       let next : ℕ = end_past e m.offset m.kind in
@@ -83,24 +86,31 @@ module _ (order : Order) (numbers : List ℕ → ℕ) (b : List ℕ) where
       ∙ ap Some (joined e next (members_end next ms) b first grows)
 
   -- the bytes are those of the numbers
-  pub named_are : (ms : List Member) → SayNumbers order numbers 0 ms b → IsBytes b → length b ≡ members_end 0 ms → named_bytes order numbers 0 ms ≡ Some b
+  pub named_are : (ms : List Member) → SayNumbers order numbers 0 ms b → IsBytes b → length b ≡ members_end 0 ms
+      → named_bytes order numbers 0 ms ≡ Some b
   named_are ms h good wide = members_bytes 0 ms h good (omega (arith, wide)) ∙ ap Some (whole_between (members_end 0 ms) b (sym wide))
 
   abbrev read_at : Spot → ℕ
   read_at s = natural (number_of order s.leaf.prim (take (prim_width s.leaf.prim) (drop s.place b)))
 
-  pick : (e : ℕ) (m : Member) (ms : List Member) (name : List ℕ) (spot : Spot) (here : SaysNumber order (numbers m.name) e m b) (t : Bool) → bytes_eq m.name name ≡ t →
-      (spot_named (end_past e m.offset m.kind) name ms ≡ Some spot → read_at spot ≡ numbers name) →
-      cond t (spot_of (begin_of e m.offset) m.kind) (spot_named (end_past e m.offset m.kind) name ms) ≡ Some spot → read_at spot ≡ numbers name
+  pick : (e : ℕ) (m : Member) (ms : List Member) (name : List ℕ) (spot : Spot) (here : SaysNumber order (numbers m.name) e m b) (t : Bool)
+      → bytes_eq m.name name ≡ t
+      → (spot_named (end_past e m.offset m.kind) name ms ≡ Some spot → read_at spot ≡ numbers name)
+      → cond t (spot_of (begin_of e m.offset) m.kind) (spot_named (end_past e m.offset m.kind) name ms) ≡ Some spot
+      → read_at spot ≡ numbers name
   pick e m ms name spot here true same later is =
-      let it : ◌≡◌ {A = Option Spot} (Some (record { place = begin_of e m.offset; leaf = here.leaf })) (Some spot) = ap (spot_of (begin_of e m.offset)) (sym here.number) ∙ is in
+      let it : ◌≡◌ {A = Option Spot} (Some (record { place = begin_of e m.offset; leaf = here.leaf })) (Some spot) =
+      ap (spot_of (begin_of e m.offset)) (sym here.number) ∙ is in
       subst (λ s. read_at s ≡ numbers name) (some_is it) (ap natural here.is ∙ ap numbers ((bytes_eq-Decides m.name name).0 same))
   pick e m ms name spot here false same later is = later is
 
-  spot_read : (e : ℕ) (ms : List Member) → SayNumbers order numbers e ms b → (name : List ℕ) (spot : Spot) → spot_named e name ms ≡ Some spot → read_at spot ≡ numbers name
+  spot_read : (e : ℕ) (ms : List Member) → SayNumbers order numbers e ms b → (name : List ℕ) (spot : Spot)
+      → spot_named e name ms ≡ Some spot → read_at spot ≡ numbers name
   spot_read e [] h name spot is = cc
-  spot_read e (m ∷ ms) h name spot is = pick e m ms name spot h.0 (bytes_eq m.name name) refl (λ k. spot_read (end_past e m.offset m.kind) ms h.1 name spot k) is
+  spot_read e (m ∷ ms) h name spot is =
+      pick e m ms name spot h.0 (bytes_eq m.name name) refl (λ k. spot_read (end_past e m.offset m.kind) ms h.1 name spot k) is
 
   -- the number that is read by a name
-  pub named_read : (ms : List Member) → SayNumbers order numbers 0 ms b → (name : List ℕ) → HasNamed ms name → number_named order ms name b ≡ numbers name
+  pub named_read : (ms : List Member) → SayNumbers order numbers 0 ms b → (name : List ℕ) → HasNamed ms name
+      → number_named order ms name b ≡ numbers name
   named_read ms h name named = ap (λ o. option_map_or read_at o 0) named.1 ∙ spot_read 0 ms h name named.0 named.1

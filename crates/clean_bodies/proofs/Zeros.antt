@@ -17,7 +17,8 @@ joined a b c bytes h k =
 pub between_long : (a b : ℕ) (bytes : List ℕ) → a ≤ b → b ≤ length bytes → length (between a b bytes) ≡ b - a
 between_long a b bytes h k = length-take-le (b - a) (drop a bytes) (omega (arith, length-drop a bytes, h, k))
 
-pub gap_zeros : (a b : ℕ) (bytes : List ℕ) → a ≤ b → b ≤ length bytes → AreZeros (between a b bytes) → replicate (b - a) 0 ≡ between a b bytes
+pub gap_zeros : (a b : ℕ) (bytes : List ℕ) → a ≤ b → b ≤ length bytes → AreZeros (between a b bytes)
+    → replicate (b - a) 0 ≡ between a b bytes
 gap_zeros a b bytes h k zeros = ap (λ n. replicate n 0) (sym (between_long a b bytes h k)) ∙ sym zeros
 
 -- no bytes

@@ -3,3 +3,4 @@ pub mod Good
 pub mod Says
 pub mod Whole
 pub mod Steps
+pub mod Bodies

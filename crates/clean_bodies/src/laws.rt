@@ -1,6 +1,6 @@
 //! Laws of the definitions, as functions without a body.
 
-ghost use Rattle.std.specs.Prelude.{◌≡◌, ◌≤◌, ℕ, List, Some, length, true, slice_get, codes, take};
+ghost use Rattle.std.specs.Prelude.{◌≡◌, ◌≤◌, ℕ, List, Some, length, true, codes, take};
 ghost use Rattle.byte_digits.specs.Digits.{IsBytes};
 ghost use Rattle.sbe_types.specs.declared.kind.Order.{Order};
 ghost use Rattle.sbe_types.specs.declared.schema.DataField.{DataField};
@@ -8,13 +8,13 @@ ghost use Rattle.sbe_types.specs.declared.schema.Field.{Field};
 ghost use Rattle.sbe_types.specs.declared.schema.Group.{Group};
 ghost use Rattle.sbe_types.specs.declared.schema.Level.{Level, out-Level};
 ghost use Rattle.sbe_types.specs.declared.schema.WireSchema.{WireSchema};
-ghost use Rattle.sbe_types.specs.declared.message.Msg.{Msg};
 ghost use Rattle.sbe_types.specs.declared.message.Value.{Value};
 ghost use Rattle.sbe_types.specs.Places.{fields_end, members_end};
-ghost use Rattle.sbe_wire.specs.Canonical.{block_bytes, canonical, header_numbers};
-ghost use Rattle.sbe_wire.specs.Lays.{FieldsLay, Lays};
+ghost use Rattle.sbe_wire.specs.Canonical.{block_bytes, header_numbers};
+ghost use Rattle.sbe_wire.specs.Lays.{FieldsLay};
 ghost use Rattle.sbe_wire.specs.Placed.{ArePlaced};
 ghost use Rattle.writing_laws.specs.Writable.{AreWritableFields, HasNamed};
+ghost use Rattle.clean_bodies.specs.Bodies.{IsCanonicalRoot};
 ghost use Rattle.clean_bodies.specs.Clean.{IsCleanBlock};
 ghost use Rattle.clean_bodies.specs.Good.{IsGoodLevel};
 ghost use Rattle.clean_bodies.specs.Says.{SayNumbers};
@@ -41,6 +41,5 @@ pub fn a_whole_body_is_canonical()
         → HasNamed schema.header.members (codes "blockLength") → IsBytes body
         → SayNumbers schema.order (header_numbers schema level) 0 schema.header.members (take (members_end 0 schema.header.members) body)
         → EntryStep (record { order = schema.order; version = schema.version; body = body }) level (members_end 0 schema.header.members) next
-        → (m : Msg) → m.version ≡ schema.version → slice_get schema.messages m.template ≡ Some level → Lays schema m body
-        → canonical schema m ≡ Some body }
+        → IsCanonicalRoot schema level body }
 {}

@@ -20,15 +20,18 @@ last_zeros : (text after : List ℕ) → AreZeros (text ++ 0 ∷ after) → AreZ
 last_zeros [] after h = tail_zeros 0 after h
 last_zeros (x ∷ text) after h = last_zeros text after (tail_zeros x (text ++ 0 ∷ after) h)
 
-by_zero : (t : Bool) (x n : ℕ) (text after : List ℕ) → (AreZeros (drop (length (take n (text ++ 0 ∷ after))) (text ++ 0 ∷ after)) → AreZeros after) →
-    AreZeros (drop (length (take (cond (not t) (1 + n) 0) (x ∷ (text ++ 0 ∷ after)))) (x ∷ (text ++ 0 ∷ after))) → AreZeros after
+by_zero : (t : Bool) (x n : ℕ) (text after : List ℕ)
+    → (AreZeros (drop (length (take n (text ++ 0 ∷ after))) (text ++ 0 ∷ after)) → AreZeros after)
+    → AreZeros (drop (length (take (cond (not t) (1 + n) 0) (x ∷ (text ++ 0 ∷ after)))) (x ∷ (text ++ 0 ∷ after)))
+    → AreZeros after
 by_zero true x n text after go k = last_zeros (x ∷ text) after k
 by_zero false x n text after go k =
     let more : 1 + n ≡ suc n = omega arith in
     go (subst (λ j. AreZeros (drop (length (take j (x ∷ (text ++ 0 ∷ after)))) (x ∷ (text ++ 0 ∷ after)))) more k)
 
 -- what stands behind some 00 of a text, where zeros alone stand from its first on
-behind_zero : (text after : List ℕ) → AreZeros (drop (length (before_zero (text ++ 0 ∷ after))) (text ++ 0 ∷ after)) → AreZeros after
+behind_zero : (text after : List ℕ) → AreZeros (drop (length (before_zero (text ++ 0 ∷ after))) (text ++ 0 ∷ after))
+    → AreZeros after
 behind_zero [] after h = tail_zeros 0 after h
 behind_zero (x ∷ text) after h = by_zero (x == 0) x (prefix_len (λ b. not (b == 0)) (text ++ 0 ∷ after)) text after (λ k. behind_zero text after k) h
 

@@ -1,6 +1,6 @@
 // Headers and dimensions.
-ghost use Rattle.std.specs.Prelude.{◌≡◌, ◌≤◌, true, length, IfSome};
-ghost use Rattle.sbe_types.specs.Places.{end_past};
+ghost use Rattle.std.specs.Prelude.{◌≡◌, ◌≤◌, length, IfSome};
+ghost use Rattle.sbe_types.specs.Places.{end_past, members_end};
 ghost use Rattle.clean_bodies.specs.Says.{SaysNumber, SayNumbers};
 ghost use Rattle.clean_walk.specs.Heads.{number_of_name};
 
@@ -56,19 +56,26 @@ impl Numbers {
     }
 }
 
-/// Whether members are each the number of its name, with zeros between them.
-pub(crate) fn say(order: Order, members: &[Member], numbers: Numbers, bytes: &[u8]) -> bool
-    ensures { result ≡ true → SayNumbers order (number_of_name numbers) 0 members.now bytes.now }
+/// Where members end that are each the number of its name, with zeros between them.
+pub(crate) fn end_said(
+    order: Order,
+    members: &[Member],
+    numbers: Numbers,
+    bytes: &[u8],
+) -> Option<usize>
+    ensures says { IfSome result (λ end. SayNumbers order (number_of_name numbers) 0 members.now bytes.now) }
+    ensures end { IfSome result (λ end. end ≡ members_end 0 members.now) }
+    ensures within { IfSome result (λ end. end ≤ length bytes.now) }
 {
     let mut end = 0usize;
     for member in members {
         let number = numbers.of_name(member.name.as_slice());
         match past_number(order, end, member, number, bytes) {
             Some(next) => end = next,
-            None => return false,
+            None => return None,
         }
     }
-    true
+    Some(end)
 }
 
 /// Where a member ends behind members that end at `end`, if it is that number and zeros stand before it.

@@ -10,6 +10,7 @@ use sbe_types::{Kind, LeafShape, Member};
 
 /// Whether the bytes of a value have zeros between its members and behind its texts.
 #[cycle(kind)]
+#[inline(always)]
 #[tactic(auto, using(crate::proofs::Members::comp_clean))]
 fn is_clean_kind(kind: &Kind, bytes: &[u8]) -> bool
     ensures { result ≡ true → IsCleanKind kind.now bytes.now }

@@ -7,6 +7,7 @@ use sbe_types::{Kind, Member, Order, Prim, get_num};
 
 /// How many bytes a value of the kind takes; none where that is no number of the machine.
 #[cycle(width)]
+#[inline(always)]
 pub(crate) fn width_of(kind: &Kind) -> Option<usize>
     ensures { IfSome result (λ n. n ≡ width kind.now) }
 {
@@ -33,6 +34,7 @@ pub(crate) fn end_of(members: &[Member]) -> Option<usize>
 
 /// Where a member ends behind members that end at `end`.
 #[cycle(width)]
+#[inline(always)]
 fn past(end: usize, member: &Member) -> Option<usize>
     ensures { IfSome result (λ next. next ≡ end_past end member.now.offset member.now.kind) }
 {

@@ -1,15 +1,13 @@
-ghost use Rattle.std.specs.Prelude.{◌≡◌, ◌≤◌, ◌+◌, true, length, slice_get, codes, IfSome, Some};
+ghost use Rattle.std.specs.Prelude.{◌≡◌, ◌≤◌, ◌+◌, true, length, codes, IfSome};
 ghost use Rattle.std.specs.List.{All};
 ghost use Rattle.byte_digits.specs.Digits.{IsBytes};
-ghost use Rattle.sbe_types.specs.declared.message.Msg.{Msg};
 ghost use Rattle.sbe_types.specs.declared.schema.DataField.{DataField};
 ghost use Rattle.sbe_types.specs.declared.schema.Group.{Group, out-Group};
 ghost use Rattle.sbe_types.specs.declared.schema.Level.{out-Level};
 ghost use Rattle.sbe_types.specs.Places.{members_end};
-ghost use Rattle.sbe_wire.specs.Canonical.{canonical};
-ghost use Rattle.sbe_wire.specs.Lays.{Lays};
 ghost use Rattle.writing_laws.specs.Writable.{HasNamed, IsWritablePart};
 ghost use Rattle.schema_facts.specs.IsChecked.{IsChecked};
+ghost use Rattle.clean_bodies.specs.Bodies.{IsCanonicalOf, IsCanonicalRoot};
 ghost use Rattle.clean_bodies.specs.Good.{IsGoodGroup, IsGoodLevel};
 ghost use Rattle.clean_bodies.specs.Steps.{EntryStep, GroupStep, PartStep};
 ghost use Rattle.clean_bodies.specs.Whole.{Chain, Times};
@@ -17,8 +15,8 @@ ghost use Rattle.clean_walk.specs.Heads.{GroupSays};
 ghost use Rattle.clean_walk.specs.Places.{place_in};
 
 use crate::blocks::is_clean_block;
-use crate::heads::{Numbers, count_in, say};
-use crate::places::{end_of, natural_at};
+use crate::heads::{Numbers, count_in, end_said};
+use crate::places::natural_at;
 use crate::zeros::are_bytes;
 use sbe_types::{DataField, Group, Level, Order, WireSchema};
 
@@ -26,8 +24,7 @@ use sbe_types::{DataField, Group, Level, Order, WireSchema};
 /// it, if one does.
 pub fn is_clean_body(schema: &WireSchema, template: usize, body: &[u8]) -> bool
     requires { IsChecked schema.now }
-    ensures { result ≡ true → (m : Msg) → m.template ≡ template → m.version ≡ schema.now.version → Lays schema.now m body.now
-        → canonical schema.now m ≡ Some body.now }
+    ensures { result ≡ true → IsCanonicalOf schema.now template body.now }
 {
     are_bytes(body);
     let levels = schema.messages.as_slice();
@@ -42,22 +39,18 @@ fn is_clean_root(schema: &WireSchema, level: &Level, body: &[u8]) -> bool
     requires good { IsGoodLevel schema.now.version level.now }
     requires header { HasNamed schema.now.header.members (codes "blockLength") }
     requires bytes { IsBytes body.now }
-    ensures { result ≡ true → (m : Msg) → slice_get schema.now.messages m.template ≡ Some level.now → m.version ≡ schema.now.version
-        → Lays schema.now m body.now → canonical schema.now m ≡ Some body.now }
+    ensures { result ≡ true → IsCanonicalRoot schema.now level.now body.now }
 {
     let members = schema.header.members.as_slice();
-    let Some(size) = end_of(members) else {
-        return false;
-    };
     let numbers = Numbers::Header {
         block: level.block_length,
         template: level.id,
         schema: schema.id,
         version: schema.version,
     };
-    if size > body.len() || !say(schema.order, members, numbers, &body[..size]) {
+    let Some(size) = end_said(schema.order, members, numbers, body) else {
         return false;
-    }
+    };
     match entry_end(schema, level, body, size) {
         Some(_) => true,
         None => false,
@@ -159,21 +152,14 @@ fn dim_end(order: Order, group: &Group, body: &[u8], at: usize) -> Option<(u32, 
     ensures within { IfSome result (λ d. d.1 ≤ length body.now) }
 {
     let members = group.dim.as_slice();
-    let size = end_of(members)?;
-    if body.len() - at < size {
-        return None;
-    }
-    let behind = at + size;
-    let head = &body[at..behind];
-    let count = count_in(order, members, head)?;
+    let rest = &body[at..];
+    let count = count_in(order, members, rest)?;
     let numbers = Numbers::Dimension {
         block: group.level.block_length,
         count,
     };
-    if !say(order, members, numbers, head) {
-        return None;
-    }
-    Some((count, behind))
+    let size = end_said(order, members, numbers, rest)?;
+    Some((count, at + size))
 }
 
 /// Where data parts end.

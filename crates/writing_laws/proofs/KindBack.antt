@@ -48,7 +48,8 @@ zeros_end (suc n) = refl
 pub padded_long : (n : ℕ) (text : List ℕ) → length text ≤ n → length (padded n text) ≡ n
 padded_long n text h = omega (arith, length-append text (replicate (n - length text) 0), length-replicate {A = ℕ} (n - length text) 0, h)
 
-null_empty : (leaf : LeafOf) (t : Bool) → is_optional leaf.presence ≡ t → (text : List ℕ) → text_bytes leaf (cond (t && is_empty text) value.Null (value.Text text)) ≡ Some (padded (width (Leaf leaf)) text)
+pub null_empty : (leaf : LeafOf) (t : Bool) → is_optional leaf.presence ≡ t → (text : List ℕ)
+    → text_bytes leaf (cond (t && is_empty text) value.Null (value.Text text)) ≡ Some (padded (width (Leaf leaf)) text)
 null_empty leaf true o [] = refl
 null_empty leaf true o (x ∷ xs) = refl
 null_empty leaf false o text = refl
@@ -66,7 +67,8 @@ module _ (order : Order) (leaf : LeafOf) where
   abbrev w : ℕ
   w = prim_width leaf.prim
 
-  elements_back : (es : List Elem) (n : ℕ) (b : List ℕ) → length b ≡ w * n → IsBytes b → ShowsElements order leaf es b → (elements_bytes order leaf es ≡ Some b) × (length es ≡ n)
+  elements_back : (es : List Elem) (n : ℕ) (b : List ℕ) → length b ≡ w * n → IsBytes b → ShowsElements order leaf es b
+      → (elements_bytes order leaf es ≡ Some b) × (length es ≡ n)
   elements_back [] zero b long good h = (ap Some (sym h), refl)
   elements_back [] (suc n) b long good h =
       let step : w * suc n ≡ w * n + w = grind arith in
@@ -81,7 +83,8 @@ module _ (order : Order) (leaf : LeafOf) where
         omega (arith, rest.1),
       )
 
-  array_back : (v : Value) (b : List ℕ) → length b ≡ width (Leaf leaf) → IsBytes b → ShowsArray order leaf v b → array_bytes order leaf v ≡ Some b
+  pub array_back : (v : Value) (b : List ℕ) → length b ≡ width (Leaf leaf) → IsBytes b → ShowsArray order leaf v b
+      → array_bytes order leaf v ≡ Some b
   array_back v b long good h =
       let found = elements_back h.0 leaf.length b long good h.2 in
       let many : length h.0 ≡ leaf.length = found.1 in
@@ -98,7 +101,8 @@ module _ (order : Order) (leaf : LeafOf) where
       let fits = text_fits leaf h.0 short h.4 in
       subst (λ v. (bytes : List ℕ) × (text_bytes leaf v ≡ Some bytes) × (length bytes ≡ width (Leaf leaf)) × ShowsText leaf v bytes) (sym h.5) fits
 
-  leaf_back : (s : LeafShape) → leaf.shape ≡ s → IsWritableLeaf leaf → (v : Value) (b : List ℕ) → length b ≡ width (Leaf leaf) → IsBytes b → ShowsLeaf order s leaf v b → Fitting s v
+  leaf_back : (s : LeafShape) → leaf.shape ≡ s → IsWritableLeaf leaf → (v : Value) (b : List ℕ)
+      → length b ≡ width (Leaf leaf) → IsBytes b → ShowsLeaf order s leaf v b → Fitting s v
   leaf_back Number is writable v b long good h =
       let one : width (Leaf leaf) ≡ w = ap (λ n. w * n) (writable.single is) ∙ omega arith in
       let wide : length b ≡ w = long ∙ one in
@@ -110,17 +114,20 @@ module _ (order : Order) (leaf : LeafOf) where
 
 -- ---- a set
 
-set_by : (order : Order) (p : Primitive) (t : Bool) (n : ℕ) (v : Value) → cond t (Some (value.Set n)) None ≡ Some v → set_bytes order p v ≡ bytes_of order p (pos n)
+set_by : (order : Order) (p : Primitive) (t : Bool) (n : ℕ) (v : Value) → cond t (Some (value.Set n)) None ≡ Some v
+    → set_bytes order p v ≡ bytes_of order p (pos n)
 set_by order p true n v h = ap (set_bytes order p) (sym (some_is h))
 set_by order p false n v h = absurd (none_some h)
 
-unsigned_natural : (order : Order) (p : Primitive) (b : List ℕ) → is_signed p ≡ false → pos (natural (number_of order p b)) ≡ number_of order p b
+pub unsigned_natural : (order : Order) (p : Primitive) (b : List ℕ) → is_signed p ≡ false
+    → pos (natural (number_of order p b)) ≡ number_of order p b
 unsigned_natural order p b h =
     let is : number_of order p b ≡ pos (sum_in order b) = ap (λ t. cond t (signed_of (256 ^ prim_width p) (sum_in order b)) (pos (sum_in order b))) h in
     ap (λ n. pos (natural n)) is ∙ sym is
 
-set_back : (order : Order) (p : Primitive) (names : List Named) (v : Value) (b : List ℕ) → is_signed p ≡ false → length b ≡ prim_width p → IsBytes b →
-    shown_set names true (natural (number_of order p b)) ≡ Some v → set_bytes order p v ≡ Some b
+pub set_back : (order : Order) (p : Primitive) (names : List Named) (v : Value) (b : List ℕ) → is_signed p ≡ false
+    → length b ≡ prim_width p → IsBytes b → shown_set names true (natural (number_of order p b)) ≡ Some v
+    → set_bytes order p v ≡ Some b
 set_back order p names v b plain long good h =
     set_by order p (has_listed_bits names 64 (natural (number_of order p b)) || not true) (natural (number_of order p b)) v h
     ∙ ap (bytes_of order p) (unsigned_natural order p b plain)
@@ -129,7 +136,8 @@ set_back order p names v b plain long good h =
 -- ---- a kind
 
 mutual
-  pub shown_fits : (order : Order) (kind : Kind) → IsPlacedKind kind → IsWritableKind kind → (v : Value) (b : List ℕ) → IsBytes b → Shows order true kind v b → FitsKind order kind v
+  pub shown_fits : (order : Order) (kind : Kind) → IsPlacedKind kind → IsWritableKind kind → (v : Value) (b : List ℕ)
+      → IsBytes b → Shows order true kind v b → FitsKind order kind v
   shown_fits order (Leaf l) placed writable v b good h = leaf_back order l l.shape refl writable v b h.0 good h.1
   shown_fits order (Enum l names) placed writable v b good h =
       (b, enum_wire order l names (number_of order l.prim b) v h.1 ∙ bytes_of-number_of order l.prim b h.0 good, h.0, h)
@@ -138,7 +146,8 @@ mutual
   shown_fits order (Comp' n members) placed writable v b good h =
       subst (FitsKind order (Comp' n members)) (sym h.1.1) (of_members order n members h.1.0 (shown_row order 0 members placed writable h.1.0 b good h.1.2))
 
-  shown_row : (order : Order) (e : ℕ) {n : _} (row : Row_of-Member n) → IsPlacedRow e row → IsWritableRow row → (vs : List Value) (b : List ℕ) → IsBytes b → MembersShow order true e row vs b → RowFits order e row vs
+  shown_row : (order : Order) (e : ℕ) {n : _} (row : Row_of-Member n) → IsPlacedRow e row → IsWritableRow row
+      → (vs : List Value) (b : List ℕ) → IsBytes b → MembersShow order true e row vs b → RowFits order e row vs
   shown_row order e end_of-Member placed writable [] b good h = no_member order e
   shown_row order e end_of-Member placed writable (v ∷ vs) b good h = absurd h
   shown_row order e (more_of-Member name offset kind rest) placed writable [] b good h = absurd h

@@ -6,4 +6,5 @@ use Rattle.clean_walk.proofs.zeros.is_clean_text.Goals as goal
 
 pub returns : goal.returns
 returns c = λ yes.
-    text_clean c.args.bytes.now c.before_zero-text.result.now c.before_zero-text.ensures (subst AreZeros (take_rest c.args.bytes.now (length c.before_zero-text.result.now)) (c.is_zero.ensures yes))
+    text_clean c.args.bytes.now c.before_zero-text.result.now c.before_zero-text.ensures
+    (subst AreZeros (take_rest c.args.bytes.now (length c.before_zero-text.result.now)) (c.is_zero.ensures yes))
