@@ -13,7 +13,7 @@ use crate::target::Target;
 use crate::unbuilt::{put_misfit, put_unread};
 use dump_lines::encoding_of;
 use layout_compile::Layout;
-use line_draft::Draft;
+use line_draft::BodyDraft;
 use line_reading::{LineFault, msg_of_line};
 use open_framing::{HEAD_BYTES, Head, put_head};
 use printed_lines::body_of_line;
@@ -36,6 +36,7 @@ pub fn answer_built<O: Sink, N: Sink>(
     target: &Target,
     item: u64,
     line: &[u8],
+    draft: &mut BodyDraft,
     buffer: &mut FrameBuf,
     output: &mut O,
     notes: &mut N,
@@ -50,8 +51,7 @@ pub fn answer_built<O: Sink, N: Sink>(
     if line.is_empty() {
         return Ok(Verdict::Answered);
     }
-    let mut draft = Draft::new();
-    if body_of_line(&target.layout, line, buffer.limit(), &mut draft) {
+    if body_of_line(&target.layout, line, buffer.limit(), draft) {
         return answer_body(&target.layout, draft.bytes(), output);
     }
     match msg_of_line(alloc, &target.checked, line) {

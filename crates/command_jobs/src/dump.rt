@@ -1,6 +1,7 @@
 ghost use Rattle.std.specs.Prelude.{◌≡◌};
 ghost use Rattle.replies.specs.Drafts.{Delivers};
 ghost use Rattle.schema_files.specs.Files.{JobCause};
+ghost use Rattle.tree_json.specs.Writes.{nothing_gathered};
 ghost use Rattle.command_jobs.specs.Jobs.{LoadsJob, IsBounded};
 ghost use Rattle.replies.specs.Outside.{object_of};
 ghost use Rattle.command_jobs.specs.Replies.{reply_of};
@@ -11,7 +12,7 @@ use crate::dumped::put_dumped;
 use crate::job::{FrameJob, Job};
 use crate::kept::Kept;
 use command_words::NameList;
-use dump_lines::Schemas;
+use dump_lines::{Schemas, Workspace};
 use replies::Verdict;
 use sbe_base::{Files, Limits, Sink, WriteFault};
 use schema_files::{JobStop, load_schemas};
@@ -39,18 +40,22 @@ pub fn load_dump<F: Files>(
     }
 }
 
-/// Writes the answer to one frame: the line of its message, or of a refused item. It takes no memory.
+/// Writes the answer to one frame: the line of its message, or of a refused item. It takes no memory, and needs a
+/// workspace whose chunk holds nothing.
 pub fn answer_dumped<O: Sink>(
     schemas: &Schemas,
     kept: Kept,
     encoding: u16,
     body: &[u8],
+    space: &mut Workspace,
     output: &mut O,
 ) -> Result<Verdict, WriteFault>
-    ensures { Delivers (reply_of (frames.Dump schemas.now) kept (record { encoding = encoding; body = body.now }))
+    requires { space.old.chunk ≡ nothing_gathered }
+    ensures empty { space.new.chunk ≡ nothing_gathered }
+    ensures delivers { Delivers (reply_of (frames.Dump schemas.now) kept (record { encoding = encoding; body = body.now }))
         (object_of (O.held output.old) (O.faults output.old)) (object_of (O.held output.new) (O.faults output.new)) result }
 {
-    match put_dumped(schemas, kept.items, encoding, body, output) {
+    match put_dumped(schemas, kept.items, encoding, body, space, output) {
         Ok(true) => Ok(Verdict::Answered),
         Ok(false) => Ok(Verdict::Refused),
         Err(fault) => Err(fault),

@@ -3,6 +3,7 @@ ghost use Rattle.sbe_base.specs.declared.status.Limits.{Limits};
 ghost use Rattle.command_words.specs.Words.{HasLimits};
 ghost use Rattle.command_jobs.specs.Jobs.{LoadsJob, IsReadyLine};
 ghost use Rattle.schema_files.specs.Files.{JobCause};
+ghost use Rattle.tree_json.specs.Writes.{nothing_gathered};
 ghost use Rattle.replies.specs.Drafts.{Delivers, DeliversDraft, Drafts};
 ghost use Rattle.replies.specs.Outside.{object_of, sinks_of};
 ghost use Rattle.build_lines.specs.Build.{body_limit};
@@ -15,7 +16,8 @@ use crate::dump::{answer_dumped, load_dump};
 use crate::kept::Kept;
 use build_lines::{Target, answer_built};
 use command_words::Command;
-use dump_lines::Schemas;
+use dump_lines::{Schemas, Workspace};
+use line_draft::BodyDraft;
 use lists::NoMem;
 use replies::{Draft, Verdict};
 use sbe_base::{Files, Limits, Sink, Status, WriteFault};
@@ -79,23 +81,28 @@ pub fn load_job<F: Files>(alloc: Global, command: Command, files: &mut F) -> Res
     }
 }
 
-/// Writes the answer to a frame. It takes no memory.
+/// Writes the answer to a frame. It takes no memory, and needs a workspace whose chunk holds nothing.
 pub fn answer_frame<O: Sink>(
     job: &FrameJob,
     kept: Kept,
     encoding: u16,
     body: &[u8],
+    space: &mut Workspace,
     output: &mut O,
 ) -> Result<Verdict, WriteFault>
-    ensures { Delivers (reply_of job.now kept (record { encoding = encoding; body = body.now }))
+    requires { space.old.chunk ≡ nothing_gathered }
+    ensures empty { space.new.chunk ≡ nothing_gathered }
+    ensures delivers { Delivers (reply_of job.now kept (record { encoding = encoding; body = body.now }))
         (object_of (O.held output.old) (O.faults output.old)) (object_of (O.held output.new) (O.faults output.new)) result }
 {
     match job {
-        FrameJob::Dump { schemas } => answer_dumped(schemas, kept, encoding, body, output),
+        FrameJob::Dump { schemas } => {
+            answer_dumped(schemas, kept, encoding, body, space, output)
+        }
     }
 }
 
-/// Writes the answer to a line. It is put together in the buffer.
+/// Writes the answer to a line. It is put together in the draft, or else in the buffer.
 ///
 /// # Errors
 ///
@@ -105,6 +112,7 @@ pub fn answer_line<O: Sink, N: Sink>(
     job: &LineJob,
     kept: Kept,
     line: &[u8],
+    draft: &mut BodyDraft,
     buffer: &mut FrameBuf,
     output: &mut O,
     notes: &mut N,
@@ -119,7 +127,9 @@ pub fn answer_line<O: Sink, N: Sink>(
 {
     match job {
         LineJob::Build { target } => {
-            answer_built(alloc, target, kept.items, line, buffer, output, notes)
+            answer_built(
+                alloc, target, kept.items, line, draft, buffer, output, notes,
+            )
         }
     }
 }

@@ -23,9 +23,8 @@ use Rattle.dump_lines.specs.Chosen.{has_id, schema_with, schema_for}
 use Rattle.dump_lines.specs.Refused.{refused_line, of_encoding, of_fault, of_fault_in, message_meant, IsWay}
 use Rattle.dump_lines.specs.Dumped.{encoding_of, seen_line, before_message, behind_message, message_line, Answers, IsDumped, other_encoding, a_message, a_fault, Answer, refusal, answer_by, body_answer, dumped, AreInOrder, IsAnswered, IsAnsweredOnce}
 use Rattle.dump_lines.specs.declared.schemas.Schemas.{Schemas}
-use Rattle.flyweight_view.specs.declared.view.Refusal.{Refusal}
 use Rattle.flyweight_view.specs.Seen.{SeenMessage}
-use Rattle.flyweight_view.specs.Viewed.{refused}
+use Rattle.flyweight_view.specs.Told.{Misread}
 use Rattle.dump_lines.proofs.Ways.{faults_have_ways}
 
 -- ---- the schema of a body is in order
@@ -151,20 +150,20 @@ module _ (schemas : Schemas) (schema : WireSchema) (number : ℕ) (item : Item) 
     pub message_broken : (a b : Outlet) (e : WriteFault) → Writes a b (before_message schemas.also schema.id ++ (seen_line seen ++ behind_message schemas.also)) (Err e) → Answers (body_answer schemas schema item number) a b (Err e)
     message_broken a b e w = subst (λ t. Writes a b t (Err e)) line_told w
 
-  module _ (r : Refusal) (placed : IsPlaced schema) (first : FirstFault schema (refused r) item.body) (meant : r.template ≡ message_meant schema item.body) where
-    fault_told : refused_line number (of_fault_in schema r.template (refused r)) ≡ (body_answer schemas schema item number).line
+  module _ (r : Misread) (placed : IsPlaced schema) (first : FirstFault schema r.fault item.body) (meant : r.template ≡ message_meant schema item.body) where
+    fault_told : refused_line number (of_fault_in schema r.template r.fault) ≡ (body_answer schemas schema item number).line
     fault_told =
-        ap (λ o. refused_line number (of_fault_in schema o (refused r))) meant ∙ sym (ap (λ (a : Answer). a.line) (fault_answer schemas schema number item (refused r) placed first))
+        ap (λ o. refused_line number (of_fault_in schema o r.fault)) meant ∙ sym (ap (λ (a : Answer). a.line) (fault_answer schemas schema number item r.fault placed first))
 
-    pub fault_written : (a b : Outlet) → Writes a b (refused_line number (of_fault_in schema r.template (refused r))) (Ok tt) → Answers (body_answer schemas schema item number) a b (Ok false)
-    fault_written a b w = (subst (λ t. Writes a b t (Ok tt)) fault_told w, sym (ap (λ (x : Answer). x.is_message) (fault_answer schemas schema number item (refused r) placed first)))
+    pub fault_written : (a b : Outlet) → Writes a b (refused_line number (of_fault_in schema r.template r.fault)) (Ok tt) → Answers (body_answer schemas schema item number) a b (Ok false)
+    fault_written a b w = (subst (λ t. Writes a b t (Ok tt)) fault_told w, sym (ap (λ (x : Answer). x.is_message) (fault_answer schemas schema number item r.fault placed first)))
 
-    pub fault_broken : (a b : Outlet) (e : WriteFault) → Writes a b (refused_line number (of_fault_in schema r.template (refused r))) (Err e) → Answers (body_answer schemas schema item number) a b (Err e)
+    pub fault_broken : (a b : Outlet) (e : WriteFault) → Writes a b (refused_line number (of_fault_in schema r.template r.fault)) (Err e) → Answers (body_answer schemas schema item number) a b (Err e)
     fault_broken a b e w = subst (λ t. Writes a b t (Err e)) fault_told w
 
 -- the way of a refusal leads to a part of the message that is meant
-pub way_there : (schema : WireSchema) (body : List ℕ) (r : Refusal) → FirstFault schema (refused r) body → r.template ≡ message_meant schema body → IsWay schema r.template r.path
-way_there schema body r first meant = subst (λ o. IsWay schema o r.path) (sym meant) (faults_have_ways schema (refused r) body first)
+pub way_there : (schema : WireSchema) (body : List ℕ) (r : Misread) → FirstFault schema r.fault body → r.template ≡ message_meant schema body → IsWay schema r.template r.fault.path
+way_there schema body r first meant = subst (λ o. IsWay schema o r.fault.path) (sym meant) (faults_have_ways schema r.fault body first)
 
 -- ---- a frame
 

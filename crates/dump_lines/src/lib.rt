@@ -6,9 +6,11 @@ mod laws;
 mod lines;
 mod refused;
 mod schemas;
+mod workspace;
 
 pub use codes::encoding_of;
 pub use laws::{each_frame_has_one_answer, faults_have_ways};
 pub use lines::put_message;
 pub use refused::{put_encoding, put_fault};
 pub use schemas::Schemas;
+pub use workspace::Workspace;

@@ -1,6 +1,6 @@
-ghost use Rattle.std.specs.Prelude.{◌++◌};
+ghost use Rattle.std.specs.Prelude.{◌≡◌, ◌++◌};
 ghost use Rattle.layout_compile.specs.Writes.{Writes, outlet_of};
-ghost use Rattle.tree_json.specs.Writes.{output, Writes as Puts};
+ghost use Rattle.tree_json.specs.Writes.{nothing_gathered, output, Writes as Puts};
 ghost use Rattle.dump_lines.specs.Dumped.{before_message, behind_message, seen_line};
 
 use crate::schemas::Schemas;
@@ -8,25 +8,27 @@ use flyweight_view::MsgView;
 use sbe_base::{Sink, WriteFault};
 use tree_json::{Chunk, put_count, put_line};
 
-/// Writes the line of a message of a schema with that id.
+/// Writes the line of a message of a schema with that id, by way of a chunk that holds nothing.
 ///
 /// # Errors
 ///
 /// Where a write fails; the sink then holds a front of the line.
 pub fn put_message<O: Sink>(
+    chunk: &mut Chunk,
     sink: &mut O,
     schemas: &Schemas,
     id: u32,
     view: &MsgView<'_>,
 ) -> Result<(), WriteFault>
-    ensures { Writes (outlet_of (O.held sink.old) (O.faults sink.old)) (outlet_of (O.held sink.new) (O.faults sink.new))
+    requires { chunk.old ≡ nothing_gathered }
+    ensures written { Writes (outlet_of (O.held sink.old) (O.faults sink.old)) (outlet_of (O.held sink.new) (O.faults sink.new))
         (before_message schemas.now.also id ++ (seen_line view.now ++ behind_message schemas.now.also)) result }
+    ensures empty { chunk.new ≡ nothing_gathered }
 {
-    let mut chunk = Chunk::new();
-    put_before(&mut chunk, sink, schemas, id);
-    put_line(&mut chunk, sink, view);
-    put_behind(&mut chunk, sink, schemas);
-    chunk.finish(sink)
+    put_before(chunk, sink, schemas, id);
+    put_line(chunk, sink, view);
+    put_behind(chunk, sink, schemas);
+    chunk.flush(sink)
 }
 
 /// Writes what stands before a message.

@@ -7,7 +7,7 @@ ghost use Rattle.flyweight_view.specs.Viewed.{refused};
 ghost use Rattle.dump_lines.specs.Refused.{IsWay, back_text, front_text, of_encoding, of_fault_in, offset_text, refused_line, type_text, way_text};
 
 use crate::codes::fault_code;
-use flyweight_view::Refusal;
+use flyweight_view::{LastRefusal, Refusal};
 use layout_compile::Layout;
 use sbe_base::{Sink, WriteFault};
 use tree_json::{Chunk, put_count, put_null, put_number};
@@ -19,6 +19,7 @@ const HEX_DIGITS: &[u8; 16] = b"0123456789abcdef";
 /// # Errors
 ///
 /// Where a write fails; the sink then holds a front of the line.
+#[inline(never)]
 pub fn put_encoding<O: Sink>(sink: &mut O, item: u64, encoding: u16) -> Result<(), WriteFault>
     ensures { Writes (outlet_of (O.held sink.old) (O.faults sink.old)) (outlet_of (O.held sink.new) (O.faults sink.new))
         (refused_line item (of_encoding encoding)) result }
@@ -27,12 +28,28 @@ pub fn put_encoding<O: Sink>(sink: &mut O, item: u64, encoding: u16) -> Result<(
     put_back(sink, &digits_of(encoding))
 }
 
-/// Writes the line of an item whose body is no message. It needs a path of the message that the refusal names.
+/// Writes the line of an item whose body is no message, by what was left of its refusal. It needs a path of the message
+/// that the refusal names.
 ///
 /// # Errors
 ///
 /// Where a write fails; the sink then holds a front of the line.
+#[inline(never)]
 pub fn put_fault<O: Sink>(
+    sink: &mut O,
+    layout: &Layout,
+    item: u64,
+    last: &LastRefusal,
+) -> Result<(), WriteFault>
+    requires { IsWay layout.now last.now.template last.now.fault.path }
+    ensures { Writes (outlet_of (O.held sink.old) (O.faults sink.old)) (outlet_of (O.held sink.new) (O.faults sink.new))
+        (refused_line item (of_fault_in layout.now last.now.template last.now.fault)) result }
+{
+    put_refusal(sink, layout, item, &last.refusal())
+}
+
+/// Writes the line of a refusal. It needs a path of the message that it names.
+fn put_refusal<O: Sink>(
     sink: &mut O,
     layout: &Layout,
     item: u64,

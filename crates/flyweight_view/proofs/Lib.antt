@@ -8,6 +8,7 @@ pub mod Cursor
 pub mod Walks
 pub mod LevelsReady
 pub mod Bodies
+pub mod HeadSpots
 pub mod Roots
 pub mod Opens
 pub mod SlotsTold

@@ -1,5 +1,5 @@
 -- Blocks of a level by the table of the level's fields.
-use Rattle.std.specs.Prelude.{◌≡◌, ◌≤◌, ℕ, Bool, List, length}
+use Rattle.std.specs.Prelude.{◌≡◌, ◌≤◌, ℕ, Bool, List, ◌∷◌, length}
 use Rattle.sbe_types.specs.declared.kind.Order.TheVariants.{Little}
 use Rattle.sbe_types.specs.declared.limits.TheConstants.{PART_LIMIT}
 use Rattle.sbe_types.specs.declared.message.Block.{out-Block}
@@ -53,3 +53,11 @@ pub record IsTableBlock (b : TableBlock) (s : Seen) : Type 0 where
   pub known : Bool
   pub alive : AllAlive version s.fields
   pub lay : FieldsLay Little known version 0 s.fields (out-Block s.block).fields b.bytes.now
+
+-- the first of some entries is taken: the block is its own, and it has neither groups nor data
+pub record TakesTable (b : TableBlock) (before after : List Seen) : Type 0 where
+  pub entry : Seen
+  pub table : IsTableBlock b entry
+  pub groups : length entry.groups ≡ 0
+  pub parts : length entry.parts ≡ 0
+  pub first : before ≡ entry ∷ after

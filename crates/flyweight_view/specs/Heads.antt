@@ -51,14 +51,18 @@ template_told schema body =
 abbrev pub mode_of : WireSchema → ℕ → Mode
 mode_of schema version = record { order = schema.order; known = is_known schema version; version = acting schema version }
 
--- the block length and the version in a header's bytes, where the block reaches the floor
-abbrev pub block_told : WireSchema → Level → List ℕ → Result Start Fault
-block_told schema level head =
-    let block = head_number schema (codes "blockLength") head in
-    let version = head_number schema (codes "version") head in
-    if nat_lt block (floor (acting schema version) (out-Level level).fields)
-    then Err (fault_at code.BlockShort (head_place schema (codes "blockLength")) (pos block))
-    else Ok (record { block = block; version = version })
+-- the block length and the version in a body's header
+abbrev pub start_in : WireSchema → List ℕ → Start
+start_in schema body =
+    let head = take (header_width schema) body in
+    record { block = head_number schema (codes "blockLength") head; version = head_number schema (codes "version") head }
+
+-- these, where the block reaches the floor
+abbrev pub start_told : WireSchema → Level → Start → Result Start Fault
+start_told schema level start =
+    if nat_lt start.block (floor (acting schema start.version) (out-Level level).fields)
+    then Err (fault_at code.BlockShort (head_place schema (codes "blockLength")) (pos start.block))
+    else Ok start
 
 -- what is left behind the last part
 abbrev pub rest_told : Bool → ℕ → List ℕ → ℕ → Result ℕ Fault
@@ -71,9 +75,13 @@ root_told schema level body start =
     let mode = mode_of schema start.version in
     skim (entries_read mode level start.block) body (header_width schema) >>= (λ next. rest_told mode.known start.version body next)
 
--- the version of a message of this level, or its first fault
+-- the version of a message of this level behind a header that says this, or its first fault
+abbrev pub message_from : WireSchema → Level → List ℕ → Start → Result ℕ Fault
+message_from schema level body start = start_told schema level start >>= (λ s. root_told schema level body s)
+
+-- the same behind the header that the body has
 abbrev pub message_told : WireSchema → Level → List ℕ → Result ℕ Fault
-message_told schema level body = block_told schema level (take (header_width schema) body) >>= (λ start. root_told schema level body start)
+message_told schema level body = message_from schema level body (start_in schema body)
 
 -- what a start or none says
 abbrev pub start_went : Option Start → Found → Result Start Fault

@@ -4,6 +4,7 @@ pub mod Fields
 pub mod Cursor
 pub mod Ready
 pub mod Heads
+pub mod HeadNumbers
 pub mod Seen
 pub mod Read
 pub mod Viewed

@@ -16,6 +16,11 @@ piece at bytes = record { at = at; bytes = bytes }
 abbrev pub fault_of : Found → Fault
 fault_of found = record { code = found.code; path = found.path; offset = found.offset; detail = found.detail }
 
+-- why a body is no message: the number of the message with its header's template id, where there is one, and its first fault
+pub record Misread : Type 0 where
+  pub template : Option ℕ
+  pub fault : Fault
+
 -- what a judge of bytes at a place answers, whatever the value is
 abbrev pub settled : {X : Type 0} → ℕ → Result X Fault → Result Unit Fault
 settled at (Ok x) = Ok tt

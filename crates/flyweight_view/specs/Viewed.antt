@@ -1,7 +1,9 @@
 -- The message that a view lends.
+use Rattle.std.specs.Prelude.{◌≡◌}
 use Rattle.sbe_wire.specs.Faults.{Fault}
 use Rattle.flyweight_view.specs.declared.view.MsgView.TheInside.{Inside}
 use Rattle.flyweight_view.specs.declared.view.Refusal.{Refusal}
+use Rattle.flyweight_view.specs.Heads.{start_in}
 use Rattle.flyweight_view.specs.Read.{message_in, IsRead}
 use Rattle.flyweight_view.specs.Seen.{SeenMessage}
 
@@ -9,9 +11,10 @@ use Rattle.flyweight_view.specs.Seen.{SeenMessage}
 abbrev pub viewed : Inside → SeenMessage
 viewed v = record { level = v.level.now; message = message_in v.layout.now v.body.now }
 
--- the body is such a message
-abbrev pub IsViewed : Inside → Type 0
-IsViewed v = IsRead v.layout.now v.level.now v.body.now v.template v.version
+-- the body is such a message, whose root's block is as long as the header says
+pub record IsViewed (v : Inside) : Type 0 where
+  pub read : IsRead v.layout.now v.level.now v.body.now v.template v.start.version
+  pub block_is : v.start.block ≡ (start_in v.layout.now v.body.now).block
 
 -- the fault that a refusal tells
 abbrev pub refused : Refusal → Fault

@@ -1,5 +1,5 @@
 // What lies behind the entries and groups of a body that was walked. Nothing is judged again.
-ghost use Rattle.std.specs.Prelude.{◌≡◌, ◌≤◌, ◌<◌, ◌+◌, ◌∷◌, ◌&&◌, ◌==◌, length, drop, IfSome, IsOk};
+ghost use Rattle.std.specs.Prelude.{◌≡◌, ◌≤◌, ◌<◌, ◌+◌, ◌∷◌, ◌&&◌, ◌==◌, true, length, drop, IfSome, IsOk};
 ghost use Rattle.std.specs.Option.{option_map};
 ghost use Rattle.sbe_types.specs.declared.schema.Group.{out-Group};
 ghost use Rattle.sbe_types.specs.declared.schema.Level.{out-Level};
@@ -44,20 +44,50 @@ pub(crate) fn others_of(layer: &Layer<'_>, left: Dim) -> Dim
             after: left.after,
         };
     }
+    if is_flat(layer.level) {
+        return flat_behind(layer, left);
+    }
     behind_first(layer, left)
 }
 
-/// The place behind entries that lie one behind another. Without groups and data it is known at once.
+/// The entries behind the first one, where they have neither groups nor data.
+#[inline(always)]
+pub(crate) fn flat_behind(layer: &Layer<'_>, left: Dim) -> Dim
+    requires lie { LieThere layer.now left }
+    requires some { 0 < left.count }
+    requires flat { (length (out-Level layer.now.level.now).groups == 0) && (length (out-Level layer.now.level.now).parts == 0) ≡ true }
+    ensures lie { LieThere layer.now result }
+    ensures seen { entries_seen layer.now left ≡ seen_level layer.now.level.now (block_of (entries_read layer.now.mode layer.now.level.now left.block (drop left.after layer.now.body.now))) ∷ entries_seen layer.now result }
+{
+    let _body = layer.body;
+    Dim {
+        block: left.block,
+        count: left.count - 1,
+        after: left.after + left.block as usize,
+    }
+}
+
+/// The place behind entries without groups and data.
+#[inline(always)]
+fn flat_end(layer: &Layer<'_>, dim: Dim) -> usize
+    requires lie { LieThere layer.now dim }
+    requires flat { (length (out-Level layer.now.level.now).groups == 0) && (length (out-Level layer.now.level.now).parts == 0) ≡ true }
+    ensures rest { rest_of (blocks_at layer.now dim) ≡ drop result layer.now.body.now }
+    ensures within { result ≤ length layer.now.body.now }
+{
+    let _body = layer.body;
+    dim.after + dim.count as usize * dim.block as usize
+}
+
+/// The place behind entries that lie one behind another.
 #[cycle(ends)]
+#[inline(never)]
 fn entries_end(layer: &Layer<'_>, dim: Dim) -> usize
     requires layer { IsLayer layer.now }
     requires lie { LieThere layer.now dim }
     ensures rest { rest_of (blocks_at layer.now dim) ≡ drop result layer.now.body.now }
     ensures within { result ≤ length layer.now.body.now }
 {
-    if is_flat(layer.level) {
-        return dim.after + dim.count as usize * dim.block as usize;
-    }
     let mut left = dim;
     for _ in 0..dim.count {
         left = behind_first(layer, left);
@@ -86,6 +116,7 @@ fn behind_first(layer: &Layer<'_>, left: Dim) -> Dim
 
 /// The place behind the first one of some entries.
 #[cycle(ends)]
+#[inline(never)]
 fn entry_end(layer: &Layer<'_>, left: Dim) -> usize
     requires layer { IsLayer layer.now }
     requires lie { LieThere layer.now left }
@@ -93,9 +124,6 @@ fn entry_end(layer: &Layer<'_>, left: Dim) -> usize
     ensures rest { rest_of (entries_read layer.now.mode layer.now.level.now left.block (drop left.after layer.now.body.now)) ≡ drop result layer.now.body.now }
     ensures within { result ≤ length layer.now.body.now }
 {
-    if is_flat(layer.level) {
-        return left.after + left.block as usize;
-    }
     let spot = Spot {
         next: 0,
         child: first_child(layer.layout, layer.number),
@@ -184,6 +212,7 @@ pub(crate) fn groups_end(layer: &Layer<'_>, spot: Spot) -> usize
 
 /// The next group of a level.
 #[cycle(ends)]
+#[inline(always)]
 fn step_group<'a>(layer: &Layer<'a>, spot: Spot) -> NextGroup<'a>
     requires layer { IsLayer layer.now }
     requires stand { StandThere layer.now spot }
@@ -242,8 +271,10 @@ fn dim_there(layer: &Layer<'_>, group: &Group, at: usize) -> Option<Dim>
     }
 }
 
-/// The place behind a group that begins at a place, by its dimension.
+/// The place behind a group that begins at a place, by its dimension. Without groups and data in its entries it is known
+/// at once.
 #[cycle(ends)]
+#[inline(always)]
 fn group_end(layer: &Layer<'_>, dim: Option<Dim>, at: usize) -> usize
     requires layer { IsLayer layer.now }
     requires lie { IfSome dim (λ d. LieThere layer.now d) }
@@ -253,7 +284,14 @@ fn group_end(layer: &Layer<'_>, dim: Option<Dim>, at: usize) -> usize
     ensures within { result ≤ length layer.now.body.now }
 {
     match dim {
-        Some(dim) => entries_end(layer, dim),
+        Some(dim) => {
+            if is_flat(layer.level) {
+                return flat_end(layer, dim);
+            }
+            // A copy of its own, so that nothing is stored where it isn't needed.
+            let layer = *layer;
+            entries_end(&layer, dim)
+        }
         None => at,
     }
 }

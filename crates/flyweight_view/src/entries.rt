@@ -1,12 +1,14 @@
 // Views of the entries of a group.
-ghost use Rattle.std.specs.Prelude.{◌≡◌, ◌<◌, length, drop};
+ghost use Rattle.std.specs.Prelude.{◌≡◌, ◌<◌, length, drop, IfSome, IfNone};
+ghost use Rattle.flyweight_view.specs.ByTable.{TakesTable};
 ghost use Rattle.flyweight_view.specs.Cursor.{entries_read};
 ghost use Rattle.flyweight_view.specs.Layers.{entries_seen, IsLayer, LieThere};
 ghost use Rattle.flyweight_view.specs.Planned.{block_of};
 ghost use Rattle.flyweight_view.specs.Seen.{seen_level};
 
 use crate::block::BlockView;
-use crate::ends::others_of;
+use crate::by_table::TableBlock;
+use crate::ends::{flat_behind, is_flat, others_of};
 use crate::layer::Layer;
 use crate::plan::{Plan, Span};
 use group_codec::Dim;
@@ -56,6 +58,29 @@ impl<'a> EntriesView<'a> {
     {
         self.left.count as usize
     }
+
+    /// The block of the next entry with the table of its fields, where it has neither groups nor data, all its fields
+    /// stand, and numbers have the lowest byte first. Else none, and the entry is still left.
+    #[inline(always)]
+    pub fn next_table(&mut self) -> Option<TableBlock<'a>>
+        ensures taken { IfSome result (λ block. TakesTable block self.old self.new) }
+        ensures kept { IfNone result (self.new ≡ self.old) }
+    {
+        if self.left.count == 0 {
+            return None;
+        }
+        if !is_flat(self.layer.level) {
+            return None;
+        }
+        let entry = first_entry(&self.layer, self.left);
+        match entry.by_table() {
+            Some(block) => {
+                self.left = flat_behind(&self.layer, self.left);
+                Some(block)
+            }
+            None => None,
+        }
+    }
 }
 
 impl<'a> Iterator for EntriesView<'a> {
@@ -67,6 +92,7 @@ impl<'a> Iterator for EntriesView<'a> {
 
     ghost remaining = { item_count (λ e. e) };
 
+    #[inline(always)]
     fn next(&mut self) -> Option<BlockView<'a>> {
         if self.left.count == 0 {
             return None;
@@ -78,6 +104,7 @@ impl<'a> Iterator for EntriesView<'a> {
 }
 
 /// The first of some entries.
+#[inline(always)]
 fn first_entry<'a>(layer: &Layer<'a>, left: Dim) -> BlockView<'a>
     requires layer { IsLayer layer.now }
     requires lie { LieThere layer.now left }

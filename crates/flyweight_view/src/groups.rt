@@ -81,6 +81,7 @@ impl<'a> GroupsView<'a> {
     }
 
     /// The next group: its entries, or none where it is absent. It needs a group that is left.
+    #[inline(always)]
     pub fn next_group(&mut self) -> Option<EntriesView<'a>>
         requires { 0 < length self.old }
         ensures { self.old ≡ result ∷ self.new }
@@ -138,6 +139,7 @@ pub(crate) fn group_of<'a>(span: &Span<'a>, plan: &Plan<'a>, i: usize) -> Option
 }
 
 /// The entries of a group, by its dimension.
+#[inline(always)]
 fn entries_over<'a>(layer: &Layer<'a>, dim: Option<Dim>) -> Option<EntriesView<'a>>
     requires layer { IsLayer layer.now }
     requires lie { IfSome dim (λ d. LieThere layer.now d) }

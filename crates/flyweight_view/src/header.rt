@@ -1,10 +1,11 @@
 // The header of a body, and the message behind it.
-ghost use Rattle.std.specs.Prelude.{◌≡◌, ◌≤◌, ◌<◌, ◌^◌, Some, IfSome, IfNone, codes, length, take, slice_get};
+ghost use Rattle.std.specs.Prelude.{◌≡◌, ◌≤◌, ◌<◌, ◌^◌, Some, IfSome, IfNone, length, slice_get};
 ghost use Rattle.sbe_types.specs.declared.schema.Level.{Level, out-Level};
 ghost use Rattle.sbe_wire.specs.Versions.{acting, floor};
 ghost use Rattle.schema_facts.specs.Levels.{level_at};
 ghost use Rattle.layout_compile.specs.Heads.{header_width};
-ghost use Rattle.flyweight_view.specs.Heads.{block_told, head_number, message_told, mode_of, rest_told, start_went, template_told};
+ghost use Rattle.std.specs.Option.{option_map};
+ghost use Rattle.flyweight_view.specs.Heads.{message_from, mode_of, rest_told, start_in, start_told, start_went, template_told};
 ghost use Rattle.flyweight_view.specs.Read.{message_in, IsRead};
 ghost use Rattle.flyweight_view.specs.Ready.{IsReadySchema};
 ghost use Rattle.flyweight_view.specs.Seen.{seen_level};
@@ -12,10 +13,11 @@ ghost use Rattle.flyweight_view.specs.Told.{went};
 
 use crate::block::BlockView;
 use crate::found::Found;
+use crate::head_numbers::numbers_in;
 use crate::mode::Mode;
 use crate::plan::{Plan, Span};
 use crate::walk::walk_entry;
-use layout_compile::{Layout, number_at};
+use layout_compile::Layout;
 use sbe_types::Level;
 use sbe_wire::FCode;
 
@@ -27,11 +29,20 @@ pub(crate) struct Start {
     pub(crate) version: u32,
 }
 
-/// The number of the message that a header names; where it names none of this schema, `out` tells why.
-pub(crate) fn find_template(layout: &Layout, body: &[u8], out: &mut Found) -> Option<usize>
+/// The number of the message that a header names, and what else the header says.
+#[derive(Clone, Copy)]
+pub(crate) struct Named {
+    pub(crate) template: usize,
+    pub(crate) start: Start,
+}
+
+/// The message that a header names; where it names none of this schema, `out` tells why.
+#[inline(always)]
+pub(crate) fn find_template(layout: &Layout, body: &[u8], out: &mut Found) -> Option<Named>
     requires { IsReadySchema layout.now }
-    ensures told { went result out.new ≡ template_told layout.now body.now }
-    ensures within { IfSome result (λ t. t < length layout.now.messages) }
+    ensures told { went (option_map (λ n. n.template) result) out.new ≡ template_told layout.now body.now }
+    ensures start { IfSome result (λ n. n.start ≡ start_in layout.now body.now) }
+    ensures within { IfSome result (λ n. n.template < length layout.now.messages) }
     ensures header { IfSome result (λ _. header_width layout.now ≤ length body.now) }
     ensures low { IfNone result (length out.new.path ≡ 0) }
 {
@@ -41,44 +52,58 @@ pub(crate) fn find_template(layout: &Layout, body: &[u8], out: &mut Found) -> Op
         out.tell(FCode::ShortHeader, 0, body.len() as i128);
         return None;
     }
-    let head = &body[..wide];
-    let schema = number_at(layout.order(), &row.schema, head);
-    if schema != layout.id() {
-        out.tell(FCode::SchemaId, row.schema.place as usize, schema as i128);
+    let head = numbers_in(layout, &body[..wide]);
+    if head.schema != layout.id() {
+        out.tell(
+            FCode::SchemaId,
+            row.schema.place as usize,
+            head.schema as i128,
+        );
         return None;
     }
-    let id = number_at(layout.order(), &row.template, head);
-    match layout.template(id) {
-        Some(template) => Some(template),
+    match layout.template(head.template) {
+        Some(template) => Some(Named {
+            template,
+            start: Start {
+                block: head.block,
+                version: head.version,
+            },
+        }),
         None => {
-            out.tell(FCode::Template, row.template.place as usize, id as i128);
+            out.tell(
+                FCode::Template,
+                row.template.place as usize,
+                head.template as i128,
+            );
             None
         }
     }
 }
 
-/// Walks the message of that number behind its header, and answers its version; where the body is no such
-/// message, `out` tells the first fault.
+/// Walks the message of that number behind a header that says this, and answers its version; where the body is no
+/// such message, `out` tells the first fault.
+#[inline(always)]
 pub(crate) fn walk_message(
     layout: &Layout,
     template: usize,
+    start: Start,
     body: &[u8],
     out: &mut Found,
 ) -> Option<u32>
     requires schema { IsReadySchema layout.now }
     requires template { template < length layout.now.messages }
     requires header { header_width layout.now ≤ length body.now }
-    ensures told { (level : Level) → slice_get layout.now.messages template ≡ Some level → went result out.new ≡ message_told layout.now level body.now }
+    ensures told { (level : Level) → slice_get layout.now.messages template ≡ Some level → went result out.new ≡ message_from layout.now level body.now start }
     ensures low { IfNone result (length out.new.path ≤ 20) }
 {
     let level = layout.message(template);
     let wide = layout.header_row().width as usize;
     let root = layout.root(template);
-    match judge_block(layout, root, level, &body[..wide], out) {
-        Some(start) => {
-            let mode = mode_of(layout, start.version);
-            match walk_entry(layout, mode, root, level, start.block, body, wide, out) {
-                Some(next) => judge_rest(mode.known, start.version, body, next, out),
+    match judge_block(layout, root, level, start, out) {
+        Some(judged) => {
+            let mode = mode_of(layout, judged.version);
+            match walk_entry(layout, mode, root, level, judged.block, body, wide, out) {
+                Some(next) => judge_rest(mode.known, judged.version, body, next, out),
                 None => None,
             }
         }
@@ -102,24 +127,25 @@ fn judge_block(
     layout: &Layout,
     root: usize,
     level: &Level,
-    head: &[u8],
+    start: Start,
     out: &mut Found,
 ) -> Option<Start>
     requires level { level_at layout.now root ≡ Some level.now }
-    requires header { length head.now ≡ header_width layout.now }
-    ensures told { start_went result out.new ≡ block_told layout.now level.now head.now }
+    ensures told { start_went result out.new ≡ start_told layout.now level.now start }
     ensures reaches { IfSome result (λ s. floor (acting layout.now s.version) (out-Level level.now).fields ≤ s.block) }
     ensures low { IfNone result (length out.new.path ≡ 0) }
 {
-    let row = layout.header_row();
-    let block = number_at(layout.order(), &row.block, head);
-    let version = number_at(layout.order(), &row.version, head);
-    let acting = version.min(layout.version());
-    if block < layout.floor(root, acting) {
-        out.tell(FCode::BlockShort, row.block.place as usize, block as i128);
+    let acting = start.version.min(layout.version());
+    if start.block < layout.floor(root, acting) {
+        let row = layout.header_row();
+        out.tell(
+            FCode::BlockShort,
+            row.block.place as usize,
+            start.block as i128,
+        );
         return None;
     }
-    Some(Start { block, version })
+    Some(start)
 }
 
 /// Judges what is left behind the last part of a message of that version.
@@ -135,35 +161,27 @@ fn judge_rest(known: bool, version: u32, body: &[u8], next: usize, out: &mut Fou
     Some(version)
 }
 
-/// The block length in a header's bytes.
-fn block_length(layout: &Layout, head: &[u8]) -> u32
-    requires { length head.now ≡ header_width layout.now }
-    ensures { result ≡ head_number layout.now (codes "blockLength") head.now }
-{
-    number_at(layout.order(), &layout.header_row().block, head)
-}
-
-/// The root's block of a body that is a message of that template and version.
+/// The root's block of a body that is a message of that template, whose header says this.
 pub(crate) fn root_of<'a>(
     layout: &'a Layout,
     level: &'a Level,
     template: usize,
-    version: u32,
+    start: Start,
     body: &'a [u8],
 ) -> BlockView<'a>
-    requires { IsRead layout.now level.now body.now template version }
+    requires read { IsRead layout.now level.now body.now template start.version }
+    requires block { start.block ≡ (start_in layout.now body.now).block }
     ensures { result ≡ seen_level level.now (message_in layout.now body.now).block }
 {
     let _schema = layout.schema();
     let wide = layout.header_row().width as usize;
-    let mode = mode_of(layout, version);
-    let size = block_length(layout, &body[..wide]) as usize;
+    let mode = mode_of(layout, start.version);
     let root = layout.root(template);
     let span = Span {
         mode,
         body,
         at: wide,
-        size,
+        size: start.block as usize,
     };
     BlockView::new(span, Plan::Level(layout, root, level))
 }

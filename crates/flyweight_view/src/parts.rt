@@ -70,6 +70,7 @@ impl<'a> PartsView<'a> {
     }
 
     /// The next data part: its bytes, or none where it is absent. It needs a data part that is left.
+    #[inline(always)]
     pub fn next_part(&mut self) -> Option<&'a [u8]>
         requires { 0 < length self.old }
         ensures { self.old ≡ option_map (λ b. b.now) result ∷ self.new }

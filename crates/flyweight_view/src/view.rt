@@ -1,19 +1,16 @@
-ghost use Rattle.std.specs.Prelude.{◌≡◌, Ok, Err, IfOk, IfErr, Some, slice_get};
+ghost use Rattle.std.specs.Prelude.{◌≡◌, IfOk, IfErr, IfSome, IfNone, Some, slice_get};
 ghost use Rattle.std.specs.Result.{result_ok};
 ghost use Rattle.sbe_types.specs.declared.schema.Level.{out-Level};
 ghost use Rattle.sbe_wire.specs.Faults.{FirstFault};
 ghost use Rattle.sbe_wire.specs.Lays.{Lays};
-ghost use Rattle.sbe_wire.specs.Reading.{message_of};
 ghost use Rattle.schema_facts.specs.IsChecked.{IsChecked};
 ghost use Rattle.flyweight_view.specs.Heads.{template_told};
-ghost use Rattle.flyweight_view.specs.Ready.{IsReadySchema};
 ghost use Rattle.flyweight_view.specs.Seen.{seen_level};
-ghost use Rattle.flyweight_view.specs.Told.{fault_of};
 ghost use Rattle.flyweight_view.specs.Viewed.{refused};
 
 use crate::block::BlockView;
-use crate::found::Found;
-use crate::header::{find_template, root_of, walk_message};
+use crate::header::{Start, find_template, root_of, walk_message};
+use crate::last_refusal::LastRefusal;
 use layout_compile::Layout;
 use sbe_types::{Level, Path};
 use sbe_wire::FCode;
@@ -40,7 +37,7 @@ pub struct MsgView<'a> {
     level: &'a Level,
     body: &'a [u8],
     template: usize,
-    version: u32,
+    start: Start,
 }
 
 impl<'a> Model for MsgView<'a> {
@@ -75,7 +72,7 @@ impl<'a> MsgView<'a> {
     pub fn version(&self) -> u32
         ensures { result ≡ self.now.message.version }
     {
-        self.version
+        self.start.version
     }
 
     /// The name of its template.
@@ -93,7 +90,7 @@ impl<'a> MsgView<'a> {
             self.layout,
             self.level,
             self.template,
-            self.version,
+            self.start,
             self.body,
         )
     }
@@ -114,56 +111,52 @@ impl<'a> MsgView<'a> {
 /// # Errors
 ///
 /// A [`Refusal`] exactly where no message of the schema lies in the body.
-#[tactic(auto, using(crate::proofs::ReadyTold::ready_schema))]
 pub fn validate<'a>(layout: &'a Layout, body: &'a [u8]) -> Result<MsgView<'a>, Refusal>
     ensures lies { IfOk result (λ view. Lays layout.now view.message body.now) }
     ensures level { IfOk result (λ view. slice_get layout.now.messages view.message.template ≡ Some view.level) }
     ensures fault { IfErr result (λ r. FirstFault layout.now (refused r) body.now) }
     ensures template { IfErr result (λ r. r.template ≡ result_ok (template_told layout.now body.now)) }
 {
-    let _schema = layout.schema();
-    match walk_body(layout, body) {
-        Ok(view) => Ok(view),
-        Err(refusal) => Err(refusal),
+    let mut last = LastRefusal::new();
+    match look(layout, body, &mut last) {
+        Some(view) => Ok(view),
+        None => Err(last.refusal()),
     }
 }
 
-/// The message that is read, or its first fault.
-fn walk_body<'a>(layout: &'a Layout, body: &'a [u8]) -> Result<MsgView<'a>, Refusal>
-    requires { IsReadySchema layout.now }
-    ensures lies { IfOk result (λ view. message_of layout.now body.now ≡ Ok view.message) }
-    ensures level { IfOk result (λ view. slice_get layout.now.messages view.message.template ≡ Some view.level) }
-    ensures fault { IfErr result (λ r. message_of layout.now body.now ≡ Err (refused r)) }
-    ensures template { IfErr result (λ r. r.template ≡ result_ok (template_told layout.now body.now)) }
+/// Looks at a body as [`validate`] does: a view of the message that lies in it, exactly where one lies in it. Else
+/// `last` keeps its first faulty part in wire order.
+#[inline(always)]
+#[tactic(auto, using(crate::proofs::ReadyTold::ready_schema))]
+pub fn look<'a>(layout: &'a Layout, body: &'a [u8], last: &mut LastRefusal) -> Option<MsgView<'a>>
+    ensures lies { IfSome result (λ view. Lays layout.now view.message body.now) }
+    ensures level { IfSome result (λ view. slice_get layout.now.messages view.message.template ≡ Some view.level) }
+    ensures fault { IfNone result (FirstFault layout.now last.new.fault body.now) }
+    ensures template { IfNone result (last.new.template ≡ result_ok (template_told layout.now body.now)) }
 {
-    let mut found = Found::new();
-    let template = match find_template(layout, body, &mut found) {
-        Some(template) => template,
-        None => return Err(refuse(None, &found)),
+    let _schema = layout.schema();
+    let named = match find_template(layout, body, &mut last.found) {
+        Some(named) => named,
+        None => {
+            last.template = None;
+            return None;
+        }
     };
-    let level = layout.message(template);
-    match walk_message(layout, template, body, &mut found) {
-        Some(version) => Ok(MsgView {
+    let level = layout.message(named.template);
+    match walk_message(layout, named.template, named.start, body, &mut last.found) {
+        Some(version) => Some(MsgView {
             layout,
             level,
             body,
-            template,
-            version,
+            template: named.template,
+            start: Start {
+                block: named.start.block,
+                version,
+            },
         }),
-        None => Err(refuse(Some(template), &found)),
-    }
-}
-
-/// The refusal that was found.
-fn refuse(template: Option<usize>, found: &Found) -> Refusal
-    ensures fault { refused result ≡ fault_of found.now }
-    ensures template { result.template ≡ template }
-{
-    Refusal {
-        code: found.code,
-        template,
-        path: found.path.to_path(),
-        offset: found.offset,
-        detail: found.detail,
+        None => {
+            last.template = Some(named.template);
+            None
+        }
     }
 }

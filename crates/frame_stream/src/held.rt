@@ -66,6 +66,7 @@ impl Window {
     }
 
     /// Takes the next frame, of which a part may be held.
+    #[inline(never)]
     fn read_frame<I: Source>(&mut self, input: &mut I) -> Result<Head, Stop>
         requires room { HEAD_BYTES ≤ self.old.held.size }
         requires begun { IsBegun self.old.held }

@@ -1,7 +1,7 @@
 // The arrays of numbers that seem to stand at a place of a line. No clause speaks of them.
 use crate::bits::bits_of;
 use crate::cursor::Cursor;
-use crate::draft::Draft;
+use crate::draft::BodyDraft;
 use crate::numbers::integer_in;
 use sbe_types::{Leaf, Order};
 
@@ -11,7 +11,7 @@ pub(crate) fn array_in(
     cursor: &mut Cursor<'_>,
     order: Order,
     leaf: &Leaf,
-    draft: &mut Draft,
+    draft: &mut BodyDraft,
     at: usize,
 ) -> bool {
     if !cursor.takes(b'[') {

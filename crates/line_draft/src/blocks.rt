@@ -1,7 +1,7 @@
 // The blocks that seem to stand at a place of a line. No clause speaks of them.
 use crate::cursor::Cursor;
-use crate::draft::Draft;
-use crate::kinds::{begin_of, past, value_in};
+use crate::draft::BodyDraft;
+use crate::kinds::{begin_of, end_of, past, value_in};
 use crate::parts::{parts_in, past_parts};
 use sbe_types::{Field, Group, Kind, Level, Member, Order};
 
@@ -11,7 +11,7 @@ pub(crate) fn block_in(
     cursor: &mut Cursor<'_>,
     order: Order,
     level: &Level,
-    draft: &mut Draft,
+    draft: &mut BodyDraft,
 ) -> bool {
     if !cursor.takes_text(b"{\"data\":{") {
         return false;
@@ -39,19 +39,19 @@ fn fields_in(
     cursor: &mut Cursor<'_>,
     order: Order,
     fields: &[Field],
-    draft: &mut Draft,
+    draft: &mut BodyDraft,
     at: usize,
 ) -> bool {
     let mut later = false;
     let mut end = 0usize;
     for field in fields {
-        let place = at.saturating_add(begin_of(end, field.offset));
+        let begin = begin_of(end, field.offset);
         if !cursor.takes_key(later, field.name.as_slice())
-            || !value_in(cursor, order, &field.kind, draft, place)
+            || !value_in(cursor, order, &field.kind, draft, at.saturating_add(begin))
         {
             return false;
         }
-        end = past(end, field.offset, &field.kind);
+        end = past(end, begin, &field.kind);
         later = true;
     }
     true
@@ -59,7 +59,12 @@ fn fields_in(
 
 /// The groups of a block.
 #[cycle(level)]
-fn groups_in(cursor: &mut Cursor<'_>, order: Order, groups: &[Group], draft: &mut Draft) -> bool {
+fn groups_in(
+    cursor: &mut Cursor<'_>,
+    order: Order,
+    groups: &[Group],
+    draft: &mut BodyDraft,
+) -> bool {
     let mut later = false;
     for group in groups {
         if !cursor.takes_key(later, group.level.name.as_slice())
@@ -74,9 +79,9 @@ fn groups_in(cursor: &mut Cursor<'_>, order: Order, groups: &[Group], draft: &mu
 
 /// The dimension and the entries of a group.
 #[cycle(level)]
-fn group_in(cursor: &mut Cursor<'_>, order: Order, group: &Group, draft: &mut Draft) -> bool {
+fn group_in(cursor: &mut Cursor<'_>, order: Order, group: &Group, draft: &mut BodyDraft) -> bool {
     let dim = group.dim.as_slice();
-    let Some(at) = draft.zeros(dim_width(dim)) else {
+    let Some(at) = draft.zeros(end_of(dim)) else {
         return false;
     };
     match entries_in(cursor, order, &group.level, draft) {
@@ -91,7 +96,7 @@ fn entries_in(
     cursor: &mut Cursor<'_>,
     order: Order,
     level: &Level,
-    draft: &mut Draft,
+    draft: &mut BodyDraft,
 ) -> Option<u32> {
     if !cursor.takes(b'[') {
         return None;
@@ -113,22 +118,13 @@ fn entries_in(
     Some(count)
 }
 
-/// How many bytes a dimension has.
-fn dim_width(members: &[Member]) -> usize {
-    let mut end = 0usize;
-    for member in members {
-        end = past(end, member.offset, &member.kind);
-    }
-    end
-}
-
 /// The numbers of a dimension that begins at a place of the draft.
 fn put_dim(
     order: Order,
     members: &[Member],
     block: u32,
     count: u32,
-    draft: &mut Draft,
+    draft: &mut BodyDraft,
     at: usize,
 ) -> bool {
     let mut end = 0usize;
@@ -138,11 +134,11 @@ fn put_dim(
         };
         let is_block = member.name.as_slice() == b"blockLength".as_slice();
         let number = if is_block { block } else { count };
-        let place = at.saturating_add(begin_of(end, member.offset));
-        if !draft.put_bits(order, leaf.prim, number as u64, place) {
+        let begin = begin_of(end, member.offset);
+        if !draft.put_bits(order, leaf.prim, number as u64, at.saturating_add(begin)) {
             return false;
         }
-        end = past(end, member.offset, &member.kind);
+        end = past(end, begin, &member.kind);
     }
     true
 }

@@ -74,11 +74,22 @@ impl<'a> Cursor<'a> {
     /// Passes the key of a member, if it comes next, behind a comma where another stands before.
     #[inline(always)]
     pub(crate) fn takes_key(&mut self, later: bool, name: &[u8]) -> bool {
-        (!later || self.takes(b','))
-            && self.takes(b'"')
-            && self.takes_text(name)
-            && self.takes(b'"')
-            && self.takes(b':')
+        if later && !self.takes(b',') {
+            return false;
+        }
+        let rest = self.rest();
+        let end = name.len();
+        if rest.len() <= end || rest.len() - end < 3 {
+            return false;
+        }
+        if rest[0] != b'"' || &rest[1..end + 1] != name {
+            return false;
+        }
+        if rest[end + 1] != b'"' || rest[end + 2] != b':' {
+            return false;
+        }
+        self.pass(end + 3);
+        true
     }
 
     /// The bytes before the next byte of that value, which are passed with it; none where it doesn't come.

@@ -9,12 +9,12 @@ pub const DRAFT_BYTES: usize = 4096;
 
 /// Bytes that are written as a body. It takes no memory but its own.
 #[derive(Drop)]
-pub struct Draft {
+pub struct BodyDraft {
     room: [u8; DRAFT_BYTES],
     len: usize,
 }
 
-impl Model for Draft {
+impl Model for BodyDraft {
     ghost use Rattle.std.specs.Prelude.{◌≡◌, ◌≤◌, ℕ, List, take, length};
     ghost use Rattle.line_draft.specs.declared.draft.TheConstants.{DRAFT_BYTES};
 
@@ -25,12 +25,12 @@ impl Model for Draft {
     ghost invariant = { λ draft. (length draft.room ≡ DRAFT_BYTES) × (draft.len ≤ DRAFT_BYTES) };
 }
 
-impl Draft {
+impl BodyDraft {
     /// A draft without bytes.
-    pub fn new() -> Draft
+    pub fn new() -> BodyDraft
         ensures { result ≡ [] }
     {
-        Draft {
+        BodyDraft {
             room: [0; DRAFT_BYTES],
             len: 0,
         }

@@ -2,7 +2,7 @@
 use crate::arrays::array_in;
 use crate::bits::bits_of;
 use crate::cursor::Cursor;
-use crate::draft::Draft;
+use crate::draft::BodyDraft;
 use crate::names::{enum_in, set_in};
 use crate::numbers::integer_in;
 use crate::texts::{past_text, text_in};
@@ -10,7 +10,8 @@ use sbe_types::{ConstValue, Kind, Leaf, LeafShape, Member, Order};
 
 /// How many bytes a value takes.
 #[cycle(width)]
-pub(crate) fn width_of(kind: &Kind) -> usize {
+#[inline(always)]
+fn width_of(kind: &Kind) -> usize {
     match kind {
         Kind::Leaf(leaf) => leaf.prim.width().saturating_mul(leaf.length as usize),
         Kind::Enum(leaf, _) => leaf.prim.width(),
@@ -22,10 +23,10 @@ pub(crate) fn width_of(kind: &Kind) -> usize {
 
 /// Where members end.
 #[cycle(width)]
-fn end_of(members: &[Member]) -> usize {
+pub(crate) fn end_of(members: &[Member]) -> usize {
     let mut end = 0usize;
     for member in members {
-        end = past(end, member.offset, &member.kind);
+        end = past(end, begin_of(end, member.offset), &member.kind);
     }
     end
 }
@@ -39,13 +40,14 @@ pub(crate) fn begin_of(end: usize, offset: Option<u32>) -> usize {
     }
 }
 
-/// Where a part ends behind parts that end at `end`.
+/// Where a part ends that begins at a place, behind parts that end at `end`.
 #[cycle(width)]
-pub(crate) fn past(end: usize, offset: Option<u32>, kind: &Kind) -> usize {
+#[inline(always)]
+pub(crate) fn past(end: usize, begin: usize, kind: &Kind) -> usize {
     match kind {
         Kind::Const(_) => end,
         Kind::Leaf(_) | Kind::Enum(_, _) | Kind::Set(_, _) | Kind::Comp(_) => {
-            begin_of(end, offset).saturating_add(width_of(kind))
+            begin.saturating_add(width_of(kind))
         }
     }
 }
@@ -56,7 +58,7 @@ pub(crate) fn value_in(
     cursor: &mut Cursor<'_>,
     order: Order,
     kind: &Kind,
-    draft: &mut Draft,
+    draft: &mut BodyDraft,
     at: usize,
 ) -> bool {
     match kind {
@@ -80,7 +82,7 @@ fn members_in(
     cursor: &mut Cursor<'_>,
     order: Order,
     members: &[Member],
-    draft: &mut Draft,
+    draft: &mut BodyDraft,
     at: usize,
 ) -> bool {
     if !cursor.takes(b'{') {
@@ -89,13 +91,13 @@ fn members_in(
     let mut later = false;
     let mut end = 0usize;
     for member in members {
-        let place = at.saturating_add(begin_of(end, member.offset));
+        let begin = begin_of(end, member.offset);
         if !cursor.takes_key(later, member.name.as_slice())
-            || !value_in(cursor, order, &member.kind, draft, place)
+            || !value_in(cursor, order, &member.kind, draft, at.saturating_add(begin))
         {
             return false;
         }
-        end = past(end, member.offset, &member.kind);
+        end = past(end, begin, &member.kind);
         later = true;
     }
     cursor.takes(b'}')
@@ -107,7 +109,7 @@ fn leaf_in(
     cursor: &mut Cursor<'_>,
     order: Order,
     leaf: &Leaf,
-    draft: &mut Draft,
+    draft: &mut BodyDraft,
     at: usize,
 ) -> bool {
     match leaf.shape {

@@ -16,5 +16,5 @@ mod parts;
 mod tail;
 mod texts;
 
-pub use draft::Draft;
+pub use draft::BodyDraft;
 pub use messages::draft_body;

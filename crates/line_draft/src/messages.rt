@@ -1,13 +1,13 @@
 use crate::blocks::block_in;
 use crate::cursor::Cursor;
-use crate::draft::Draft;
-use crate::kinds::{begin_of, past};
+use crate::draft::BodyDraft;
+use crate::kinds::{begin_of, end_of, past};
 use crate::tail::template_in;
 use sbe_types::{Kind, Level, WireSchema};
 
 /// Writes the body of the message that a line seems to hold, if it was printed by the schema. False where it can't have been, or
 /// where there is no room.
-pub fn draft_body(schema: &WireSchema, line: &[u8], draft: &mut Draft) -> bool {
+pub fn draft_body(schema: &WireSchema, line: &[u8], draft: &mut BodyDraft) -> bool {
     draft.clear();
     let levels = schema.messages.as_slice();
     match template_in(levels, line) {
@@ -17,7 +17,7 @@ pub fn draft_body(schema: &WireSchema, line: &[u8], draft: &mut Draft) -> bool {
 }
 
 /// The header and the root of a message of this level.
-fn message_in(schema: &WireSchema, level: &Level, line: &[u8], draft: &mut Draft) -> bool {
+fn message_in(schema: &WireSchema, level: &Level, line: &[u8], draft: &mut BodyDraft) -> bool {
     let mut cursor = Cursor::new(line);
     put_header(schema, level, draft) && block_in(&mut cursor, schema.order, level, draft)
 }
@@ -36,18 +36,27 @@ fn header_number(schema: &WireSchema, level: &Level, name: &[u8]) -> u32 {
 }
 
 /// The header of a message of this level.
-fn put_header(schema: &WireSchema, level: &Level, draft: &mut Draft) -> bool {
+fn put_header(schema: &WireSchema, level: &Level, draft: &mut BodyDraft) -> bool {
+    let members = schema.header.members.as_slice();
+    let Some(at) = draft.zeros(end_of(members)) else {
+        return false;
+    };
     let mut end = 0usize;
-    for member in schema.header.members.as_slice() {
+    for member in members {
         let Kind::Leaf(leaf) = &member.kind else {
             return false;
         };
-        let place = begin_of(end, member.offset);
-        end = past(end, member.offset, &member.kind);
+        let begin = begin_of(end, member.offset);
         let number = header_number(schema, level, member.name.as_slice());
-        if !draft.put_bits(schema.order, leaf.prim, number as u64, place) {
+        if !draft.put_bits(
+            schema.order,
+            leaf.prim,
+            number as u64,
+            at.saturating_add(begin),
+        ) {
             return false;
         }
+        end = past(end, begin, &member.kind);
     }
-    draft.passes(end)
+    true
 }

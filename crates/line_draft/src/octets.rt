@@ -1,13 +1,17 @@
 // The bytes whose digits to the base 16 seem to stand in a line. No clause speaks of them.
 use crate::cursor::Cursor;
-use crate::draft::Draft;
+use crate::draft::BodyDraft;
 
 /// What stands before the digits of bytes that are no string.
 pub(crate) const HEX_FRONT: &[u8] = b"{\"hex\":\"";
 
 /// The bytes whose digits stand up to the next quote, at a place of the draft; how many there are.
 #[inline(never)]
-pub(crate) fn octets_in(cursor: &mut Cursor<'_>, draft: &mut Draft, at: usize) -> Option<usize> {
+pub(crate) fn octets_in(
+    cursor: &mut Cursor<'_>,
+    draft: &mut BodyDraft,
+    at: usize,
+) -> Option<usize> {
     let digits = cursor.up_to(b'"')?;
     if !cursor.takes(b'}') {
         return None;

@@ -1,6 +1,6 @@
 // The data that seem to stand at a place of a line. They stand before the fields there, and behind the groups in a body.
 use crate::cursor::Cursor;
-use crate::draft::Draft;
+use crate::draft::BodyDraft;
 use crate::texts::{past_text, text_in};
 use sbe_types::{DataField, Order};
 
@@ -21,7 +21,7 @@ pub(crate) fn parts_in(
     cursor: &mut Cursor<'_>,
     order: Order,
     parts: &[DataField],
-    draft: &mut Draft,
+    draft: &mut BodyDraft,
 ) -> bool {
     let mut later = false;
     for part in parts {
@@ -34,7 +34,7 @@ pub(crate) fn parts_in(
 }
 
 /// Appends data: their length, and then their bytes.
-fn part_in(cursor: &mut Cursor<'_>, order: Order, part: &DataField, draft: &mut Draft) -> bool {
+fn part_in(cursor: &mut Cursor<'_>, order: Order, part: &DataField, draft: &mut BodyDraft) -> bool {
     let prim = part.length.prim;
     let Some(at) = draft.zeros(prim.width()) else {
         return false;

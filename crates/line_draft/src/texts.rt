@@ -1,11 +1,11 @@
 // The texts that seem to stand at a place of a line. No clause speaks of them.
 use crate::cursor::Cursor;
-use crate::draft::Draft;
+use crate::draft::BodyDraft;
 use crate::octets::{HEX_FRONT, octets_in};
 
 /// The bytes of a string, or of an object with their digits, at a place of the draft; how many there are.
 #[inline(always)]
-pub(crate) fn text_in(cursor: &mut Cursor<'_>, draft: &mut Draft, at: usize) -> Option<usize> {
+pub(crate) fn text_in(cursor: &mut Cursor<'_>, draft: &mut BodyDraft, at: usize) -> Option<usize> {
     if cursor.takes(b'"') {
         return string_in(cursor, draft, at);
     }
@@ -17,7 +17,7 @@ pub(crate) fn text_in(cursor: &mut Cursor<'_>, draft: &mut Draft, at: usize) -> 
 
 /// The bytes of a string whose first quote was passed.
 #[inline(always)]
-fn string_in(cursor: &mut Cursor<'_>, draft: &mut Draft, at: usize) -> Option<usize> {
+fn string_in(cursor: &mut Cursor<'_>, draft: &mut BodyDraft, at: usize) -> Option<usize> {
     let rest = cursor.rest();
     let end = rest.iter().position(|b| *b == b'"' || *b == b'\\')?;
     if rest[end] == b'\\' {
@@ -32,7 +32,7 @@ fn string_in(cursor: &mut Cursor<'_>, draft: &mut Draft, at: usize) -> Option<us
 
 /// The same, where a byte is escaped.
 #[inline(never)]
-fn escaped_in(cursor: &mut Cursor<'_>, draft: &mut Draft, at: usize) -> Option<usize> {
+fn escaped_in(cursor: &mut Cursor<'_>, draft: &mut BodyDraft, at: usize) -> Option<usize> {
     let mut many = 0usize;
     for _ in cursor.rest() {
         if cursor.takes(b'"') {

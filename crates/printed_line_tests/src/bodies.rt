@@ -5,7 +5,7 @@ mod printed;
 
 use altered::ALTERED;
 use layout_compile::{Layout, compile};
-use line_draft::Draft;
+use line_draft::BodyDraft;
 use line_reading::msg_of_line;
 use printed::{KINDS, LARGE, PRINTED};
 use printed_lines::body_of_line;
@@ -36,7 +36,7 @@ pub struct Row {
 struct Ways {
     checked: Checked,
     layout: Layout,
-    short: Draft,
+    short: BodyDraft,
     general: FrameBuf,
 }
 
@@ -47,7 +47,7 @@ fn ways_of(alloc: Global, file: &SchemaFile) -> Result<Ways, Fail> {
     Ok(Ways {
         checked,
         layout,
-        short: Draft::new(),
+        short: BodyDraft::new(),
         general: FrameBuf::new(alloc, LIMIT)?,
     })
 }

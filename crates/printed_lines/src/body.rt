@@ -5,14 +5,14 @@ use crate::constants::{are_bytes, level_has_bytes};
 use clean_walk::is_clean_body;
 use flyweight_view::validate;
 use layout_compile::Layout;
-use line_draft::{Draft, draft_body};
+use line_draft::{BodyDraft, draft_body};
 use line_match::is_line_of;
 
 /// Writes the body of the message that a line holds, where the line is in the form in which messages are printed; the body
 /// takes the place of what stood in the draft. False tells nothing of the line: it may be in another form, or its message may
 /// have no body within the limit or within the draft's room. It takes no memory.
 #[tactic(auto, using(crate::proofs::OwnBodies::within_limit))]
-pub fn body_of_line(layout: &Layout, line: &[u8], limit: usize, draft: &mut Draft) -> bool
+pub fn body_of_line(layout: &Layout, line: &[u8], limit: usize, draft: &mut BodyDraft) -> bool
     ensures body { result ≡ true → IsBodyOf layout.now line.now limit draft.new }
     ensures within { result ≡ true → length draft.new ≤ limit }
 {

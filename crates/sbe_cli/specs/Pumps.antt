@@ -11,6 +11,7 @@ use Rattle.frame_stream.specs.declared.lines.LineEnded.TheVariants as line_ended
 use Rattle.command_jobs.specs.Replies.{counted_by}
 use Rattle.replies.specs.Outside.{Streams}
 use Rattle.sbe_cli.specs.Ahead.{Ahead, none_ahead}
+use Rattle.tree_json.specs.Writes.{nothing_gathered}
 use Rattle.build_lines.specs.Build.{body_limit}
 use Rattle.command_jobs.specs.Jobs.{IsBounded, IsReadyFrame, IsReadyLine}
 use Rattle.sbe_cli.specs.Steps.{PumpState, Goes, Closes, running, opened}
@@ -87,7 +88,7 @@ pub record StandsOnce (kept : Kept) : Type 0 where
 
 -- what holds of work at every moment
 abbrev pub IsSoundWork : Work → Type 0
-IsSoundWork (work.Frames on) = IsReadyFrame on.job × IsBounded on.limits
+IsSoundWork (work.Frames on) = IsReadyFrame on.job × IsBounded on.limits × (on.space.chunk ≡ nothing_gathered)
 IsSoundWork (work.Lines on) = IsReadyLine on.job × IsBounded on.limits × (on.buffer.limit ≡ body_limit on.limits.frame)
 IsSoundWork (work.Once job) = ⊤
 

@@ -11,6 +11,7 @@ use crate::pump::{Tally, done};
 use crate::stop::{Stop, tell};
 use command_jobs::{Kept, LineJob, answer_line};
 use frame_stream::{LineErr, LineStream, LineTaken};
+use line_draft::BodyDraft;
 use lists::NoMem;
 use open_framing::HEAD_BYTES;
 use replies::Verdict;
@@ -18,18 +19,20 @@ use sbe_base::{Limits, Sink, Source, Status};
 use std::alloc::Global;
 use typed_writer::FrameBuf;
 
-/// A job that answers lines, the lines that are still to come, and the buffer of its answers.
+/// A job that answers lines, the lines that are still to come, and the buffers of its answers.
 #[derive(Drop)]
 pub struct LineWork {
     pub job: LineJob,
     pub limits: Limits,
     pub stream: LineStream,
+    pub draft: BodyDraft,
     pub buffer: FrameBuf,
     pub alloc: Global,
 }
 
 impl LineWork {
     /// Takes the next line, and writes its answer; or notes what ends the lines, and answers the status of the run.
+    #[inline(never)]
     pub fn answer_next<I: Source, O: Sink, N: Sink>(
         &mut self,
         kept: Kept,
@@ -90,6 +93,7 @@ impl LineWork {
             &self.job,
             kept,
             self.stream.line(),
+            &mut self.draft,
             &mut self.buffer,
             output,
             notes,
@@ -120,6 +124,7 @@ pub fn open_lines(alloc: Global, job: LineJob, limits: Limits) -> Result<LineWor
         job,
         limits,
         stream,
+        draft: BodyDraft::new(),
         buffer,
         alloc,
     })

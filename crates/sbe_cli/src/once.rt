@@ -10,6 +10,7 @@ use replies::{Draft, deliver};
 use sbe_base::{Sink, Status};
 
 /// Does a job over its files, whatever the input is; or ends the run, where the job is done.
+#[inline(never)]
 pub fn answer_once<O: Sink, N: Sink>(
     job: &OnceJob,
     kept: Kept,

@@ -49,6 +49,7 @@ impl Stop {
 }
 
 /// Notes why the run stops, and answers its status. It takes no memory.
+#[inline(never)]
 pub fn tell<N: Sink>(stop: &Stop, notes: &mut N) -> Status
     ensures { Told (stop_line stop.now) (stop_status stop.now) (object_of (N.held notes.old) (N.faults notes.old)) (object_of (N.held notes.new) (N.faults notes.new)) result }
 {

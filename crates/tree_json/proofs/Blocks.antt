@@ -52,3 +52,7 @@ message_is (Level' name id semantic since block_length fields n groups parts) m 
     let r = codes ",\"template\":" ++ (quoted name ++ (codes ",\"version\":" ++ (decimal m.version ++ codes "}"))) in
     closed p f _ r
     ∙ sym (ap (λ es. front_text p f (entries_text false es ++ r)) (groups_are groups (out-Block m.block).groups ∙ ap (λ gs. zipped group_entry gs (out-Block m.block).groups) (sym (items_shown-the_row-Group-0 n groups))))
+
+-- the template's name between what stands around it in each line
+pub name_between : (name r : List ℕ) → (codes ",\"template\":\"" ++ (name ++ codes "\",\"version\":")) ++ r ≡ codes ",\"template\":" ++ ((codes "\"" ++ (name ++ codes "\"")) ++ (codes ",\"version\":" ++ r))
+name_between name r = ap (λ l. codes ",\"template\":\"" ++ l) (append_assoc name (codes "\",\"version\":") r ∙ sym (append_assoc name (codes "\"") (codes ",\"version\":" ++ r)))

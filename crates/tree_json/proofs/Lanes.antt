@@ -1,17 +1,12 @@
 -- How many bytes stand for themselves, by the lanes of a load.
-use Rattle.std.proofs.Common.{◌≡◌, ℕ, ◌+◌, ◌%◌, ◌^◌, ◌<◌, ◌≤◌, eqb, cond, suc, ◌&&◌, ◌∷◌, Bool, true, false, not, List, [], map, length, take, drop, get_or, Fits, w8, refl, sym, ap, ap₂, ◌∙◌, arith, length-take-le, length-drop, take-append-drop, ◌≢◌, inl, inr}
-use Rattle.std.proofs.lemmas.Bool.{agree_below, agree_below_at, cases_eq, eq-eqb, ne_eqb, cond-true, cond-false}
-use Rattle.std.proofs.lemmas.Simd.{map-map, mask_l-mod, length-chunk, chunk-fits, first_set_mask_l, zip2-map}
-use Rattle.std.proofs.lemmas.List.{length-map, drop-drop}
-use Rattle.std.proofs.lemmas.List.Folds.{prefix_len-append}
-use Rattle.std.proofs.lemmas.List.Sums.{prefix_len-le-length}
+use Rattle.std.proofs.Common.{◌≡◌, ℕ, ◌+◌, ◌%◌, ◌^◌, ◌<◌, ◌≤◌, eqb, cond, suc, ◌&&◌, ◌∷◌, Bool, true, false, not, List, [], map, length, take, drop, get_or, Fits, w8, refl, sym, ap, ap₂, ◌∙◌, arith, length-drop, inl, inr}
+use Rattle.std.proofs.lemmas.Bool.{agree_below, agree_below_at, cases_eq, eq-eqb, ne_eqb}
+use Rattle.std.proofs.lemmas.Simd.{map-map, mask_l-mod, length-chunk, chunk-fits, first_set_mask_l}
+use Rattle.std.proofs.lemmas.List.{length-map}
 use Rattle.std.specs.List.{prefix_len, list_all}
-use lib.Lanes.{chunk, zip2, mask_l, top, Each1}
-use Rattle.tree_json.specs.Plain.{first_set}
-
--- an operation on two vectors that were computed lane by lane from v
-pub joined : (h : ℕ → ℕ → ℕ) (f g : ℕ → ℕ) (v : List ℕ) {a b : List ℕ} → a ≡ map f v → b ≡ map g v → zip2 h a b ≡ map (λ x. h (f x) (g x)) v
-joined h f g v p q = ap₂ (zip2 h) p q ∙ zip2-map h f g v
+use lib.Lanes.{chunk, mask_l, top, Each1}
+use Rattle.flat_rows.specs.Runs.{first_set}
+pub use Rattle.flat_rows.proofs.LaneRuns.{joined, run_behind}
 
 -- tests that agree on bytes have the same run of them
 same_run : (p q : ℕ → Bool) (xs : List ℕ) → agree_below p q 256 ≡ true → Each1 (Fits w8) xs → prefix_len p xs ≡ prefix_len q xs
@@ -27,34 +22,6 @@ lanes_run q d i n r z room few fits found f lanes all =
     let long = length-chunk i n d room in
     let mask = ap (λ l. mask_l l % 2 ^ 64) (ap (map (top 7)) lanes ∙ map-map (top 7) f v) ∙ mask_l-mod (map (λ x. top 7 (f x)) v) 64 (omega (arith, length-map v (λ x. top 7 (f x)), long)) in
     found ∙ ap (λ m. first_set m n) mask ∙ first_set_mask_l (λ x. top 7 (f x)) v n long few ∙ same_run (λ x. not (top 7 (f x))) q v all (chunk-fits w8 i n d fits)
-
-run_of : (q : ℕ → Bool) (xs : List ℕ) (n : ℕ) → prefix_len q xs ≡ cond (eqb (prefix_len q (take n xs)) (length (take n xs))) (length (take n xs) + prefix_len q (drop n xs)) (prefix_len q (take n xs))
-run_of q xs n = ap (prefix_len q) (sym (take-append-drop n xs)) ∙ prefix_len-append q (take n xs) (drop n xs)
-
--- all of the first n pass
-pub run_goes_on : (q : ℕ → Bool) (xs : List ℕ) (n : ℕ) → n ≤ length xs → n ≤ prefix_len q (take n xs) → prefix_len q xs ≡ n + prefix_len q (drop n xs)
-run_goes_on q xs n room all =
-    let long = length-take-le n xs room in
-    let whole : prefix_len q (take n xs) ≡ length (take n xs) = omega (arith, long, prefix_len-le-length q (take n xs), all) in
-    run_of q xs n ∙ cond-true (eqb (prefix_len q (take n xs)) (length (take n xs))) _ _ (eq-eqb _ _ whole) ∙ ap (λ k. k + prefix_len q (drop n xs)) long
-
--- one of the first n fails
-pub run_ends : (q : ℕ → Bool) (xs : List ℕ) (n : ℕ) → n ≤ length xs → prefix_len q (take n xs) < n → prefix_len q xs ≡ prefix_len q (take n xs)
-run_ends q xs n room short =
-    let long = length-take-le n xs room in
-    let other : prefix_len q (take n xs) ≢ length (take n xs) = λ same. omega (arith, long, same, short) in
-    run_of q xs n ∙ cond-false (eqb (prefix_len q (take n xs)) (length (take n xs))) (length (take n xs) + prefix_len q (drop n xs)) (prefix_len q (take n xs)) (ne_eqb (prefix_len q (take n xs)) (length (take n xs)) other)
-
--- a run over all that stands behind a place
-pub run_behind : (q : ℕ → Bool) (xs : List ℕ) (at n : ℕ) → at + n ≤ length xs → n ≤ prefix_len q (take n (drop at xs))
-    → prefix_len q (drop at xs) ≡ n + prefix_len q (drop (at + n) xs)
-run_behind q xs at n room all =
-    run_goes_on q (drop at xs) n (omega (arith, length-drop at xs)) all ∙ ap (λ ys. n + prefix_len q ys) (drop-drop n at xs)
-
--- a run that ends among the n behind a place
-pub run_stops : (q : ℕ → Bool) (xs : List ℕ) (at n : ℕ) → at + n ≤ length xs → prefix_len q (take n (drop at xs)) < n
-    → prefix_len q (drop at xs) ≡ prefix_len q (take n (drop at xs))
-run_stops q xs at n room short = run_ends q (drop at xs) n (omega (arith, length-drop at xs)) short
 
 -- ---- what a run says of the bytes
 

@@ -1,6 +1,6 @@
 -- The text of what a view shows.
-use Rattle.std.proofs.Common.{◌≡◌, List, [], ◌∷◌, Some, refl, sym, ap, ap₂, ◌∙◌}
-use Rattle.std.specs.Prelude.{map, slice_get}
+use Rattle.std.proofs.Common.{◌≡◌, Bool, List, [], ◌∷◌, length, Some, refl, sym, ap, ap₂, ◌∙◌}
+use Rattle.std.specs.Prelude.{codes, map, slice_get}
 use Rattle.serde_json.specs.Data.{array, item}
 use Rattle.sbe_types.specs.declared.schema.Group as groups
 use denote.Hole.Carrier as carrier
@@ -12,11 +12,11 @@ use Rattle.sbe_types.specs.declared.message.DataVal.{DataVal}
 use Rattle.sbe_types.specs.declared.message.DataVal.TheVariants as dataval
 use Rattle.sbe_types.specs.declared.message.GroupVal.{GroupVal, items-the_row-Block}
 use Rattle.sbe_types.specs.declared.message.GroupVal as groupval
-use Rattle.flyweight_view.specs.Seen.{seen_level, bytes_in, entries_in}
+use Rattle.flyweight_view.specs.Seen.{Seen, seen_level, bytes_in, entries_in}
 use Rattle.flyweight_view.specs.Lefts.{groups_seen}
 use Rattle.tree_json.specs.Values.{Entry, zipped}
 use Rattle.tree_json.specs.Lines.{part_entry, group_entry, group_name, items_by, block_data, block_entries, message_at}
-use Rattle.tree_json.specs.Plain.{plain_text}
+use Rattle.tree_json.specs.Plain.{plain_text, plain_items}
 use Rattle.tree_json.specs.Views.{seen_data, bytes_entry, entries_entry}
 use Rattle.sbe_types.specs.declared.message.Msg.{Msg}
 use Rattle.sbe_types.specs.declared.schema.WireSchema.{WireSchema}
@@ -33,6 +33,11 @@ pub parts_are : (ps : List DataField) (vs : List DataVal) → zipped bytes_entry
 parts_are [] vs = refl
 parts_are (p ∷ ps) [] = refl
 parts_are (p ∷ ps) (v ∷ vs) = ap₂ (λ (e : Entry) es. e ∷ es) (part_is p v) (parts_are ps vs)
+
+-- the closing bracket alone, where no entries are left
+pub none_left : (later : Bool) (es : List Seen) → length es ≡ 0 → codes "]" ≡ plain_items later (items_by seen_data es)
+none_left later [] h = refl
+none_left later (e ∷ es) h = cc
 
 items_are : (level : Level) (bs : List Block) → items_by seen_data (map (seen_level level) bs) ≡ items_by (block_data level) bs
 items_are level [] = refl

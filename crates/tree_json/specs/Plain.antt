@@ -1,6 +1,5 @@
 -- The text of data as it is printed: keys stand as they are, and members are left out one by one. Own profile.
-use Rattle.std.specs.Prelude.{◌≡◌, ℕ, if◌then◌else◌, not, ◌&&◌, ◌||◌, ◌==◌, Bool, true, false, List, [], ◌∷◌, ◌++◌, codes, Option, Some, None, ⊤}
-use Rattle.std.specs.Int.{w64, trailing_zeros}
+use Rattle.std.specs.Prelude.{◌≡◌, ℕ, not, ◌&&◌, ◌||◌, ◌==◌, Bool, true, false, List, [], ◌∷◌, ◌++◌, codes, Option, Some, None, ⊤}
 use Rattle.json.specs.Print.{escape, quoted}
 use Rattle.serde_json.specs.Data.{Data, null, boolean, number, string, array, object, Items, no_items, item, Members, no_members, member}
 use Rattle.serde_json.specs.Written.{compact_text, comma_if}
@@ -78,7 +77,3 @@ abbrev mutual
 -- a printable byte that stands for itself in a string
 abbrev pub is_plain_byte : ℕ → Bool
 is_plain_byte b = is_printable b && not ((b == 34) || (b == 92))
-
--- the place of the lowest bit that is set, or n
-abbrev pub first_set : ℕ → ℕ → ℕ
-first_set mask n = if mask == 0 then n else trailing_zeros w64 mask

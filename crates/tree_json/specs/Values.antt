@@ -63,6 +63,10 @@ number_data n = number (of_integer n)
 abbrev pub last_four : ℕ → List ℕ
 last_four n = (48 + n / 10 / 10 / 10 % 10) ∷ (48 + n / 10 / 10 % 10) ∷ (48 + n / 10 % 10) ∷ (48 + n % 10) ∷ []
 
+-- the two digits of each number below 100, one behind another
+abbrev pub digit_pairs : List ℕ
+digit_pairs = codes "00010203040506070809101112131415161718192021222324252627282930313233343536373839404142434445464748495051525354555657585960616263646566676869707172737475767778798081828384858687888990919293949596979899"
+
 -- a char as a string of one character where it is printable, else as its number
 abbrev pub char_data : ℤ → Data
 char_data n = if int_le (pos 32) n && int_le n (pos 126) then string (natural n ∷ []) else number_data n

@@ -1,5 +1,5 @@
 -- The text of what a view shows.
-use Rattle.std.specs.Prelude.{ℕ, false, ◌==◌, if◌then◌else◌, List, [], ◌++◌, length, codes, Option}
+use Rattle.std.specs.Prelude.{◌≡◌, ℕ, Bool, false, ◌==◌, if◌then◌else◌, List, [], ◌++◌, length, codes, Option}
 use Rattle.std.specs.Option.{option_map}
 use Rattle.serde_json.specs.Data.{Data, object, array}
 use Rattle.sbe_types.specs.declared.schema.DataField.{DataField}
@@ -11,7 +11,8 @@ use Rattle.layout_compile.specs.Flats.{text_behind}
 use Rattle.flyweight_view.specs.Seen.{Seen}
 use Rattle.tree_json.specs.Values.{Entry, listed, zipped, text_data}
 use Rattle.tree_json.specs.Lines.{field_entry, part_entry, group_entry, group_name, items_by, three_entries}
-use Rattle.tree_json.specs.Plain.{entries_text}
+use Rattle.tree_json.specs.Plain.{plain_items, entries_text}
+use Rattle.tree_json.specs.Writes.{Output, Writes}
 
 -- the object of a block
 abbrev pub seen_data : Seen → Data
@@ -53,3 +54,9 @@ entries_data es = array (items_by seen_data es)
 -- a group with its entries
 abbrev pub entries_entry : Group → Option (List Seen) → Entry
 entries_entry g entries = (group_name g, option_map entries_data entries)
+
+-- the front of a group's entries was written, behind the opening bracket: the text of those that are left makes it whole
+pub record WritesFront (later : Bool) (all left : List Seen) (before after : Output) : Type 0 where
+  pub done : List ℕ
+  pub written : Writes before after done
+  pub whole : done ++ plain_items later (items_by seen_data left) ≡ plain_items false (items_by seen_data all)

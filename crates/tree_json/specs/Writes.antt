@@ -1,5 +1,5 @@
 -- Bytes that go to a sink by way of a chunk of a fixed size. Own profile.
-use Rattle.std.specs.Prelude.{◌≡◌, ◌≤◌, ℕ, Bool, true, false, List, ◌++◌, Option, Result, Ok, Err}
+use Rattle.std.specs.Prelude.{◌≡◌, ◌≤◌, ℕ, Bool, true, false, List, [], ◌++◌, Option, Result, Ok, Err}
 use Rattle.std.specs.Io.KnownBytes.{Appends}
 use Rattle.sbe_base.specs.declared.stream.WriteFault.{WriteFault}
 use Rattle.sbe_base.specs.Causes.{AppendsPart, Rose}
@@ -8,6 +8,10 @@ use Rattle.sbe_base.specs.Causes.{AppendsPart, Rose}
 pub record Gathered : Type 0 where
   pub bytes : List ℕ
   pub failed : Bool
+
+-- nothing waits, and no write has failed
+abbrev pub nothing_gathered : Gathered
+nothing_gathered = record { bytes = []; failed = false }
 
 -- where an output stands: what its sink holds and how often that has failed, and what waits in the chunk
 pub record Output : Type 0 where

@@ -5,11 +5,15 @@ ghost use Rattle.serde_json.specs.Written.{comma_if};
 ghost use Rattle.sbe_types.specs.declared.message.Block.{out-Block};
 ghost use Rattle.sbe_types.specs.declared.message.Value.{Value};
 ghost use Rattle.sbe_types.specs.declared.schema.Field.{Field};
+ghost use Rattle.flat_rows.specs.Tables.{IsTable, RowsFit};
 ghost use Rattle.layout_compile.specs.Flats.{text_behind};
+ghost use Rattle.flyweight_view.specs.ByTable.{IsTableBlock};
+ghost use Rattle.flyweight_view.specs.Seen.{Seen};
+ghost use Rattle.tree_json.specs.Deep.{deepest_in};
 ghost use Rattle.tree_json.specs.Values.{zipped, text_data};
-ghost use Rattle.tree_json.specs.Lines.{field_entry};
-ghost use Rattle.tree_json.specs.Plain.{plain_text, entry_text, entries_text, later_behind};
-ghost use Rattle.tree_json.specs.Views.{data_front, own_data, own_groups, seen_data, seen_head, seen_front, entries_data};
+ghost use Rattle.tree_json.specs.Lines.{field_entry, group_entry, items_by};
+ghost use Rattle.tree_json.specs.Plain.{plain_text, plain_items, entry_text, entries_text, later_behind};
+ghost use Rattle.tree_json.specs.Views.{data_front, own_data, seen_data, seen_head, seen_front, entries_data, WritesFront};
 ghost use Rattle.tree_json.specs.Writes.{output, Writes};
 
 use crate::by_table::put_rows;
@@ -17,16 +21,21 @@ use crate::chunk::Chunk;
 use crate::kinds::put_shown;
 use crate::texts::put_text;
 use crate::values::put_comma;
-use flyweight_view::{BlockView, EntriesView};
+use flyweight_view::{BlockView, EntriesView, TableBlock};
 use sbe_base::Sink;
 
 /// Writes the object of a message's root or of an entry, without the closing bracket.
 #[cycle(block)]
+#[inline(always)]
 pub(crate) fn put_front<O: Sink>(chunk: &mut Chunk, sink: &mut O, block: &BlockView<'_>)
     ensures { Writes (output (O.held sink.old) (O.faults sink.old) chunk.old)
         (output (O.held sink.new) (O.faults sink.new) chunk.new) (seen_front block.now) }
 {
     put_head(chunk, sink, block);
+    let (_, count, _) = block.counts();
+    if count == 0 {
+        return;
+    }
     put_groups(chunk, sink, block);
 }
 
@@ -161,17 +170,15 @@ fn put_field<O: Sink>(
 
 // ---- groups
 
-/// Writes the groups of a block that are there, with the bracket behind them; nothing where it has none.
+/// Writes the groups of a block that are there, with the bracket behind them.
 #[cycle(block)]
+#[inline(never)]
 fn put_groups<O: Sink>(chunk: &mut Chunk, sink: &mut O, block: &BlockView<'_>)
     ensures { Writes (output (O.held sink.old) (O.faults sink.old) chunk.old)
         (output (O.held sink.new) (O.faults sink.new) chunk.new)
-        (own_groups block.now.groups (out-Block block.now.block).groups) }
+        (entries_text false (zipped group_entry block.now.groups (out-Block block.now.block).groups)) }
 {
     let (_, count, _) = block.counts();
-    if count == 0 {
-        return;
-    }
     let mut groups = block.groups();
     let mut later = false;
     for i in 0..count {
@@ -211,12 +218,57 @@ fn put_entries<O: Sink>(chunk: &mut Chunk, sink: &mut O, entries: EntriesView<'_
         (output (O.held sink.new) (O.faults sink.new) chunk.new) (plain_text (entries_data entries.entry)) }
 {
     chunk.put(sink, b"[");
-    let mut later = false;
+    let mut entries = entries;
+    let later = put_flat_entries(chunk, sink, &mut entries);
+    if entries.len() == 0 {
+        chunk.put(sink, b"]");
+        return;
+    }
+    put_views(chunk, sink, later, entries);
+}
+
+/// Writes the entries that are left behind others, by a view of each, and the closing bracket.
+#[cycle(block)]
+#[inline(never)]
+fn put_views<O: Sink>(chunk: &mut Chunk, sink: &mut O, later: bool, entries: EntriesView<'_>)
+    ensures { Writes (output (O.held sink.old) (O.faults sink.old) chunk.old)
+        (output (O.held sink.new) (O.faults sink.new) chunk.new) (plain_items later (items_by seen_data entries.entry)) }
+{
+    let mut later = later;
     for entry in entries {
         put_entry(chunk, sink, later, &entry);
         later = true;
     }
     chunk.put(sink, b"]");
+}
+
+/// Writes the first of some entries, as far as a table shows them, and tells whether one stands now.
+#[inline(always)]
+fn put_flat_entries<O: Sink>(chunk: &mut Chunk, sink: &mut O, entries: &mut EntriesView<'_>) -> bool
+    ensures low { deepest_in entries.new ≤ deepest_in entries.old }
+    ensures text { WritesFront result entries.old entries.new (output (O.held sink.old) (O.faults sink.old) chunk.old)
+        (output (O.held sink.new) (O.faults sink.new) chunk.new) }
+{
+    let mut later = false;
+    'entries: while let Some(block) = entries.next_table() {
+        put_flat_entry(chunk, sink, later, block);
+        later = true;
+    }
+    later
+}
+
+/// Writes the object of an entry without groups and data by its table, behind a comma where another stands before.
+#[inline(always)]
+fn put_flat_entry<O: Sink>(chunk: &mut Chunk, sink: &mut O, later: bool, block: TableBlock<'_>)
+    requires table { IsTable block.table.now }
+    requires fits { RowsFit (length block.bytes.now) block.table.now.rows.items }
+    ensures { (s : Seen) → IsTableBlock block.entry s → length s.groups ≡ 0 → length s.parts ≡ 0
+        → Writes (output (O.held sink.old) (O.faults sink.old) chunk.old)
+        (output (O.held sink.new) (O.faults sink.new) chunk.new) (comma_if later ++ plain_text (seen_data s)) }
+{
+    put_comma(chunk, sink, later);
+    put_rows(chunk, sink, block.table, block.bytes);
+    chunk.put(sink, b"}");
 }
 
 /// Writes the object of an entry, behind a comma where another stands before.

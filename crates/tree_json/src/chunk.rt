@@ -2,14 +2,14 @@ ghost use Rattle.std.specs.Prelude.{◌≡◌, ◌+◌, ◌≤◌, ◌++◌, [],
 ghost use Rattle.serde_json.specs.Written.{comma_if};
 ghost use Rattle.tree_json.specs.declared.chunk.TheConstants.{CHUNK_BYTES};
 ghost use Rattle.tree_json.specs.Plain.{key_text};
-ghost use Rattle.tree_json.specs.Writes.{output, Writes, Finishes, Tried};
+ghost use Rattle.tree_json.specs.Writes.{nothing_gathered, output, Writes, Finishes, Tried};
 
 use crate::places::place;
 use sbe_base::{Sink, WriteFault, write_all_to};
 use std::marker::Model;
 
 /// How many bytes a chunk gathers.
-pub const CHUNK_BYTES: usize = 512;
+pub const CHUNK_BYTES: usize = 1_024;
 
 /// Bytes that wait to be written, and whether a write has failed. It takes no memory but its own.
 ///
@@ -122,7 +122,13 @@ impl Chunk {
 
     /// Writes bytes between a few others.
     #[inline(always)]
-    fn put_between<O: Sink>(&mut self, sink: &mut O, before: &[u8], bytes: &[u8], behind: &[u8])
+    pub(crate) fn put_between<O: Sink>(
+        &mut self,
+        sink: &mut O,
+        before: &[u8],
+        bytes: &[u8],
+        behind: &[u8],
+    )
         requires { length before.now + length behind.now ≤ CHUNK_BYTES }
         ensures { Writes (output (O.held sink.old) (O.faults sink.old) self.old)
             (output (O.held sink.new) (O.faults sink.new) self.new) (before.now ++ (bytes.now ++ behind.now)) }
@@ -159,6 +165,22 @@ impl Chunk {
             return Err(WriteFault);
         }
         write_all_to(sink, self.as_slice())
+    }
+
+    /// Writes what is gathered, and tells whether a write has failed. Then it holds nothing, as a new one.
+    ///
+    /// # Errors
+    ///
+    /// Where a write failed, now or before; the sink then holds a front of what was to be written.
+    #[inline(always)]
+    pub fn flush<O: Sink>(&mut self, sink: &mut O) -> Result<(), WriteFault>
+        ensures finishes { Finishes (output (O.held sink.old) (O.faults sink.old) self.old)
+            (record { held = O.held sink.new; faults = O.faults sink.new }) result }
+        ensures empty { self.new ≡ nothing_gathered }
+    {
+        let done = self.finish(sink);
+        self.clear(false);
+        done
     }
 }
 

@@ -10,8 +10,6 @@ mod line;
 mod places;
 mod runs;
 mod sets;
-#[cfg(test)]
-mod tests;
 mod texts;
 mod values;
 mod worked;

@@ -47,9 +47,7 @@ fn put_message<O: Sink>(chunk: &mut Chunk, sink: &mut O, view: &MsgView<'_>)
         (plain_text (message_at (Some view.now.level) view.now.message)) }
 {
     put_front(chunk, sink, &view.root());
-    chunk.put(sink, b",\"template\":");
-    chunk.put_in_quotes(sink, view.name());
-    chunk.put(sink, b",\"version\":");
+    chunk.put_between(sink, b",\"template\":\"", view.name(), b"\",\"version\":");
     put_count(chunk, sink, view.version() as u64);
     chunk.put(sink, b"}");
 }

@@ -2,8 +2,9 @@
 ghost use Rattle.std.specs.Prelude.{◌≡◌, ◌+◌, ◌≤◌, ◌<◌, true, length, take, drop, IfSome};
 ghost use Rattle.std.specs.List.{prefix_len, list_all};
 ghost use Rattle.field_values.specs.Told.{before_zero};
-ghost use Rattle.tree_json.specs.Plain.{is_plain_byte, first_set};
+ghost use Rattle.tree_json.specs.Plain.{is_plain_byte};
 
+use flat_rows::first_set;
 use std::simd::prelude::*;
 
 const LANES: usize = 8;
@@ -72,16 +73,4 @@ fn lane_run(bytes: &[u8], at: usize) -> usize
     let outside = lanes.simd_lt(u8x8::splat(b' ')) | lanes.simd_gt(u8x8::splat(b'~'));
     let escaped = lanes.simd_eq(u8x8::splat(b'"')) | lanes.simd_eq(u8x8::splat(b'\\'));
     first_set((outside | escaped).to_bitmask())
-}
-
-/// The place of the lowest bit of eight that is set, or 8.
-#[inline(always)]
-fn first_set(mask: u64) -> usize
-    ensures { result ≡ first_set mask LANES }
-{
-    if mask == 0 {
-        LANES
-    } else {
-        mask.trailing_zeros() as usize
-    }
 }

@@ -1,8 +1,8 @@
-ghost use Rattle.std.specs.Prelude.{◌≡◌, ◌<◌, ◌+◌, pos};
+ghost use Rattle.std.specs.Prelude.{◌≡◌, ◌<◌, ◌+◌, ◌++◌, ◌/◌, ◌%◌, pos, slice_index};
 ghost use Rattle.std.specs.Option.{option_map};
 ghost use Rattle.serde_json.specs.Data.{null, number, unsigned};
 ghost use Rattle.serde_json.specs.Written.{comma_if};
-ghost use Rattle.tree_json.specs.Values.{number_data, char_data, single_data, enum_data, name_of, constant_data, last_four};
+ghost use Rattle.tree_json.specs.Values.{number_data, char_data, single_data, enum_data, name_of, constant_data, last_four, digit_pairs};
 ghost use Rattle.tree_json.specs.Plain.{plain_text};
 ghost use Rattle.tree_json.specs.Writes.{output, Writes};
 
@@ -67,7 +67,7 @@ fn put_small<O: Sink>(chunk: &mut Chunk, sink: &mut O, n: u8)
 
 /// Writes a number of at most eight digits.
 #[inline(never)]
-#[tactic(auto, using(crate::proofs::Numbers::digits_behind))]
+#[tactic(auto, using(crate::proofs::Numbers::long_number))]
 fn put_middle<O: Sink>(chunk: &mut Chunk, sink: &mut O, n: u32)
     requires { n < 100_000_000 }
     ensures { Writes (output (O.held sink.old) (O.faults sink.old) chunk.old)
@@ -76,8 +76,7 @@ fn put_middle<O: Sink>(chunk: &mut Chunk, sink: &mut O, n: u32)
     if n < 10_000 {
         put_short(chunk, sink, n as u16);
     } else {
-        put_short(chunk, sink, (n / 10_000) as u16);
-        put_four(chunk, sink, (n % 10_000) as u16);
+        put_long(chunk, sink, (n / 10_000) as u16, (n % 10_000) as u16);
     }
 }
 
@@ -92,31 +91,90 @@ fn put_short<O: Sink>(chunk: &mut Chunk, sink: &mut O, n: u16)
     if n < 100 {
         put_small(chunk, sink, n as u8);
     } else if n < 1_000 {
-        chunk.put(
-            sink,
-            &[digit(n / 10 / 10), digit(n / 10 % 10), digit(n % 10)],
-        );
+        let low = digits_of(n % 100);
+        chunk.put(sink, &[digit(n / 100), low.tens, low.ones]);
     } else {
-        put_four(chunk, sink, n);
+        let high = digits_of(n / 100);
+        let low = digits_of(n % 100);
+        chunk.put(sink, &[high.tens, high.ones, low.tens, low.ones]);
     }
 }
 
-/// Writes four digits.
+/// Writes a number of at most four digits, and four digits behind it.
 #[inline(always)]
-fn put_four<O: Sink>(chunk: &mut Chunk, sink: &mut O, n: u16)
-    requires { n < 10_000 }
+#[tactic(auto, using(crate::proofs::Numbers::five_digits, crate::proofs::Numbers::six_digits, crate::proofs::Numbers::seven_digits, crate::proofs::Numbers::eight_digits))]
+fn put_long<O: Sink>(chunk: &mut Chunk, sink: &mut O, high: u16, low: u16)
+    requires high { high < 10_000 }
+    requires low { low < 10_000 }
     ensures { Writes (output (O.held sink.old) (O.faults sink.old) chunk.old)
-        (output (O.held sink.new) (O.faults sink.new) chunk.new) (last_four n) }
+        (output (O.held sink.new) (O.faults sink.new) chunk.new) (plain_text (number_data (pos high)) ++ last_four low) }
 {
-    chunk.put(
-        sink,
-        &[
-            digit(n / 10 / 10 / 10 % 10),
-            digit(n / 10 / 10 % 10),
-            digit(n / 10 % 10),
-            digit(n % 10),
-        ],
-    );
+    let y = digits_of(low / 100);
+    let z = digits_of(low % 100);
+    if high < 10 {
+        chunk.put(sink, &[digit(high), y.tens, y.ones, z.tens, z.ones]);
+    } else if high < 100 {
+        let x = digits_of(high);
+        chunk.put(sink, &[x.tens, x.ones, y.tens, y.ones, z.tens, z.ones]);
+    } else if high < 1_000 {
+        let x = digits_of(high % 100);
+        chunk.put(
+            sink,
+            &[
+                digit(high / 100),
+                x.tens,
+                x.ones,
+                y.tens,
+                y.ones,
+                z.tens,
+                z.ones,
+            ],
+        );
+    } else {
+        let w = digits_of(high / 100);
+        let x = digits_of(high % 100);
+        chunk.put(
+            sink,
+            &[
+                w.tens, w.ones, x.tens, x.ones, y.tens, y.ones, z.tens, z.ones,
+            ],
+        );
+    }
+}
+
+/// Two digits to the base 10.
+#[derive(Clone, Copy)]
+struct Pair {
+    tens: u8,
+    ones: u8,
+}
+
+/// The two digits of each number below 100, one behind another.
+const PAIRS: &[u8; 200] =
+    b"00010203040506070809101112131415161718192021222324252627282930313233343536373839404142434445464748495051525354555657585960616263646566676869707172737475767778798081828384858687888990919293949596979899";
+
+/// The two digits of a number.
+#[inline(always)]
+#[tactic(auto, using(crate::proofs::Numbers::tens_there, crate::proofs::Numbers::ones_there))]
+fn digits_of(n: u16) -> Pair
+    requires { n < 100 }
+    ensures tens { result.tens ≡ 48 + n / 10 }
+    ensures ones { result.ones ≡ 48 + n % 10 }
+{
+    let at = 2 * n as usize;
+    Pair {
+        tens: digit_in(at),
+        ones: digit_in(at + 1),
+    }
+}
+
+/// A digit of the pairs.
+#[inline(always)]
+fn digit_in(at: usize) -> u8
+    requires { at < 200 }
+    ensures { result ≡ slice_index digit_pairs at }
+{
+    PAIRS[at]
 }
 
 /// A digit to the base 10.
@@ -140,6 +198,7 @@ fn put_any_number<O: Sink>(chunk: &mut Chunk, sink: &mut O, n: &i128)
 }
 
 /// Writes a count.
+#[inline(always)]
 pub fn put_count<O: Sink>(chunk: &mut Chunk, sink: &mut O, n: u64)
     ensures { Writes (output (O.held sink.old) (O.faults sink.old) chunk.old)
         (output (O.held sink.new) (O.faults sink.new) chunk.new) (plain_text (number (unsigned n))) }

@@ -1,18 +1,17 @@
-use Rattle.layout_compile.proofs.WriteSteps.{writes_more, writes_part}
+use Rattle.std.proofs.Common.{sym, ap, ap₂, subst, ◌∙◌}
+use Rattle.layout_compile.specs.Writes.{Writes, outlet_of}
+use Rattle.dump_lines.specs.Refused.{IsWay, of_fault_in, refused_line}
 use Rattle.dump_lines.proofs.refused.put_fault.Goals as goal
 
-pub returns-in_err-put_front : goal.returns-in_err-put_front
-returns-in_err-put_front g c =
-    let front = rw c.fault_code.ensures at c.in_err-put_front.ensures in
-    writes_part _ _ _ _ c.in_err-put_front.field-0.0 c.from_residual.result front c.from_residual.ensures.0
-
-pub returns-in_err-put_way : goal.returns-in_err-put_way
-returns-in_err-put_way g c =
-    let front = rw c.fault_code.ensures at c.in_ok-put_front.ensures in
-    let r = c.from_residual-in_err-put_way.result in
-    writes_more _ _ _ _ _ r front (writes_part _ _ _ _ c.in_err-put_way.field-0.0 r c.in_err-put_way.ensures c.from_residual-in_err-put_way.ensures.0)
+pub put_refusal-requires : goal.put_refusal-requires
+put_refusal-requires g c =
+    let template = sym c.refusal.ensures.template in
+    let path = sym (ap (λ f. f.path) c.refusal.ensures.fault) in
+    subst (λ t. IsWay c.args.layout.now t c.refusal.result.path) template (subst (λ p. IsWay c.args.layout.now c.args.last.now.template p) path c.requires)
 
 pub returns : goal.returns
 returns g c =
-    let front = rw c.fault_code.ensures at c.in_ok-put_front.ensures in
-    writes_more _ _ _ _ _ c.put_number_back.result front (writes_more _ _ _ _ _ c.put_number_back.result c.in_ok-put_way.ensures c.put_number_back.ensures)
+    let Held = g.O.Sink.held in
+    let Faults = g.O.Sink.faults in
+    let line = ap₂ (λ t f. refused_line c.args.item (of_fault_in c.args.layout.now t f)) c.refusal.ensures.template c.refusal.ensures.fault in
+    subst (λ l. Writes (outlet_of (Held c.args.sink.now) (Faults c.args.sink.now)) (outlet_of (Held c.put_refusal.new.sink) (Faults c.put_refusal.new.sink)) l c.put_refusal.result) line c.put_refusal.ensures

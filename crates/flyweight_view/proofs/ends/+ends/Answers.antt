@@ -1,33 +1,16 @@
-use Rattle.std.proofs.Common.{◌∙◌, rules, length, refl, sym, ap, arith, Fits, w64}
+use Rattle.std.proofs.Common.{◌∙◌, refl, sym, ap, arith}
 use Rattle.flyweight_view.specs.declared.plan.Plan.{Plan}
 use Rattle.flyweight_view.specs.declared.plan.Plan.TheVariants as plan
 use Rattle.flyweight_view.specs.declared.plan.Span.{Span}
 use Rattle.flyweight_view.specs.Lefts.{rest_of}
 use Rattle.flyweight_view.proofs.GroupSteps.{none_left, child_is, from, next_child, entered_there, group_read_there, step_stands, step_seen, step_rests}
 use Rattle.flyweight_view.proofs.LevelsReady.{level_ready}
-use Rattle.flyweight_view.proofs.Nexts.{first_seen, first_flat, others_lie, others_seen, others_rests, none_behind, end_flat, flat_is}
+use Rattle.flyweight_view.proofs.Nexts.{first_seen, others_lie, others_seen, others_rests, none_behind}
 use Rattle.flyweight_view.proofs.Opens.{level_within}
 use Rattle.flyweight_view.proofs.TailsSeen.{first_stands, parts_line, parts_rest}
 use Rattle.flyweight_view.proofs.ends.+ends.Goals as goal
 
 -- ---- entries
-
-pub entries_end-overflow_add-result : goal.entries_end-overflow_add-result
-entries_end-overflow_add-result t c =
-    let l = c.args.layer.now in
-    let e = end_flat l c.args.dim c.requires.lie (flat_is l.mode l.level.now (sym (c.if-is_flat.ensures))) in
-    let long : Fits w64 (length l.body.now) = search rules in
-    omega (arith, e.1, long)
-
-pub entries_end-returns-then-is_flat-clause-rest : goal.entries_end-returns-then-is_flat-clause-rest
-entries_end-returns-then-is_flat-clause-rest t c =
-    let l = c.args.layer.now in
-    (end_flat l c.args.dim c.requires.lie (flat_is l.mode l.level.now (sym (c.if-is_flat.ensures)))).0
-
-pub entries_end-returns-then-is_flat-clause-within : goal.entries_end-returns-then-is_flat-clause-within
-entries_end-returns-then-is_flat-clause-within t c =
-    let l = c.args.layer.now in
-    (end_flat l c.args.dim c.requires.lie (flat_is l.mode l.level.now (sym (c.if-is_flat.ensures)))).1
 
 pub entries_end-loop-init : goal.entries_end-loop-init
 entries_end-loop-init t c = record {
@@ -64,16 +47,6 @@ behind_first-returns-clause-seen t c = others_seen c.args.layer.now c.args.left 
 pub behind_first-returns-clause-rest : goal.behind_first-returns-clause-rest
 behind_first-returns-clause-rest t c = others_rests c.args.layer.now c.args.left c.requires.lie c.requires.some c.entry_end-behind.result c.entry_end-behind.ensures.rest
 
-pub entry_end-returns-then-is_flat-clause-rest : goal.entry_end-returns-then-is_flat-clause-rest
-entry_end-returns-then-is_flat-clause-rest t c =
-    let l = c.args.layer.now in
-    (first_flat l c.args.left c.requires.lie c.requires.some (flat_is l.mode l.level.now (sym (c.if-is_flat.ensures)))).0
-
-pub entry_end-returns-then-is_flat-clause-within : goal.entry_end-returns-then-is_flat-clause-within
-entry_end-returns-then-is_flat-clause-within t c =
-    let l = c.args.layer.now in
-    (first_flat l c.args.left c.requires.lie c.requires.some (flat_is l.mode l.level.now (sym (c.if-is_flat.ensures)))).1
-
 pub entry_end-first_child-requires : goal.entry_end-first_child-requires
 entry_end-first_child-requires t c = level_within c.args.layer.now.layout.now c.args.layer.now.number c.args.layer.now.level.now c.requires.layer.level_is
 
@@ -102,6 +75,9 @@ entry_end-returns-clause-rest t c =
     ap rest_of seen.reads.1 ∙ sym (parts_rest s p seen l refl c.first_child.result c.groups_end-at.result c.groups_end-at.ensures.rest) ∙ c.parts_end.ensures.rest
 
 -- ---- groups
+
+pub group_end-flat_end-requires-clause-flat : goal.group_end-flat_end-requires-clause-flat
+group_end-flat_end-requires-clause-flat t c = sym (c.if-is_flat.ensures)
 
 pub groups_end-returns-clause-rest : goal.groups_end-returns-clause-rest
 groups_end-returns-clause-rest t c = c.loop.invariant.rest ∙ none_left c.args.layer.now c.loop.spot (omega (arith, c.loop.invariant.next, c.loop-test.false, c.len-end.ensures))

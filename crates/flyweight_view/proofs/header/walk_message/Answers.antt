@@ -6,8 +6,8 @@ use Rattle.var_data.proofs.DataRows.{at_each}
 use Rattle.flyweight_view.proofs.Bodies.{root_level}
 use Rattle.flyweight_view.proofs.header.walk_message.Goals as goal
 
-pub judge_block-requires-clause-level : goal.judge_block-requires-clause-level
-judge_block-requires-clause-level c = root_level c.args.layout.now c.args.template c.root-root.result c.message-level.result.now c.root-root.ensures c.message-level.ensures
+pub judge_block-requires : goal.judge_block-requires
+judge_block-requires c = record { level = root_level c.args.layout.now c.args.template c.root-root.result c.message-level.result.now c.root-root.ensures c.message-level.ensures }
 
 pub walk_entry-requires-clause-level : goal.walk_entry-requires-clause-level
 walk_entry-requires-clause-level c = root_level c.args.layout.now c.args.template c.root-root.result c.message-level.result.now c.root-root.ensures c.message-level.ensures

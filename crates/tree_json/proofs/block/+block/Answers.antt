@@ -13,12 +13,21 @@ use Rattle.tree_json.proofs.Entries.{goes_on, ends_so, item_next}
 use Rattle.tree_json.proofs.Depth.{AreWithin, seen_within, first_within, some_deep}
 use Rattle.tree_json.proofs.Blocks.{front_closed}
 use Rattle.tree_json.proofs.HeadText.{front_is, no_groups, some_groups}
-use Rattle.tree_json.proofs.Views.{groups_are}
+use Rattle.tree_json.proofs.Views.{groups_are, none_left}
 use Rattle.tree_json.proofs.ViewSteps.{part_of, view_next, view_over}
 use Rattle.tree_json.proofs.block.+block.Goals as goal
 
+pub put_front-returns-then-count-eq0 : goal.put_front-returns-then-count-eq0
+put_front-returns-then-count-eq0 g t c =
+    let s = c.args.block.now in
+    let none = no_groups s.groups (out-Block s.block).groups (omega (arith, c.if-count-eq0.true, ap (λ r. r.1) c.counts-count.ensures)) in
+    retold (front_is s) (then_writes c.put_head.ensures (retold none writes_nothing))
+
 pub put_front-returns : goal.put_front-returns
-put_front-returns g t c = retold (front_is c.args.block.now) (then_writes c.put_head.ensures c.put_groups.ensures)
+put_front-returns g t c =
+    let s = c.args.block.now in
+    let some = some_groups s.groups (out-Block s.block).groups (omega (arith, c.if-count-eq0.false, ap (λ r. r.1) c.counts-count.ensures)) in
+    retold (front_is s) (then_writes c.put_head.ensures (retold some c.put_groups.ensures))
 
 pub put_entry-returns : goal.put_entry-returns
 put_entry-returns g t c =
@@ -57,10 +66,6 @@ put_groups-loop-i-preserved g t c =
       written = (_, then_writes so_far.written.1 one, rw c.put_group-later.ensures.later (goes_on so_far.written.0 _ _ _ _ next so_far.written.2));
     }
 
-pub put_groups-returns-then-count-eq0 : goal.put_groups-returns-then-count-eq0
-put_groups-returns-then-count-eq0 g t c =
-    retold (no_groups c.args.block.now.groups (out-Block c.args.block.now.block).groups (omega (arith, c.if-count-eq0.true, ap (λ r. r.1) c.counts-count.ensures))) writes_nothing
-
 pub put_groups-returns : goal.put_groups-returns
 put_groups-returns g t c =
     let so_far = c.loop-i.invariant.written in
@@ -68,19 +73,32 @@ put_groups-returns g t c =
     let values = (out-Block c.args.block.now.block).groups in
     let none = view_over entries_entry c.loop-i.later c.loop-i.i groups c.loop-i.groups (omega (arith, ap (λ r. r.1) c.counts-count.ensures)) in
     let whole = ap (λ vs. entries_text false (zipped entries_entry groups vs)) c.groups-groups.ensures.seen ∙ ap (entries_text false) (groups_are groups values) in
-    let some = some_groups groups values (omega (arith, c.if-count-eq0.false, ap (λ r. r.1) c.counts-count.ensures)) in
-    retold (ends_so so_far.0 _ _ _ none so_far.2 ∙ whole ∙ some) (then_writes so_far.1 c.put.ensures)
+    retold (ends_so so_far.0 _ _ _ none so_far.2 ∙ whole) (then_writes so_far.1 c.put.ensures)
 
-pub put_entries-loop-entry-init : goal.put_entries-loop-entry-init
-put_entries-loop-entry-init g t c =
+pub put_entries-put_views-requires : goal.put_entries-put_views-requires
+put_entries-put_views-requires g t c = λ κs h. (omega (arith, c.put_flat_entries-later.ensures.low, c.decreases), h)
+
+pub put_entries-returns-then-len-eq0 : goal.put_entries-returns-then-len-eq0
+put_entries-returns-then-len-eq0 g t c =
+    let front = c.put_flat_entries-later.ensures.text in
+    let none = none_left c.put_flat_entries-later.result c.put_flat_entries-later.new.entries (omega (arith, c.if-len-eq0.true, c.len.ensures)) in
+    then_writes c.put.ensures (retold (ap (λ l. front.done ++ l) none ∙ front.whole) (then_writes front.written c.put-then-len-eq0.ensures))
+
+pub put_entries-returns : goal.put_entries-returns
+put_entries-returns g t c =
+    let front = c.put_flat_entries-later.ensures.text in
+    then_writes c.put.ensures (retold front.whole (then_writes front.written c.put_views.ensures))
+
+pub put_views-loop-entry-init : goal.put_views-loop-entry-init
+put_views-loop-entry-init g t c =
     let same = c.into_iter-entry-iterator.ensures.into_iter_gives in
-    record { low = omega (arith, ap deepest_in same); written = ([], writes_nothing, ap (λ es. plain_items false (items_by seen_data es)) same) }
+    record { low = omega (arith, ap deepest_in same); written = ([], writes_nothing, ap (λ es. plain_items c.args.later (items_by seen_data es)) same) }
 
-pub put_entries-put_entry-requires : goal.put_entries-put_entry-requires
-put_entries-put_entry-requires g t c = λ κs h. (omega (arith, c.loop-entry.invariant.low, ap deepest_in c.in-Some.ensures.steps, c.decreases), h)
+pub put_views-put_entry-requires : goal.put_views-put_entry-requires
+put_views-put_entry-requires g t c = λ κs h. (omega (arith, c.loop-entry.invariant.low, ap deepest_in c.in-Some.ensures.steps, c.decreases), h)
 
-pub put_entries-loop-entry-preserved : goal.put_entries-loop-entry-preserved
-put_entries-loop-entry-preserved g t c =
+pub put_views-loop-entry-preserved : goal.put_views-loop-entry-preserved
+put_views-loop-entry-preserved g t c =
     let so_far = c.loop-entry.invariant in
     let later = c.loop-entry.later in
     let rest = c.next.new.self in
@@ -91,8 +109,8 @@ put_entries-loop-entry-preserved g t c =
       written = (_, then_writes so_far.written.1 c.put_entry.ensures, goes_on so_far.written.0 _ _ _ _ next so_far.written.2);
     }
 
-pub put_entries-returns : goal.put_entries-returns
-put_entries-returns g t c =
+pub put_views-returns : goal.put_views-returns
+put_views-returns g t c =
     let so_far = c.loop-entry.invariant.written in
     let none = sym (ap (λ es. plain_items c.loop-entry.later (items_by seen_data es)) c.in-None.ensures.steps.0) in
-    then_writes c.put.ensures (retold (ends_so so_far.0 _ _ _ none so_far.2) (then_writes so_far.1 c.put-2.ensures))
+    retold (ends_so so_far.0 _ _ _ none so_far.2) (then_writes so_far.1 c.put.ensures)

@@ -18,26 +18,29 @@ invariant-put_groups-loop-i g l =
           × (done ++ entries_text l.later (zipped entries_entry (drop l.i l.block.groups) l.groups) ≡ entries_text false (zipped entries_entry l.block.groups l.initial.groups));
     }
 
-abbrev pub invariant-put_entries-loop-entry : goal.invariant-put_entries-loop-entry
-invariant-put_entries-loop-entry g l =
+abbrev pub invariant-put_views-loop-entry : goal.invariant-put_views-loop-entry
+invariant-put_views-loop-entry g l =
     record {
       low : deepest_in l.entry-iterator ≤ deepest_in l.fn.entries;
       written : (done : List ℕ)
           × Writes (output (g.O.Sink.held l.initial.sink) (g.O.Sink.faults l.initial.sink) l.initial.chunk) (output (g.O.Sink.held l.sink) (g.O.Sink.faults l.sink) l.chunk) done
-          × (done ++ plain_items l.later (items_by seen_data l.entry-iterator) ≡ plain_items false (items_by seen_data l.fn.entries));
+          × (done ++ plain_items l.later (items_by seen_data l.entry-iterator) ≡ plain_items l.fn.later (items_by seen_data l.fn.entries));
     }
 
 abbrev pub decreases-put_front : goal.decreases-put_front
-decreases-put_front g l = 5 * deepest l.block.now.groups + 1
+decreases-put_front g l = 6 * deepest l.block.now.groups + 1
 
 abbrev pub decreases-put_groups : goal.decreases-put_groups
-decreases-put_groups g l = 5 * deepest l.block.now.groups
+decreases-put_groups g l = 6 * deepest l.block.now.groups
 
 abbrev pub decreases-put_entry : goal.decreases-put_entry
-decreases-put_entry g l = 5 * deepest l.entry.now.groups + 2
+decreases-put_entry g l = 6 * deepest l.entry.now.groups + 2
+
+abbrev pub decreases-put_views : goal.decreases-put_views
+decreases-put_views g l = 6 * deepest_in l.entries + 3
 
 abbrev pub decreases-put_entries : goal.decreases-put_entries
-decreases-put_entries g l = 5 * deepest_in l.entries + 3
+decreases-put_entries g l = 6 * deepest_in l.entries + 4
 
 abbrev pub decreases-put_group : goal.decreases-put_group
-decreases-put_group g l = 5 * deepest_of l.entries + 4
+decreases-put_group g l = 6 * deepest_of l.entries + 5

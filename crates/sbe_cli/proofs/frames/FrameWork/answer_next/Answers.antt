@@ -11,7 +11,7 @@ returns-in-Ok-clause-answers g c =
     let after : Streams = record { input = record { told = g.I.Source.left c.take.new.input; faults = g.I.Source.faults c.take.new.input }; sinks = record { output = record { told = g.O.Sink.held c.answer.new.output; faults = g.O.Sink.faults c.answer.new.output }; notes = record { told = g.N.Sink.held c.args.notes.now; faults = g.N.Sink.faults c.args.notes.now } } } in
     let takes = rw c.in-Ok-Frame.field-0-is at (c.in-Ok-Frame.ensures.takes c.requires.stands.runs) in
     let size = (rw c.in-Ok-Frame.field-0-is at c.in-Ok-Frame.ensures.body).0 in
-    went c.args.self.now.job c.args.self.now.limits c.args.kept before after c.args.self.now.stream c.take.new.self c.requires.stands c.in-Ok-Frame.head takes size c.requires.ready c.in-Ok.verdict c.in-Ok.ensures refl c.in-Ok-Frame.ensures.cause
+    went c.args.self.now.job c.args.self.now.limits c.args.kept before after c.args.self.now.stream c.take.new.self c.requires.stands c.in-Ok-Frame.head takes size c.requires.ready c.in-Ok.verdict c.in-Ok.ensures.delivers refl c.in-Ok-Frame.ensures.cause
 
 pub returns-in-Err-clause-answers : goal.returns-in-Err-clause-answers
 returns-in-Err-clause-answers g c =
@@ -19,7 +19,7 @@ returns-in-Err-clause-answers g c =
     let after : Streams = record { input = record { told = g.I.Source.left c.take.new.input; faults = g.I.Source.faults c.take.new.input }; sinks = record { output = record { told = g.O.Sink.held c.answer.new.output; faults = g.O.Sink.faults c.answer.new.output }; notes = record { told = g.N.Sink.held c.args.notes.now; faults = g.N.Sink.faults c.args.notes.now } } } in
     let takes = rw c.in-Ok-Frame.field-0-is at (c.in-Ok-Frame.ensures.takes c.requires.stands.runs) in
     let size = (rw c.in-Ok-Frame.field-0-is at c.in-Ok-Frame.ensures.body).0 in
-    stopped c.args.self.now.job c.args.self.now.limits c.args.kept before after c.args.self.now.stream c.take.new.self c.requires.stands c.in-Ok-Frame.head takes size c.requires.ready c.in-Err.field-0 c.in-Err.ensures refl
+    stopped c.args.self.now.job c.args.self.now.limits c.args.kept before after c.args.self.now.stream c.take.new.self c.requires.stands c.in-Ok-Frame.head takes size c.requires.ready c.in-Err.field-0 c.in-Err.ensures.delivers refl
 
 pub returns-in-Ok-End-clause-answers : goal.returns-in-Ok-End-clause-answers
 returns-in-Ok-End-clause-answers g c =
@@ -31,31 +31,31 @@ returns-in-Ok-End-clause-answers g c =
 pub returns-in-Ok-EndInside-clause-answers : goal.returns-in-Ok-EndInside-clause-answers
 returns-in-Ok-EndInside-clause-answers g c =
     let before : Streams = record { input = record { told = g.I.Source.left c.args.input.now; faults = g.I.Source.faults c.args.input.now }; sinks = record { output = record { told = g.O.Sink.held c.args.output.now; faults = g.O.Sink.faults c.args.output.now }; notes = record { told = g.N.Sink.held c.args.notes.now; faults = g.N.Sink.faults c.args.notes.now } } } in
-    let after : Streams = record { input = record { told = g.I.Source.left c.take.new.input; faults = g.I.Source.faults c.take.new.input }; sinks = record { output = record { told = g.O.Sink.held c.args.output.now; faults = g.O.Sink.faults c.args.output.now }; notes = record { told = g.N.Sink.held c.tell.new.notes; faults = g.N.Sink.faults c.tell.new.notes } } } in
+    let after : Streams = record { input = record { told = g.I.Source.left c.take.new.input; faults = g.I.Source.faults c.take.new.input }; sinks = record { output = record { told = g.O.Sink.held c.args.output.now; faults = g.O.Sink.faults c.args.output.now }; notes = record { told = g.N.Sink.held c.tell_inside.new.notes; faults = g.N.Sink.faults c.tell_inside.new.notes } } } in
     let takes = rw c.in-Ok-EndInside.field-0-is at (c.in-Ok-EndInside.ensures.takes c.requires.stands.runs) in
-    closed_with c.args.self.now.job c.args.self.now.limits c.args.kept before after c.args.self.now.stream c.take.new.self c.requires.stands (ended.Inside c.in-Ok-EndInside.held) (stop.EndInside c.in-Ok-EndInside.held c.args.kept.bytes) c.tell.result takes c.in-Ok-EndInside.ensures.cause refl refl refl c.tell.ensures
+    closed_with c.args.self.now.job c.args.self.now.limits c.args.kept before after c.args.self.now.stream c.take.new.self c.requires.stands (ended.Inside c.in-Ok-EndInside.held) (stop.EndInside c.in-Ok-EndInside.held c.args.kept.bytes) c.tell_inside.result takes c.in-Ok-EndInside.ensures.cause refl refl refl c.tell_inside.ensures
 
 pub returns-in-Err-Head-clause-answers : goal.returns-in-Err-Head-clause-answers
 returns-in-Err-Head-clause-answers g c =
     let before : Streams = record { input = record { told = g.I.Source.left c.args.input.now; faults = g.I.Source.faults c.args.input.now }; sinks = record { output = record { told = g.O.Sink.held c.args.output.now; faults = g.O.Sink.faults c.args.output.now }; notes = record { told = g.N.Sink.held c.args.notes.now; faults = g.N.Sink.faults c.args.notes.now } } } in
-    let after : Streams = record { input = record { told = g.I.Source.left c.take.new.input; faults = g.I.Source.faults c.take.new.input }; sinks = record { output = record { told = g.O.Sink.held c.args.output.now; faults = g.O.Sink.faults c.args.output.now }; notes = record { told = g.N.Sink.held c.tell-in-Err-Head.new.notes; faults = g.N.Sink.faults c.tell-in-Err-Head.new.notes } } } in
+    let after : Streams = record { input = record { told = g.I.Source.left c.take.new.input; faults = g.I.Source.faults c.take.new.input }; sinks = record { output = record { told = g.O.Sink.held c.args.output.now; faults = g.O.Sink.faults c.args.output.now }; notes = record { told = g.N.Sink.held c.tell_head.new.notes; faults = g.N.Sink.faults c.tell_head.new.notes } } } in
     let takes = rw c.in-Err-Head.field-0-is at (c.in-Err-Head.ensures.takes c.requires.stands.runs) in
     let calm = rw c.in-Err-Head.field-0-is at c.in-Err-Head.ensures.cause in
-    closed_with c.args.self.now.job c.args.self.now.limits c.args.kept before after c.args.self.now.stream c.take.new.self c.requires.stands (ended.Head c.in-Err-Head.fault) (stop.Head c.in-Err-Head.fault c.args.kept.bytes) c.tell-in-Err-Head.result takes calm refl refl refl c.tell-in-Err-Head.ensures
+    closed_with c.args.self.now.job c.args.self.now.limits c.args.kept before after c.args.self.now.stream c.take.new.self c.requires.stands (ended.Head c.in-Err-Head.fault) (stop.Head c.in-Err-Head.fault c.args.kept.bytes) c.tell_head.result takes calm refl refl refl c.tell_head.ensures
 
 pub returns-in-Err-InputLimit-clause-answers : goal.returns-in-Err-InputLimit-clause-answers
 returns-in-Err-InputLimit-clause-answers g c =
     let before : Streams = record { input = record { told = g.I.Source.left c.args.input.now; faults = g.I.Source.faults c.args.input.now }; sinks = record { output = record { told = g.O.Sink.held c.args.output.now; faults = g.O.Sink.faults c.args.output.now }; notes = record { told = g.N.Sink.held c.args.notes.now; faults = g.N.Sink.faults c.args.notes.now } } } in
-    let after : Streams = record { input = record { told = g.I.Source.left c.take.new.input; faults = g.I.Source.faults c.take.new.input }; sinks = record { output = record { told = g.O.Sink.held c.args.output.now; faults = g.O.Sink.faults c.args.output.now }; notes = record { told = g.N.Sink.held c.tell-in-Err-InputLimit.new.notes; faults = g.N.Sink.faults c.tell-in-Err-InputLimit.new.notes } } } in
+    let after : Streams = record { input = record { told = g.I.Source.left c.take.new.input; faults = g.I.Source.faults c.take.new.input }; sinks = record { output = record { told = g.O.Sink.held c.args.output.now; faults = g.O.Sink.faults c.args.output.now }; notes = record { told = g.N.Sink.held c.tell_limit.new.notes; faults = g.N.Sink.faults c.tell_limit.new.notes } } } in
     let takes = rw c.in-Err-InputLimit.field-0-is at (c.in-Err-InputLimit.ensures.takes c.requires.stands.runs) in
     let calm = rw c.in-Err-InputLimit.field-0-is at c.in-Err-InputLimit.ensures.cause in
-    closed_with c.args.self.now.job c.args.self.now.limits c.args.kept before after c.args.self.now.stream c.take.new.self c.requires.stands ended.Over (stop.InputLimit c.args.self.now.limits.input) c.tell-in-Err-InputLimit.result takes calm refl refl refl c.tell-in-Err-InputLimit.ensures
+    closed_with c.args.self.now.job c.args.self.now.limits c.args.kept before after c.args.self.now.stream c.take.new.self c.requires.stands ended.Over (stop.InputLimit c.args.self.now.limits.input) c.tell_limit.result takes calm refl refl refl c.tell_limit.ensures
 
 pub returns-in-Err-ReadFault-clause-answers : goal.returns-in-Err-ReadFault-clause-answers
 returns-in-Err-ReadFault-clause-answers g c =
     let before : Streams = record { input = record { told = g.I.Source.left c.args.input.now; faults = g.I.Source.faults c.args.input.now }; sinks = record { output = record { told = g.O.Sink.held c.args.output.now; faults = g.O.Sink.faults c.args.output.now }; notes = record { told = g.N.Sink.held c.args.notes.now; faults = g.N.Sink.faults c.args.notes.now } } } in
-    let after : Streams = record { input = record { told = g.I.Source.left c.take.new.input; faults = g.I.Source.faults c.take.new.input }; sinks = record { output = record { told = g.O.Sink.held c.args.output.now; faults = g.O.Sink.faults c.args.output.now }; notes = record { told = g.N.Sink.held c.tell-in-Err-ReadFault.new.notes; faults = g.N.Sink.faults c.tell-in-Err-ReadFault.new.notes } } } in
+    let after : Streams = record { input = record { told = g.I.Source.left c.take.new.input; faults = g.I.Source.faults c.take.new.input }; sinks = record { output = record { told = g.O.Sink.held c.args.output.now; faults = g.O.Sink.faults c.args.output.now }; notes = record { told = g.N.Sink.held c.tell_fault.new.notes; faults = g.N.Sink.faults c.tell_fault.new.notes } } } in
     let takes = rw c.in-Err-ReadFault.field-0-is at (c.in-Err-ReadFault.ensures.takes c.requires.stands.runs) in
     let cause = rw c.in-Err-ReadFault.field-0-is at c.in-Err-ReadFault.ensures.cause in
-    let told = rw c.taken.ensures at c.tell-in-Err-ReadFault.ensures in
-    closed_read c.args.self.now.job c.args.self.now.limits c.args.kept before after c.args.self.now.stream c.take.new.self c.requires.stands c.tell-in-Err-ReadFault.result takes c.in-Err-ReadFault.ensures.part cause refl told
+    let told = rw c.taken.ensures at c.tell_fault.ensures in
+    closed_read c.args.self.now.job c.args.self.now.limits c.args.kept before after c.args.self.now.stream c.take.new.self c.requires.stands c.tell_fault.result takes c.in-Err-ReadFault.ensures.part cause refl told

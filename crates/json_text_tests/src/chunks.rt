@@ -1,12 +1,10 @@
-mod values;
-
-use crate::Chunk;
 use sbe_base::MemSink;
 use std::alloc::Global;
 use std::test::Fail;
+use tree_json::Chunk;
 
 /// A sink in memory that never fails.
-fn sink(alloc: Global) -> Result<MemSink, Fail> {
+pub(crate) fn sink(alloc: Global) -> Result<MemSink, Fail> {
     Ok(MemSink::new(alloc, 8192, &[])?)
 }
 
@@ -19,7 +17,7 @@ fn piece(alloc: Global, many: usize) -> Result<Vec<u8>, Fail> {
     Ok(bytes)
 }
 
-const LENGTHS: [usize; 6] = [0, 1, 511, 512, 513, 1100];
+const LENGTHS: [usize; 6] = [0, 1, 1_023, 1_024, 1_025, 2_100];
 
 #[test]
 fn gathers_pieces_of_all_lengths(rt: HostRuntime) -> Result<(), Fail> {
@@ -54,10 +52,10 @@ fn leaves_a_front_at_each_failing_call(rt: HostRuntime) -> Result<(), Fail> {
     Ok(())
 }
 
-/// Whether 3,000 bytes were written, in pieces of 10.
+/// Whether 6,000 bytes were written, in pieces of 10.
 fn written(out: &mut MemSink) -> bool {
     let mut chunk = Chunk::new();
-    for _ in 0..300u32 {
+    for _ in 0..600u32 {
         chunk.put(out, b"0123456789");
     }
     chunk.finish(out).is_ok()

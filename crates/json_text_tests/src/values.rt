@@ -1,11 +1,11 @@
-use super::sink;
-use crate::{
-    Chunk, put_char, put_constant, put_count, put_enum, put_number, put_set, put_string, put_text,
-};
+use crate::chunks::sink;
 use lists::{List, NoMem};
 use sbe_types::{ConstValue, Named, Prim};
 use std::alloc::Global;
 use std::test::Fail;
+use tree_json::{
+    Chunk, put_char, put_constant, put_count, put_enum, put_number, put_set, put_string, put_text,
+};
 
 const NUMBERS: [(i128, &[u8]); 14] = [
     (0, b"0"),
