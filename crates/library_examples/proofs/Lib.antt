@@ -2,3 +2,4 @@ mod NumberThere
 mod Adding
 mod Within
 mod OrderBytes
+mod OrderFits

@@ -41,7 +41,7 @@ use Rattle.library_examples.specs.Orders.{IsOrderSchema, leg_block, leg_bytes, l
 
 -- ---- lists of one item, or of none
 
-one_item : {A : Type 0} (xs : List A) → length xs ≡ 1 → (x : A) × (xs ≡ x ∷ [])
+pub one_item : {A : Type 0} (xs : List A) → length xs ≡ 1 → (x : A) × (xs ≡ x ∷ [])
 one_item [] h = absurd (omega (arith, h))
 one_item (x ∷ []) h = (x, refl)
 one_item (x ∷ y ∷ ys) h = absurd (omega (arith, h))
@@ -68,7 +68,7 @@ pub record OrderLevels (schema : WireSchema) : Type 0 where
   pub leg_groups : (out-Level (out-Group group).level).groups ≡ []
   pub leg_parts : (out-Level (out-Group group).level).parts ≡ []
 
-order_levels : (schema : WireSchema) → IsOrderSchema schema → OrderLevels schema
+pub order_levels : (schema : WireSchema) → IsOrderSchema schema → OrderLevels schema
 order_levels schema is =
     let n : ℕ = root_of schema 0 in
     let first = item_there schema.messages 0 is.message in

@@ -1,5 +1,5 @@
 -- What is told of the body of a line.
-use Rattle.std.specs.Prelude.{◌≡◌, ℕ, List, Some, Ok}
+use Rattle.std.specs.Prelude.{◌≡◌, ℕ, List, Some, None, Ok}
 use Rattle.sbe_types.specs.declared.schema.WireSchema.{WireSchema}
 use Rattle.sbe_types.specs.declared.message.Msg.{Msg}
 use Rattle.sbe_wire.specs.Canonical.{canonical}
@@ -10,10 +10,11 @@ use Rattle.library_examples.specs.declared.bodies.BodyErr.{BodyErr}
 use Rattle.library_examples.specs.declared.bodies.BodyErr.TheVariants.{Line, Misfit}
 use Rattle.library_examples.specs.Lines.{IsRefused}
 
--- The line holds a message, and this is its canonical body.
-pub record IsBodyOf (schema : WireSchema) (line body : List ℕ) : Type 0 where
+-- The line holds a message without a misfit within the limit, and this is its canonical body.
+pub record IsBodyOf (schema : WireSchema) (line : List ℕ) (limit : ℕ) (body : List ℕ) : Type 0 where
   pub message : Msg
   pub held : tree_of schema line ≡ Ok message
+  pub fits : misfit schema message limit ≡ None
   pub written : canonical schema message ≡ Some body
 
 -- the line holds no message; or it holds one, and this is the first misfit of it within the limit

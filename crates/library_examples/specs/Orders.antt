@@ -1,5 +1,5 @@
 -- A message that is written part by part.
-use Rattle.std.specs.Prelude.{◌≡◌, ◌<◌, ℕ, ℤ, Option, List, [], ◌∷◌, length, map}
+use Rattle.std.specs.Prelude.{◌≡◌, ◌<◌, ℕ, ℤ, true, Option, None, List, [], ◌∷◌, length, map}
 use Rattle.std.specs.Option.{option_and_then}
 use Rattle.sbe_types.specs.declared.message.Block.{Block}
 use Rattle.sbe_types.specs.declared.message.DataVal.TheVariants as dataval
@@ -10,11 +10,12 @@ use Rattle.sbe_types.specs.declared.schema.Level.{Level}
 use Rattle.sbe_types.specs.declared.schema.WireSchema.{WireSchema}
 use Rattle.sbe_types.specs.Wire.{both}
 use Rattle.sbe_wire.specs.Canonical.{all_bytes}
+use Rattle.sbe_wire.specs.Misfit.{Misfit, or_else}
 use Rattle.schema_facts.specs.Levels.{fields_at, groups_at, level_at, parts_at, root_of}
 use Rattle.layout_compile.specs.Parts.{group_number}
 use Rattle.typed_writer.specs.Held.{Held}
 use Rattle.typed_writer.specs.States.{level_of}
-use Rattle.typed_writer.specs.Steps.{dimension_in}
+use Rattle.typed_writer.specs.Steps.{admits_entries, dimension_in, misfit_at}
 use Rattle.tree_codec.specs.Puts.{entry_put}
 
 -- the number of the level of an order's legs
@@ -62,3 +63,18 @@ leg_bytes schema quantity = option_and_then (λ (level : Level). entry_put schem
 -- those of all legs behind their dimension
 abbrev pub legs_bytes : WireSchema → List ℤ → Option (List ℕ)
 legs_bytes schema legs = both (dimension_in schema (legs_of schema) (length legs)) (all_bytes (leg_bytes schema) legs)
+
+-- ---- what of it fits
+
+-- the quantity fits the field of a leg
+abbrev pub LegFits : WireSchema → ℤ → Type 0
+LegFits schema quantity = misfit_at schema (legs_of schema) 0 (value.Num quantity) ≡ None
+
+-- the first misfit of the quantities of legs
+abbrev pub legs_misfit : WireSchema → List ℤ → Option Misfit
+legs_misfit schema [] = None
+legs_misfit schema (q ∷ qs) = or_else (misfit_at schema (legs_of schema) 0 (value.Num q)) (legs_misfit schema qs)
+
+-- the group may have so many legs, and each fits
+abbrev pub LegsFit : WireSchema → List ℤ → Type 0
+LegsFit schema legs = (admits_entries schema (legs_of schema) (length legs) ≡ true) × (legs_misfit schema legs ≡ None)

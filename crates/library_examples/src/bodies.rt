@@ -32,7 +32,7 @@ pub fn body_of_line(
     buffer: &mut FrameBuf,
 ) -> Result<usize, BodyErr>
     requires { layout.now ≡ checked.now }
-    ensures body { OnOk result (IsBodyOf checked.now line.now buffer.new.bytes) }
+    ensures body { OnOk result (IsBodyOf checked.now line.now buffer.old.limit buffer.new.bytes) }
     ensures length { IfOk result (λ n. n ≡ length buffer.new.bytes) }
     ensures refused { IfErr result (IsNoBody checked.now line.now buffer.old.limit) }
 {

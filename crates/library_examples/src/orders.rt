@@ -1,11 +1,12 @@
 // An order, written part by part.
 ghost use Rattle.std.specs.Prelude.{◌≡◌, ◌∷◌, [], ◌-◌, ◌<◌, drop, length, true, OnOk, IfOk};
 ghost use Rattle.sbe_wire.specs.Canonical.{canonical};
+ghost use Rattle.sbe_wire.specs.Fits.{Fits};
 ghost use Rattle.schema_facts.specs.Levels.{root_of};
 ghost use Rattle.flyweight_view.specs.Ready.{IsReadySchema};
 ghost use Rattle.typed_writer.specs.Empty.{behind};
 ghost use Rattle.typed_writer.specs.States.{entries_left, level_of, AppendsEntries, AppendsParts};
-ghost use Rattle.library_examples.specs.Orders.{leg_bytes, legs_bytes, order_message, AtLegs, IsOrderSchema};
+ghost use Rattle.library_examples.specs.Orders.{leg_bytes, legs_bytes, order_message, AtLegs, IsOrderSchema, LegFits, LegsFit};
 
 use layout_compile::Layout;
 use sbe_types::Value;
@@ -36,17 +37,19 @@ pub enum OrderErr {
     Full(Full),
 }
 
-/// Writes an order as the first message of a schema, and tells how many bytes its body has. The message has one field,
-/// one group whose entries have one field, and one data part. It takes no memory.
+/// Writes an order as the first message of a schema: the message fits, and its canonical body is what the buffer then
+/// holds. Tells how many bytes it has. The message has one field, one group whose entries have one field, and one data
+/// part. It takes no memory.
 ///
 /// # Errors
 ///
-/// The first part that doesn't fit.
+/// A part that doesn't fit, or another schema. No contract says which, nor what the buffer then holds.
 pub fn write_order(
     layout: &Layout,
     order: &Order<'_>,
     buffer: &mut FrameBuf,
 ) -> Result<usize, OrderErr>
+    ensures fits { OnOk result (Fits layout.now (order_message layout.now.version order.now.number order.now.legs.now order.now.note.now)) }
     ensures body { OnOk result (canonical layout.now (order_message layout.now.version order.now.number order.now.legs.now order.now.note.now) ≡ Some buffer.new.bytes) }
     ensures length { IfOk result (λ n. n ≡ length buffer.new.bytes) }
     ensures whole { OnOk result (buffer.new.frames ≡ []) }
@@ -104,6 +107,7 @@ fn write_legs(layout: &Layout, tail: &mut TailW<'_>, legs: &[i128]) -> Result<()
     ensures same_reference { tail.new.buf.ghost_name ≡ tail.old.buf.ghost_name }
     ensures same_layout { tail.new.layout ≡ tail.old.layout }
     ensures ready { OnOk result (AppendsParts layout.now tail.new.buf.now) }
+    ensures fits { OnOk result (LegsFit layout.now legs.now) }
     ensures bytes { OnOk result (behind tail.old.buf.now.bytes (legs_bytes layout.now legs.now) ≡ Some tail.new.buf.now.bytes) }
     ensures behind { OnOk result (tail.new.buf.now.frames ≡ Frame.Tail (root_of layout.now 0) 1 ∷ []) }
 {
@@ -131,6 +135,7 @@ fn write_leg(layout: &Layout, entries: &mut EntriesW<'_>, quantity: i128) -> Res
     requires legs { AtLegs layout.now entries.old.buf.now }
     ensures same_reference { entries.new.buf.ghost_name ≡ entries.old.buf.ghost_name }
     ensures same_layout { entries.new.layout ≡ entries.old.layout }
+    ensures fits { OnOk result (LegFits layout.now quantity) }
     ensures bytes { OnOk result (behind entries.old.buf.now.bytes (leg_bytes layout.now quantity) ≡ Some entries.new.buf.now.bytes) }
     ensures next { OnOk result (entries.new.buf.now.frames ≡ Frame.Entries (level_of entries.old.buf.now.frames) (entries_left entries.old.buf.now.frames - 1) ∷ drop 1 entries.old.buf.now.frames) }
 {

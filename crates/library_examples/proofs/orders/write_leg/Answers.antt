@@ -1,11 +1,12 @@
-use Rattle.std.proofs.Common.{rules, refl, subst, ◌∙◌}
+use Rattle.std.proofs.Common.{◌≡◌, None, rules, refl, sym, subst, ◌∙◌}
 use mir.Syntax.{w128}
 use Rattle.std.proofs.lemmas.Int.{to_z-of_z}
 use Rattle.sbe_types.specs.declared.message.Value.TheVariants as value
 use Rattle.typed_writer.specs.declared.stack.Frame.TheVariants.{Tail}
 use Rattle.typed_writer.specs.States.{SetsFields, level_of}
-use Rattle.typed_writer.specs.Steps.{SetsField, ends}
+use Rattle.typed_writer.specs.Steps.{SetsField, ends, misfit_at}
 use Rattle.library_examples.proofs.OrderBytes.{leg_written}
+use Rattle.library_examples.proofs.OrderFits.{leg_set}
 use Rattle.library_examples.proofs.orders.write_leg.Goals as goal
 
 pub returns-in-Ok-done-clause-bytes : goal.returns-in-Ok-done-clause-bytes
@@ -23,3 +24,12 @@ returns-in-Ok-done-clause-bytes c =
     leg_written schema c.requires.ready c.requires.schema quantity (Tail (level_of filled.frames) 0) c.args.entries.now.buf.now opened filled tailed (ends tailed) c.requires.legs c.in-Ok.ensures.ok
     c.in-Ok.ensures.ready now sets c.in-Ok-done.ensures.ok refl
     ∙ search rules
+
+pub returns-in-Ok-done-clause-fits : goal.returns-in-Ok-done-clause-fits
+returns-in-Ok-done-clause-fits c =
+    let schema = c.args.layout.now in
+    let quantity = c.args.quantity in
+    let opened = c.in-Ok.fields.buf.now in
+    let back = to_z-of_z w128 quantity c.ranges.quantity in
+    let none = subst (λ q. misfit_at c.in-Ok.fields.layout.now (level_of opened.frames) 0 (value.Num q) ≡ None) back (sym c.in-Ok-set.ensures.refused) in
+    leg_set schema quantity c.args.entries.now.buf.now opened c.requires.legs c.in-Ok.ensures.ok (subst (λ s. misfit_at s (level_of opened.frames) 0 (value.Num quantity) ≡ None) c.in-Ok.ensures.layout none)

@@ -4,7 +4,7 @@ use Rattle.schema_facts.specs.Levels.{root_of}
 use Rattle.typed_writer.specs.declared.stack.Frame.TheVariants.{Entries, Tail}
 use Rattle.typed_writer.specs.Empty.{behind}
 use Rattle.typed_writer.specs.States.{AppendsEntries}
-use Rattle.library_examples.specs.Orders.{leg_bytes, legs_of}
+use Rattle.library_examples.specs.Orders.{leg_bytes, legs_misfit, legs_of}
 use Rattle.library_examples.proofs.orders.write_legs.Given as goal
 
 abbrev pub invariant-loop-quantity : goal.invariant-loop-quantity
@@ -15,4 +15,5 @@ invariant-loop-quantity l =
       state : AppendsEntries l.layout l.entries.buf.now;
       at : l.entries.buf.now.frames ≡ Entries (legs_of l.layout) (length l.legs - l.quantity-index) ∷ Tail (root_of l.layout 0) 1 ∷ [];
       left : behind l.entries.buf.now.bytes (all_bytes (leg_bytes l.layout) (drop l.quantity-index l.legs)) ≡ behind l.initial.entries.buf.now.bytes (all_bytes (leg_bytes l.layout) l.legs);
+      fits : legs_misfit l.layout (drop l.quantity-index l.legs) ≡ legs_misfit l.layout l.legs;
     }

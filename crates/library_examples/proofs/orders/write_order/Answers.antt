@@ -1,13 +1,15 @@
-use Rattle.std.proofs.Common.{◌≡◌, FitsSigned, rules, subst, ◌∙◌}
+use Rattle.std.proofs.Common.{◌≡◌, None, FitsSigned, rules, sym, ap, subst, ◌∙◌}
 use mir.Syntax.{w128}
 use Rattle.std.proofs.lemmas.Int.{to_z-of_z}
 use Rattle.sbe_types.specs.declared.message.Value.TheVariants as value
+use Rattle.schema_facts.specs.Levels.{root_of}
 use Rattle.flyweight_view.proofs.ReadyTold.{ready_schema}
 use Rattle.typed_writer.specs.declared.stack.Frame.TheVariants.{Tail}
 use Rattle.typed_writer.specs.States.{SetsFields, level_of}
-use Rattle.typed_writer.specs.Steps.{Adds, SetsField}
+use Rattle.typed_writer.specs.Steps.{Adds, SetsField, misfit_at}
 use Rattle.library_examples.specs.Orders.{IsOrderSchema}
 use Rattle.library_examples.proofs.OrderBytes.{order_written}
+use Rattle.library_examples.proofs.OrderFits.{order_fits}
 use Rattle.library_examples.proofs.orders.write_order.Goals as goal
 
 pub write_legs-requires-clause-ready : goal.write_legs-requires-clause-ready
@@ -34,3 +36,21 @@ returns-in-Ok-data-clause-body c =
     order_written schema (ready_schema schema c.schema-schema.ensures.order) is number c.args.order.now.legs.now note (Tail (level_of filled.frames) 0) c.args.buffer.now begun filled c.in-Ok-done.tail.buf.now mid last
     c.in-Ok.ensures.ok c.in-Ok.ensures.ready now sets c.in-Ok-done.ensures.ok c.in_ok-write_legs-in-Ok-done.ensures.bytes c.in_ok-write_legs-in-Ok-done.ensures.behind adds
     ∙ search rules
+
+pub returns-in-Ok-data-clause-fits : goal.returns-in-Ok-data-clause-fits
+returns-in-Ok-data-clause-fits c =
+    let schema = c.args.layout.now in
+    let number = c.args.order.now.number in
+    let note = c.args.order.now.note.now in
+    let begun = c.in-Ok.fields.buf.now in
+    let mid = c.write_legs.new.tail.buf.now in
+    let last = c.data.new.self.buf.now in
+    let is : IsOrderSchema schema = search rules in
+    let fits : FitsSigned w128 number = search rules in
+    let back = to_z-of_z w128 number fits in
+    let given = subst (λ q. misfit_at c.in-Ok.fields.layout.now (level_of begun.frames) 0 (value.Num q) ≡ None) back (sym c.in-Ok-set.ensures.refused) in
+    let own = subst (λ s. misfit_at s (level_of begun.frames) 0 (value.Num number) ≡ None) c.in-Ok.ensures.layout given in
+    let none : misfit_at schema (root_of schema 0) 0 (value.Num number) ≡ None = subst (λ n. misfit_at schema n 0 (value.Num number) ≡ None) (ap level_of c.in-Ok.ensures.ok.frames) own in
+    let layout : c.write_legs.new.tail.layout.now ≡ schema = search rules in
+    let adds = subst (λ s. Adds s note mid last) layout c.in-Ok-data.ensures.ok in
+    order_fits schema (ready_schema schema c.schema-schema.ensures.order) is number c.args.order.now.legs.now note mid.frames none c.in_ok-write_legs-in-Ok-done.ensures.fits c.in_ok-write_legs-in-Ok-done.ensures.behind adds.admitted
