@@ -1,8 +1,6 @@
 -- Blocks of a level by its row, and by the table of its fields.
 use Rattle.std.proofs.Common.{◌≡◌, ◌≤◌, ℕ, List, length, Ok, refl, sym, ap, ◌∙◌, subst, arith}
 use Rattle.std.specs.Prelude.{Option, Some, None, IfSome}
-use Rattle.sbe_types.specs.declared.kind.Order.TheVariants.{Little}
-use Rattle.sbe_types.specs.declared.message.Block.{out-Block}
 use Rattle.sbe_types.specs.declared.schema.Field.{Field}
 use Rattle.sbe_types.specs.declared.schema.Level.{Level, out-Level}
 use Rattle.sbe_types.specs.declared.schema.WireSchema.{WireSchema}
@@ -27,7 +25,7 @@ use Rattle.flyweight_view.specs.declared.plan.Plan.TheVariants as plan
 use Rattle.flyweight_view.specs.declared.plan.Span.{Span}
 use Rattle.flyweight_view.specs.ByTable.{IsBlockRow, IsRowBlock, IsTableBlock, ShowsEach}
 use Rattle.flyweight_view.specs.Fields.{fields_told}
-use Rattle.flyweight_view.specs.Planned.{fields_of, groups_of, parts_of, bytes_of, seen_at, values_at, IsSeen}
+use Rattle.flyweight_view.specs.Planned.{fields_of, groups_of, parts_of, seen_at, values_at, IsSeen}
 use Rattle.flyweight_view.specs.Ready.{IsReadySchema}
 use Rattle.flyweight_view.specs.Told.{piece, settled}
 use Rattle.flyweight_view.proofs.Alive.{all_alive}

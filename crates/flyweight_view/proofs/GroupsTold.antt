@@ -2,7 +2,6 @@
 use Rattle.std.proofs.Common.{◌≡◌, ◌≤◌, ◌<◌, ◌+◌, ◌-◌, ℕ, zero, suc, Bool, true, false, cond, List, length, take, drop, Option, Some, None, Result, Ok, Err, refl, sym, ap, ◌∙◌, subst, arith, length-append, length-drop}
 use Rattle.std.specs.Prelude.{IsOk, nat_le, flat_map, map, pos}
 use Rattle.std.specs.Option.{option_map}
-use Rattle.std.specs.Result.{result_ok}
 use Rattle.std.proofs.lemmas.Bool.{le-leb}
 use Rattle.std.proofs.lemmas.Bool.Decides.{nat_tests}
 use Rattle.std.proofs.lemmas.List.{drop-drop}
@@ -182,15 +181,6 @@ module _ (mode : Mode) where
         let bad = dims_bad mode.order dim (floor mode.version (out-Level level).fields) body at f (told ∙ ap (λ k. dim_told mode.order dim k body at) floors) in
         never_ok (groups_by mode g (drop at body)) bad.0
         (group_alive since is alive ∙ ap (λ (r : Result ((ℕ × ℕ) × List ℕ) Fault). and_then (drop at body) r (behind level)) bad.1) ok
-
--- a dimension that is found is told, and where none is found a fault is
-pub some_told : {X : Type 0} (r : Result X Fault) (x : X) → Some x ≡ result_ok r → r ≡ Ok x
-some_told (Ok y) x h = let same : x ≡ y = cc in ap (λ z. Ok z) (sym same)
-some_told (Err f) x h = cc
-
-pub none_told : {X : Type 0} (r : Result X Fault) → None ≡ result_ok r → (f : Fault) × (r ≡ Err f)
-none_told (Ok y) h = cc
-none_told (Err f) h = (f, refl)
 
 -- ---- the entries of a group
 

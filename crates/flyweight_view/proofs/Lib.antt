@@ -26,3 +26,4 @@ pub mod TailsSeen
 pub mod AtOnce
 pub mod Alive
 pub mod BlockRows
+pub mod Standing

@@ -30,11 +30,11 @@ use Rattle.layout_compile.proofs.GroupWalk.{GroupsFrom, groups_go, here}
 use Rattle.group_codec.proofs.DimRows.{row_dim}
 use Rattle.flyweight_view.specs.declared.mode.Mode.{Mode}
 use Rattle.flyweight_view.specs.Cursor.{skim, entries_read, groups_told, steps_told, parts_told, data_told, dim_told}
-use Rattle.flyweight_view.specs.Fields.{fields_told, AreFieldRows}
+use Rattle.flyweight_view.specs.Fields.{fields_told}
 use Rattle.flyweight_view.specs.Ready.{IsReadySchema}
 use Rattle.flyweight_view.specs.Told.{piece, settled}
-use Rattle.flyweight_view.proofs.FieldsTold.{fields_are, rows_ready}
-use Rattle.flyweight_view.proofs.LevelsReady.{level_ready, row_fields, row_parts}
+use Rattle.flyweight_view.proofs.FieldsTold.{fields_are}
+use Rattle.flyweight_view.proofs.LevelsReady.{row_fields, row_parts}
 use Rattle.flyweight_view.proofs.Walks.{entry_walked, group_walked, tail_walked}
 
 -- ---- steps

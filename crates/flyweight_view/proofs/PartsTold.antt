@@ -99,6 +99,11 @@ module _ (mode : Mode) (part : DataField) (body : List ℕ) (at : ℕ) where
       ∙ ap (λ t. cond t (range_answer at (data_range mode.order part.length body at)) (Ok at)) here
       ∙ ap (range_answer at) (sym told))
 
+  -- so its range is told
+  pub range_stands : (r : Result (ℕ × ℕ) DataErr) → at ≤ length body → part.since ≤ mode.version → IsOk (parts_by mode part front) → r ≡ data_range mode.order part.length body at → IsOk r
+  range_stands (Ok range) near alive ok told = refl
+  range_stands (Err e) near alive ok told = absurd (part_never e near alive told ok)
+
 -- ---- the parts of a level
 
 module _ (l : Layer) (i at : ℕ) (part : DataField) (line : LineUp l i at) (there : slice_get (out-Level l.level.now).parts i ≡ Some part) where

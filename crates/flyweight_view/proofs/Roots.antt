@@ -1,7 +1,6 @@
 -- The root's block of a body that is a message.
-use Rattle.std.proofs.Common.{◌≡◌, ◌≤◌, ◌<◌, ℕ, ◌+◌, ◌-◌, Bool, true, false, cond, List, length, take, drop, Option, Some, None, Result, Ok, Err, refl, sym, ap, ◌∙◌, subst, arith, length-drop}
+use Rattle.std.proofs.Common.{◌≡◌, ◌≤◌, ℕ, ◌+◌, ◌-◌, Bool, true, false, cond, List, length, take, drop, Option, Some, None, Result, Ok, Err, refl, sym, ap, ◌∙◌, subst, arith, length-drop}
 use Rattle.std.specs.Prelude.{nat_le, nat_lt, ◌==◌, codes, slice_get}
-use Rattle.std.proofs.lemmas.Option.{slice_get_within}
 use Rattle.std.proofs.lemmas.Bool.{leb-true}
 use Rattle.std.proofs.lemmas.Bool.Decides.{nat_tests}
 use Rattle.sbe_types.specs.declared.message.Block.{Block}
@@ -162,9 +161,6 @@ module _ (schema : WireSchema) (level : Level) (body : List ℕ) (template versi
 
   pub header_fits : header_width schema ≤ length body
   header_fits = both_reads.0
-
-  pub template_within : template < length schema.messages
-  template_within = slice_get_within schema.messages template level is.level_is
 
   root_lies : BlockRead (root_spot schema body version) level body (message_in schema body).block
   root_lies = subst (λ v. BlockRead (root_spot schema body v) level body (message_in schema body).block) is.version_is both_reads.1

@@ -63,6 +63,17 @@ impl<'a> BlockView<'a> {
         BlockView { span, plan }
     }
 
+    /// The same block once more.
+    #[inline(always)]
+    pub fn again(&self) -> BlockView<'a>
+        ensures { result ≡ self.now }
+    {
+        BlockView {
+            span: self.span,
+            plan: self.plan,
+        }
+    }
+
     /// How many fields, groups and data parts it has; a composite has its members as fields, and no more.
     #[inline(always)]
     pub fn counts(&self) -> (usize, usize, usize)
@@ -203,6 +214,7 @@ impl<'a> BlockView<'a> {
     }
 
     /// Its data parts in the schema's order.
+    #[inline(always)]
     #[tactic(auto, using(crate::proofs::TailsSeen::all_parts))]
     pub fn parts(&self) -> PartsView<'a>
         ensures seen { result ≡ map bytes_in self.now.block.parts }

@@ -48,7 +48,7 @@ pub(crate) fn judge_block(
 /// Whether one look at each value of a block, by the table of its level's row, shows it. Numbers that have the highest
 /// byte first aren't looked at, nor blocks of versions without all fields.
 #[inline(always)]
-fn shows_each(mode: Mode, row: &LevelRow, block: &[u8]) -> bool
+pub(crate) fn shows_each(mode: Mode, row: &LevelRow, block: &[u8]) -> bool
     requires table { IsTable row.now.flat }
     requires fits { row.now.newest ≤ mode.version → RowsFit (length block.now) row.now.flat.rows.items }
     ensures { result ≡ true → ShowsEach mode row.now block.now }

@@ -1,9 +1,12 @@
 // What lies behind the entries and groups of a body that was walked. Nothing is judged again.
-ghost use Rattle.std.specs.Prelude.{◌≡◌, ◌≤◌, ◌<◌, ◌+◌, ◌∷◌, ◌&&◌, ◌==◌, true, length, drop, IfSome, IsOk};
+ghost use Rattle.std.specs.Prelude.{◌≡◌, ◌≤◌, ◌<◌, ◌+◌, ◌∷◌, ◌&&◌, ◌==◌, true, length, take, drop, IfSome, IsOk};
 ghost use Rattle.std.specs.Option.{option_map};
 ghost use Rattle.sbe_types.specs.declared.schema.Group.{out-Group};
 ghost use Rattle.sbe_types.specs.declared.schema.Level.{out-Level};
+ghost use Rattle.layout_compile.specs.Heads.{number_at};
 ghost use Rattle.layout_compile.specs.Parts.{dim_at};
+ghost use Rattle.layout_compile.specs.Rowed.{as_spot};
+ghost use Rattle.group_codec.specs.Dims.{IsDimRow};
 ghost use Rattle.flyweight_view.specs.Cursor.{entries_read};
 ghost use Rattle.flyweight_view.specs.Groups.{group_entered, groups_at, groups_by, groups_left, StandThere};
 ghost use Rattle.flyweight_view.specs.Layers.{blocks_at, entries_seen, IsLayer, LieThere};
@@ -14,9 +17,10 @@ ghost use Rattle.flyweight_view.specs.Seen.{seen_level};
 use crate::groups::Spot;
 use crate::layer::Layer;
 use crate::parts::parts_end;
-use crate::walk::{find_dim, first_child};
+use crate::walk::first_child;
 use group_codec::Dim;
-use sbe_types::{Group, Level};
+use layout_compile::{DimRow, number_at};
+use sbe_types::{Group, Level, Order};
 
 /// A group of a level: the level of its entries, their dimension, and where the next group begins.
 #[derive(Clone, Copy)]
@@ -47,7 +51,9 @@ pub(crate) fn others_of(layer: &Layer<'_>, left: Dim) -> Dim
     if is_flat(layer.level) {
         return flat_behind(layer, left);
     }
-    behind_first(layer, left)
+    // A copy of its own, so that nothing is stored where it isn't needed.
+    let layer = *layer;
+    behind_first(&layer, left)
 }
 
 /// The entries behind the first one, where they have neither groups nor data.
@@ -196,6 +202,7 @@ fn last_group<'a>(layer: &Layer<'a>, spot: Spot) -> NextGroup<'a>
 
 /// The place behind the groups of a level, of which the first one is given.
 #[cycle(ends)]
+#[inline(always)]
 pub(crate) fn groups_end(layer: &Layer<'_>, spot: Spot) -> usize
     requires layer { IsLayer layer.now }
     requires stand { StandThere layer.now spot }
@@ -261,13 +268,27 @@ fn dim_there(layer: &Layer<'_>, group: &Group, at: usize) -> Option<Dim>
     if row.since > layer.mode.version {
         return None;
     }
-    let least = layer.layout.floor(layer.number, layer.mode.version);
     match &row.dim {
-        Some(dim) => match find_dim(layer.mode.order, dim, least, layer.body, at) {
-            Some(dim) => Some(dim),
-            None => unreachable!(),
-        },
+        Some(dim) => Some(stood_dim(layer.mode.order, dim, layer.body, at)),
         None => unreachable!(),
+    }
+}
+
+/// The dimension at a place where one lies: its numbers are read, and not judged once more.
+#[inline(always)]
+fn stood_dim(order: Order, row: &DimRow, body: &[u8], at: usize) -> Dim
+    requires row { IsDimRow row.now }
+    requires room { at + row.now.width ≤ length body.now }
+    ensures block { result.block ≡ number_at order (as_spot row.now.block) (take row.now.width (drop at body.now)) }
+    ensures count { result.count ≡ number_at order (as_spot row.now.count) (take row.now.width (drop at body.now)) }
+    ensures after { result.after ≡ at + row.now.width }
+{
+    let after = at + row.width as usize;
+    let head = &body[at..after];
+    Dim {
+        block: number_at(order, &row.block, head),
+        count: number_at(order, &row.count, head),
+        after,
     }
 }
 

@@ -2,7 +2,7 @@
 ghost use Rattle.std.specs.Prelude.{◌≡◌, ◌≤◌, ◌<◌, ◌^◌, Some, IfSome, IfNone, length, slice_get};
 ghost use Rattle.sbe_types.specs.declared.schema.Level.{Level, out-Level};
 ghost use Rattle.sbe_wire.specs.Versions.{acting, floor};
-ghost use Rattle.schema_facts.specs.Levels.{level_at};
+ghost use Rattle.schema_facts.specs.Levels.{level_at, root_of};
 ghost use Rattle.layout_compile.specs.Heads.{header_width};
 ghost use Rattle.std.specs.Option.{option_map};
 ghost use Rattle.flyweight_view.specs.Heads.{message_from, mode_of, rest_told, start_in, start_told, start_went, template_told};
@@ -16,7 +16,7 @@ use crate::found::Found;
 use crate::head_numbers::numbers_in;
 use crate::mode::Mode;
 use crate::plan::{Plan, Span};
-use crate::walk::walk_entry;
+use crate::walk::walk_root;
 use layout_compile::Layout;
 use sbe_types::Level;
 use sbe_wire::FCode;
@@ -94,6 +94,7 @@ pub(crate) fn walk_message(
     requires template { template < length layout.now.messages }
     requires header { header_width layout.now ≤ length body.now }
     ensures told { (level : Level) → slice_get layout.now.messages template ≡ Some level → went result out.new ≡ message_from layout.now level body.now start }
+    ensures version { IfSome result (λ version. version ≡ start.version) }
     ensures low { IfNone result (length out.new.path ≤ 20) }
 {
     let level = layout.message(template);
@@ -102,7 +103,7 @@ pub(crate) fn walk_message(
     match judge_block(layout, root, level, start, out) {
         Some(judged) => {
             let mode = mode_of(layout, judged.version);
-            match walk_entry(layout, mode, root, level, judged.block, body, wide, out) {
+            match walk_root(layout, mode, root, level, judged.block, body, wide, out) {
                 Some(next) => judge_rest(mode.known, judged.version, body, next, out),
                 None => None,
             }
@@ -112,7 +113,8 @@ pub(crate) fn walk_message(
 }
 
 /// How the values of a message of that version are read.
-fn mode_of(layout: &Layout, version: u32) -> Mode
+#[inline(always)]
+pub(crate) fn mode_of(layout: &Layout, version: u32) -> Mode
     ensures { result ≡ mode_of layout.now version }
 {
     Mode {
@@ -132,6 +134,7 @@ fn judge_block(
 ) -> Option<Start>
     requires level { level_at layout.now root ≡ Some level.now }
     ensures told { start_went result out.new ≡ start_told layout.now level.now start }
+    ensures same { IfSome result (λ s. s ≡ start) }
     ensures reaches { IfSome result (λ s. floor (acting layout.now s.version) (out-Level level.now).fields ≤ s.block) }
     ensures low { IfNone result (length out.new.path ≡ 0) }
 {
@@ -152,6 +155,7 @@ fn judge_block(
 fn judge_rest(known: bool, version: u32, body: &[u8], next: usize, out: &mut Found) -> Option<u32>
     requires { next ≤ length body.now }
     ensures told { went result out.new ≡ rest_told known version body.now next }
+    ensures version { IfSome result (λ v. v ≡ version) }
     ensures low { IfNone result (length out.new.path ≡ 0) }
 {
     if known && next < body.len() {
@@ -161,22 +165,25 @@ fn judge_rest(known: bool, version: u32, body: &[u8], next: usize, out: &mut Fou
     Some(version)
 }
 
-/// The root's block of a body that is a message of that template, whose header says this.
+/// The root's block of a body that is a message of that template, whose header says this. The root's level has that
+/// number, and its values are read so.
 pub(crate) fn root_of<'a>(
     layout: &'a Layout,
     level: &'a Level,
     template: usize,
     start: Start,
+    root: usize,
+    mode: Mode,
     body: &'a [u8],
 ) -> BlockView<'a>
     requires read { IsRead layout.now level.now body.now template start.version }
     requires block { start.block ≡ (start_in layout.now body.now).block }
+    requires root { root ≡ root_of layout.now template }
+    requires mode { mode ≡ mode_of layout.now start.version }
     ensures { result ≡ seen_level level.now (message_in layout.now body.now).block }
 {
     let _schema = layout.schema();
     let wide = layout.header_row().width as usize;
-    let mode = mode_of(layout, start.version);
-    let root = layout.root(template);
     let span = Span {
         mode,
         body,

@@ -18,7 +18,7 @@ use crate::plan::{Plan, Span};
 use crate::walk::first_child;
 use sbe_types::DataField;
 use std::marker::Model;
-use var_data::read_data_of;
+use var_data::standing_data;
 
 /// The data parts of a block that are left, each found behind the one before it. It lends from the body.
 #[derive(Drop)]
@@ -88,6 +88,7 @@ impl<'a> PartsView<'a> {
 }
 
 /// The data parts of a block.
+#[inline(always)]
 pub(crate) fn parts_in<'a>(span: &Span<'a>, plan: &Plan<'a>) -> PartsView<'a>
     requires { IsSeen span.now plan.now }
     ensures { result ≡ map bytes_in (out-Block (block_of (block_told span.now plan.now))).parts }
@@ -144,6 +145,7 @@ pub(crate) fn parts_end(layer: &Layer<'_>, at: usize) -> usize
 }
 
 /// Where the bytes of data part `i` of a level lie, which begins at a place. None where it is absent.
+#[inline(always)]
 fn next_range(layer: &Layer<'_>, i: usize, at: usize) -> Option<(usize, usize)>
     requires layer { IsLayer layer.now }
     requires line { LineUp layer.now i at }
@@ -167,10 +169,7 @@ fn part_range(mode: Mode, part: &DataField, body: &[u8], at: usize) -> Option<(u
     if part.since > mode.version {
         return None;
     }
-    match read_data_of(mode.order, &part.length, body, at) {
-        Ok(range) => Some(range),
-        Err(_) => unreachable!(),
-    }
+    Some(standing_data(mode.order, &part.length, body, at))
 }
 
 /// The place behind a data part that begins at a place.

@@ -9,8 +9,9 @@ ghost use Rattle.flyweight_view.specs.Seen.{seen_level};
 ghost use Rattle.flyweight_view.specs.Viewed.{refused};
 
 use crate::block::BlockView;
-use crate::header::{Start, find_template, root_of, walk_message};
+use crate::header::{Start, find_template, mode_of, root_of, walk_message};
 use crate::last_refusal::LastRefusal;
+use crate::mode::Mode;
 use layout_compile::Layout;
 use sbe_types::{Level, Path};
 use sbe_wire::FCode;
@@ -38,6 +39,10 @@ pub struct MsgView<'a> {
     body: &'a [u8],
     template: usize,
     start: Start,
+    /// The number of the root's level.
+    root: usize,
+    /// How its values are read.
+    mode: Mode,
 }
 
 impl<'a> Model for MsgView<'a> {
@@ -91,6 +96,8 @@ impl<'a> MsgView<'a> {
             self.level,
             self.template,
             self.start,
+            self.root,
+            self.mode,
             self.body,
         )
     }
@@ -143,6 +150,8 @@ pub fn look<'a>(layout: &'a Layout, body: &'a [u8], last: &mut LastRefusal) -> O
         }
     };
     let level = layout.message(named.template);
+    let root = layout.root(named.template);
+    let mode = mode_of(layout, named.start.version);
     match walk_message(layout, named.template, named.start, body, &mut last.found) {
         Some(version) => Some(MsgView {
             layout,
@@ -153,6 +162,8 @@ pub fn look<'a>(layout: &'a Layout, body: &'a [u8], last: &mut LastRefusal) -> O
                 block: named.start.block,
                 version,
             },
+            root,
+            mode,
         }),
         None => {
             last.template = Some(named.template);

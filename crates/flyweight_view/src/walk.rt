@@ -1,8 +1,6 @@
 // The levels of a body: their entries, groups and data.
-ghost use Rattle.std.specs.Prelude.{◌≡◌, ◌≤◌, ◌<◌, ◌+◌, ◌*◌, ◌^◌, ℕ, List, Some, length, IfSome, IfNone};
+ghost use Rattle.std.specs.Prelude.{◌≡◌, ◌≤◌, ◌<◌, ◌+◌, ◌-◌, ◌*◌, ◌^◌, ℕ, List, Some, Ok, length, take, drop, true, IfSome, IfNone};
 ghost use Rattle.std.specs.List.{AllByRecursion};
-ghost use Rattle.std.specs.Option.{option_map};
-ghost use Rattle.std.specs.Result.{result_ok};
 ghost use Rattle.sbe_types.specs.declared.kind.Member.{Member};
 ghost use Rattle.sbe_types.specs.declared.limits.TheConstants.{PART_LIMIT};
 ghost use Rattle.sbe_types.specs.declared.schema.Group.{out-Group};
@@ -13,15 +11,17 @@ ghost use Rattle.schema_rules.specs.PartRules.{most_groups};
 ghost use Rattle.schema_facts.specs.CheckedLevels.{groups_deep};
 ghost use Rattle.schema_facts.specs.Levels.{all_nodes, level_at};
 ghost use Rattle.schema_facts.specs.Measured.{IsSmall};
+ghost use Rattle.flat_rows.specs.Tables.{IsTable, RowsFit};
 ghost use Rattle.layout_compile.specs.Parts.{dim_at};
 ghost use Rattle.layout_compile.specs.Rowed.{DimIs, RowFor};
 ghost use Rattle.group_codec.specs.Dims.{IsDimRow};
+ghost use Rattle.flyweight_view.specs.ByTable.{ShowsEach};
 ghost use Rattle.flyweight_view.specs.Cursor.{skim, entries_read, groups_told, steps_told, data_told, parts_told, dim_told, dim_went};
 ghost use Rattle.flyweight_view.specs.Layers.{IsLayer};
 ghost use Rattle.flyweight_view.specs.Ready.{IsReadySchema};
 ghost use Rattle.flyweight_view.specs.Told.{went};
 
-use crate::by_table::judge_block;
+use crate::by_table::{judge_block, shows_each};
 use crate::ends::is_flat;
 use crate::found::Found;
 use crate::layer::Layer;
@@ -68,6 +68,76 @@ pub(crate) fn walk_entry(
         return Some(behind);
     }
     walk_tail(layout, mode, n, level, body, behind, out)
+}
+
+/// The same of a root: without groups and data it is looked at by its table first, apart from the walk over groups and data.
+#[inline(always)]
+pub(crate) fn walk_root(
+    layout: &Layout,
+    mode: Mode,
+    n: usize,
+    level: &Level,
+    block: u32,
+    body: &[u8],
+    at: usize,
+    out: &mut Found,
+) -> Option<usize>
+    requires schema { IsReadySchema layout.now }
+    requires level { level_at layout.now n ≡ Some level.now }
+    requires shallow { groups_deep level.now ≤ most_groups }
+    requires reaches { floor mode.version (out-Level level.now).fields ≤ block }
+    requires at { at ≤ length body.now }
+    ensures told { went result out.new ≡ skim (entries_read mode level.now block) body.now at }
+    ensures within { IfSome result (λ next. next ≤ length body.now) }
+    ensures low { IfNone result (length out.new.path ≤ 2 * groups_deep level.now + 6) }
+{
+    if is_flat(level) {
+        let layer = Layer {
+            layout,
+            number: n,
+            level,
+            mode,
+            body,
+        };
+        if let Some(next) = behind_root(&layer, layout.row(n), block, at) {
+            return Some(next);
+        }
+    }
+    walk_entry(layout, mode, n, level, block, body, at, out)
+}
+
+/// The place behind a root without groups and data, where one look at each value shows it.
+#[inline(always)]
+fn behind_root(layer: &Layer<'_>, row: &LevelRow, block: u32, at: usize) -> Option<usize>
+    requires layer { IsLayer layer.now }
+    requires row { RowFor layer.now.layout.now layer.now.number row.now }
+    requires groups { length (out-Level layer.now.level.now).groups ≡ 0 }
+    requires parts { length (out-Level layer.now.level.now).parts ≡ 0 }
+    requires reaches { floor layer.now.mode.version (out-Level layer.now.level.now).fields ≤ block }
+    requires at { at ≤ length layer.now.body.now }
+    ensures told { IfSome result (λ next. Ok next ≡ skim (entries_read layer.now.mode layer.now.level.now block) layer.now.body.now at) }
+    ensures within { IfSome result (λ next. next ≤ length layer.now.body.now) }
+{
+    if !shows_block(layer.mode, row, layer.body, at, block) {
+        return None;
+    }
+    Some(at + block as usize)
+}
+
+/// Whether a block of so many bytes lies at a place of the body, and one look at each value shows it.
+#[inline(never)]
+fn shows_block(mode: Mode, row: &LevelRow, body: &[u8], at: usize, block: u32) -> bool
+    requires table { IsTable row.now.flat }
+    requires fits { row.now.newest ≤ mode.version → RowsFit block row.now.flat.rows.items }
+    requires at { at ≤ length body.now }
+    ensures room { result ≡ true → at + block ≤ length body.now }
+    ensures shows { result ≡ true → ShowsEach mode row.now (take block (drop at body.now)) }
+{
+    let size = block as usize;
+    if body.len() - at < size {
+        return false;
+    }
+    shows_each(mode, row, &body[at..at + size])
 }
 
 /// Walks the groups and then the data of a level from a place on.
@@ -240,9 +310,12 @@ fn walk_blocks(layer: &Layer<'_>, dim: Dim, out: &mut Found) -> Option<usize>
     ensures low { IfNone result (length out.new.path ≤ 7) }
 {
     let row = layer.layout.row(layer.number);
-    let mut at = dim.after;
-    for i in 0..dim.count {
-        match walk_block(layer, row, dim.block, at, out) {
+    let reached = walk_shown(layer, row, dim);
+    let mut at = reached.at;
+    for i in reached.entry..dim.count {
+        // A copy of its own, so that nothing is stored where it isn't needed.
+        let layer = *layer;
+        match walk_block(&layer, row, dim.block, at, out) {
             Some(next) => at = next,
             None => {
                 out.under(Step::Entry(i));
@@ -253,8 +326,64 @@ fn walk_blocks(layer: &Layer<'_>, dim: Dim, out: &mut Found) -> Option<usize>
     Some(at)
 }
 
-/// Walks an entry of a level without groups and data, by the level's row.
+/// How far entries were walked: up to this one, which begins at this place.
+#[derive(Clone, Copy)]
+struct Reached {
+    entry: u32,
+    at: usize,
+}
+
+/// Walks the first entries of a group without groups and data, as far as one look at each value shows them.
 #[inline(always)]
+fn walk_shown(layer: &Layer<'_>, row: &LevelRow, dim: Dim) -> Reached
+    requires layer { IsLayer layer.now }
+    requires row { RowFor layer.now.layout.now layer.now.number row.now }
+    requires groups { length (out-Level layer.now.level.now).groups ≡ 0 }
+    requires parts { length (out-Level layer.now.level.now).parts ≡ 0 }
+    requires reaches { 0 < dim.count → floor layer.now.mode.version (out-Level layer.now.level.now).fields ≤ dim.block }
+    requires at { dim.after ≤ length layer.now.body.now }
+    ensures near { result.at ≤ length layer.now.body.now }
+    ensures told { steps_told (skim (entries_read layer.now.mode layer.now.level.now dim.block) layer.now.body.now) result.entry (dim.count - result.entry) result.at
+        ≡ steps_told (skim (entries_read layer.now.mode layer.now.level.now dim.block) layer.now.body.now) 0 dim.count dim.after }
+{
+    let mut at = dim.after;
+    for i in 0..dim.count {
+        match behind_shown(layer, row, dim.block, at) {
+            Some(next) => at = next,
+            None => return Reached { entry: i, at },
+        }
+    }
+    Reached {
+        entry: dim.count,
+        at,
+    }
+}
+
+/// The place behind an entry of a level without groups and data, where one look at each value shows it.
+#[inline(always)]
+fn behind_shown(layer: &Layer<'_>, row: &LevelRow, block: u32, at: usize) -> Option<usize>
+    requires layer { IsLayer layer.now }
+    requires row { RowFor layer.now.layout.now layer.now.number row.now }
+    requires groups { length (out-Level layer.now.level.now).groups ≡ 0 }
+    requires parts { length (out-Level layer.now.level.now).parts ≡ 0 }
+    requires reaches { floor layer.now.mode.version (out-Level layer.now.level.now).fields ≤ block }
+    requires at { at ≤ length layer.now.body.now }
+    ensures told { IfSome result (λ next. Ok next ≡ skim (entries_read layer.now.mode layer.now.level.now block) layer.now.body.now at) }
+    ensures within { IfSome result (λ next. next ≤ length layer.now.body.now) }
+{
+    let size = block as usize;
+    if layer.body.len() - at < size {
+        return None;
+    }
+    let behind = at + size;
+    if !shows_each(layer.mode, row, &layer.body[at..behind]) {
+        return None;
+    }
+    Some(behind)
+}
+
+/// Walks an entry of a level without groups and data, by the level's row.
+#[inline(never)]
 fn walk_block(
     layer: &Layer<'_>,
     row: &LevelRow,
@@ -325,33 +454,6 @@ pub(crate) fn walk_dim(
             out.tell(FCode::Count, at + row.count.place as usize, count as i128);
             None
         }
-    }
-}
-
-/// The dimension of a group whose entries have at least so many bytes in their blocks, if one lies there.
-#[inline(always)]
-pub(crate) fn find_dim(
-    order: Order,
-    row: &DimRow,
-    least: u32,
-    body: &[u8],
-    at: usize,
-) -> Option<Dim>
-    requires row { IsDimRow row.now }
-    requires at { at ≤ length body.now }
-    ensures told { (dim : List Member) → DimIs row.now dim → option_map (λ d. (d.block, d.count)) result ≡ result_ok (dim_told order dim least body.now at) }
-    ensures reaches { IfSome result (λ d. 0 < d.count → least ≤ d.block) }
-    ensures after { IfSome result (λ d. d.after ≡ at + row.now.width) }
-    ensures within { IfSome result (λ d. d.after ≤ length body.now) }
-{
-    match read_dim_row(order, row, body, at) {
-        Ok(dim) => {
-            if dim.count == 0 || dim.block >= least {
-                return Some(dim);
-            }
-            None
-        }
-        Err(_) => None,
     }
 }
 

@@ -39,10 +39,12 @@ pub fn small_number(order: Order, prim: Prim, bytes: &[u8]) -> u32
     requires wide { length bytes.now ≡ prim_width prim }
     ensures { result ≡ natural (number_of order prim bytes.now) }
 {
-    match prim {
-        Prim::U8 => get_num(order, Prim::U8, bytes) as u32,
-        Prim::U16 => get_num(order, Prim::U16, bytes) as u32,
-        Prim::U32 => get_num(order, Prim::U32, bytes) as u32,
-        Prim::Char | Prim::I8 | Prim::I16 | Prim::I32 | Prim::I64 | Prim::U64 => unreachable!(),
+    // Asked for by two tests, the most frequent first: a table of all primitives would be jumped through at each number.
+    if prim == Prim::U16 {
+        return get_num(order, Prim::U16, bytes) as u32;
     }
+    if prim == Prim::U8 {
+        return get_num(order, Prim::U8, bytes) as u32;
+    }
+    get_num(order, Prim::U32, bytes) as u32
 }

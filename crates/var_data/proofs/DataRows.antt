@@ -1,14 +1,15 @@
 -- Data parts by their rows.
-use Rattle.std.proofs.Common.{◌≡◌, ◌≤◌, ◌<◌, ◌+◌, ◌-◌, ℕ, zero, suc, cond, List, [], ◌∷◌, length, take, drop, get_or, Option, Some, Result, Err, refl, sym, ap, ◌∙◌, subst, arith}
-use Rattle.std.specs.Prelude.{slice_get, map}
+use Rattle.std.proofs.Common.{◌≡◌, ◌≤◌, ◌<◌, ◌+◌, ◌-◌, ℕ, zero, suc, Bool, true, false, cond, List, [], ◌∷◌, length, take, drop, get_or, Option, Some, Result, Ok, Err, refl, sym, ap, ◌∙◌, subst, arith}
+use Rattle.std.specs.Prelude.{IsOk, nat_le, pos, slice_get, map}
 use Rattle.std.specs.List.{AllByRecursion}
 use Rattle.std.specs.Option.{option_map}
 use Rattle.std.proofs.lemmas.Option.{slice_get_read}
 use Rattle.layout_compile.proofs.Told.{parts_there}
 use Rattle.sbe_types.specs.declared.kind.Order.{Order}
-use Rattle.std.proofs.lemmas.Bool.{le-leb}
+use Rattle.std.proofs.lemmas.Bool.{leb-true, le-leb}
 use Rattle.sbe_types.specs.declared.kind.Leaf.{Leaf as LeafOf}
 use Rattle.sbe_types.specs.Numbers.{number_of, natural, prim_width}
+use Rattle.sbe_types.specs.Shown.{admits}
 use Rattle.sbe_types.specs.declared.schema.DataField.{DataField}
 use Rattle.sbe_types.specs.declared.schema.Level.{out-Level}
 use Rattle.sbe_types.specs.declared.schema.WireSchema.{WireSchema}
@@ -73,6 +74,29 @@ range_is order leaf bytes at wide size result is room sizes told =
     ∙ ap (λ k. range_behind leaf size bytes (at + k)) is
     ∙ ap (λ n. range_behind leaf n bytes (at + w)) (sizes ∙ ap (λ k. natural (number_of order leaf.prim (take k (drop at bytes)))) same)
     ∙ sym (ap (λ t. cond t (range_behind leaf (natural (number_of order leaf.prim (take w (drop at bytes)))) bytes (at + w)) (Err (Truncated w))) (le-leb w (length bytes - at) (omega arith)))
+
+-- ---- data that lie there
+
+long_by : (t : Bool) (wide room : ℕ) (r : Result (ℕ × ℕ) DataErr) (e : DataErr) → nat_le wide room ≡ t → IsOk (cond t r (Err e)) → wide ≤ room
+long_by true wide room r e is h = leb-true wide room is
+long_by false wide room r e is h = cc
+
+-- their length number is there
+pub stands_long : (order : Order) (leaf : LeafOf) (bytes : List ℕ) (at : ℕ) → IsOk (data_range order leaf bytes at) → prim_width leaf.prim ≤ length bytes - at
+stands_long order leaf bytes at h = long_by (nat_le (prim_width leaf.prim) (length bytes - at)) (prim_width leaf.prim) (length bytes - at) _ _ refl h
+
+range_by : (t u : Bool) (range : ℕ × ℕ) (e f : DataErr) → IsOk (cond t (cond u (Ok range) (Err e)) (Err f)) → Ok range ≡ cond t (cond u (Ok range) (Err e)) (Err f)
+range_by true true range e f h = refl
+range_by true false range e f h = cc
+range_by false u range e f h = cc
+
+-- and their range is known by it
+pub stands_told : (order : Order) (leaf : LeafOf) (bytes : List ℕ) (at wide size : ℕ) → wide ≡ prim_width leaf.prim → size ≡ natural (number_of order leaf.prim (take (at + wide - at) (drop at bytes))) →
+    IsOk (data_range order leaf bytes at) → Ok (at + wide, at + wide + size) ≡ data_range order leaf bytes at
+stands_told order leaf bytes at wide size is sizes stands =
+    let start = at + wide in
+    let same : range_behind leaf size bytes start ≡ data_range order leaf bytes at = range_is order leaf bytes at wide size (range_behind leaf size bytes start) is (omega (arith, is, stands_long order leaf bytes at stands)) sizes refl in
+    range_by (admits leaf (pos size)) (nat_le size (length bytes - start)) (start, start + size) _ _ (subst (λ (r : Result (ℕ × ℕ) DataErr). IsOk r) (sym same) stands) ∙ same
 
 -- ---- a data part of the schema
 

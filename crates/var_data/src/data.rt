@@ -1,4 +1,4 @@
-ghost use Rattle.std.specs.Prelude.{◌≡◌, ◌≤◌, ◌<◌, Some, length, slice_get};
+ghost use Rattle.std.specs.Prelude.{◌≡◌, ◌≤◌, ◌<◌, Some, Ok, IsOk, length, slice_get};
 ghost use Rattle.std.specs.Option.{option_map};
 ghost use Rattle.sbe_types.specs.declared.kind.Primitive.TheVariants.{U16};
 ghost use Rattle.schema_facts.specs.IsChecked.{IsChecked};
@@ -74,6 +74,20 @@ pub fn read_data_of(
     let start = at + wide;
     let size = small_number(order, leaf.prim, &bytes[at..start]);
     range_behind(leaf, size, bytes, start)
+}
+
+/// The same of data that lie there, as where they were read before. Nothing is judged again.
+#[inline(always)]
+pub fn standing_data(order: Order, leaf: &Leaf, bytes: &[u8], at: usize) -> (usize, usize)
+    requires small { IsSmall leaf.now.prim }
+    requires at { at ≤ length bytes.now }
+    requires stands { IsOk (data_range order leaf.now bytes.now at) }
+    ensures { Ok result ≡ data_range order leaf.now bytes.now at }
+{
+    let wide = leaf.prim.width();
+    let start = at + wide;
+    let size = small_number(order, leaf.prim, &bytes[at..start]);
+    (start, start + size as usize)
 }
 
 /// Data of so many bytes whose bytes begin at a place.

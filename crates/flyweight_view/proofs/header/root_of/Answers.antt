@@ -5,23 +5,20 @@ use Rattle.flyweight_view.specs.Seen.{seen_level}
 use Rattle.flyweight_view.proofs.Bodies.{root_level}
 use Rattle.flyweight_view.proofs.LevelsReady.{level_ready}
 use Rattle.flyweight_view.proofs.ReadyTold.{ready_schema}
-use Rattle.flyweight_view.proofs.Roots.{Spot, template_within, root_at, read_own}
+use Rattle.flyweight_view.proofs.Roots.{Spot, root_at, read_own}
 use Rattle.flyweight_view.proofs.header.root_of.Goals as goal
-
-pub root-root-requires : goal.root-root-requires
-root-root-requires c = template_within c.args.layout.now c.args.level.now c.args.body.now c.args.template c.args.start.version c.requires.read
 
 pub new-requires : goal.new-requires
 new-requires c =
     let schema = c.args.layout.now in
     let level = c.args.level.now in
     let body = c.args.body.now in
-    let root = c.root-root.result in
+    let root = c.args.root in
     let size = c.requires.block ∙ ap (λ n. head_number schema (codes "blockLength") (take n body)) (sym c.header_row.ensures.width) in
-    let spot : Spot = record { mode = c.mode_of-mode.result; at = c.header_row.result.now.width; size = c.args.start.block } in
+    let spot : Spot = record { mode = c.args.mode; at = c.header_row.result.now.width; size = c.args.start.block } in
     let ready = ready_schema schema c.schema-schema.ensures.order in
-    let level_is = root_level schema c.args.template root level c.root-root.ensures c.requires.read.level_is in
-    let lies = root_at schema level body c.args.template c.args.start.version c.requires.read spot c.mode_of-mode.ensures c.header_row.ensures.width size in
+    let level_is = root_level schema c.args.template root level c.requires.root c.requires.read.level_is in
+    let lies = root_at schema level body c.args.template c.args.start.version c.requires.read spot c.requires.mode c.header_row.ensures.width size in
     let own = read_own _ _ lies.reads.0 lies.reads.1 in
     record {
       plan_is = record { ready = ready; level_is = level_is };
@@ -37,6 +34,6 @@ returns c =
     let level = c.args.level.now in
     let body = c.args.body.now in
     let size = c.requires.block ∙ ap (λ n. head_number schema (codes "blockLength") (take n body)) (sym c.header_row.ensures.width) in
-    let spot : Spot = record { mode = c.mode_of-mode.result; at = c.header_row.result.now.width; size = c.args.start.block } in
-    let lies = root_at schema level body c.args.template c.args.start.version c.requires.read spot c.mode_of-mode.ensures c.header_row.ensures.width size in
+    let spot : Spot = record { mode = c.args.mode; at = c.header_row.result.now.width; size = c.args.start.block } in
+    let lies = root_at schema level body c.args.template c.args.start.version c.requires.read spot c.requires.mode c.header_row.ensures.width size in
     c.new.ensures ∙ ap (seen_level level) (read_own _ _ lies.reads.0 lies.reads.1).1

@@ -2,7 +2,7 @@ use Rattle.std.proofs.Common.{sym, ap, ◌∙◌}
 use Rattle.std.specs.Prelude.{slice_get}
 use Rattle.sbe_wire.proofs.Messages.{message_judges}
 use Rattle.layout_compile.proofs.Items.{item_there}
-use Rattle.flyweight_view.specs.Heads.{message_from}
+use Rattle.flyweight_view.specs.Heads.{message_from, mode_of}
 use Rattle.flyweight_view.specs.Told.{fault_of}
 use Rattle.flyweight_view.proofs.Bodies.{refused_early, refused_late, body_read, view_reads}
 use Rattle.flyweight_view.proofs.view.look.Goals as goal
@@ -26,6 +26,8 @@ invariant_of-result c =
     record {
       read = record { reads = view.0; template_is = view.1; version_is = view.2; level_is = c.message-level.ensures };
       block_is = ap (λ s. s.block) c.in-Some.ensures.start;
+      root_is = c.root-root.ensures;
+      mode_is = c.mode_of-mode.ensures ∙ ap (mode_of schema) (sym c.in-Some-walk_message.ensures.version);
     }
 
 pub returns-in-Some-walk_message-clause-lies : goal.returns-in-Some-walk_message-clause-lies

@@ -15,6 +15,9 @@ returns-in-None-clause-told c =
     ∙ steps_err step c.loop-i.i c.args.dim.count c.loop-i.at (fault_of c.walk_block.new.out) c.loop-i-test.true c.in-None.ensures.told
     ∙ c.loop-i.invariant.told
 
+pub loop-i-init : goal.loop-i-init
+loop-i-init c = record { near = c.walk_shown-reached.ensures.near; told = c.walk_shown-reached.ensures.told }
+
 pub loop-i-preserved : goal.loop-i-preserved
 loop-i-preserved c =
     let l = c.args.layer.now in
