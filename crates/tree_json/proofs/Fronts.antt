@@ -1,5 +1,5 @@
 -- The text before the first 00, where each of its bytes stands for itself.
-use Rattle.std.proofs.Common.{◌≡◌, ℕ, ◌<◌, ◌≤◌, ◌==◌, Bool, true, false, not, ◌&&◌, List, [], ◌∷◌, length, take, get_or, refl, sym, ap, ◌∙◌, arith}
+use Rattle.std.proofs.Common.{◌≡◌, ℕ, ◌<◌, ◌≤◌, ◌==◌, Bool, true, false, not, ◌&&◌, List, [], ◌∷◌, length, take, get_or, refl, sym, ap, ◌∙◌, arith, length-take-le}
 use Rattle.std.proofs.lemmas.Bool.{cond-false}
 use Rattle.std.proofs.lemmas.Bool.Decides.{nat_tests}
 use Rattle.std.proofs.lemmas.List.Sums.{prefix_len_is, prefix_len_passes, prefix_len-le-length}
@@ -32,9 +32,11 @@ not_empty true (b ∷ text) h = refl
 not_empty false (b ∷ text) h = refl
 
 -- what is written of such a text is what a leaf shows
-pub front_written : {a b : Output} (leaf : Leaf) (bytes text : List ℕ) → text ≡ before_zero bytes → list_all is_plain_byte text ≡ true → 0 < length text
-    → Writes a b (plain_text (string text)) → Writes a b (plain_text (text_shown leaf bytes))
-front_written {a} {b} leaf bytes text is plain some h =
-    let there : (is_optional leaf.presence && is_empty (before_zero bytes)) ≡ false = ap (λ t. is_optional leaf.presence && is_empty t) (sym is) ∙ not_empty (is_optional leaf.presence) text some in
+pub front_written : {a b : Output} (leaf : Leaf) (bytes : List ℕ) (run : ℕ) → take run bytes ≡ before_zero bytes → list_all is_plain_byte (take run bytes) ≡ true → run ≤ length bytes → 0 < run
+    → Writes a b (plain_text (string (take run bytes))) → Writes a b (plain_text (text_shown leaf bytes))
+front_written {a} {b} leaf bytes run is plain within some h =
+    let text = take run bytes in
+    let there : (is_optional leaf.presence && is_empty (before_zero bytes)) ≡ false =
+    ap (λ t. is_optional leaf.presence && is_empty t) (sym is) ∙ not_empty (is_optional leaf.presence) text (omega (arith, some, length-take-le run bytes within)) in
     let shown : text_shown leaf bytes ≡ text_data (before_zero bytes) = cond-false (is_optional leaf.presence && is_empty (before_zero bytes)) null (text_data (before_zero bytes)) there in
     retold (ap (λ t. plain_text (text_data t)) is ∙ ap plain_text (sym shown)) (shows_plain text plain h)

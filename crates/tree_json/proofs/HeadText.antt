@@ -1,6 +1,5 @@
 -- The front of a block's object: its data, its fields by their table, and its groups.
 use Rattle.std.proofs.Common.{◌≡◌, ◌<◌, ℕ, List, [], ◌∷◌, ◌++◌, length, cond, false, refl, sym, ap, ◌∙◌, subst, arith, append_assoc}
-use Rattle.std.proofs.lemmas.List.{append-nil}
 use Rattle.std.proofs.lemmas.Bool.Decides.{nat_tests}
 use Rattle.std.specs.Prelude.{codes, ◌==◌}
 use Rattle.sbe_types.specs.declared.kind.Order.TheVariants.{Little}

@@ -14,7 +14,7 @@ use Rattle.sbe_types.specs.declared.kind.Named.{Named}
 use Rattle.sbe_types.specs.declared.kind.Kind.{Kind, Leaf, Enum, Set, Const, Comp', Row_of-Member, end_of-Member, more_of-Member}
 use Rattle.sbe_types.specs.declared.schema.Field.{Field}
 use Rattle.sbe_types.specs.declared.schema.DataField.{DataField}
-use Rattle.sbe_types.specs.declared.schema.Group.{Group, Group'}
+use Rattle.sbe_types.specs.declared.schema.Group.{Group'}
 use Rattle.sbe_types.specs.declared.schema.Level.{Level, Level', out-Level, Row_of-Group, end_of-Group, more_of-Group}
 use Rattle.sbe_types.specs.declared.message.Elem.{Elem}
 use Rattle.sbe_types.specs.declared.message.Elem.TheVariants as elem

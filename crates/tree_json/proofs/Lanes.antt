@@ -1,5 +1,5 @@
 -- How many bytes stand for themselves, by the lanes of a load.
-use Rattle.std.proofs.Common.{◌≡◌, ℕ, ◌+◌, ◌%◌, ◌^◌, ◌<◌, ◌≤◌, eqb, cond, suc, ◌&&◌, ◌∷◌, Bool, true, false, not, List, [], map, length, take, drop, get_or, Fits, w8, refl, sym, ap, ap₂, ◌∙◌, arith, length-drop, inl, inr}
+use Rattle.std.proofs.Common.{◌≡◌, ℕ, ◌+◌, ◌%◌, ◌^◌, ◌≤◌, eqb, cond, zero, suc, ◌&&◌, ◌∷◌, Bool, true, false, not, List, [], map, length, take, get_or, Fits, w8, refl, sym, ap, ap₂, ◌∙◌, arith, inl, inr}
 use Rattle.std.proofs.lemmas.Bool.{agree_below, agree_below_at, cases_eq, eq-eqb, ne_eqb}
 use Rattle.std.proofs.lemmas.Simd.{map-map, mask_l-mod, length-chunk, chunk-fits, first_set_mask_l}
 use Rattle.std.proofs.lemmas.List.{length-map}
@@ -48,3 +48,13 @@ passes_next false q x n xs is rest = refl
 pub run_passes : (q : ℕ → Bool) (xs : List ℕ) → list_all q (take (prefix_len q xs) xs) ≡ true
 run_passes q [] = refl
 run_passes q (x ∷ xs) = passes_next (q x) q x (prefix_len q xs) xs refl (run_passes q xs)
+
+front_next : (b : Bool) (m n p : ℕ) → suc n ≤ cond b (1 + p) 0 → (n ≤ p → m ≡ n) → cond b (1 + m) 0 ≡ suc n
+front_next true m n p most rest = omega (arith, rest (omega (arith, most)))
+front_next false m n p most rest = absurd (omega (arith, most))
+
+-- a front of a run is a run of its own
+pub front_passes : (q : ℕ → Bool) (xs : List ℕ) (n : ℕ) → n ≤ prefix_len q xs → prefix_len q (take n xs) ≡ n
+front_passes q xs zero most = refl
+front_passes q [] (suc n) most = absurd (omega (arith, most))
+front_passes q (x ∷ xs) (suc n) most = front_next (q x) (prefix_len q (take n xs)) n (prefix_len q xs) most (front_passes q xs n)

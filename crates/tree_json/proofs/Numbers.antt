@@ -1,68 +1,73 @@
 -- The text of numbers.
-use Rattle.std.proofs.Common.{◌≡◌, ◌<◌, ◌≤◌, ◌+◌, ◌*◌, ◌/◌, ◌%◌, ◌^◌, ◌==◌, true, List, ℕ, ℤ, pos, negsuc, [], ◌∷◌, ◌++◌, refl, sym, ap, ap₂, ◌∙◌, arith}
-use Rattle.std.proofs.lemmas.Bool.{agree_below_at, eqb-true}
-use Rattle.std.specs.Prelude.{slice_index}
+use Rattle.std.proofs.Common.{◌≡◌, ◌<◌, ◌≤◌, ◌+◌, ◌-◌, ◌*◌, ◌/◌, ◌%◌, ◌^◌, Bool, true, false, if◌then◌else◌, nat_lt, List, ℕ, ℤ, pos, negsuc, [], ◌∷◌, ◌++◌, take, drop, refl, sym, ap, ap₂, ◌∙◌, append_assoc, append-nil, take-take, arith}
+use Rattle.std.proofs.lemmas.Bool.{agree_below_at, ltb-true, ltb-false}
+use Rattle.std.specs.Str.{bytes_eq}
+use Rattle.std.proofs.lemmas.Slice.Eq.{bytes_eq-Decides}
 use Rattle.std.proofs.lemmas.Fmt.{decimal_digit, decimal_step}
 use Rattle.std.specs.Fmt.{signed_decimal, decimal}
-use Rattle.tree_json.specs.Values.{number_data, last_four, digit_pairs}
+use Rattle.tree_json.specs.Values.{number_data, last_four, digit_pairs, digits_in}
 use Rattle.tree_json.specs.Plain.{plain_text}
 use Rattle.tree_json.specs.Writes.{Output, Writes}
-use Rattle.tree_json.proofs.Written.{retold}
+use Rattle.tree_json.proofs.Written.{retold, then_writes}
 
 pub number_is : (n : ℤ) → signed_decimal n ≡ plain_text (number_data n)
 number_is (pos n) = refl
 number_is (negsuc n) = refl
 
--- a number of one digit
-pub one_digit : {a b : Output} (n : ℕ) → n < 10 → Writes a b ((48 + n) ∷ []) → Writes a b (plain_text (number_data (pos n)))
-one_digit n h = retold (sym (decimal_digit n h))
-
--- a number of two
-pub two_digits : {a b : Output} (n : ℕ) → 10 ≤ n → n < 100 → Writes a b ((48 + n / 10) ∷ (48 + n % 10) ∷ []) → Writes a b (plain_text (number_data (pos n)))
-two_digits n least h =
-    let first : decimal (n / 10) ≡ (48 + n / 10) ∷ [] = decimal_digit (n / 10) (omega (arith, h)) in
-    retold (sym (decimal_step n least (omega (arith, h)) ∙ ap (λ ds. ds ++ ((48 + n % 10) ∷ [])) first))
-
 -- ---- by pairs of digits
 
-pub tens_there : (n : ℕ) → n < 100 → slice_index digit_pairs (2 * n) ≡ 48 + n / 10
-tens_there n h = eqb-true _ _ (agree_below_at (λ k. slice_index digit_pairs (2 * k) == 48 + k / 10) (λ k. true) 100 n refl h)
+pub pair_there : (n : ℕ) → n < 100 → take 2 (drop (2 * n) digit_pairs) ≡ (48 + n / 10) ∷ (48 + n % 10) ∷ []
+pair_there n h =
+    (bytes_eq-Decides (take 2 (drop (2 * n) digit_pairs)) ((48 + n / 10) ∷ (48 + n % 10) ∷ [])).0
+    (agree_below_at (λ k. bytes_eq (take 2 (drop (2 * k) digit_pairs)) ((48 + k / 10) ∷ (48 + k % 10) ∷ [])) (λ k. true) 100 n refl h)
 
-pub ones_there : (n : ℕ) → n < 100 → slice_index digit_pairs (2 * n + 1) ≡ 48 + n % 10
-ones_there n h = eqb-true _ _ (agree_below_at (λ k. slice_index digit_pairs (2 * k + 1) == 48 + k % 10) (λ k. true) 100 n refl h)
+pub digit_there : (n : ℕ) → n < 10 → take 1 (drop (2 * n + 1) digit_pairs) ≡ (48 + n) ∷ []
+digit_there n h =
+    (bytes_eq-Decides (take 1 (drop (2 * n + 1) digit_pairs)) ((48 + n) ∷ [])).0
+    (agree_below_at (λ k. bytes_eq (take 1 (drop (2 * k + 1) digit_pairs)) ((48 + k) ∷ [])) (λ k. true) 10 n refl h)
 
 decimal_two : (n : ℕ) → 10 ≤ n → n < 100 → decimal n ≡ (48 + n / 10) ∷ (48 + n % 10) ∷ []
 decimal_two n least h =
     let first : decimal (n / 10) ≡ (48 + n / 10) ∷ [] = decimal_digit (n / 10) (omega (arith, h)) in
     decimal_step n least (omega (arith, h)) ∙ ap (λ ds. ds ++ ((48 + n % 10) ∷ [])) first
 
-decimal_three : (n : ℕ) → 100 ≤ n → n < 1000 → decimal n ≡ (48 + n / 100) ∷ (48 + n % 100 / 10) ∷ (48 + n % 100 % 10) ∷ []
-decimal_three n least h =
+-- ---- the first one or two digits, which stand in front of the others
+
+lead_one : (n : ℕ) → n < 10 → take 1 (take 2 (drop (2 * n + (2 - 1)) digit_pairs)) ≡ decimal n
+lead_one n h = take-take 1 2 (drop (2 * n + 1) digit_pairs) (omega arith) ∙ digit_there n h ∙ sym (decimal_digit n h)
+
+lead_two : (n : ℕ) → 10 ≤ n → n < 100 → take 2 (take 2 (drop (2 * n + (2 - 2)) digit_pairs)) ≡ decimal n
+lead_two n least h =
+    let same : 2 * n + (2 - 2) ≡ 2 * n = omega arith in
+    take-take 2 2 (drop (2 * n + (2 - 2)) digit_pairs) (omega arith) ∙ ap (λ k. take 2 (drop k digit_pairs)) same ∙ pair_there n h ∙ sym (decimal_two n least h)
+
+lead_by : (n : ℕ) (b : Bool) → nat_lt n 10 ≡ b → n < 100 → take (if b then 1 else 2) (take 2 (drop (2 * n + (2 - (if b then 1 else 2))) digit_pairs)) ≡ decimal n
+lead_by n true is h = lead_one n (ltb-true n 10 is)
+lead_by n false is h = lead_two n (ltb-false n 10 is) h
+
+pub lead_there : (n : ℕ) → n < 100 → take (digits_in n) (take 2 (drop (2 * n + (2 - digits_in n)) digit_pairs)) ≡ decimal n
+lead_there n h = lead_by n (nat_lt n 10) refl h
+
+-- all digits but the last two, and those
+split_two : (n : ℕ) → 100 ≤ n → n < 10000 → decimal n ≡ decimal (n / 100) ++ ((48 + n % 100 / 10) ∷ (48 + n % 100 % 10) ∷ [])
+split_two n least h =
     let x : n / 10 / 10 ≡ n / 100 = omega (arith, h) in
     let y : n / 10 % 10 ≡ n % 100 / 10 = omega (arith, h) in
     let z : n % 10 ≡ n % 100 % 10 = omega (arith, h) in
     decimal_step n (omega (arith, least)) (omega (arith, h))
-    ∙ ap (λ ds. ds ++ ((48 + n % 10) ∷ [])) (decimal_two (n / 10) (omega (arith, least)) (omega (arith, h)))
+    ∙ ap (λ ds. ds ++ ((48 + n % 10) ∷ [])) (decimal_step (n / 10) (omega (arith, least)) (omega (arith, h)))
+    ∙ append_assoc (decimal (n / 10 / 10)) ((48 + n / 10 % 10) ∷ []) ((48 + n % 10) ∷ [])
     ∙ rw (x, y, z) refl
 
-decimal_four : (n : ℕ) → 1000 ≤ n → n < 10000 → decimal n ≡ (48 + n / 100 / 10) ∷ (48 + n / 100 % 10) ∷ (48 + n % 100 / 10) ∷ (48 + n % 100 % 10) ∷ []
-decimal_four n least h =
-    let w : n / 10 / 100 ≡ n / 100 / 10 = omega (arith, h) in
-    let x : n / 10 % 100 / 10 ≡ n / 100 % 10 = omega (arith, h) in
-    let y : n / 10 % 100 % 10 ≡ n % 100 / 10 = omega (arith, h) in
-    let z : n % 10 ≡ n % 100 % 10 = omega (arith, h) in
-    decimal_step n (omega (arith, least)) (omega (arith, h))
-    ∙ ap (λ ds. ds ++ ((48 + n % 10) ∷ [])) (decimal_three (n / 10) (omega (arith, least)) (omega (arith, h)))
-    ∙ rw (w, x, y, z) refl
+-- a number of at most two digits
+pub lead_alone : {a b : Output} (x : List ℕ) (r n : ℕ) → r ≡ digits_in n → take (digits_in n) x ≡ decimal n → Writes a b (take r x ++ ([] ++ [])) → Writes a b (plain_text (number_data (pos n)))
+lead_alone x r n run is w = retold (append-nil (take r x) ∙ ap (λ k. take k x) run ∙ is) w
 
--- a number of three
-pub three_digits : {a b : Output} (n : ℕ) → 100 ≤ n → n < 1000 → Writes a b ((48 + n / 100) ∷ (48 + n % 100 / 10) ∷ (48 + n % 100 % 10) ∷ []) → Writes a b (plain_text (number_data (pos n)))
-three_digits n least h = retold (sym (decimal_three n least h))
-
--- a number of four
-pub four_digits : {a b : Output} (n : ℕ) → 1000 ≤ n → n < 10000 → Writes a b ((48 + n / 100 / 10) ∷ (48 + n / 100 % 10) ∷ (48 + n % 100 / 10) ∷ (48 + n % 100 % 10) ∷ []) →
-    Writes a b (plain_text (number_data (pos n)))
-four_digits n least h = retold (sym (decimal_four n least h))
+-- with two digits behind
+pub lead_pair : {a b : Output} {y : List ℕ} (x : List ℕ) (r n : ℕ) → 100 ≤ n → n < 10000 → r ≡ digits_in (n / 100) → take (digits_in (n / 100)) x ≡ decimal (n / 100) →
+    y ≡ (48 + n % 100 / 10) ∷ (48 + n % 100 % 10) ∷ [] → Writes a b (take r x ++ (y ++ [])) → Writes a b (plain_text (number_data (pos n)))
+lead_pair x r n least h run is q w =
+    retold (ap₂ (λ (s t : List ℕ). s ++ (t ++ [])) (ap (λ k. take k x) run ∙ is) q ∙ sym (split_two n least h)) w
 
 -- the last four digits
 four_are : (n : ℕ) → n < 10000 → (48 + n / 100 / 10) ∷ (48 + n / 100 % 10) ∷ (48 + n % 100 / 10) ∷ (48 + n % 100 % 10) ∷ [] ≡ last_four n
@@ -88,28 +93,21 @@ split_four n least h =
     joined [] w x y z = refl
     joined (c ∷ cs) w x y z = ap (λ r. c ∷ r) (joined cs w x y z)
 
--- a number of one digit, and four digits behind it
-pub five_digits : {a b : Output} (h l : ℕ) → h < 10 → l < 10000 →
-    Writes a b ((48 + h) ∷ (48 + l / 100 / 10) ∷ (48 + l / 100 % 10) ∷ (48 + l % 100 / 10) ∷ (48 + l % 100 % 10) ∷ []) → Writes a b (plain_text (number_data (pos h)) ++ last_four l)
-five_digits h l high low = retold (ap₂ (λ (s t : List ℕ). s ++ t) (sym (decimal_digit h high)) (four_are l low))
+-- the last four digits, as two pairs
+pairs_are : {y z : List ℕ} (l : ℕ) → l < 10000 → y ≡ (48 + l / 100 / 10) ∷ (48 + l / 100 % 10) ∷ [] → z ≡ (48 + l % 100 / 10) ∷ (48 + l % 100 % 10) ∷ [] → y ++ z ≡ last_four l
+pairs_are l low q r = ap₂ (λ (s t : List ℕ). s ++ t) q r ∙ four_are l low
 
--- of two
-pub six_digits : {a b : Output} (h l : ℕ) → 10 ≤ h → h < 100 → l < 10000 →
-    Writes a b ((48 + h / 10) ∷ (48 + h % 10) ∷ (48 + l / 100 / 10) ∷ (48 + l / 100 % 10) ∷ (48 + l % 100 / 10) ∷ (48 + l % 100 % 10) ∷ []) →
-    Writes a b (plain_text (number_data (pos h)) ++ last_four l)
-six_digits h l least high low = retold (ap₂ (λ (s t : List ℕ). s ++ t) (sym (decimal_two h least high)) (four_are l low))
+-- a number of at most two digits, and four digits behind it
+pub lead_four : {a b : Output} {y z : List ℕ} (x : List ℕ) (many h l : ℕ) → many ≡ digits_in h → take (digits_in h) x ≡ decimal h → l < 10000 →
+    y ≡ (48 + l / 100 / 10) ∷ (48 + l / 100 % 10) ∷ [] → z ≡ (48 + l % 100 / 10) ∷ (48 + l % 100 % 10) ∷ [] →
+    Writes a b (take many x ++ (y ++ z)) → Writes a b (plain_text (number_data (pos h)) ++ last_four l)
+lead_four x many h l run is low q r w = retold (ap₂ (λ (s t : List ℕ). s ++ t) (ap (λ k. take k x) run ∙ is) (pairs_are l low q r)) w
 
--- of three
-pub seven_digits : {a b : Output} (h l : ℕ) → 100 ≤ h → h < 1000 → l < 10000 →
-    Writes a b ((48 + h / 100) ∷ (48 + h % 100 / 10) ∷ (48 + h % 100 % 10) ∷ (48 + l / 100 / 10) ∷ (48 + l / 100 % 10) ∷ (48 + l % 100 / 10) ∷ (48 + l % 100 % 10) ∷ []) →
-    Writes a b (plain_text (number_data (pos h)) ++ last_four l)
-seven_digits h l least high low = retold (ap₂ (λ (s t : List ℕ). s ++ t) (sym (decimal_three h least high)) (four_are l low))
-
--- of four
-pub eight_digits : {a b : Output} (h l : ℕ) → 1000 ≤ h → h < 10000 → l < 10000 →
-    Writes a b ((48 + h / 100 / 10) ∷ (48 + h / 100 % 10) ∷ (48 + h % 100 / 10) ∷ (48 + h % 100 % 10) ∷ (48 + l / 100 / 10) ∷ (48 + l / 100 % 10) ∷ (48 + l % 100 / 10) ∷ (48 + l % 100 % 10) ∷ []) →
-    Writes a b (plain_text (number_data (pos h)) ++ last_four l)
-eight_digits h l least high low = retold (ap₂ (λ (s t : List ℕ). s ++ t) (sym (decimal_four h least high)) (four_are l low))
+-- of more, whose digits were written before
+pub longer : {a b c : Output} {y z : List ℕ} (h l : ℕ) → l < 10000 → Writes a b (plain_text (number_data (pos h))) →
+    y ≡ (48 + l / 100 / 10) ∷ (48 + l / 100 % 10) ∷ [] → z ≡ (48 + l % 100 / 10) ∷ (48 + l % 100 % 10) ∷ [] →
+    Writes b c (y ++ (z ++ [])) → Writes a c (plain_text (number_data (pos h)) ++ last_four l)
+longer h l low front q r w = then_writes front (retold (ap₂ (λ (s t : List ℕ). s ++ (t ++ [])) q r ∙ four_are l low) w)
 
 -- all digits but the last four, and those
 pub long_number : {a b : Output} (n : ℕ) → 10000 ≤ n → n < 2 ^ 32 → Writes a b (plain_text (number_data (pos (n / 10000))) ++ last_four (n % 10000)) → Writes a b (plain_text (number_data (pos n)))

@@ -1,14 +1,16 @@
 -- Bytes that stand for themselves, and digits to the base 16.
-use Rattle.std.proofs.Common.{◌≡◌, ℕ, zero, suc, length, nat_lt, ◌<◌, ◌≤◌, ◌/◌, ◌%◌, ◌==◌, ◌&&◌, Bool, true, false, List, [], ◌∷◌, ◌++◌, slice_index, refl, sym, ap, ap₂, ◌∙◌, arith, append_assoc, inl, inr}
+use Rattle.std.proofs.Common.{◌≡◌, ℕ, zero, suc, length, take, drop, nat_lt, ◌<◌, ◌≤◌, ◌*◌, ◌/◌, ◌%◌, ◌==◌, ◌&&◌, Bool, true, false, List, [], ◌∷◌, ◌++◌, slice_index, refl, sym, ap, ap₂, ◌∙◌, arith, append_assoc, inl, inr}
 use Rattle.std.specs.Prelude.{codes}
 use Rattle.std.specs.List.{list_all}
-use Rattle.std.proofs.lemmas.Bool.{and_parts, cases_lt, eqb-true}
+use Rattle.std.proofs.lemmas.Bool.{and_parts, cases_lt, eqb-true, agree_below_at}
+use Rattle.std.proofs.lemmas.Slice.Eq.{bytes_eq-Decides}
+use Rattle.std.specs.Str.{bytes_eq}
 use Rattle.std.proofs.lemmas.Bool.Decides.{nat_tests}
 use Rattle.hex.specs.Hex.{encode_with, encode_lower, lower_digits}
 use Rattle.std.specs.Char.{digit_char}
 use Rattle.json.specs.Print.{escape, escape_byte, escape_letter}
 use Rattle.serde_json.specs.Data.{string}
-use Rattle.tree_json.specs.Values.{text_data, hex, is_printable}
+use Rattle.tree_json.specs.Values.{text_data, hex, hex_pairs, is_printable}
 use Rattle.sbe_types.specs.InForm.{is_letter, is_name_byte}
 use Rattle.tree_json.specs.Names.{NamesStand}
 use Rattle.tree_json.specs.Plain.{plain_text, is_plain_byte}
@@ -145,3 +147,10 @@ pub names_stand : NamesStand
 names_stand name h =
     let all = and_parts (nat_lt 0 (length name) && is_letter (slice_index name 0)) (list_all is_name_byte name) h.form in
     plain_stands name (name_bytes name all.1)
+
+-- the digits of a byte, in the table
+pub hex_pair_there : (n : ℕ) → n < 256 → take 2 (drop (2 * n) hex_pairs) ≡ encode_lower (n ∷ [])
+unfolding encode_with
+hex_pair_there n h =
+    (bytes_eq-Decides (take 2 (drop (2 * n) hex_pairs)) (encode_lower (n ∷ []))).0
+    (agree_below_at (λ k. bytes_eq (take 2 (drop (2 * k) hex_pairs)) (encode_lower (k ∷ []))) (λ k. true) 256 n refl h)

@@ -55,6 +55,12 @@ entries_data es = array (items_by seen_data es)
 abbrev pub entries_entry : Group → Option (List Seen) → Entry
 entries_entry g entries = (group_name g, option_map entries_data entries)
 
+-- the text of an object was written without its closing bracket
+pub record WritesOpen (text : List ℕ) (before after : Output) : Type 0 where
+  pub done : List ℕ
+  pub written : Writes before after done
+  pub whole : done ++ codes "}" ≡ text
+
 -- the front of a group's entries was written, behind the opening bracket: the text of those that are left makes it whole
 pub record WritesFront (later : Bool) (all left : List Seen) (before after : Output) : Type 0 where
   pub done : List ℕ

@@ -36,7 +36,8 @@ pub(crate) fn put_front<O: Sink>(chunk: &mut Chunk, sink: &mut O, block: &BlockV
     if count == 0 {
         return;
     }
-    put_groups(chunk, sink, block);
+    // A copy of its own, so that nothing is stored where there are no groups.
+    put_groups(chunk, sink, &block.again());
 }
 
 /// Writes the data and the fields of a block, and the opening of its groups; without groups the bracket behind them too.
@@ -50,13 +51,20 @@ fn put_head<O: Sink>(chunk: &mut Chunk, sink: &mut O, block: &BlockView<'_>)
             put_own_data(chunk, sink, block);
             put_rows(chunk, sink, values.table, values.bytes);
         }
-        None => {
-            put_data(chunk, sink, block);
-            chunk.put(sink, b",\"fields\":{");
-            put_fields(chunk, sink, block);
-            put_opening(chunk, sink, block);
-        }
+        None => put_by_kinds(chunk, sink, &block.again()),
     }
+}
+
+/// The same, with each field by its kind.
+#[inline(never)]
+fn put_by_kinds<O: Sink>(chunk: &mut Chunk, sink: &mut O, block: &BlockView<'_>)
+    ensures { Writes (output (O.held sink.old) (O.faults sink.old) chunk.old)
+        (output (O.held sink.new) (O.faults sink.new) chunk.new) (seen_head block.now) }
+{
+    put_data(chunk, sink, block);
+    chunk.put(sink, b",\"fields\":{");
+    put_fields(chunk, sink, block);
+    put_opening(chunk, sink, block);
 }
 
 /// Writes the opening of a block's groups; without groups the bracket behind them too.
@@ -84,7 +92,8 @@ fn put_own_data<O: Sink>(chunk: &mut Chunk, sink: &mut O, block: &BlockView<'_>)
     if parts == 0 {
         return;
     }
-    put_data(chunk, sink, block);
+    // A copy of its own, so that nothing is stored where there is no data.
+    put_data(chunk, sink, &block.again());
 }
 
 /// Writes the data parts of a block that are there, from its first bracket to that behind them.

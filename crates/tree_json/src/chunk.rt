@@ -1,4 +1,4 @@
-ghost use Rattle.std.specs.Prelude.{◌≡◌, ◌+◌, ◌≤◌, ◌++◌, [], codes, length, true, false, Result};
+ghost use Rattle.std.specs.Prelude.{◌≡◌, ◌+◌, ◌≤◌, ◌++◌, [], codes, length, take, true, false, Result};
 ghost use Rattle.serde_json.specs.Written.{comma_if};
 ghost use Rattle.tree_json.specs.declared.chunk.TheConstants.{CHUNK_BYTES};
 ghost use Rattle.tree_json.specs.Plain.{key_text};
@@ -45,12 +45,13 @@ impl Chunk {
         }
     }
 
-    /// How many bytes it still gathers.
+    /// How many bytes it holds.
     #[inline(always)]
-    fn left(&self) -> usize
-        ensures { result + length self.now.bytes ≡ CHUNK_BYTES }
+    fn len(&self) -> usize
+        ensures count { result ≡ length self.now.bytes }
+        ensures fits { result ≤ CHUNK_BYTES }
     {
-        CHUNK_BYTES - self.len
+        self.len
     }
 
     /// Whether a write has failed.
@@ -91,7 +92,7 @@ impl Chunk {
         ensures { Writes (output (O.held sink.old) (O.faults sink.old) self.old)
             (output (O.held sink.new) (O.faults sink.new) self.new) bytes.now }
     {
-        if bytes.len() <= self.left() {
+        if self.len() + bytes.len() <= CHUNK_BYTES {
             self.add(bytes);
         } else {
             spill(self, sink, bytes);
@@ -120,6 +121,68 @@ impl Chunk {
         self.put_between(sink, b"\"", bytes, b"\"");
     }
 
+    /// Writes the first `run` bytes of a field between quotes.
+    #[inline(always)]
+    pub(crate) fn put_front_in_quotes<O: Sink>(&mut self, sink: &mut O, field: &[u8], run: usize)
+        requires { run ≤ length field.now }
+        ensures { Writes (output (O.held sink.old) (O.faults sink.old) self.old)
+            (output (O.held sink.new) (O.faults sink.new) self.new) (codes "\"" ++ (take run field.now ++ codes "\"")) }
+    {
+        if self.len() + (field.len() + 2) <= CHUNK_BYTES {
+            self.add_front_in_quotes(field, run);
+        } else {
+            put_each(self, sink, b"\"", &field[..run], b"\"");
+        }
+    }
+
+    /// Gathers the first `run` bytes of a field between quotes. It has room for the whole field, which is copied: so the way
+    /// of the copy goes by the field, and not by the text in it.
+    #[inline(always)]
+    fn add_front_in_quotes(&mut self, field: &[u8], run: usize)
+        requires run { run ≤ length field.now }
+        requires room { length self.old.bytes + (length field.now + 2) ≤ CHUNK_BYTES }
+        ensures { self.new ≡ record self.old { bytes = self.old.bytes ++ (codes "\"" ++ (take run field.now ++ codes "\"")) } }
+    {
+        let at = place(&mut self.room, self.len, b"\"");
+        place(&mut self.room, at, field);
+        self.len = place(&mut self.room, at + run, b"\"");
+    }
+
+    /// Writes the first `run` bytes of a few, and others behind them.
+    #[inline(always)]
+    pub(crate) fn put_front<O: Sink>(
+        &mut self,
+        sink: &mut O,
+        front: &[u8],
+        run: usize,
+        behind: &[u8],
+        last: &[u8],
+    )
+        requires run { run ≤ length front.now }
+        requires few { length front.now + (length behind.now + length last.now) ≤ CHUNK_BYTES }
+        ensures { Writes (output (O.held sink.old) (O.faults sink.old) self.old)
+            (output (O.held sink.new) (O.faults sink.new) self.new) (take run front.now ++ (behind.now ++ last.now)) }
+    {
+        if self.len() + (front.len() + (behind.len() + last.len())) <= CHUNK_BYTES {
+            self.add_front(front, run, behind, last);
+        } else {
+            put_each(self, sink, &front[..run], behind, last);
+        }
+    }
+
+    /// Gathers the first `run` bytes of a few, all of which are copied, and others behind them. It has room for all.
+    #[inline(always)]
+    fn add_front(&mut self, front: &[u8], run: usize, behind: &[u8], last: &[u8])
+        requires run { run ≤ length front.now }
+        requires room { length self.old.bytes + (length front.now + (length behind.now + length last.now)) ≤ CHUNK_BYTES }
+        ensures { self.new ≡ record self.old { bytes = self.old.bytes ++ (take run front.now ++ (behind.now ++ last.now)) } }
+    {
+        let at = self.len;
+        place(&mut self.room, at, front);
+        let then = place(&mut self.room, at + run, behind);
+        self.len = place(&mut self.room, then, last);
+    }
+
     /// Writes bytes between a few others.
     #[inline(always)]
     pub(crate) fn put_between<O: Sink>(
@@ -133,7 +196,7 @@ impl Chunk {
         ensures { Writes (output (O.held sink.old) (O.faults sink.old) self.old)
             (output (O.held sink.new) (O.faults sink.new) self.new) (before.now ++ (bytes.now ++ behind.now)) }
     {
-        if bytes.len() + (before.len() + behind.len()) <= self.left() {
+        if self.len() + (bytes.len() + (before.len() + behind.len())) <= CHUNK_BYTES {
             self.add_between(before, bytes, behind);
         } else {
             put_each(self, sink, before, bytes, behind);

@@ -18,7 +18,7 @@ ghost use Rattle.tree_json.specs.Writes.{output, Writes};
 use crate::chunk::Chunk;
 use crate::runs::plain_front;
 use crate::sets::put_set;
-use crate::texts::{put_plain, put_text};
+use crate::texts::{put_plain_front, put_text};
 use crate::values::{name_of, put_comma, put_constant, put_null, put_number, put_single};
 use field_values::before_zero;
 use layout_compile::{begin_of, end_behind};
@@ -186,7 +186,7 @@ pub(crate) fn put_text_in<O: Sink>(chunk: &mut Chunk, sink: &mut O, leaf: &Leaf,
         (output (O.held sink.new) (O.faults sink.new) chunk.new) (plain_text (text_shown leaf.now bytes.now)) }
 {
     match plain_front(bytes) {
-        Some(text) => put_plain(chunk, sink, text),
+        Some(run) => put_plain_front(chunk, sink, bytes, run),
         None => put_any_text(chunk, sink, leaf, bytes),
     }
 }

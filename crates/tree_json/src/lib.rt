@@ -20,7 +20,7 @@ pub use kinds::put_shown;
 pub use laws::{
     checked_names_stand_for_themselves, names_stand_for_themselves, printed_text_is_the_line,
 };
-pub use line::{line_of, put_line};
+pub use line::{line_of, put_line, put_open_line};
 pub use sets::put_set;
 pub use texts::{put_string, put_text};
 pub use values::{

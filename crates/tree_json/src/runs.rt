@@ -1,5 +1,5 @@
 // How many bytes of a text stand for themselves in a string of JSON.
-ghost use Rattle.std.specs.Prelude.{◌≡◌, ◌+◌, ◌≤◌, ◌<◌, true, length, take, drop, IfSome};
+ghost use Rattle.std.specs.Prelude.{◌≡◌, ◌+◌, ◌-◌, ◌≤◌, ◌<◌, true, length, take, drop, IfSome};
 ghost use Rattle.std.specs.List.{prefix_len, list_all};
 ghost use Rattle.field_values.specs.Told.{before_zero};
 ghost use Rattle.tree_json.specs.Plain.{is_plain_byte};
@@ -9,13 +9,14 @@ use std::simd::prelude::*;
 
 const LANES: usize = 8;
 
-/// The text before the first 00, where it has bytes and each of them is printable and stands for itself.
+/// How many bytes the text before the first 00 has, where it has some and each of them is printable and stands for itself.
 #[inline(always)]
 #[tactic(auto, using(crate::proofs::Fronts::run_is_front, crate::proofs::Lanes::run_passes))]
-pub(crate) fn plain_front(bytes: &[u8]) -> Option<&[u8]>
-    ensures front { IfSome result (λ text. text.now ≡ before_zero bytes.now) }
-    ensures plain { IfSome result (λ text. list_all is_plain_byte text.now ≡ true) }
-    ensures some { IfSome result (λ text. 0 < length text.now) }
+pub(crate) fn plain_front(bytes: &[u8]) -> Option<usize>
+    ensures front { IfSome result (λ run. take run bytes.now ≡ before_zero bytes.now) }
+    ensures plain { IfSome result (λ run. list_all is_plain_byte (take run bytes.now) ≡ true) }
+    ensures within { IfSome result (λ run. run ≤ length bytes.now) }
+    ensures some { IfSome result (λ run. 0 < run) }
 {
     let run = plain_run(bytes);
     if run == 0 {
@@ -24,7 +25,7 @@ pub(crate) fn plain_front(bytes: &[u8]) -> Option<&[u8]>
     if run < bytes.len() && bytes[run] != 0 {
         return None;
     }
-    Some(&bytes[..run])
+    Some(run)
 }
 
 /// How many bytes, from the first, are printable and stand for themselves.
@@ -40,7 +41,21 @@ pub(crate) fn plain_run(bytes: &[u8]) -> usize
             return at;
         }
     }
+    if at >= LANES && at < bytes.len() {
+        return last_run(bytes);
+    }
     at + short_run(&bytes[at..])
+}
+
+/// The same, where only the last eight bytes are still to be looked at.
+#[inline(always)]
+fn last_run(bytes: &[u8]) -> usize
+    requires long { LANES ≤ length bytes.now }
+    requires looked { length bytes.now - LANES ≤ prefix_len is_plain_byte bytes.now }
+    ensures { result ≡ prefix_len is_plain_byte bytes.now }
+{
+    let last = bytes.len() - LANES;
+    last + lane_run(bytes, last)
 }
 
 /// The same, byte by byte.

@@ -1,8 +1,9 @@
-ghost use Rattle.std.specs.Prelude.{◌≡◌, ◌<◌, ◌+◌, ◌++◌, ◌/◌, ◌%◌, pos, slice_index};
+ghost use Rattle.std.specs.Prelude.{◌≡◌, ◌<◌, ◌+◌, ◌++◌, ◌/◌, ◌%◌, ◌≤◌, ◌∷◌, [], pos, length, take, drop};
+ghost use Rattle.std.specs.Fmt.{decimal};
 ghost use Rattle.std.specs.Option.{option_map};
 ghost use Rattle.serde_json.specs.Data.{null, number, unsigned};
 ghost use Rattle.serde_json.specs.Written.{comma_if};
-ghost use Rattle.tree_json.specs.Values.{number_data, char_data, single_data, enum_data, name_of, constant_data, last_four, digit_pairs};
+ghost use Rattle.tree_json.specs.Values.{number_data, char_data, single_data, enum_data, name_of, constant_data, last_four, digit_pairs, digits_in};
 ghost use Rattle.tree_json.specs.Plain.{plain_text};
 ghost use Rattle.tree_json.specs.Writes.{output, Writes};
 
@@ -27,7 +28,7 @@ pub fn put_number<O: Sink>(chunk: &mut Chunk, sink: &mut O, n: &i128)
         (output (O.held sink.new) (O.faults sink.new) chunk.new) (plain_text (number_data n.now)) }
 {
     if *n >= 0 && *n < 100 {
-        put_small(chunk, sink, *n as u8);
+        put_small(chunk, sink, *n as u16);
     } else if *n >= 0 && *n < 100_000_000 {
         put_middle(chunk, sink, *n as u32);
     } else {
@@ -42,7 +43,7 @@ pub(crate) fn put_small_number<O: Sink>(chunk: &mut Chunk, sink: &mut O, n: i64)
         (output (O.held sink.new) (O.faults sink.new) chunk.new) (plain_text (number_data n)) }
 {
     if n >= 0 && n < 100 {
-        put_small(chunk, sink, n as u8);
+        put_small(chunk, sink, n as u16);
     } else if n >= 0 && n < 100_000_000 {
         put_middle(chunk, sink, n as u32);
     } else {
@@ -52,24 +53,21 @@ pub(crate) fn put_small_number<O: Sink>(chunk: &mut Chunk, sink: &mut O, n: i64)
 
 /// Writes a number of at most two digits.
 #[inline(always)]
-#[tactic(auto, using(crate::proofs::Numbers::one_digit, crate::proofs::Numbers::two_digits))]
-fn put_small<O: Sink>(chunk: &mut Chunk, sink: &mut O, n: u8)
+#[tactic(auto, using(crate::proofs::Numbers::lead_alone))]
+fn put_small<O: Sink>(chunk: &mut Chunk, sink: &mut O, n: u16)
     requires { n < 100 }
     ensures { Writes (output (O.held sink.old) (O.faults sink.old) chunk.old)
         (output (O.held sink.new) (O.faults sink.new) chunk.new) (plain_text (number_data (pos n))) }
 {
-    if n < 10 {
-        chunk.put(sink, &[b'0' + n]);
-    } else {
-        chunk.put(sink, &[b'0' + n / 10, b'0' + n % 10]);
-    }
+    chunk.put_front(sink, lead_of(n), digits_of(n), b"", b"");
 }
 
-/// Writes a number of at most eight digits.
+/// Writes a number of three to eight digits.
 #[inline(never)]
 #[tactic(auto, using(crate::proofs::Numbers::long_number))]
 fn put_middle<O: Sink>(chunk: &mut Chunk, sink: &mut O, n: u32)
-    requires { n < 100_000_000 }
+    requires least { 100 ≤ n }
+    requires most { n < 100_000_000 }
     ensures { Writes (output (O.held sink.old) (O.faults sink.old) chunk.old)
         (output (O.held sink.new) (O.faults sink.new) chunk.new) (plain_text (number_data (pos n))) }
 {
@@ -80,110 +78,98 @@ fn put_middle<O: Sink>(chunk: &mut Chunk, sink: &mut O, n: u32)
     }
 }
 
-/// Writes a number of at most four digits.
+/// Writes a number of three or four digits.
 #[inline(always)]
-#[tactic(auto, using(crate::proofs::Numbers::three_digits, crate::proofs::Numbers::four_digits))]
+#[tactic(auto, using(crate::proofs::Numbers::lead_pair))]
 fn put_short<O: Sink>(chunk: &mut Chunk, sink: &mut O, n: u16)
-    requires { n < 10_000 }
+    requires least { 100 ≤ n }
+    requires most { n < 10_000 }
     ensures { Writes (output (O.held sink.old) (O.faults sink.old) chunk.old)
         (output (O.held sink.new) (O.faults sink.new) chunk.new) (plain_text (number_data (pos n))) }
 {
-    if n < 100 {
-        put_small(chunk, sink, n as u8);
-    } else if n < 1_000 {
-        let low = digits_of(n % 100);
-        chunk.put(sink, &[digit(n / 100), low.tens, low.ones]);
-    } else {
-        let high = digits_of(n / 100);
-        let low = digits_of(n % 100);
-        chunk.put(sink, &[high.tens, high.ones, low.tens, low.ones]);
-    }
+    let high = n / 100;
+    chunk.put_front(sink, lead_of(high), digits_of(high), pair_of(n % 100), b"");
 }
 
 /// Writes a number of at most four digits, and four digits behind it.
 #[inline(always)]
-#[tactic(auto, using(crate::proofs::Numbers::five_digits, crate::proofs::Numbers::six_digits, crate::proofs::Numbers::seven_digits, crate::proofs::Numbers::eight_digits))]
+#[tactic(auto, using(crate::proofs::Numbers::lead_four))]
 fn put_long<O: Sink>(chunk: &mut Chunk, sink: &mut O, high: u16, low: u16)
     requires high { high < 10_000 }
     requires low { low < 10_000 }
     ensures { Writes (output (O.held sink.old) (O.faults sink.old) chunk.old)
         (output (O.held sink.new) (O.faults sink.new) chunk.new) (plain_text (number_data (pos high)) ++ last_four low) }
 {
-    let y = digits_of(low / 100);
-    let z = digits_of(low % 100);
-    if high < 10 {
-        chunk.put(sink, &[digit(high), y.tens, y.ones, z.tens, z.ones]);
-    } else if high < 100 {
-        let x = digits_of(high);
-        chunk.put(sink, &[x.tens, x.ones, y.tens, y.ones, z.tens, z.ones]);
-    } else if high < 1_000 {
-        let x = digits_of(high % 100);
-        chunk.put(
+    if high < 100 {
+        chunk.put_front(
             sink,
-            &[
-                digit(high / 100),
-                x.tens,
-                x.ones,
-                y.tens,
-                y.ones,
-                z.tens,
-                z.ones,
-            ],
+            lead_of(high),
+            digits_of(high),
+            pair_of(low / 100),
+            pair_of(low % 100),
         );
     } else {
-        let w = digits_of(high / 100);
-        let x = digits_of(high % 100);
-        chunk.put(
-            sink,
-            &[
-                w.tens, w.ones, x.tens, x.ones, y.tens, y.ones, z.tens, z.ones,
-            ],
-        );
+        put_longer(chunk, sink, high, low);
     }
 }
 
-/// Two digits to the base 10.
-#[derive(Clone, Copy)]
-struct Pair {
-    tens: u8,
-    ones: u8,
+/// Writes a number of three or four digits, and four digits behind it.
+#[inline(never)]
+#[tactic(auto, using(crate::proofs::Numbers::longer))]
+fn put_longer<O: Sink>(chunk: &mut Chunk, sink: &mut O, high: u16, low: u16)
+    requires least { 100 ≤ high }
+    requires high { high < 10_000 }
+    requires low { low < 10_000 }
+    ensures { Writes (output (O.held sink.old) (O.faults sink.old) chunk.old)
+        (output (O.held sink.new) (O.faults sink.new) chunk.new) (plain_text (number_data (pos high)) ++ last_four low) }
+{
+    put_short(chunk, sink, high);
+    chunk.put_between(sink, pair_of(low / 100), pair_of(low % 100), b"");
 }
 
 /// The two digits of each number below 100, one behind another.
-const PAIRS: &[u8; 200] =
+const PAIRS: &[u8] =
     b"00010203040506070809101112131415161718192021222324252627282930313233343536373839404142434445464748495051525354555657585960616263646566676869707172737475767778798081828384858687888990919293949596979899";
 
-/// The two digits of a number.
+/// The two digits of a number below 100.
 #[inline(always)]
-#[tactic(auto, using(crate::proofs::Numbers::tens_there, crate::proofs::Numbers::ones_there))]
-fn digits_of(n: u16) -> Pair
+#[tactic(auto, using(crate::proofs::Numbers::pair_there))]
+fn pair_of(n: u16) -> &'static [u8]
     requires { n < 100 }
-    ensures tens { result.tens ≡ 48 + n / 10 }
-    ensures ones { result.ones ≡ 48 + n % 10 }
+    ensures digits { result.now ≡ (48 + n / 10) ∷ (48 + n % 10) ∷ [] }
+    ensures size { length result.now ≡ 2 }
 {
-    let at = 2 * n as usize;
-    Pair {
-        tens: digit_in(at),
-        ones: digit_in(at + 1),
-    }
+    two_at(2 * n as usize)
 }
 
-/// A digit of the pairs.
+/// How many digits a number below 100 has.
 #[inline(always)]
-fn digit_in(at: usize) -> u8
-    requires { at < 200 }
-    ensures { result ≡ slice_index digit_pairs at }
+fn digits_of(n: u16) -> usize
+    requires { n < 100 }
+    ensures { result ≡ digits_in n }
 {
-    PAIRS[at]
+    2 - (n < 10) as usize
 }
 
-/// A digit to the base 10.
+/// Two bytes that begin with the digits of a number below 100.
 #[inline(always)]
-fn digit(n: u16) -> u8
-    requires { n < 10 }
-    ensures { result ≡ 48 + n }
+#[tactic(auto, using(crate::proofs::Numbers::lead_there))]
+fn lead_of(n: u16) -> &'static [u8]
+    requires { n < 100 }
+    ensures digits { take (digits_in n) result.now ≡ decimal n }
+    ensures size { length result.now ≡ 2 }
 {
-    b'0' + n as u8
+    two_at(2 * n as usize + (2 - digits_of(n)))
+}
+
+/// Two digits of the pairs.
+#[inline(always)]
+fn two_at(at: usize) -> &'static [u8]
+    requires { at + 2 ≤ 200 }
+    ensures bytes { result.now ≡ take 2 (drop at digit_pairs) }
+    ensures size { length result.now ≡ 2 }
+{
+    &PAIRS[at..at + 2]
 }
 
 /// Writes an integer of any number of digits.
@@ -204,7 +190,7 @@ pub fn put_count<O: Sink>(chunk: &mut Chunk, sink: &mut O, n: u64)
         (output (O.held sink.new) (O.faults sink.new) chunk.new) (plain_text (number (unsigned n))) }
 {
     if n < 100 {
-        put_small(chunk, sink, n as u8);
+        put_small(chunk, sink, n as u16);
     } else if n < 100_000_000 {
         put_middle(chunk, sink, n as u32);
     } else {

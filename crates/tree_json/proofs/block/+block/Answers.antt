@@ -1,11 +1,12 @@
-use Rattle.std.proofs.Common.{◌≡◌, [], ◌∷◌, ◌++◌, refl, ap, sym, subst, ◌∙◌, arith, length, append_assoc}
-use Rattle.std.specs.Prelude.{codes, false, slice_get}
+use Rattle.std.proofs.Common.{◌≡◌, [], ◌∷◌, ◌++◌, refl, ap, sym, subst, ◌∙◌, arith, length}
+use Rattle.std.specs.Prelude.{false, slice_get}
 use Rattle.std.specs.Option.{option_map}
 use Rattle.serde_json.specs.Written.{comma_if}
 use Rattle.sbe_types.specs.declared.message.Block.{out-Block}
+use Rattle.flyweight_view.specs.Seen.{Seen}
 use Rattle.tree_json.specs.Deep.{deepest, deepest_in}
 use Rattle.tree_json.specs.Values.{zipped}
-use Rattle.tree_json.specs.Lines.{group_name, group_entry, items_by, part_entry}
+use Rattle.tree_json.specs.Lines.{group_name, group_entry, items_by}
 use Rattle.tree_json.specs.Plain.{entry_text, entries_text, plain_items}
 use Rattle.tree_json.specs.Views.{entries_entry, entries_data, seen_data}
 use Rattle.tree_json.proofs.Written.{then_writes, retold, writes_nothing}
@@ -27,7 +28,11 @@ pub put_front-returns : goal.put_front-returns
 put_front-returns g t c =
     let s = c.args.block.now in
     let some = some_groups s.groups (out-Block s.block).groups (omega (arith, c.if-count-eq0.false, ap (λ r. r.1) c.counts-count.ensures)) in
-    retold (front_is s) (then_writes c.put_head.ensures (retold some c.put_groups.ensures))
+    let groups = retold (ap (λ (b : Seen). entries_text false (zipped group_entry b.groups (out-Block b.block).groups)) c.again.ensures) c.put_groups.ensures in
+    retold (front_is s) (then_writes c.put_head.ensures (retold some groups))
+
+pub put_front-put_groups-requires : goal.put_front-put_groups-requires
+put_front-put_groups-requires g t c = λ κs h. (omega (arith, ap (λ (b : Seen). deepest b.groups) c.again.ensures, c.decreases), h)
 
 pub put_entry-returns : goal.put_entry-returns
 put_entry-returns g t c =

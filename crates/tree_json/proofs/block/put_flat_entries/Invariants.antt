@@ -1,4 +1,4 @@
-use Rattle.std.proofs.Common.{ℕ, ◌≤◌, length}
+use Rattle.std.proofs.Common.{◌≤◌, length}
 use Rattle.tree_json.specs.Deep.{deepest_in}
 use Rattle.tree_json.specs.Views.{WritesFront}
 use Rattle.tree_json.specs.Writes.{output}

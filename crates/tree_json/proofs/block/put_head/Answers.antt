@@ -1,3 +1,5 @@
+use Rattle.std.proofs.Common.{ap}
+use Rattle.tree_json.specs.Views.{seen_head}
 use Rattle.tree_json.proofs.HeadText.{table_text, head_by_table}
 use Rattle.tree_json.proofs.Written.{then_writes, retold}
 use Rattle.tree_json.proofs.block.put_head.Goals as goal
@@ -15,4 +17,4 @@ returns-in-Some g c =
     retold (head_by_table s) (then_writes c.put_own_data.ensures rows)
 
 pub returns-in-None : goal.returns-in-None
-returns-in-None g c = then_writes c.put_data.ensures (then_writes c.put.ensures (then_writes c.put_fields.ensures c.put_opening.ensures))
+returns-in-None g c = retold (ap seen_head c.again.ensures) c.put_by_kinds.ensures

@@ -1,5 +1,7 @@
 use Rattle.std.proofs.Common.{ap, arith}
 use Rattle.sbe_types.specs.declared.message.Block.{out-Block}
+use Rattle.flyweight_view.specs.Seen.{Seen}
+use Rattle.tree_json.specs.Views.{data_front}
 use Rattle.tree_json.proofs.HeadText.{no_data, some_data}
 use Rattle.tree_json.proofs.Written.{retold, writes_nothing}
 use Rattle.tree_json.proofs.block.put_own_data.Goals as goal
@@ -10,4 +12,5 @@ returns-then-parts-eq0 g c =
 
 pub returns : goal.returns
 returns g c =
-    retold (some_data c.args.block.now.parts (out-Block c.args.block.now.block).parts (omega (arith, c.if-parts-eq0.false, ap (λ r. r.2) c.counts-parts.ensures))) c.put_data.ensures
+    retold (some_data c.args.block.now.parts (out-Block c.args.block.now.block).parts (omega (arith, c.if-parts-eq0.false, ap (λ r. r.2) c.counts-parts.ensures)))
+    (retold (ap (λ (s : Seen). data_front s.parts (out-Block s.block).parts) c.again.ensures) c.put_data.ensures)

@@ -1,7 +1,10 @@
-use Rattle.std.proofs.Common.{ℕ, List, ap, sym, ◌++◌, ◌∙◌}
-use Rattle.std.specs.Prelude.{codes, decimal}
+use Rattle.std.proofs.Common.{◌≡◌, ℕ, List, ap, sym, ◌++◌, ◌∙◌, append_assoc}
+use Rattle.std.specs.Prelude.{Some, codes, decimal}
 use Rattle.json.specs.Print.{escape}
 use Rattle.sbe_types.specs.declared.schema.Level.{out-Level}
+use Rattle.tree_json.specs.Lines.{message_at}
+use Rattle.tree_json.specs.Plain.{plain_text}
+use Rattle.tree_json.specs.Views.{seen_front}
 use Rattle.tree_json.proofs.Written.{then_writes, retold}
 use Rattle.tree_json.proofs.Blocks.{message_is, name_between}
 use Rattle.tree_json.proofs.line.put_message.Goals as goal
@@ -9,7 +12,18 @@ use Rattle.tree_json.proofs.line.put_message.Goals as goal
 pub returns : goal.returns
 returns g c =
     let level = c.args.view.now.level in
-    let between = λ (name : List ℕ). codes ",\"template\":\"" ++ (name ++ codes "\",\"version\":") in
-    let name = retold (ap between (c.name.ensures ∙ sym c.requires)) c.put_between.ensures in
-    let behind = retold (name_between (escape (out-Level level).name) (decimal c.version.result ++ codes "}")) (then_writes name (then_writes c.put_count.ensures c.put.ensures)) in
-    retold (rw (c.root.ensures, c.version.ensures) (message_is level c.args.view.now.message)) (then_writes c.put_front.ensures behind)
+    let name = escape (out-Level level).name in
+    let between = λ (text : List ℕ). codes ",\"template\":\"" ++ (text ++ codes "\",\"version\":") in
+    let front = seen_front c.root.result in
+    let version = decimal c.version.result in
+    let named = retold (ap between (c.name.ensures ∙ sym c.requires)) c.put_between.ensures in
+    let same : seen_front c.root.result ++ (codes ",\"template\":" ++ ((codes "\"" ++ (escape (out-Level level).name ++ codes "\"")) ++ (codes ",\"version\":" ++ (decimal c.version.result ++ codes "}")))) ≡ plain_text (message_at (Some level) c.args.view.now.message) =
+    rw (c.root.ensures, c.version.ensures) (message_is level c.args.view.now.message) in
+    record {
+      done = front ++ (between name ++ version);
+      written = then_writes c.put_front.ensures (then_writes named c.put_count.ensures);
+      whole =
+          append_assoc front (between name ++ version) (codes "}")
+          ∙ ap (λ rest. front ++ rest) (append_assoc (between name) version (codes "}") ∙ name_between name (version ++ codes "}"))
+          ∙ same;
+    }

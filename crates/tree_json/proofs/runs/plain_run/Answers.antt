@@ -26,3 +26,6 @@ overflow_add-result c =
     let fits : length bytes < 2 ^ 63 = search rules in
     let run = rw (take_rest bytes c.loop-at.at) at c.short_run.ensures in
     record { fits = omega (arith, c.loop-at.invariant.run, run, most, fits) }
+
+pub last_run-requires-clause-looked : goal.last_run-requires-clause-looked
+last_run-requires-clause-looked c = omega (arith, c.loop-at.invariant.run, c.loop-at-test.false)
