@@ -1,4 +1,4 @@
-ghost use Rattle.std.specs.Prelude.{◌≡◌, ◌++◌};
+ghost use Rattle.std.specs.Prelude.{◌≡◌, ◌++◌, codes};
 ghost use Rattle.layout_compile.specs.Writes.{Writes, outlet_of};
 ghost use Rattle.tree_json.specs.Writes.{nothing_gathered, output, Writes as Puts};
 ghost use Rattle.dump_lines.specs.Dumped.{before_message, behind_message, seen_line};
@@ -6,7 +6,7 @@ ghost use Rattle.dump_lines.specs.Dumped.{before_message, behind_message, seen_l
 use crate::schemas::Schemas;
 use flyweight_view::MsgView;
 use sbe_base::{Sink, WriteFault};
-use tree_json::{Chunk, put_count, put_line};
+use tree_json::{Chunk, put_count, put_open_line};
 
 /// Writes the line of a message of a schema with that id, by way of a chunk that holds nothing.
 ///
@@ -26,7 +26,7 @@ pub fn put_message<O: Sink>(
     ensures empty { chunk.new ≡ nothing_gathered }
 {
     put_before(chunk, sink, schemas, id);
-    put_line(chunk, sink, view);
+    put_open_line(chunk, sink, view);
     put_behind(chunk, sink, schemas);
     chunk.flush(sink)
 }
@@ -44,14 +44,14 @@ fn put_before<O: Sink>(chunk: &mut Chunk, sink: &mut O, schemas: &Schemas, id: u
     chunk.put(sink, b",\"message\":");
 }
 
-/// Writes what stands behind a message.
+/// Writes the closing bracket of a message, and what stands behind it.
 fn put_behind<O: Sink>(chunk: &mut Chunk, sink: &mut O, schemas: &Schemas)
     ensures { Puts (output (O.held sink.old) (O.faults sink.old) chunk.old)
-        (output (O.held sink.new) (O.faults sink.new) chunk.new) (behind_message schemas.now.also) }
+        (output (O.held sink.new) (O.faults sink.new) chunk.new) (codes "}" ++ behind_message schemas.now.also) }
 {
     if schemas.also.is_empty() {
-        chunk.put(sink, b"\n");
-    } else {
         chunk.put(sink, b"}\n");
+    } else {
+        chunk.put(sink, b"}}\n");
     }
 }

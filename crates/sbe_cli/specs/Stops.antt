@@ -6,7 +6,6 @@ use Rattle.open_framing.specs.Lines.{longest_line}
 use Rattle.open_framing.specs.declared.head.HeadErr.{HeadErr}
 use Rattle.open_framing.specs.declared.head.HeadErr.TheVariants.{HeadShort, LengthShort, LengthOver, Encoding}
 use Rattle.schema_files.specs.Refusals.{refusal_line, refusal_status, role_name}
-use Rattle.schema_files.specs.declared.files.FileRefusal.TheVariants as file
 use Rattle.sbe_cli.specs.declared.stop.Stop.{Stop}
 use Rattle.sbe_cli.specs.declared.stop.Stop.TheVariants.{Usage, FileFault, Refused, ReadFault, EndInside, Head, LineOver, InputLimit}
 

@@ -16,7 +16,7 @@ use command_jobs::{FrameJob, Kept, answer_frame};
 use dump_lines::Workspace;
 use frame_stream::{FrameStream, StreamErr, Taken};
 use lists::NoMem;
-use open_framing::{Head, HeadErr};
+use open_framing::HeadErr;
 use replies::Verdict;
 use sbe_base::{Limits, Sink, Source, Status, WriteFault};
 use std::alloc::Global;
@@ -34,28 +34,36 @@ impl FrameWork {
     /// Takes the next frame, and writes its answer; or notes what ends the frames, and answers the status of the run.
     pub fn answer_next<I: Source, O: Sink, N: Sink>(
         &mut self,
-        kept: Kept,
+        kept: &Kept,
         input: &mut I,
         output: &mut O,
         notes: &mut N,
     ) -> Result<Tally, Status>
         requires ready { IsReadyFrame self.old.job }
         requires bounded { IsBounded self.old.limits }
-        requires stands { Stands self.old.limits self.old.stream kept }
+        requires stands { Stands self.old.limits self.old.stream kept.now }
         requires empty { self.old.space.chunk ≡ nothing_gathered }
         ensures empty { self.new.space.chunk ≡ nothing_gathered }
-        ensures answers { Answers (frames_pump self.old.job self.old.limits kept) none_ahead
+        ensures answers { Answers (frames_pump self.old.job self.old.limits kept.now) none_ahead
             (streams_of (object_of (I.left input.old) (I.faults input.old)) (object_of (O.held output.old) (O.faults output.old)) (object_of (N.held notes.old) (N.faults notes.old)))
             (streams_of (object_of (I.left input.new) (I.faults input.new)) (object_of (O.held output.new) (O.faults output.new)) (object_of (N.held notes.new) (N.faults notes.new)))
             result }
         ensures job { self.new.job ≡ self.old.job }
         ensures limits { self.new.limits ≡ self.old.limits }
-        ensures stands { IfOk result (λ tally. Stands self.old.limits self.new.stream (counted_by kept tally.bytes tally.verdict)) }
-        ensures countable { IfOk result (λ tally. CanCount kept tally) }
+        ensures stands { IfOk result (λ tally. Stands self.old.limits self.new.stream (counted_by kept.now tally.bytes tally.verdict)) }
+        ensures countable { IfOk result (λ tally. CanCount kept.now tally) }
     {
-        match self.stream.take(input) {
+        let taken = self.stream.take(input);
+        match &taken {
             Ok(Taken::Frame(head)) => {
-                match answer(&self.job, &self.stream, kept, head, &mut self.space, output) {
+                match answer(
+                    &self.job,
+                    &self.stream,
+                    kept,
+                    head.encoding,
+                    &mut self.space,
+                    output,
+                ) {
                     Ok(verdict) => Ok(Tally {
                         bytes: head.length as u64,
                         verdict,
@@ -63,9 +71,9 @@ impl FrameWork {
                     Err(WriteFault) => Err(Status::WriteFault),
                 }
             }
-            Ok(Taken::End) => Err(done(kept)),
-            Ok(Taken::EndInside(held)) => { Err(tell_inside(held as u64, kept.bytes, notes)) }
-            Err(StreamErr::Head(fault)) => Err(tell_head(fault, kept.bytes, notes)),
+            Ok(Taken::End) => Err(done(*kept)),
+            Ok(Taken::EndInside(held)) => { Err(tell_inside(*held as u64, kept.bytes, notes)) }
+            Err(StreamErr::Head(fault)) => Err(tell_head(*fault, kept.bytes, notes)),
             Err(StreamErr::InputLimit) => Err(tell_limit(self.limits.input, notes)),
             Err(StreamErr::ReadFault) => Err(tell_fault(self.stream.taken(), notes)),
         }
@@ -108,17 +116,17 @@ fn tell_fault<N: Sink>(at: u64, notes: &mut N) -> Status
 fn answer<O: Sink>(
     job: &FrameJob,
     stream: &FrameStream,
-    kept: Kept,
-    head: Head,
+    kept: &Kept,
+    encoding: u16,
     space: &mut Workspace,
     output: &mut O,
 ) -> Result<Verdict, WriteFault>
     requires { space.old.chunk ≡ nothing_gathered }
     ensures empty { space.new.chunk ≡ nothing_gathered }
-    ensures delivers { Delivers (reply_of job.now kept (record { encoding = head.encoding; body = stream.now.body }))
+    ensures delivers { Delivers (reply_of job.now kept.now (record { encoding = encoding; body = stream.now.body }))
         (object_of (O.held output.old) (O.faults output.old)) (object_of (O.held output.new) (O.faults output.new)) result }
 {
-    answer_frame(job, kept, head.encoding, stream.frame(), space, output)
+    answer_frame(job, *kept, encoding, stream.frame(), space, output)
 }
 
 /// Work that has taken no frame yet.

@@ -116,7 +116,7 @@ impl Pump {
         }
         match self
             .work
-            .answer_next(self.kept, &mut self.draft, input, output, notes)
+            .answer_next(&self.kept, &mut self.draft, input, output, notes)
         {
             Ok(tally) => {
                 count(&mut self.kept, tally);
@@ -153,27 +153,27 @@ impl Work {
     /// Answers the next item, or answers the status of the run that ends here.
     fn answer_next<I: Source, O: Sink, N: Sink>(
         &mut self,
-        kept: Kept,
+        kept: &Kept,
         draft: &mut Draft,
         input: &mut I,
         output: &mut O,
         notes: &mut N,
     ) -> Result<Tally, Status>
         requires sound { IsSoundWork self.old }
-        requires stands { StandsSo self.old kept }
-        ensures answers { Answers (running (job_of self.old) kept (ahead_of self.old)) (ahead_of self.new)
+        requires stands { StandsSo self.old kept.now }
+        ensures answers { Answers (running (job_of self.old) kept.now (ahead_of self.old)) (ahead_of self.new)
             (streams_of (object_of (I.left input.old) (I.faults input.old)) (object_of (O.held output.old) (O.faults output.old)) (object_of (N.held notes.old) (N.faults notes.old)))
             (streams_of (object_of (I.left input.new) (I.faults input.new)) (object_of (O.held output.new) (O.faults output.new)) (object_of (N.held notes.new) (N.faults notes.new)))
             result }
         ensures job { job_of self.new ≡ job_of self.old }
         ensures sound { IsSoundWork self.new }
-        ensures stands { IfOk result (λ tally. StandsSo self.new (counted_by kept tally.bytes tally.verdict)) }
-        ensures countable { IfOk result (λ tally. CanCount kept tally) }
+        ensures stands { IfOk result (λ tally. StandsSo self.new (counted_by kept.now tally.bytes tally.verdict)) }
+        ensures countable { IfOk result (λ tally. CanCount kept.now tally) }
     {
         match self {
             Work::Frames(work) => work.answer_next(kept, input, output, notes),
-            Work::Lines(work) => work.answer_next(kept, input, output, notes),
-            Work::Once(job) => answer_once(job, kept, draft, output, notes),
+            Work::Lines(work) => work.answer_next(*kept, input, output, notes),
+            Work::Once(job) => answer_once(job, *kept, draft, output, notes),
         }
     }
 }

@@ -1,7 +1,6 @@
 use Rattle.std.proofs.Common.{refl, sym, ap, subst}
 use Rattle.std.specs.Option.{IsSome}
 use Rattle.frame_stream.specs.declared.lines.LineEnded.TheVariants as ended
-use Rattle.frame_stream.specs.declared.lines.LineTaken.TheVariants as taken
 use Rattle.frame_stream.specs.LineTakes.{LineState}
 use Rattle.sbe_base.specs.declared.status.Limits.{Limits}
 use Rattle.sbe_base.specs.declared.status.Status.TheVariants as status

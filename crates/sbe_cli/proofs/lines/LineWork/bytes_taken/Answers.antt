@@ -1,5 +1,4 @@
 use Rattle.std.proofs.Common.{◌≤◌, ◌+◌, ◌∙◌, ap, length, arith}
-use Rattle.std.specs.Prelude.{min}
 use Rattle.frame_stream.specs.LineTakes.{line_bytes}
 use Rattle.sbe_cli.proofs.LineSizes.{counted_taken, size_is}
 use Rattle.sbe_cli.proofs.lines.LineWork.bytes_taken.Goals as goal
