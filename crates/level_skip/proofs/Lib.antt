@@ -1,0 +1,4 @@
+pub mod Computing
+pub mod Lying
+pub mod Ends
+pub mod Steps

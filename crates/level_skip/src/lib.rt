@@ -1,0 +1,8 @@
+//! Entries that are stepped over, with all their groups and data.
+#![tactic(auto)]
+
+pub mod laws;
+mod skip;
+pub mod worked;
+
+pub use skip::skip_level;
