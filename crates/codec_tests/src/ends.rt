@@ -3,6 +3,7 @@
 use crate::telling::{Bench, bench_of, expect};
 use sample_schemas::SchemaFile;
 use std::alloc::Global;
+use std::process::Abort;
 use std::test::Fail;
 
 /// A number of each primitive, where it must stand and where it may be null.
@@ -11,6 +12,7 @@ const ENDS: SchemaFile = SchemaFile {
     behind: r#",
     {"enum":{"name":"Side","encodingType":"char","content":[{"validValue":{"name":"Buy","text":"1"}}]}},
     {"type":{"name":"Text3","primitiveType":"char","length":3}},
+    {"type":{"name":"Coded","primitiveType":"char","length":3,"characterEncoding":"ISO_8859_1"}},
     {"type":{"name":"Two","primitiveType":"uint16","length":2}}]}},
     {"message":{"name":"Ends","id":1,"content":[
         {"field":{"name":"c","id":1,"type":"char"}},
@@ -35,7 +37,8 @@ const ENDS: SchemaFile = SchemaFile {
         {"field":{"name":"e","id":10,"type":"Side","presence":"optional"}},
         {"field":{"name":"t","id":11,"type":"Text3","presence":"optional"}},
         {"field":{"name":"ar","id":12,"type":"Two","presence":"optional"}}]}},
-    {"message":{"name":"Txt","id":3,"content":[{"field":{"name":"t","id":1,"type":"Text3"}}]}}]}}"#,
+    {"message":{"name":"Txt","id":3,"content":[{"field":{"name":"t","id":1,"type":"Text3"}}]}},
+    {"message":{"name":"Enc","id":4,"content":[{"field":{"name":"t","id":1,"type":"Coded"}}]}}]}}"#,
 };
 
 /// The ends themselves, nulls, and texts that are empty or full.
@@ -48,6 +51,13 @@ const TAKEN: &str =
 11|11 030003000f000000610000|{"template":"Txt","fields":{"t":"a"}}
 11|11 030003000f000000207e7a|{"template":"Txt","fields":{"t":" ~z"}}
 11|TextByte 255 Part(0)|{"template":"Txt","fields":{"t":{"hex":"ff"}}}"#;
+
+/// A text with an encoding: any bytes but 00, as many as its field has, fewer, and more.
+const CODED: &str =
+    r#"11|11 030004000f00000061ff01|{"template":"Enc","fields":{"t":{"hex":"61ff01"}}}
+11|11 030004000f000000c3a900|{"template":"Enc","fields":{"t":"é"}}
+11|Range 4 Part(0)|{"template":"Enc","fields":{"t":{"hex":"61ff0102"}}}
+11|TextByte 0 Part(0)|{"template":"Enc","fields":{"t":{"hex":"6100ff"}}}"#;
 
 /// One below the least number of each primitive.
 const BELOW: &str =
@@ -97,9 +107,17 @@ fn ends_nulls_and_texts_are_written(rt: HostRuntime) -> Result<(), Fail> {
 }
 
 #[test]
+fn texts_with_an_encoding_are_written(rt: HostRuntime) -> Result<(), Fail> {
+    expect(&rt, rt.alloc(), &ends(rt.alloc())?, CODED)
+}
+
+fn expect_beyond(rt: &impl Abort, alloc: Global, bench: &Bench) -> Result<(), Fail> {
+    expect(rt, alloc, bench, BELOW)?;
+    expect(rt, alloc, bench, ABOVE)?;
+    expect(rt, alloc, bench, NULLS)
+}
+
+#[test]
 fn numbers_beyond_the_ends_are_refused(rt: HostRuntime) -> Result<(), Fail> {
-    let bench = ends(rt.alloc())?;
-    expect(&rt, rt.alloc(), &bench, BELOW)?;
-    expect(&rt, rt.alloc(), &bench, ABOVE)?;
-    expect(&rt, rt.alloc(), &bench, NULLS)
+    expect_beyond(&rt, rt.alloc(), &ends(rt.alloc())?)
 }

@@ -5,6 +5,8 @@
 #[cfg(test)]
 mod ends;
 #[cfg(test)]
+mod lines;
+#[cfg(test)]
 mod quotes;
 #[cfg(test)]
 mod shapes;

@@ -8,8 +8,8 @@ mod rows;
 use crate::telling::{Bench, again_told, bench_of, cut, line_told, message_of, told};
 use lists::{List, NoMem};
 use rows::{
-    CANONICAL_BIG, CANONICAL_LITTLE, FIELD_ROWS, MANY, MEMBER_ROWS, NEEDED, SAME, TREES, fields,
-    pair,
+    CANONICAL_BIG, CANONICAL_LITTLE, FIELD_ROWS, MANY, MEMBER_ROWS, NEEDED, SAME, TREES, VERSIONS,
+    fields, pair,
 };
 use sample_bodies::{BIG, LITTLE, quote_schema};
 use sbe_types::{Elem, Msg, Value, ValueList};
@@ -171,7 +171,25 @@ fn put_text(alloc: Global, member: bool, part: &str) -> Result<String, AllocErro
     format!(in alloc; ",{part}")
 }
 
-/// Puts what doesn't fit into a block, which has just room.
+/// The line of the message in the bodies, with a field or a member put into a block.
+fn put_line(alloc: Global, level: usize, member: bool, part: &str) -> Result<String, Fail> {
+    let put = put_text(alloc, member, part)?;
+    Ok(line_of(alloc, &put_at(level, put.as_str()), &same()?)?)
+}
+
+/// What is told of what doesn't fit in a block, which has just room.
+fn put_told(
+    alloc: Global,
+    bench: &Bench,
+    level: usize,
+    member: bool,
+    part: &str,
+) -> Result<String, Fail> {
+    let line = put_line(alloc, level, member, part)?;
+    told_within(alloc, bench, line.as_str(), place_of(level).needed)
+}
+
+/// A row: what is put into a block, what is told, and the way to it in its block.
 fn expect_row(
     rt: &impl Abort,
     alloc: Global,
@@ -182,20 +200,22 @@ fn expect_row(
 ) -> Result<(), Fail> {
     let (part, rest) = cut(row)?;
     let (why, way) = cut(rest)?;
-    let place = place_of(level);
-    let put = put_text(alloc, member, part)?;
-    let line = line_of(alloc, &put_at(level, put.as_str()), &same()?)?;
-    let wanted = format!(in alloc; "{why}{}{way}", place.way)?;
-    let found = told_within(alloc, bench, line.as_str(), place.needed)?;
+    let wanted = format!(in alloc; "{why}{}{way}", place_of(level).way)?;
+    let found = put_told(alloc, bench, level, member, part)?;
     assert_eq!(rt; found.as_str(), wanted.as_str());
     Ok(())
 }
 
-fn expect_rows(rt: &impl Abort, alloc: Global, member: bool, rows: &str) -> Result<(), Fail> {
-    let bench = quotes(alloc, "littleEndian")?;
+fn expect_rows(
+    rt: &impl Abort,
+    alloc: Global,
+    bench: &Bench,
+    member: bool,
+    rows: &str,
+) -> Result<(), Fail> {
     for level in 0..3usize {
         for row in rows.lines() {
-            expect_row(rt, alloc, &bench, level, member, row)?;
+            expect_row(rt, alloc, bench, level, member, row)?;
         }
     }
     Ok(())
@@ -203,19 +223,30 @@ fn expect_rows(rt: &impl Abort, alloc: Global, member: bool, rows: &str) -> Resu
 
 #[test]
 fn fields_of_each_block_refuse_what_does_not_fit(rt: HostRuntime) -> Result<(), Fail> {
-    expect_rows(&rt, rt.alloc(), false, FIELD_ROWS)
+    expect_rows(
+        &rt,
+        rt.alloc(),
+        &quotes(rt.alloc(), "littleEndian")?,
+        false,
+        FIELD_ROWS,
+    )
 }
 
 #[test]
 fn members_in_each_block_refuse_what_does_not_fit(rt: HostRuntime) -> Result<(), Fail> {
-    expect_rows(&rt, rt.alloc(), true, MEMBER_ROWS)
+    expect_rows(
+        &rt,
+        rt.alloc(),
+        &quotes(rt.alloc(), "littleEndian")?,
+        true,
+        MEMBER_ROWS,
+    )
 }
 
 /// A block's room is asked for before its fields.
 fn expect_room(rt: &impl Abort, alloc: Global, bench: &Bench, level: usize) -> Result<(), Fail> {
-    let needed = place_of(level).needed;
-    let line = line_of(alloc, &put_at(level, ",\"side\":3"), &same()?)?;
-    expect_full(rt, alloc, bench, line.as_str(), needed)
+    let line = put_line(alloc, level, false, "\"side\":3")?;
+    expect_full(rt, alloc, bench, line.as_str(), place_of(level).needed)
 }
 
 /// One byte less than so many is no room.
@@ -232,58 +263,67 @@ fn expect_full(
     Ok(())
 }
 
-#[test]
-fn room_comes_before_fields(rt: HostRuntime) -> Result<(), Fail> {
-    let bench = quotes(rt.alloc(), "littleEndian")?;
+fn expect_rooms(rt: &impl Abort, alloc: Global, bench: &Bench) -> Result<(), Fail> {
     for level in 0..3usize {
-        expect_room(&rt, rt.alloc(), &bench, level)?;
+        expect_room(rt, alloc, bench, level)?;
     }
     Ok(())
 }
 
+#[test]
+fn room_comes_before_fields(rt: HostRuntime) -> Result<(), Fail> {
+    expect_rooms(&rt, rt.alloc(), &quotes(rt.alloc(), "littleEndian")?)
+}
+
 // ---- groups, data and limits
+
+/// What is told within a limit of a message of so many entries and bytes.
+fn many_told(alloc: Global, bench: &Bench, limit: usize, many: &str) -> Result<String, Fail> {
+    let line = line_of(alloc, &put_at(0, ""), &many_of(many)?)?;
+    told_within(alloc, bench, line.as_str(), limit)
+}
 
 fn expect_many(rt: &impl Abort, alloc: Global, bench: &Bench, row: &str) -> Result<(), Fail> {
     let (limit, rest) = cut(row)?;
-    let (wanted, rest) = cut(rest)?;
-    let line = line_of(alloc, &put_at(0, ""), &many_of(rest)?)?;
-    let found = told_within(alloc, bench, line.as_str(), limit.parse::<usize>()?)?;
+    let (wanted, many) = cut(rest)?;
+    let found = many_told(alloc, bench, limit.parse::<usize>()?, many)?;
     assert_eq!(rt; found.as_str(), wanted);
+    Ok(())
+}
+
+fn expect_each(rt: &impl Abort, alloc: Global, bench: &Bench, rows: &str) -> Result<(), Fail> {
+    for row in rows.lines() {
+        expect_many(rt, alloc, bench, row)?;
+    }
     Ok(())
 }
 
 #[test]
 fn counts_and_lengths_come_before_room(rt: HostRuntime) -> Result<(), Fail> {
-    let bench = quotes(rt.alloc(), "littleEndian")?;
-    for row in MANY.lines() {
-        expect_many(&rt, rt.alloc(), &bench, row)?;
-    }
-    Ok(())
+    expect_each(&rt, rt.alloc(), &quotes(rt.alloc(), "littleEndian")?, MANY)
 }
 
-fn expect_needed(
-    rt: &impl Abort,
-    alloc: Global,
-    bench: &Bench,
-    line: &str,
-    rows: &str,
-) -> Result<(), Fail> {
+fn expect_needed(rt: &impl Abort, alloc: Global, bench: &Bench, rows: &str) -> Result<(), Fail> {
+    let line = same_line(alloc)?;
     for needed in rows.lines() {
-        expect_full(rt, alloc, bench, line, needed.parse::<usize>()?)?;
+        expect_full(rt, alloc, bench, line.as_str(), needed.parse::<usize>()?)?;
     }
     Ok(())
 }
 
 #[test]
 fn each_part_asks_for_its_room(rt: HostRuntime) -> Result<(), Fail> {
-    let bench = quotes(rt.alloc(), "bigEndian")?;
-    let line = same_line(rt.alloc())?;
-    expect_needed(&rt, rt.alloc(), &bench, line.as_str(), NEEDED)
+    expect_needed(&rt, rt.alloc(), &quotes(rt.alloc(), "bigEndian")?, NEEDED)
 }
 
 // ---- canonical bodies
 
-/// The message in a body is written as so many bytes.
+/// What is told of the message in a body.
+fn body_told(alloc: Global, bench: &Bench, body: &[u8]) -> Result<String, Fail> {
+    let mut buf = FrameBuf::new(alloc, 176)?;
+    again_told(alloc, bench, body, &mut buf)
+}
+
 fn expect_again(
     rt: &impl Abort,
     alloc: Global,
@@ -291,15 +331,13 @@ fn expect_again(
     body: &[u8],
     wanted: &str,
 ) -> Result<(), Fail> {
-    let mut buf = FrameBuf::new(alloc, 176)?;
-    let found = again_told(alloc, bench, body, &mut buf)?;
+    let found = body_told(alloc, bench, body)?;
     assert_eq!(rt; found.as_str(), wanted);
     Ok(())
 }
 
 fn expect_line(rt: &impl Abort, alloc: Global, bench: &Bench, wanted: &str) -> Result<(), Fail> {
-    let line = same_line(alloc)?;
-    let found = told_within(alloc, bench, line.as_str(), 176)?;
+    let found = told_within(alloc, bench, same_line(alloc)?.as_str(), 176)?;
     assert_eq!(rt; found.as_str(), wanted);
     Ok(())
 }
@@ -331,7 +369,72 @@ fn a_big_endian_body_is_written_without_its_padding(rt: HostRuntime) -> Result<(
     expect_canonical(&rt, rt.alloc(), &bench, &BIG, CANONICAL_BIG)
 }
 
-// ---- values that no line gives
+/// The bytes cut off or filled up to an end, with others put in at a place.
+fn changed(
+    alloc: Global,
+    bytes: &[u8],
+    at: usize,
+    put: &[u8],
+    end: usize,
+) -> Result<Vec<u8>, Fail> {
+    let mut body = Vec::from_slice(alloc, bytes)?;
+    body.resize(end, 0)?;
+    if at > body.len() || put.len() > body.len() - at {
+        return Err(Fail::new("the bytes pass the end"));
+    }
+    let behind = at + put.len();
+    body[at..behind].copy_from_slice(put);
+    Ok(body)
+}
+
+/// A body by a row, whose version stands at a place: it holds a message, which isn't written.
+fn expect_version(
+    rt: &impl Abort,
+    alloc: Global,
+    bench: &Bench,
+    body: &[u8],
+    place: usize,
+    row: &str,
+) -> Result<(), Fail> {
+    let (at, rest) = cut(row)?;
+    let (little, rest) = cut(rest)?;
+    let (big, rest) = cut(rest)?;
+    let (end, version) = cut(rest)?;
+    let end = end.parse::<usize>()?;
+    let spelled = if place == 6 { little } else { big };
+    let put = hex::decode(alloc, spelled)?;
+    let one = changed(alloc, body, at.parse::<usize>()?, put.as_slice(), end)?;
+    let version = [version.parse::<u8>()?];
+    let body = changed(alloc, one.as_slice(), place, version.as_slice(), end)?;
+    expect_again(rt, alloc, bench, body.as_slice(), "Shape 0")
+}
+
+fn expect_versions(
+    rt: &impl Abort,
+    alloc: Global,
+    bench: &Bench,
+    body: &[u8],
+    place: usize,
+) -> Result<(), Fail> {
+    for row in VERSIONS.lines() {
+        expect_version(rt, alloc, bench, body, place, row)?;
+    }
+    Ok(())
+}
+
+#[test]
+fn little_endian_messages_of_other_versions_are_not_written(rt: HostRuntime) -> Result<(), Fail> {
+    let bench = quotes(rt.alloc(), "littleEndian")?;
+    expect_versions(&rt, rt.alloc(), &bench, &LITTLE, 6)
+}
+
+#[test]
+fn big_endian_messages_of_other_versions_are_not_written(rt: HostRuntime) -> Result<(), Fail> {
+    let bench = quotes(rt.alloc(), "bigEndian")?;
+    expect_versions(&rt, rt.alloc(), &bench, &BIG, 7)
+}
+
+// ---- values of another kind
 
 fn null_and_one(alloc: Global) -> Result<Value, NoMem> {
     let mut elements = List::new(alloc);
@@ -386,6 +489,13 @@ fn with_field(alloc: Global, msg: &Msg, at: usize, word: &str) -> Result<Msg, Fa
     Ok(copy)
 }
 
+/// What is told of a tree.
+fn tree_told(alloc: Global, bench: &Bench, msg: &Msg) -> Result<String, Fail> {
+    let mut buf = FrameBuf::new(alloc, 176)?;
+    Ok(told(alloc, &bench.layout, msg, &mut buf)?)
+}
+
+/// A row: a field of the root, a value, and what is told of the message with it.
 fn expect_tree(
     rt: &impl Abort,
     alloc: Global,
@@ -396,28 +506,20 @@ fn expect_tree(
     let (at, rest) = cut(row)?;
     let (word, wanted) = cut(rest)?;
     let msg = with_field(alloc, msg, at.parse::<usize>()?, word)?;
-    let mut buf = FrameBuf::new(alloc, 176)?;
-    let found = told(alloc, &bench.layout, &msg, &mut buf)?;
+    let found = tree_told(alloc, bench, &msg)?;
     assert_eq!(rt; found.as_str(), wanted, "{row}");
     Ok(())
 }
 
-fn expect_trees(
-    rt: &impl Abort,
-    alloc: Global,
-    bench: &Bench,
-    msg: &Msg,
-    rows: &str,
-) -> Result<(), Fail> {
+fn expect_trees(rt: &impl Abort, alloc: Global, bench: &Bench, rows: &str) -> Result<(), Fail> {
+    let msg = message_of(alloc, &bench.checked, same_line(alloc)?.as_str())?;
     for row in rows.lines() {
-        expect_tree(rt, alloc, bench, msg, row)?;
+        expect_tree(rt, alloc, bench, &msg, row)?;
     }
     Ok(())
 }
 
 #[test]
 fn values_of_another_kind_are_refused(rt: HostRuntime) -> Result<(), Fail> {
-    let bench = quotes(rt.alloc(), "littleEndian")?;
-    let msg = message_of(rt.alloc(), &bench.checked, same_line(rt.alloc())?.as_str())?;
-    expect_trees(&rt, rt.alloc(), &bench, &msg, TREES)
+    expect_trees(&rt, rt.alloc(), &quotes(rt.alloc(), "littleEndian")?, TREES)
 }

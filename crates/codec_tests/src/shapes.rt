@@ -210,6 +210,17 @@ fn message(alloc: Global, tree: &Tree) -> Result<Msg, NoMem> {
     })
 }
 
+/// What is told of a tree, written into a buffer.
+fn tree_told(
+    alloc: Global,
+    bench: &Bench,
+    tree: &Tree,
+    buf: &mut FrameBuf,
+) -> Result<String, Fail> {
+    let msg = message(alloc, tree)?;
+    Ok(told(alloc, &bench.layout, &msg, buf)?)
+}
+
 fn expect_tree(
     rt: &impl Abort,
     alloc: Global,
@@ -218,20 +229,21 @@ fn expect_tree(
     row: &str,
 ) -> Result<(), Fail> {
     let (changes, wanted) = cut(row)?;
-    let tree = tree_of(changes)?;
-    let found = told(alloc, &bench.layout, &message(alloc, &tree)?, buf)?;
+    let found = tree_told(alloc, bench, &tree_of(changes)?, buf)?;
     assert_eq!(rt; found.as_str(), wanted, "{changes}");
     assert_eq!(rt; buf.limit(), 64);
     Ok(())
 }
 
-#[test]
-fn trees_of_another_shape_are_refused(rt: HostRuntime) -> Result<(), Fail> {
-    let alloc = rt.alloc();
-    let bench = six(alloc)?;
+fn expect_trees(rt: &impl Abort, alloc: Global, bench: &Bench, rows: &str) -> Result<(), Fail> {
     let mut buf = FrameBuf::new(alloc, 64)?;
-    for row in TREES.lines() {
-        expect_tree(&rt, alloc, &bench, &mut buf, row)?;
+    for row in rows.lines() {
+        expect_tree(rt, alloc, bench, &mut buf, row)?;
     }
     Ok(())
+}
+
+#[test]
+fn trees_of_another_shape_are_refused(rt: HostRuntime) -> Result<(), Fail> {
+    expect_trees(&rt, rt.alloc(), &six(rt.alloc())?, TREES)
 }

@@ -105,11 +105,15 @@ pub fn line_told(
     Ok(told(alloc, &bench.layout, &msg, buf)?)
 }
 
-/// A row over a buffer of its limit, which stays: the limit, what is told, and the line.
-fn expect_row(rt: &impl Abort, alloc: Global, bench: &Bench, row: &str) -> Result<(), Fail> {
-    let (limit, rest) = cut(row)?;
-    let (wanted, line) = cut(rest)?;
-    let limit = limit.parse::<usize>()?;
+/// What is told of a line's message within a limit, which stays.
+fn expect_within(
+    rt: &impl Abort,
+    alloc: Global,
+    bench: &Bench,
+    limit: usize,
+    line: &str,
+    wanted: &str,
+) -> Result<(), Fail> {
     let mut buf = FrameBuf::new(alloc, limit)?;
     let found = line_told(alloc, bench, line, &mut buf)?;
     assert_eq!(rt; found.as_str(), wanted, "{line}");
@@ -117,6 +121,14 @@ fn expect_row(rt: &impl Abort, alloc: Global, bench: &Bench, row: &str) -> Resul
     Ok(())
 }
 
+/// A row: the limit, what is told, and the line.
+fn expect_row(rt: &impl Abort, alloc: Global, bench: &Bench, row: &str) -> Result<(), Fail> {
+    let (limit, rest) = cut(row)?;
+    let (wanted, line) = cut(rest)?;
+    expect_within(rt, alloc, bench, limit.parse::<usize>()?, line, wanted)
+}
+
+/// The rows of a table, over one schema.
 pub fn expect(rt: &impl Abort, alloc: Global, bench: &Bench, rows: &str) -> Result<(), Fail> {
     for row in rows.lines() {
         expect_row(rt, alloc, bench, row)?;

@@ -120,26 +120,29 @@ fn expect_decoded(
     Ok(())
 }
 
+/// The body whole, and cut off in its data and in its header.
+fn expect_fronts(rt: &impl Abort, alloc: Global, layout: &Layout) -> Result<(), Fail> {
+    let body = BODY;
+    expect_decoded(rt, alloc, layout, &body, "0 2: enum 53 num 7 num 9 [65] ")?;
+    expect_decoded(rt, alloc, layout, &body[..14], "Truncated 3 at 12")?;
+    expect_decoded(rt, alloc, layout, &body[..7], "ShortHeader 7 at 0")
+}
+
 #[test]
 fn a_body_is_decoded_by_the_later_version(rt: HostRuntime) -> Result<(), Fail> {
-    let layout = later(rt.alloc())?;
-    let body = BODY;
-    expect_decoded(
-        &rt,
-        rt.alloc(),
-        &layout,
-        &body,
-        "0 2: enum 53 num 7 num 9 [65] ",
-    )?;
-    expect_decoded(&rt, rt.alloc(), &layout, &body[..14], "Truncated 3 at 12")?;
-    expect_decoded(&rt, rt.alloc(), &layout, &body[..7], "ShortHeader 7 at 0")
+    expect_fronts(&rt, rt.alloc(), &later(rt.alloc())?)
 }
 
 #[test]
 fn a_body_is_decoded_by_the_earlier_version(rt: HostRuntime) -> Result<(), Fail> {
-    let layout = earlier(rt.alloc())?;
     let body = BODY;
-    expect_decoded(&rt, rt.alloc(), &layout, &body, "0 2: enum 53 num 7 ")
+    expect_decoded(
+        &rt,
+        rt.alloc(),
+        &earlier(rt.alloc())?,
+        &body,
+        "0 2: enum 53 num 7 ",
+    )
 }
 
 /// What is told of the size of a message within a limit.
@@ -156,24 +159,16 @@ fn expect_size(
     Ok(())
 }
 
-fn expect_sizes(rt: &impl Abort, alloc: Global, layout: &Layout, msg: &Msg) -> Result<(), Fail> {
-    expect_size(rt, alloc, layout, msg, 15, "15 bytes")?;
-    expect_size(rt, alloc, layout, msg, 14, "Full 15")?;
-    expect_size(rt, alloc, layout, msg, 11, "Full 12")
+fn expect_sizes(rt: &impl Abort, alloc: Global, layout: &Layout) -> Result<(), Fail> {
+    let msg = message(alloc, 53, Value::Num(7))?;
+    expect_size(rt, alloc, layout, &msg, 15, "15 bytes")?;
+    expect_size(rt, alloc, layout, &msg, 14, "Full 15")?;
+    expect_size(rt, alloc, layout, &msg, 11, "Full 12")
 }
 
 #[test]
 fn a_tree_has_a_size_or_no_room(rt: HostRuntime) -> Result<(), Fail> {
-    let layout = later(rt.alloc())?;
-    let msg = message(rt.alloc(), 53, Value::Num(7))?;
-    expect_sizes(&rt, rt.alloc(), &layout, &msg)
-}
-
-#[test]
-fn a_tree_of_a_later_version_has_no_size(rt: HostRuntime) -> Result<(), Fail> {
-    let layout = earlier(rt.alloc())?;
-    let msg = message(rt.alloc(), 53, Value::Num(7))?;
-    expect_size(&rt, rt.alloc(), &layout, &msg, 15, "Shape 0")
+    expect_sizes(&rt, rt.alloc(), &later(rt.alloc())?)
 }
 
 /// What is told of a message of these values within a limit.
@@ -190,27 +185,42 @@ fn expect_misfit(
     expect_size(rt, alloc, layout, &msg, limit, wanted)
 }
 
-#[test]
-fn a_tree_has_a_first_misfit(rt: HostRuntime) -> Result<(), Fail> {
-    let alloc = rt.alloc();
-    let layout = later(alloc)?;
+fn expect_misfits(rt: &impl Abort, alloc: Global, layout: &Layout) -> Result<(), Fail> {
     expect_misfit(
-        &rt,
+        rt,
         alloc,
-        &layout,
+        layout,
         54,
         Value::Null,
         15,
         "EnumUnknown 54 Part(0)",
     )?;
-    expect_misfit(&rt, alloc, &layout, 53, Value::Null, 15, "Kind 0 Part(1)")?;
+    expect_misfit(rt, alloc, layout, 53, Value::Null, 15, "Kind 0 Part(1)")?;
     expect_misfit(
-        &rt,
+        rt,
         alloc,
-        &layout,
+        layout,
         53,
         Value::Num(255),
         14,
         "Range 255 Part(1)",
+    )
+}
+
+#[test]
+fn a_tree_has_a_first_misfit(rt: HostRuntime) -> Result<(), Fail> {
+    expect_misfits(&rt, rt.alloc(), &later(rt.alloc())?)
+}
+
+#[test]
+fn a_tree_of_a_later_version_has_no_size(rt: HostRuntime) -> Result<(), Fail> {
+    expect_misfit(
+        &rt,
+        rt.alloc(),
+        &earlier(rt.alloc())?,
+        53,
+        Value::Num(7),
+        15,
+        "Shape 0",
     )
 }

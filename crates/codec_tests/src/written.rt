@@ -1,7 +1,7 @@
 //! The bodies of messages that are told by lines, or why they can't be written.
 
 use crate::telling::{Bench, again_told, bench_of, cut, expect, line_told, six};
-use sample_schemas::{BRIDGE, MIX};
+use sample_schemas::{BRIDGE, MIX, SchemaFile};
 use std::alloc::{AllocError, Global};
 use std::process::Abort;
 use std::test::Fail;
@@ -35,13 +35,15 @@ fn messages_are_written_or_refused(rt: HostRuntime) -> Result<(), Fail> {
     expect(&rt, rt.alloc(), &six(rt.alloc())?, BODIES)
 }
 
+fn expect_file(rt: &impl Abort, alloc: Global, file: &SchemaFile, rows: &str) -> Result<(), Fail> {
+    let bench = bench_of(alloc, file.text(alloc)?.as_str())?;
+    expect(rt, alloc, &bench, rows)
+}
+
 #[test]
 fn composites_texts_and_constants_are_written(rt: HostRuntime) -> Result<(), Fail> {
-    let alloc = rt.alloc();
-    let mix = bench_of(alloc, MIX.text(alloc)?.as_str())?;
-    expect(&rt, alloc, &mix, MIXED)?;
-    let bridge = bench_of(alloc, BRIDGE.text(alloc)?.as_str())?;
-    expect(&rt, alloc, &bridge, BRIDGED)
+    expect_file(&rt, rt.alloc(), &MIX, MIXED)?;
+    expect_file(&rt, rt.alloc(), &BRIDGE, BRIDGED)
 }
 
 /// A line of a group of so many entries.
@@ -67,26 +69,41 @@ fn entries_told(
     line_told(alloc, bench, line_of(alloc, many)?.as_str(), buf)
 }
 
-fn expect_entries(
+/// As many entries as the limit admits: the front of what is told, and how many bytes stand in the buffer then.
+fn expect_full(
     rt: &impl Abort,
     alloc: Global,
     bench: &Bench,
     buf: &mut FrameBuf,
 ) -> Result<(), Fail> {
-    let fits = entries_told(alloc, bench, 42, buf)?;
-    assert!(rt; fits.as_str().starts_with("58 000004"));
+    let found = entries_told(alloc, bench, 42, buf)?;
+    assert!(rt; found.as_str().starts_with("58 000004"));
     assert_eq!(rt; buf.bytes().len(), 58);
-    let over = entries_told(alloc, bench, 43, buf)?;
-    assert_eq!(rt; over.as_str(), "Full 59");
+    Ok(())
+}
+
+/// One entry more.
+fn expect_over(
+    rt: &impl Abort,
+    alloc: Global,
+    bench: &Bench,
+    buf: &mut FrameBuf,
+) -> Result<(), Fail> {
+    let found = entries_told(alloc, bench, 43, buf)?;
+    assert_eq!(rt; found.as_str(), "Full 59");
     assert_eq!(rt; buf.bytes().len(), 0);
     Ok(())
 }
 
+fn expect_most_entries(rt: &impl Abort, alloc: Global, bench: &Bench) -> Result<(), Fail> {
+    let mut buf = FrameBuf::new(alloc, 58)?;
+    expect_full(rt, alloc, bench, &mut buf)?;
+    expect_over(rt, alloc, bench, &mut buf)
+}
+
 #[test]
 fn entries_are_written_up_to_the_limit(rt: HostRuntime) -> Result<(), Fail> {
-    let bench = six(rt.alloc())?;
-    let mut buf = FrameBuf::new(rt.alloc(), 58)?;
-    expect_entries(&rt, rt.alloc(), &bench, &mut buf)
+    expect_most_entries(&rt, rt.alloc(), &six(rt.alloc())?)
 }
 
 // ---- one buffer again and again
@@ -127,14 +144,17 @@ fn expect_in_turn(
 }
 
 /// The last row is refused, and leaves nothing in the buffer.
-#[test]
-fn a_buffer_is_written_again_after_a_refusal(rt: HostRuntime) -> Result<(), Fail> {
-    let bench = six(rt.alloc())?;
-    let mut buf = FrameBuf::new(rt.alloc(), 17)?;
-    expect_in_turn(&rt, rt.alloc(), &bench, &mut buf, AGAIN)?;
+fn expect_again_and_again(rt: &impl Abort, alloc: Global, bench: &Bench) -> Result<(), Fail> {
+    let mut buf = FrameBuf::new(alloc, 17)?;
+    expect_in_turn(rt, alloc, bench, &mut buf, AGAIN)?;
     assert_eq!(rt; buf.bytes().len(), 0);
     assert_eq!(rt; buf.limit(), 17);
     Ok(())
+}
+
+#[test]
+fn a_buffer_is_written_again_after_a_refusal(rt: HostRuntime) -> Result<(), Fail> {
+    expect_again_and_again(&rt, rt.alloc(), &six(rt.alloc())?)
 }
 
 // ---- padding
@@ -142,6 +162,16 @@ fn a_buffer_is_written_again_after_a_refusal(rt: HostRuntime) -> Result<(), Fail
 /// What is told of the canonical body of a message, and the bytes of a body whose padding isn't zero.
 const PADDED: &str = r#"17 0000040007000000010000000000000105|00000400070000000100aabbccddee0105
 21 000005000700000001000100010100000002006869|000005000700000001000100010000000002006869"#;
+
+/// What is told of the message in a body, which is spelled in hex.
+fn spelled_told(
+    alloc: Global,
+    bench: &Bench,
+    body: &str,
+    buf: &mut FrameBuf,
+) -> Result<String, Fail> {
+    again_told(alloc, bench, hex::decode(alloc, body)?.as_slice(), buf)
+}
 
 fn expect_again(
     rt: &impl Abort,
@@ -151,28 +181,20 @@ fn expect_again(
     row: &str,
 ) -> Result<(), Fail> {
     let (wanted, body) = cut(row)?;
-    let body = hex::decode(alloc, body)?;
-    let found = again_told(alloc, bench, body.as_slice(), buf)?;
+    let found = spelled_told(alloc, bench, body, buf)?;
     assert_eq!(rt; found.as_str(), wanted);
     Ok(())
 }
 
-fn expect_padded(
-    rt: &impl Abort,
-    alloc: Global,
-    bench: &Bench,
-    buf: &mut FrameBuf,
-    rows: &str,
-) -> Result<(), Fail> {
+fn expect_padded(rt: &impl Abort, alloc: Global, bench: &Bench, rows: &str) -> Result<(), Fail> {
+    let mut buf = FrameBuf::new(alloc, 64)?;
     for row in rows.lines() {
-        expect_again(rt, alloc, bench, buf, row)?;
+        expect_again(rt, alloc, bench, &mut buf, row)?;
     }
     Ok(())
 }
 
 #[test]
 fn what_was_decoded_is_written_canonically(rt: HostRuntime) -> Result<(), Fail> {
-    let bench = six(rt.alloc())?;
-    let mut buf = FrameBuf::new(rt.alloc(), 64)?;
-    expect_padded(&rt, rt.alloc(), &bench, &mut buf, PADDED)
+    expect_padded(&rt, rt.alloc(), &six(rt.alloc())?, PADDED)
 }

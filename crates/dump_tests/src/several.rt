@@ -1,10 +1,8 @@
 //! Several schemas in one run.
 
-use run_trials::PING;
-use sbe_base::{MemFiles, MemSink, MemSource, Status};
-use sbe_cli::run;
+use run_trials::{PING, expect_among};
+use sbe_base::{MemFiles, Status};
 use std::alloc::Global;
-use std::process::Abort;
 use std::test::Fail;
 
 /// A schema with the id 8, and the header of the sample.
@@ -33,37 +31,29 @@ const BIG: &[u8] =
 const FRAMES: &[u8] =
     b"\x00\x00\x00\x14\xeb\x50\x06\x00\x01\x00\x07\x00\x00\x00\x02\x01\x00\x00\x00\x80\x00\x00\x00\x10\xeb\x50\x02\x00\x01\x00\x08\x00\x00\x00\x31\x07\x00\x00\x00\x11\xeb\x50\x00\x00\x01\x00\x09\x00\x00\x00\x01\x00\x41";
 
+fn put_all(files: &mut MemFiles) -> Result<(), Fail> {
+    files.put("ping.json", PING)?;
+    files.put("sides.json", SIDES)?;
+    files.put("big.json", BIG)?;
+    Ok(())
+}
+
+fn schemas(alloc: Global) -> Result<MemFiles, Fail> {
+    let mut files = MemFiles::new(alloc, &[])?;
+    put_all(&mut files)?;
+    Ok(files)
+}
+
+/// Asserts how a run over the three schemas ends.
 fn expect_run(
-    rt: &impl Abort,
     alloc: Global,
-    texts: &[&str],
+    words: &[&str],
     status: Status,
     output: &[u8],
     notes: &[u8],
 ) -> Result<(), Fail> {
-    let mut words = Vec::new(alloc);
-    for text in texts {
-        words.push(String::from_str(alloc, *text)?)?;
-    }
-    let mut files = MemFiles::new(alloc, &[])?;
-    files.put("ping.json", PING)?;
-    files.put("sides.json", SIDES)?;
-    files.put("big.json", BIG)?;
-    let mut input = MemSource::new(alloc, FRAMES, 9, &[])?;
-    let mut out = MemSink::new(alloc, 1024, &[])?;
-    let mut noted = MemSink::new(alloc, 1024, &[])?;
-    let ended = run(
-        alloc,
-        words.as_slice(),
-        &mut files,
-        &mut input,
-        &mut out,
-        &mut noted,
-    );
-    assert_eq!(rt; ended, status, "{texts:?}");
-    assert_eq!(rt; out.bytes(), output);
-    assert_eq!(rt; noted.bytes(), notes);
-    Ok(())
+    let mut files = schemas(alloc)?;
+    expect_among(alloc, words, &mut files, FRAMES, status, output, notes)
 }
 
 #[test]
@@ -74,7 +64,7 @@ fn chooses_the_schema_that_a_message_names(rt: HostRuntime) -> Result<(), Fail> 
 {\"refused\":\"F02\",\"item\":2,\"offset\":4,\"path\":\"\",\"detail\":\"9\"}
 ";
     let words = ["dump", "ping.json", "--also", "sides.json"];
-    expect_run(&rt, rt.alloc(), &words, Status::SomeRefused, output, b"")
+    expect_run(rt.alloc(), &words, Status::SomeRefused, output, b"")
 }
 
 #[test]
@@ -109,7 +99,7 @@ fn refuses_further_schemas(rt: HostRuntime) -> Result<(), Fail> {
         ),
     ];
     for (words, status, notes) in rows {
-        expect_run(&rt, rt.alloc(), words, status, b"", notes)?;
+        expect_run(rt.alloc(), words, status, b"", notes)?;
     }
     Ok(())
 }

@@ -9,7 +9,7 @@ pub(crate) fn sink(alloc: Global) -> Result<MemSink, Fail> {
 }
 
 /// So many bytes.
-fn piece(alloc: Global, many: usize) -> Result<Vec<u8>, Fail> {
+pub(crate) fn piece(alloc: Global, many: usize) -> Result<Vec<u8>, Fail> {
     let mut bytes = Vec::new(alloc);
     for _ in 0..many {
         bytes.push(b'x')?;

@@ -4,4 +4,6 @@
 #[cfg(test)]
 mod chunks;
 #[cfg(test)]
+mod digits;
+#[cfg(test)]
 mod values;

@@ -12,6 +12,7 @@ use sbe_types::{
 };
 use schema_check::{CCode, CheckErr, Checked, check};
 use std::alloc::Global;
+use std::process::Abort;
 use std::test::Fail;
 
 fn text(alloc: Global, of: &str) -> Result<Text, NoMem>
@@ -33,18 +34,22 @@ fn schema(alloc: Global, order: Order, children: List<SchemaItem>) -> Result<Sch
     })
 }
 
+fn expect_unknown(rt: &impl Abort, e: &CheckErr) {
+    match e {
+        CheckErr::Refused(code, path) => {
+            assert_eq!(rt; *code, CCode::UnknownType);
+            assert_eq!(rt; path.as_slice(), b"types/messageHeader".as_slice());
+        }
+        CheckErr::Memory => assert!(rt; false),
+    }
+}
+
 #[test]
 fn a_header_type_that_nothing_declares_is_refused(rt: HostRuntime) -> Result<(), Fail> {
     let schema = schema(rt.alloc(), Order::Big, List::new(rt.alloc()))?;
     match check(rt.alloc(), schema) {
         Ok(_checked) => assert!(rt; false),
-        Err(e) => match e {
-            CheckErr::Refused(code, path) => {
-                assert_eq!(rt; code, CCode::UnknownType);
-                assert_eq!(rt; path.as_slice(), b"types/messageHeader".as_slice());
-            }
-            CheckErr::Memory => assert!(rt; false),
-        },
+        Err(e) => expect_unknown(&rt, &e),
     }
     Ok(())
 }
@@ -100,18 +105,30 @@ fn checked(alloc: Global, order: Order, offset: Option<u32>) -> Result<Checked, 
     check(alloc, schema(alloc, order, children)?)
 }
 
+/// Whether a header has the form of another one.
+fn has_form(
+    alloc: Global,
+    plain: &Checked,
+    order: Order,
+    offset: Option<u32>,
+) -> Result<bool, CheckErr>
+    requires { IsWithin offset }
+{
+    Ok(plain.same_form(&checked(alloc, order, offset)?))
+}
+
+fn expect_forms(rt: &impl Abort, alloc: Global, plain: &Checked) -> Result<(), Fail> {
+    assert!(rt; has_form(alloc, plain, Order::Little, Some(2))?);
+    assert!(rt; !has_form(alloc, plain, Order::Little, Some(4))?);
+    assert!(rt; !has_form(alloc, plain, Order::Big, None)?);
+    assert_eq!(rt; plain.id(), 7);
+    assert_eq!(rt; plain.version(), 3);
+    Ok(())
+}
+
 #[test]
 fn headers_are_of_one_form_where_their_members_stand_at_the_same_places(
     rt: HostRuntime,
 ) -> Result<(), Fail> {
-    let plain = checked(rt.alloc(), Order::Little, None)?;
-    let stated = checked(rt.alloc(), Order::Little, Some(2))?;
-    let apart = checked(rt.alloc(), Order::Little, Some(4))?;
-    let big = checked(rt.alloc(), Order::Big, None)?;
-    assert!(rt; plain.same_form(&stated));
-    assert!(rt; !plain.same_form(&apart));
-    assert!(rt; !plain.same_form(&big));
-    assert_eq!(rt; plain.id(), 7);
-    assert_eq!(rt; plain.version(), 3);
-    Ok(())
+    expect_forms(&rt, rt.alloc(), &checked(rt.alloc(), Order::Little, None)?)
 }

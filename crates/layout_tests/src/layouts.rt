@@ -8,59 +8,80 @@ use files::{
     Row, SIX,
 };
 use layout_compile::{Layout, compile};
-use sample_schemas::TYPES;
+use sample_schemas::FileParts;
 use sbe_schema::read_schema;
-use schema_check::check;
-use std::alloc::Global;
+use schema_check::{Checked, check};
+use std::alloc::{AllocError, Global};
+use std::process::Abort;
 use std::test::Fail;
 
-fn layout_of(alloc: Global, file: &Row) -> Result<Layout, Fail> {
-    let text = file.file.text(alloc)?;
+fn checked_of(alloc: Global, text: &str) -> Result<Checked, Fail> {
     let schema = read_schema(alloc, text.as_bytes())?;
-    let checked = check(alloc, schema)?;
+    Ok(check(alloc, schema)?)
+}
+
+fn layout_of(alloc: Global, text: &str) -> Result<Layout, Fail> {
+    let checked = checked_of(alloc, text)?;
     Ok(compile(alloc, &checked)?)
+}
+
+fn layout_in(alloc: Global, row: &Row) -> Result<Layout, Fail> {
+    layout_of(alloc, row.file.text(alloc)?.as_str())
+}
+
+fn outline_of(alloc: Global, layout: &Layout) -> Result<String, AllocError> {
+    let mut found = String::new(alloc);
+    add_layout(alloc, &mut found, layout)?;
+    Ok(found)
+}
+
+fn expect_outline(
+    rt: &impl Abort,
+    alloc: Global,
+    layout: &Layout,
+    wanted: &str,
+) -> Result<(), Fail> {
+    let found = outline_of(alloc, layout)?;
+    assert_eq!(rt; found.as_str(), wanted);
+    Ok(())
+}
+
+fn expect_row(rt: &impl Abort, alloc: Global, row: &Row) -> Result<(), Fail> {
+    expect_outline(rt, alloc, &layout_in(alloc, row)?, row.outline)
 }
 
 #[test]
 fn layouts_tell_where_all_parts_stand(rt: HostRuntime) -> Result<(), Fail> {
-    let rows = [
-        ORDER,
-        DEEP,
-        SIX,
-        FIVE,
-        EVENT,
-        LATER_EVENT,
-        DATA,
-        LATER_DATA,
-        ENTRIES,
-        LATER_ENTRIES,
-        MIX,
-        BRIDGE,
-    ];
-    for row in rows {
-        let layout = layout_of(rt.alloc(), &row)?;
-        let mut found = String::new(rt.alloc());
-        add_layout(rt.alloc(), &mut found, &layout)?;
-        assert_eq!(rt; found.as_str(), row.outline);
-    }
-    Ok(())
+    expect_row(&rt, rt.alloc(), &ORDER)?;
+    expect_row(&rt, rt.alloc(), &DEEP)?;
+    expect_row(&rt, rt.alloc(), &SIX)?;
+    expect_row(&rt, rt.alloc(), &FIVE)?;
+    expect_row(&rt, rt.alloc(), &EVENT)?;
+    expect_row(&rt, rt.alloc(), &LATER_EVENT)?;
+    expect_row(&rt, rt.alloc(), &DATA)?;
+    expect_row(&rt, rt.alloc(), &LATER_DATA)?;
+    expect_row(&rt, rt.alloc(), &ENTRIES)?;
+    expect_row(&rt, rt.alloc(), &LATER_ENTRIES)?;
+    expect_row(&rt, rt.alloc(), &MIX)?;
+    expect_row(&rt, rt.alloc(), &BRIDGE)
 }
 
-#[test]
-fn messages_are_found_by_their_ids(rt: HostRuntime) -> Result<(), Fail> {
-    let layout = layout_of(rt.alloc(), &ORDER)?;
+fn expect_ids(rt: &impl Abort, layout: &Layout) {
     assert_eq!(rt; layout.template(20), Some(0));
     assert_eq!(rt; layout.template(10), Some(1));
     assert_eq!(rt; layout.template(1), None);
     assert_eq!(rt; layout.schema_id(&[18, 0, 20, 0, 77, 1, 2, 0]), Some(333));
     assert_eq!(rt; layout.schema_id(&[18, 0, 20, 0, 77, 1, 2]), None);
+}
+
+#[test]
+fn messages_are_found_by_their_ids(rt: HostRuntime) -> Result<(), Fail> {
+    expect_ids(&rt, &layout_in(rt.alloc(), &ORDER)?);
     Ok(())
 }
 
-/// A message of as many fields as a level may have, each of one byte.
-#[test]
-fn the_last_of_256_fields_has_its_place(rt: HostRuntime) -> Result<(), Fail> {
-    let alloc = rt.alloc();
+/// The elements of as many fields as a level may have, each of one byte.
+fn many_fields(alloc: Global) -> Result<String, AllocError> {
     let mut fields = String::new(alloc);
     for i in 0..256u32 {
         let comma = if i == 0 { "" } else { "," };
@@ -69,15 +90,31 @@ fn the_last_of_256_fields_has_its_place(rt: HostRuntime) -> Result<(), Fail> {
         )?;
         fields.push_str(field.as_str())?;
     }
-    let text = format!(in alloc;
-        "{}{TYPES}]}}}},{{\"message\":{{\"name\":\"Wide\",\"id\":1,\"content\":[{}]}}}}]}}}}",
-        ORDER.file.before,
+    Ok(fields)
+}
+
+/// The schema file of a message of these fields.
+fn wide_text(alloc: Global) -> Result<String, AllocError> {
+    let fields = many_fields(alloc)?;
+    let messages = format!(in alloc;
+        ",{{\"message\":{{\"name\":\"Wide\",\"id\":1,\"content\":[{}]}}}}",
         fields.as_str()
     )?;
-    let checked = check(alloc, read_schema(alloc, text.as_bytes())?)?;
-    let layout = compile(alloc, &checked)?;
-    let mut found = String::new(alloc);
-    add_layout(alloc, &mut found, &layout)?;
+    let file = FileParts {
+        attributes: r#""id":77,"version":2"#,
+        types: "",
+        messages: messages.as_str(),
+    };
+    file.text(alloc)
+}
+
+fn wide(alloc: Global) -> Result<Layout, Fail> {
+    layout_of(alloc, wide_text(alloc)?.as_str())
+}
+
+#[test]
+fn the_last_of_256_fields_has_its_place(rt: HostRuntime) -> Result<(), Fail> {
+    let found = outline_of(rt.alloc(), &wide(rt.alloc())?)?;
     assert!(rt;
         found
             .as_str()

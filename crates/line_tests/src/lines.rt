@@ -8,21 +8,25 @@ mod whole_rows;
 use field_rows::{ARRAYS, CHARS, CONSTANTS, ENUMS, HEX, NUMBERS, PRICES, Row, SETS, TEXTS};
 use line_reading::{LineFault, msg_of_line};
 use sbe_schema::read_schema;
+use sbe_types::Msg;
 use schema::SCHEMA;
 use schema_check::{Checked, check};
 use shown::{add_message, add_value, shown};
 use std::alloc::{AllocError, Global};
 use std::process::Abort;
 use std::test::Fail;
-use whole_rows::{BLOCKS, ENTRIES, Line, MESSAGES, MISSING, TEMPLATES, UNKNOWN};
+use whole_rows::{BLOCKS, ENTRIES, LEVELS, Line, MESSAGES, MISSING, TEMPLATES, UNKNOWN};
 
 /// The fields that must be there, with values in order.
 const FIELDS: &str = r#""n":0,"u":0,"c":"A","t":"","o":[],"e":"Buy","f":[],"px":{"mantissa":1}"#;
 
-fn schema_of(alloc: Global) -> Result<Checked, Fail> {
-    let text = SCHEMA.text(alloc)?;
+fn checked_of(alloc: Global, text: &str) -> Result<Checked, Fail> {
     let schema = read_schema(alloc, text.as_bytes())?;
     Ok(check(alloc, schema)?)
+}
+
+fn schema_of(alloc: Global) -> Result<Checked, Fail> {
+    checked_of(alloc, SCHEMA.text(alloc)?.as_str())
 }
 
 fn add_fault(out: &mut String, alloc: Global, fault: &LineFault) -> Result<(), AllocError> {
@@ -34,31 +38,54 @@ fn add_fault(out: &mut String, alloc: Global, fault: &LineFault) -> Result<(), A
     }
 }
 
+fn fault_told(alloc: Global, fault: &LineFault) -> Result<String, AllocError> {
+    let mut out = String::new(alloc);
+    add_fault(&mut out, alloc, fault)?;
+    Ok(out)
+}
+
+fn message_told(alloc: Global, message: &Msg) -> Result<String, AllocError> {
+    let mut out = String::new(alloc);
+    add_message(alloc, &mut out, message)?;
+    Ok(out)
+}
+
 /// What a whole line is told to be.
 fn told(alloc: Global, checked: &Checked, line: &[u8]) -> Result<String, AllocError> {
-    let mut out = String::new(alloc);
     match msg_of_line(alloc, checked, line) {
-        Ok(message) => add_message(alloc, &mut out, &message)?,
-        Err(fault) => add_fault(&mut out, alloc, &fault)?,
+        Ok(message) => message_told(alloc, &message),
+        Err(fault) => fault_told(alloc, &fault),
+    }
+}
+
+/// What field `at` of a message's root is told to be; nothing where it isn't there.
+fn value_told(alloc: Global, message: &Msg, at: usize) -> Result<String, AllocError> {
+    let fields = message.block.fields.as_slice();
+    let mut out = String::new(alloc);
+    if at < fields.len() {
+        add_value(alloc, &mut out, &fields[at])?;
     }
     Ok(out)
+}
+
+fn told_at(alloc: Global, checked: &Checked, line: &[u8], at: usize) -> Result<String, AllocError> {
+    match msg_of_line(alloc, checked, line) {
+        Ok(message) => value_told(alloc, &message, at),
+        Err(fault) => fault_told(alloc, &fault),
+    }
 }
 
 /// What field `at` of a line with such fields is told to be.
 fn field_told(alloc: Global, checked: &Checked, row: &Row) -> Result<String, AllocError> {
     let put = row.put;
     let line = format!(in alloc; "{{\"template\":\"All\",\"fields\":{{{FIELDS},{put}}}}}")?;
-    let mut out = String::new(alloc);
-    match msg_of_line(alloc, checked, line.as_bytes()) {
-        Ok(message) => {
-            let fields = message.block.fields.as_slice();
-            if row.at < fields.len() {
-                add_value(alloc, &mut out, &fields[row.at])?;
-            }
-        }
-        Err(fault) => add_fault(&mut out, alloc, &fault)?,
-    }
-    Ok(out)
+    told_at(alloc, checked, line.as_bytes(), row.at)
+}
+
+fn expect_field(rt: &impl Abort, alloc: Global, checked: &Checked, row: &Row) -> Result<(), Fail> {
+    let found = field_told(alloc, checked, row)?;
+    assert_eq!(rt; found.as_str(), row.told, "{}", row.put);
+    Ok(())
 }
 
 fn expect_fields(
@@ -68,9 +95,20 @@ fn expect_fields(
     rows: &[Row],
 ) -> Result<(), Fail> {
     for row in rows {
-        let found = field_told(alloc, checked, row)?;
-        assert_eq!(rt; found.as_str(), row.told, "{}", row.put);
+        expect_field(rt, alloc, checked, row)?;
     }
+    Ok(())
+}
+
+fn expect_told(
+    rt: &impl Abort,
+    alloc: Global,
+    checked: &Checked,
+    line: &[u8],
+    wanted: &str,
+) -> Result<(), Fail> {
+    let found = told(alloc, checked, line)?;
+    assert_eq!(rt; found.as_str(), wanted);
     Ok(())
 }
 
@@ -81,8 +119,17 @@ fn expect_lines(
     rows: &[Line],
 ) -> Result<(), Fail> {
     for row in rows {
-        let found = told(alloc, checked, row.line.as_bytes())?;
-        assert_eq!(rt; found.as_str(), row.told, "{}", row.line);
+        expect_told(rt, alloc, checked, row.line.as_bytes(), row.told)?;
+    }
+    Ok(())
+}
+
+fn expect_field_tables(rt: &impl Abort, alloc: Global, checked: &Checked) -> Result<(), Fail> {
+    const TABLES: [&[Row]; 9] = [
+        &NUMBERS, &CHARS, &TEXTS, &HEX, &ARRAYS, &ENUMS, &SETS, &CONSTANTS, &PRICES,
+    ];
+    for rows in TABLES {
+        expect_fields(rt, alloc, checked, rows)?;
     }
     Ok(())
 }
@@ -90,12 +137,13 @@ fn expect_lines(
 /// Numbers, chars, texts, arrays, enums, sets, constants and composites.
 #[test]
 fn fields_become_values(rt: HostRuntime) -> Result<(), Fail> {
-    const TABLES: [&[Row]; 9] = [
-        &NUMBERS, &CHARS, &TEXTS, &HEX, &ARRAYS, &ENUMS, &SETS, &CONSTANTS, &PRICES,
-    ];
-    let checked = schema_of(rt.alloc())?;
+    expect_field_tables(&rt, rt.alloc(), &schema_of(rt.alloc())?)
+}
+
+fn expect_line_tables(rt: &impl Abort, alloc: Global, checked: &Checked) -> Result<(), Fail> {
+    const TABLES: [&[Line]; 6] = [&MESSAGES, &TEMPLATES, &UNKNOWN, &MISSING, &BLOCKS, &ENTRIES];
     for rows in TABLES {
-        expect_fields(&rt, rt.alloc(), &checked, rows)?;
+        expect_lines(rt, alloc, checked, rows)?;
     }
     Ok(())
 }
@@ -103,12 +151,27 @@ fn fields_become_values(rt: HostRuntime) -> Result<(), Fail> {
 /// Messages; what is judged first; unknown keys and missing ones at each level; and the order in blocks and entries.
 #[test]
 fn lines_become_messages(rt: HostRuntime) -> Result<(), Fail> {
-    const TABLES: [&[Line]; 6] = [&MESSAGES, &TEMPLATES, &UNKNOWN, &MISSING, &BLOCKS, &ENTRIES];
-    let checked = schema_of(rt.alloc())?;
-    for rows in TABLES {
-        expect_lines(&rt, rt.alloc(), &checked, rows)?;
+    expect_line_tables(&rt, rt.alloc(), &schema_of(rt.alloc())?)
+}
+
+/// A row: what a line is told to be, and the line.
+fn expect_level(rt: &impl Abort, alloc: Global, checked: &Checked, row: &str) -> Result<(), Fail> {
+    match row.split_once('|') {
+        Some((wanted, line)) => expect_told(rt, alloc, checked, line.as_bytes(), wanted),
+        None => Err(Fail::new(format_args!("a bar is missing: {row}"))),
+    }
+}
+
+fn expect_levels(rt: &impl Abort, alloc: Global, checked: &Checked) -> Result<(), Fail> {
+    for row in LEVELS.lines() {
+        expect_level(rt, alloc, checked, row)?;
     }
     Ok(())
+}
+
+#[test]
+fn keys_are_judged_at_each_level(rt: HostRuntime) -> Result<(), Fail> {
+    expect_levels(&rt, rt.alloc(), &schema_of(rt.alloc())?)
 }
 
 /// A line with an unknown key, whose value is so many arrays inside one another.
@@ -125,21 +188,28 @@ fn deep_line(alloc: Global, depth: usize) -> Result<String, AllocError> {
     Ok(line)
 }
 
-#[test]
-fn depth_is_bounded(rt: HostRuntime) -> Result<(), Fail> {
-    let alloc = rt.alloc();
-    let checked = schema_of(alloc)?;
-    let line = deep_line(alloc, 126)?;
-    assert_eq!(rt; told(alloc, &checked, line.as_bytes())?.as_str(), "J03 zz");
-    let line = deep_line(alloc, 127)?;
-    assert_eq!(rt; told(alloc, &checked, line.as_bytes())?.as_str(), "J01 ");
-    Ok(())
+fn expect_deep(
+    rt: &impl Abort,
+    alloc: Global,
+    checked: &Checked,
+    depth: usize,
+    wanted: &str,
+) -> Result<(), Fail> {
+    let line = deep_line(alloc, depth)?;
+    expect_told(rt, alloc, checked, line.as_bytes(), wanted)
+}
+
+fn expect_depths(rt: &impl Abort, alloc: Global, checked: &Checked) -> Result<(), Fail> {
+    expect_deep(rt, alloc, checked, 126, "J03 zz")?;
+    expect_deep(rt, alloc, checked, 127, "J01 ")
 }
 
 #[test]
-fn bytes_that_are_no_text_are_no_line(rt: HostRuntime) -> Result<(), Fail> {
-    let alloc = rt.alloc();
-    let checked = schema_of(alloc)?;
+fn depth_is_bounded(rt: HostRuntime) -> Result<(), Fail> {
+    expect_depths(&rt, rt.alloc(), &schema_of(rt.alloc())?)
+}
+
+fn expect_no_lines(rt: &impl Abort, alloc: Global, checked: &Checked) -> Result<(), Fail> {
     for line in [
         b"\xff".as_slice(),
         b"\"\xc3\"",
@@ -147,7 +217,12 @@ fn bytes_that_are_no_text_are_no_line(rt: HostRuntime) -> Result<(), Fail> {
         b" ",
         b"\r",
     ] {
-        assert_eq!(rt; told(alloc, &checked, line)?.as_str(), "J01 ");
+        expect_told(rt, alloc, checked, line, "J01 ")?;
     }
     Ok(())
+}
+
+#[test]
+fn bytes_that_are_no_text_are_no_line(rt: HostRuntime) -> Result<(), Fail> {
+    expect_no_lines(&rt, rt.alloc(), &schema_of(rt.alloc())?)
 }

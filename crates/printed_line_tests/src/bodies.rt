@@ -9,10 +9,10 @@ use line_draft::BodyDraft;
 use line_reading::msg_of_line;
 use printed::{KINDS, LARGE, PRINTED};
 use printed_lines::body_of_line;
-use sample_schemas::SchemaFile;
+use sample_schemas::{DATA, SchemaFile};
 use sbe_schema::read_schema;
 use schema_check::{Checked, check};
-use std::alloc::Global;
+use std::alloc::{AllocError, Global};
 use std::process::Abort;
 use std::test::Fail;
 use tree_codec::encode;
@@ -40,7 +40,7 @@ struct Ways {
     general: FrameBuf,
 }
 
-fn ways_of(alloc: Global, file: &SchemaFile) -> Result<Ways, Fail> {
+fn ways_of(alloc: Global, file: &SchemaFile, limit: usize) -> Result<Ways, Fail> {
     let text = file.text(alloc)?;
     let checked = check(alloc, read_schema(alloc, text.as_bytes())?)?;
     let layout = compile(alloc, &checked)?;
@@ -48,7 +48,7 @@ fn ways_of(alloc: Global, file: &SchemaFile) -> Result<Ways, Fail> {
         checked,
         layout,
         short: BodyDraft::new(),
-        general: FrameBuf::new(alloc, LIMIT)?,
+        general: FrameBuf::new(alloc, limit)?,
     })
 }
 
@@ -60,20 +60,40 @@ fn is_written(alloc: Global, ways: &mut Ways, line: &[u8]) -> bool {
     encode(&ways.layout, &message, &mut ways.general).is_ok()
 }
 
-/// Both ways of a row's line end as the row says.
-fn expect_row(rt: &impl Abort, alloc: Global, row: &Row) -> Result<(), Fail> {
-    let mut ways = ways_of(alloc, &row.schema)?;
-    let line = row.line.as_bytes();
-    let is_short = body_of_line(&ways.layout, line, LIMIT, &mut ways.short);
-    assert!(rt; is_short == row.is_printed, "{}", row.line);
+/// Both ways of a line write this body within a limit: the short one where the line is printed, and the general one unless there is
+/// no body.
+fn expect_body(
+    rt: &impl Abort,
+    alloc: Global,
+    ways: &mut Ways,
+    limit: usize,
+    line: &str,
+    is_printed: bool,
+    body: &[u8],
+) {
+    let is_short = body_of_line(&ways.layout, line.as_bytes(), limit, &mut ways.short);
+    assert!(rt; is_short == is_printed, "{line}");
     if is_short {
-        assert_eq!(rt; ways.short.bytes(), row.body, "{}", row.line);
+        assert_eq!(rt; ways.short.bytes(), body, "{line}");
     }
-    let is_general = is_written(alloc, &mut ways, line);
-    assert!(rt; is_general != row.body.is_empty(), "{}", row.line);
+    let is_general = is_written(alloc, ways, line.as_bytes());
+    assert!(rt; is_general != body.is_empty(), "{line}");
     if is_general {
-        assert_eq!(rt; ways.general.bytes(), row.body, "{}", row.line);
+        assert_eq!(rt; ways.general.bytes(), body, "{line}");
     }
+}
+
+fn expect_row(rt: &impl Abort, alloc: Global, row: &Row) -> Result<(), Fail> {
+    let mut ways = ways_of(alloc, &row.schema, LIMIT)?;
+    expect_body(
+        rt,
+        alloc,
+        &mut ways,
+        LIMIT,
+        row.line,
+        row.is_printed,
+        row.body,
+    );
     Ok(())
 }
 
@@ -94,4 +114,60 @@ fn takes_printed_lines(rt: HostRuntime) -> Result<(), Fail> {
 #[test]
 fn leaves_altered_lines(rt: HostRuntime) -> Result<(), Fail> {
     expect_rows(&rt, rt.alloc(), &ALTERED)
+}
+
+// ---- limits
+
+/// The line of data of so many bytes, as it is printed.
+fn long_line(alloc: Global, many: usize) -> Result<String, AllocError> {
+    let mut line = String::from_str(alloc, r#"{"data":{"d":""#)?;
+    for _ in 0..many {
+        line.push_str("x")?;
+    }
+    line.push_str(r#""},"fields":{},"groups":{},"template":"Ow","version":0}"#)?;
+    Ok(line)
+}
+
+/// Its body: the header, the length in two bytes, and the data.
+fn long_body(alloc: Global, length: [u8; 2], many: usize) -> Result<Vec<u8>, AllocError> {
+    let mut body = Vec::from_slice(alloc, b"\x00\x00\x01\x00\x09\x00\x00\x00")?;
+    body.extend_from_slice(&length)?;
+    for _ in 0..many {
+        body.push(b'x')?;
+    }
+    Ok(body)
+}
+
+/// A line of data of so many bytes within a limit.
+fn expect_long(
+    rt: &impl Abort,
+    alloc: Global,
+    limit: usize,
+    many: usize,
+    is_printed: bool,
+    body: &[u8],
+) -> Result<(), Fail> {
+    let mut ways = ways_of(alloc, &DATA, limit)?;
+    let line = long_line(alloc, many)?;
+    expect_body(rt, alloc, &mut ways, limit, line.as_str(), is_printed, body);
+    Ok(())
+}
+
+/// A body of 4,096 bytes goes the short way, and one of a byte more the general way.
+#[test]
+fn bodies_longer_than_a_draft_go_the_general_way(rt: HostRuntime) -> Result<(), Fail> {
+    let alloc = rt.alloc();
+    let most = long_body(alloc, [0xf6, 0x0f], 4086)?;
+    expect_long(&rt, alloc, 5000, 4086, true, most.as_slice())?;
+    let more = long_body(alloc, [0xf7, 0x0f], 4087)?;
+    expect_long(&rt, alloc, 5000, 4087, false, more.as_slice())
+}
+
+/// A limit that is met exactly, and one that is passed by a byte.
+#[test]
+fn both_ways_keep_the_limit(rt: HostRuntime) -> Result<(), Fail> {
+    let alloc = rt.alloc();
+    let body = long_body(alloc, [48, 0], 48)?;
+    expect_long(&rt, alloc, 58, 48, true, body.as_slice())?;
+    expect_long(&rt, alloc, 57, 48, false, b"")
 }

@@ -90,30 +90,77 @@ pub fn opened(alloc: Global, words: &[&str]) -> Result<Pump, Fail> {
     }
 }
 
-/// Runs a trial, whose output has room for so many bytes.
-pub fn run_trial(alloc: Global, trial: &Trial, room: usize) -> Result<Outcome, Fail> {
-    let words = words_of(alloc, trial.words)?;
+/// The sample's file with a trial's schema, of which the trial's calls fail.
+fn files_of(alloc: Global, trial: &Trial) -> Result<MemFiles, Fail> {
     let mut files = MemFiles::new(alloc, trial.load)?;
     files.put("ping.json", trial.schema)?;
+    Ok(files)
+}
+
+/// Runs these words.
+fn run_words(
+    alloc: Global,
+    words: &[&str],
+    files: &mut MemFiles,
+    input: &mut MemSource,
+    output: &mut MemSink,
+    notes: &mut MemSink,
+) -> Result<Status, Fail> {
+    let words = words_of(alloc, words)?;
+    Ok(run(alloc, words.as_slice(), files, input, output, notes))
+}
+
+/// How a trial ends over an output and notes, and how many bytes the input has left.
+fn end_of(
+    alloc: Global,
+    trial: &Trial,
+    output: &mut MemSink,
+    notes: &mut MemSink,
+) -> Result<(Status, usize), Fail> {
+    let mut files = files_of(alloc, trial)?;
     let piece = trial.piece.max(1);
     let mut input = MemSource::new(alloc, trial.input, piece, trial.read)?;
+    let status = run_words(alloc, trial.words, &mut files, &mut input, output, notes)?;
+    Ok((status, input.left().len()))
+}
+
+/// Runs a trial, whose output has room for so many bytes.
+pub fn run_trial(alloc: Global, trial: &Trial, room: usize) -> Result<Outcome, Fail> {
     let mut output = MemSink::new(alloc, room, trial.output)?;
     let mut notes = MemSink::new(alloc, 1024, trial.notes)?;
-    let status = run(
-        alloc,
-        words.as_slice(),
-        &mut files,
-        &mut input,
-        &mut output,
-        &mut notes,
-    );
-    let left = input.left().len();
+    let (status, left) = end_of(alloc, trial, &mut output, &mut notes)?;
     Ok(Outcome {
         status,
         output,
         notes,
         left,
     })
+}
+
+/// The test fails unless a run ended so, and wrote this.
+fn expect_outcome(
+    ended: &Outcome,
+    status: Status,
+    output: &[u8],
+    notes: &[u8],
+) -> Result<(), Fail> {
+    if ended.status != status {
+        return Err(Fail::new(format_args!("the status is {:?}", ended.status)));
+    }
+    expect_bytes("output", ended.output.bytes(), output)?;
+    expect_bytes("notes", ended.notes.bytes(), notes)
+}
+
+/// Runs a trial, whose output has room for so many bytes. The test fails unless its status and what it wrote are these.
+pub fn expect_within(
+    alloc: Global,
+    trial: &Trial,
+    room: usize,
+    status: Status,
+    output: &[u8],
+    notes: &[u8],
+) -> Result<(), Fail> {
+    expect_outcome(&run_trial(alloc, trial, room)?, status, output, notes)
 }
 
 /// Runs a trial. The test fails unless its status and what it wrote are these.
@@ -124,12 +171,53 @@ pub fn expect(
     output: &[u8],
     notes: &[u8],
 ) -> Result<(), Fail> {
-    let ended = run_trial(alloc, trial, 32_768)?;
-    if ended.status != status {
-        return Err(Fail::new(format_args!("the status is {:?}", ended.status)));
+    expect_within(alloc, trial, 32_768, status, output, notes)
+}
+
+/// How words end over files of one's own, and over an input in pieces of 9 bytes.
+fn run_among(
+    alloc: Global,
+    words: &[&str],
+    files: &mut MemFiles,
+    input: &[u8],
+) -> Result<Outcome, Fail> {
+    let mut output = MemSink::new(alloc, 32_768, &[])?;
+    let mut notes = MemSink::new(alloc, 1024, &[])?;
+    let mut source = MemSource::new(alloc, input, 9, &[])?;
+    let status = run_words(alloc, words, files, &mut source, &mut output, &mut notes)?;
+    let left = source.left().len();
+    Ok(Outcome {
+        status,
+        output,
+        notes,
+        left,
+    })
+}
+
+/// Runs words over files of one's own. The test fails unless the status and what is written are these.
+pub fn expect_among(
+    alloc: Global,
+    words: &[&str],
+    files: &mut MemFiles,
+    input: &[u8],
+    status: Status,
+    output: &[u8],
+    notes: &[u8],
+) -> Result<(), Fail> {
+    expect_outcome(
+        &run_among(alloc, words, files, input)?,
+        status,
+        output,
+        notes,
+    )
+}
+
+/// What stands before the first bar of a row, and what stands behind it.
+pub fn cut(row: &str) -> Result<(&str, &str), Fail> {
+    match row.split_once('|') {
+        Some(two) => Ok(two),
+        None => Err(Fail::new(format_args!("a bar is missing: {row}"))),
     }
-    expect_bytes("output", ended.output.bytes(), output)?;
-    expect_bytes("notes", ended.notes.bytes(), notes)
 }
 
 /// The test fails unless these bytes are the wanted ones.

@@ -4,18 +4,22 @@ mod rows;
 
 use flyweight_view::{Refusal, validate};
 use layout_compile::{Layout, compile};
-use rows::{DATA, ENTRY, GROUPS, MESSAGE, NESTED, ROOT, Row};
+use rows::{DATA, ENTRY, GROUPS, MESSAGE, NESTED, ROOT};
 use sample_bodies::{BIG, LITTLE, quote_schema};
 use sbe_schema::read_schema;
 use sbe_types::Path;
-use schema_check::check;
+use schema_check::{Checked, check};
 use std::alloc::{AllocError, Global};
 use std::process::Abort;
 use std::test::Fail;
 
-fn layout_of(alloc: Global, order: &str) -> Result<Layout, Fail> {
+fn checked_of(alloc: Global, order: &str) -> Result<Checked, Fail> {
     let schema = read_schema(alloc, quote_schema(alloc, order)?.as_bytes())?;
-    let checked = check(alloc, schema)?;
+    Ok(check(alloc, schema)?)
+}
+
+fn layout_of(alloc: Global, order: &str) -> Result<Layout, Fail> {
+    let checked = checked_of(alloc, order)?;
     Ok(compile(alloc, &checked)?)
 }
 
@@ -79,111 +83,185 @@ struct Form<'a> {
     place: usize,
 }
 
-/// What is told of a row's body at a version.
-fn told(alloc: Global, form: &Form<'_>, row: &Row, version: u8) -> Result<String, AllocError> {
-    let put = if form.place == 6 { row.little } else { row.big };
-    let one = changed(alloc, form.body, row.at, put, row.end)?;
-    let body = changed(alloc, one.as_slice(), form.place, &[version], row.end)?;
+/// What is changed: the bytes that are put in at a place, and how long the body is then.
+#[derive(Clone, Copy)]
+struct Change<'a> {
+    what: &'a str,
+    at: usize,
+    put: &'a [u8],
+    end: usize,
+}
+
+/// What is told of a changed body at a version.
+fn told(
+    alloc: Global,
+    form: &Form<'_>,
+    change: &Change<'_>,
+    version: u8,
+) -> Result<String, AllocError> {
+    let one = changed(alloc, form.body, change.at, change.put, change.end)?;
+    let body = changed(alloc, one.as_slice(), form.place, &[version], change.end)?;
     answer(alloc, form.layout, body.as_slice())
 }
 
-fn expect_row(
+fn expect_answer(
     rt: &impl Abort,
     alloc: Global,
     form: &Form<'_>,
-    row: &Row,
-) -> Result<(), AllocError> {
-    for (version, wanted) in [(2, row.own), (1, row.older), (3, row.newer)] {
-        let found = told(alloc, form, row, version)?;
-        assert_eq!(rt; found.as_str(), wanted, "{} at version {version}", row.what);
-    }
+    change: &Change<'_>,
+    version: u8,
+    wanted: &str,
+) -> Result<(), Fail> {
+    let found = told(alloc, form, change, version)?;
+    assert_eq!(rt;
+        found.as_str(),
+        wanted,
+        "{} at version {version}",
+        change.what
+    );
     Ok(())
+}
+
+/// What is told at the schema's version, at the one before and at the one behind.
+fn expect_answers(
+    rt: &impl Abort,
+    alloc: Global,
+    form: &Form<'_>,
+    change: &Change<'_>,
+    answers: &str,
+) -> Result<(), Fail> {
+    let (own, rest) = cut(answers)?;
+    let (older, newer) = cut(rest)?;
+    expect_answer(rt, alloc, form, change, 2, own)?;
+    expect_answer(rt, alloc, form, change, 1, older)?;
+    expect_answer(rt, alloc, form, change, 3, newer)
+}
+
+/// What stands before the first bar of a row, and what stands behind it.
+fn cut(row: &str) -> Result<(&str, &str), Fail> {
+    match row.split_once('|') {
+        Some(two) => Ok(two),
+        None => Err(Fail::new(format_args!("a bar is missing: {row}"))),
+    }
+}
+
+fn expect_row(rt: &impl Abort, alloc: Global, form: &Form<'_>, row: &str) -> Result<(), Fail> {
+    let (what, rest) = cut(row)?;
+    let (at, rest) = cut(rest)?;
+    let (little, rest) = cut(rest)?;
+    let (big, rest) = cut(rest)?;
+    let (end, answers) = cut(rest)?;
+    let at = at.parse::<usize>()?;
+    let end = end.parse::<usize>()?;
+    let spelled = if form.place == 6 { little } else { big };
+    let put = hex::decode(alloc, spelled)?;
+    let change = Change {
+        what,
+        at,
+        put: put.as_slice(),
+        end,
+    };
+    expect_answers(rt, alloc, form, &change, answers)
 }
 
 fn expect_form(
     rt: &impl Abort,
     alloc: Global,
-    form: &Form<'_>,
-    rows: &[Row],
-) -> Result<(), AllocError> {
-    for row in rows {
-        expect_row(rt, alloc, form, row)?;
+    layout: &Layout,
+    body: &[u8],
+    place: usize,
+    rows: &str,
+) -> Result<(), Fail> {
+    let form = Form {
+        layout,
+        body,
+        place,
+    };
+    for row in rows.lines() {
+        expect_row(rt, alloc, &form, row)?;
     }
     Ok(())
 }
 
 /// Asks in both byte orders what is told of each row's body.
-fn expect_rows(rt: &impl Abort, alloc: Global, rows: &[Row]) -> Result<(), Fail> {
-    let little = layout_of(alloc, "littleEndian")?;
-    let form = Form {
-        layout: &little,
-        body: &LITTLE,
-        place: 6,
-    };
-    expect_form(rt, alloc, &form, rows)?;
-    let big = layout_of(alloc, "bigEndian")?;
-    let form = Form {
-        layout: &big,
-        body: &BIG,
-        place: 7,
-    };
-    Ok(expect_form(rt, alloc, &form, rows)?)
+fn expect_rows(rt: &impl Abort, alloc: Global, rows: &str) -> Result<(), Fail> {
+    expect_form(
+        rt,
+        alloc,
+        &layout_of(alloc, "littleEndian")?,
+        &LITTLE,
+        6,
+        rows,
+    )?;
+    expect_form(rt, alloc, &layout_of(alloc, "bigEndian")?, &BIG, 7, rows)
 }
 
 #[test]
 fn faults_of_the_header_and_of_the_whole_are_told(rt: HostRuntime) -> Result<(), Fail> {
-    expect_rows(&rt, rt.alloc(), &MESSAGE)
+    expect_rows(&rt, rt.alloc(), MESSAGE)
 }
 
 #[test]
 fn faults_of_a_root_are_told(rt: HostRuntime) -> Result<(), Fail> {
-    expect_rows(&rt, rt.alloc(), &ROOT)
+    expect_rows(&rt, rt.alloc(), ROOT)
 }
 
 #[test]
 fn faults_of_an_entry_are_told(rt: HostRuntime) -> Result<(), Fail> {
-    expect_rows(&rt, rt.alloc(), &ENTRY)
+    expect_rows(&rt, rt.alloc(), ENTRY)
 }
 
 #[test]
 fn faults_of_a_nested_entry_are_told(rt: HostRuntime) -> Result<(), Fail> {
-    expect_rows(&rt, rt.alloc(), &NESTED)
+    expect_rows(&rt, rt.alloc(), NESTED)
 }
 
 #[test]
 fn faults_of_groups_are_told(rt: HostRuntime) -> Result<(), Fail> {
-    expect_rows(&rt, rt.alloc(), &GROUPS)
+    expect_rows(&rt, rt.alloc(), GROUPS)
 }
 
 #[test]
 fn faults_of_data_are_told(rt: HostRuntime) -> Result<(), Fail> {
-    expect_rows(&rt, rt.alloc(), &DATA)
+    expect_rows(&rt, rt.alloc(), DATA)
+}
+
+/// Asserts the template of a body's refusal.
+fn expect_template(rt: &impl Abort, layout: &Layout, body: &[u8], template: Option<usize>) {
+    match validate(layout, body) {
+        Ok(_view) => assert!(rt; false),
+        Err(refusal) => assert_eq!(rt; refusal.template, template),
+    }
+}
+
+fn expect_changed(
+    rt: &impl Abort,
+    alloc: Global,
+    layout: &Layout,
+    at: usize,
+    put: &[u8],
+    template: Option<usize>,
+) -> Result<(), Fail> {
+    let body = changed(alloc, LITTLE.as_slice(), at, put, LITTLE.len())?;
+    expect_template(rt, layout, body.as_slice(), template);
+    Ok(())
+}
+
+fn expect_templates(rt: &impl Abort, alloc: Global, layout: &Layout) -> Result<(), Fail> {
+    expect_changed(rt, alloc, layout, 4, b"\x2d\x01", None)?;
+    expect_changed(rt, alloc, layout, 2, b"\x08\x00", None)?;
+    expect_changed(rt, alloc, layout, 2, b"\x40\x1f", Some(0))?;
+    expect_changed(rt, alloc, layout, 8, b"\xff\xff", Some(1))
 }
 
 /// The template is told where the header names one of the schema.
 #[test]
 fn a_refusal_tells_the_template(rt: HostRuntime) -> Result<(), Fail> {
-    let alloc = rt.alloc();
-    let layout = layout_of(alloc, "littleEndian")?;
-    for (at, put, template) in [
-        (4, b"\x2d\x01".as_slice(), None),
-        (2, b"\x08\x00", None),
-        (2, b"\x40\x1f", Some(0)),
-        (8, b"\xff\xff", Some(1)),
-    ] {
-        let body = changed(alloc, LITTLE.as_slice(), at, put, LITTLE.len())?;
-        match validate(&layout, body.as_slice()) {
-            Ok(_view) => assert!(rt; false),
-            Err(refusal) => assert_eq!(rt; refusal.template, template),
-        }
-    }
-    Ok(())
+    expect_templates(&rt, rt.alloc(), &layout_of(rt.alloc(), "littleEndian")?)
 }
 
-#[test]
-fn a_view_tells_its_message(rt: HostRuntime) -> Result<(), Fail> {
-    let layout = layout_of(rt.alloc(), "bigEndian")?;
-    match validate(&layout, BIG.as_slice()) {
+fn expect_view(rt: &impl Abort, layout: &Layout) {
+    match validate(layout, BIG.as_slice()) {
         Ok(view) => {
             assert_eq!(rt; view.template(), 1);
             assert_eq!(rt; view.version(), 2);
@@ -193,5 +271,10 @@ fn a_view_tells_its_message(rt: HostRuntime) -> Result<(), Fail> {
         }
         Err(_refusal) => assert!(rt; false),
     }
+}
+
+#[test]
+fn a_view_tells_its_message(rt: HostRuntime) -> Result<(), Fail> {
+    expect_view(&rt, &layout_of(rt.alloc(), "bigEndian")?);
     Ok(())
 }

@@ -2,11 +2,15 @@
 #![tactic(auto)]
 
 #[cfg(test)]
+mod files;
+#[cfg(test)]
 mod messages;
 #[cfg(test)]
 mod nested;
 mod nests;
 #[cfg(test)]
 mod orders;
+#[cfg(test)]
+mod parts;
 #[cfg(test)]
 mod values;

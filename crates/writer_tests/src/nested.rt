@@ -1,12 +1,11 @@
 //! A message with groups inside the entries of a group: its bytes, and at each limit the part that has no room, and what
 //! stands then.
 
+use crate::files::layout_of;
 use crate::nests::{Leg, Nest, Sub, write_nest};
-use layout_compile::{Layout, compile};
+use layout_compile::Layout;
 use library_examples::OrderErr;
 use sample_schemas::FileParts;
-use sbe_schema::read_schema;
-use schema_check::check;
 use std::alloc::Global;
 use std::process::Abort;
 use std::test::Fail;
@@ -77,13 +76,6 @@ const BIG_BODY: [u8; 32] = [
 /// Where each part ends that asks for room: the root, the group, an entry, its group, an entry there, its data, and so on.
 const ENDS: [usize; 13] = [10, 13, 14, 17, 18, 20, 21, 22, 25, 26, 29, 30, 32];
 
-fn layout_of(alloc: Global, file: &FileParts) -> Result<Layout, Fail> {
-    let text = file.text(alloc)?;
-    let schema = read_schema(alloc, text.as_bytes())?;
-    let checked = check(alloc, schema)?;
-    Ok(compile(alloc, &checked)?)
-}
-
 /// Want of room, where this is it.
 fn full_of(e: &OrderErr) -> Option<Full> {
     match e {
@@ -111,33 +103,74 @@ fn ends_around(limit: usize) -> (usize, Option<usize>) {
     (within, None)
 }
 
-/// At each limit up to the body's length the part is told that passes it, and the parts before it stand.
-fn expect_body(rt: &impl Abort, alloc: Global, file: &FileParts, body: &[u8]) -> Result<(), Fail> {
-    let layout = layout_of(alloc, file)?;
-    for limit in 0..33usize {
-        let mut buffer = FrameBuf::new(alloc, limit)?;
-        let (within, wanted) = ends_around(limit);
-        match write_nest(&layout, &NEST, &mut buffer) {
-            Ok(n) => {
-                assert_eq!(rt; n, 32);
-                assert_eq!(rt; wanted, None);
-            }
-            Err(e) => match full_of(&e) {
-                Some(full) => {
-                    assert_eq!(rt; Some(full.needed as usize), wanted);
-                    assert_eq!(rt; full.limit, limit);
-                }
-                None => assert!(rt; false),
-            },
+/// The whole body is written, or the part is told that passes the limit.
+fn expect_answer(
+    rt: &impl Abort,
+    answer: &Result<usize, OrderErr>,
+    limit: usize,
+    wanted: Option<usize>,
+) {
+    match answer {
+        Ok(n) => {
+            assert_eq!(rt; *n, 32);
+            assert_eq!(rt; wanted, None);
         }
-        assert_eq!(rt; buffer.bytes().len(), within);
-        assert!(rt; body.starts_with(buffer.bytes()));
+        Err(e) => match full_of(e) {
+            Some(full) => {
+                assert_eq!(rt; Some(full.needed as usize), wanted);
+                assert_eq!(rt; full.limit, limit);
+            }
+            None => assert!(rt; false),
+        },
+    }
+}
+
+/// What is answered over a buffer of this limit, and the parts that stand then.
+fn expect_limit(
+    rt: &impl Abort,
+    layout: &Layout,
+    buffer: &mut FrameBuf,
+    limit: usize,
+    body: &[u8],
+) {
+    let (within, wanted) = ends_around(limit);
+    expect_answer(rt, &write_nest(layout, &NEST, buffer), limit, wanted);
+    assert_eq!(rt; buffer.bytes().len(), within);
+    assert!(rt; body.starts_with(buffer.bytes()));
+}
+
+fn expect_within(
+    rt: &impl Abort,
+    alloc: Global,
+    layout: &Layout,
+    limit: usize,
+    body: &[u8],
+) -> Result<(), Fail> {
+    let mut buffer = FrameBuf::new(alloc, limit)?;
+    expect_limit(rt, layout, &mut buffer, limit, body);
+    Ok(())
+}
+
+/// At each limit up to the body's length the part is told that passes it, and the parts before it stand.
+fn expect_body(rt: &impl Abort, alloc: Global, layout: &Layout, body: &[u8]) -> Result<(), Fail> {
+    for limit in 0..33usize {
+        expect_within(rt, alloc, layout, limit, body)?;
     }
     Ok(())
 }
 
 #[test]
 fn each_part_asks_for_its_room(rt: HostRuntime) -> Result<(), Fail> {
-    expect_body(&rt, rt.alloc(), &FILE, BODY.as_slice())?;
-    expect_body(&rt, rt.alloc(), &BIG_FILE, BIG_BODY.as_slice())
+    expect_body(
+        &rt,
+        rt.alloc(),
+        &layout_of(rt.alloc(), &FILE)?,
+        BODY.as_slice(),
+    )?;
+    expect_body(
+        &rt,
+        rt.alloc(),
+        &layout_of(rt.alloc(), &BIG_FILE)?,
+        BIG_BODY.as_slice(),
+    )
 }

@@ -1,10 +1,11 @@
-ghost use Rattle.std.specs.Prelude.{◌≡◌, true};
+ghost use Rattle.std.specs.Prelude.{◌≡◌, true, IfOk};
 ghost use Rattle.field_bytes.specs.Faults.{is_single};
 
 use field_bytes::{FieldCause, ValueFault, value_judge};
 use lists::List;
 use sbe_types::{Elem, Kind, Leaf, LeafShape, Named, NoMem, Presence, Prim, Value};
 use std::alloc::Global;
+use std::process::Abort;
 use std::test::Fail;
 
 /// A cause, an element and a detail, where a value doesn't fit.
@@ -50,6 +51,17 @@ fn range(n: i128) -> Told {
     Some((FieldCause::Range, None, n))
 }
 
+/// What is told of a value.
+fn expect(rt: &impl Abort, kind: &Kind, v: &Value, wanted: Told)
+    requires { is_single kind.now ≡ true }
+{
+    assert_eq!(rt; judged(kind, v), wanted);
+}
+
+fn expect_leaf(rt: &impl Abort, leaf: Leaf, v: &Value, wanted: Told) {
+    expect(rt, &Kind::Leaf(leaf), v, wanted);
+}
+
 #[test]
 fn judges_numbers(rt: HostRuntime) {
     let byte = leaf(Prim::U8, 1, LeafShape::Number, 1, 254);
@@ -57,36 +69,39 @@ fn judges_numbers(rt: HostRuntime) {
         null: 7,
         ..optional(byte)
     };
-    let rows: [(Leaf, Value, Told); 10] = [
-        (byte, Value::Num(1), None),
-        (byte, Value::Num(254), None),
-        (byte, Value::Num(0), range(0)),
-        (byte, Value::Num(255), range(255)),
-        (byte, Value::Num(-1), range(-1)),
-        (byte, Value::Null, OTHER),
-        (optional(byte), Value::Null, None),
-        (optional(byte), Value::Num(255), range(255)),
-        (inside, Value::Num(7), range(7)),
-        (inside, Value::Null, None),
-    ];
-    for (leaf, v, want) in rows {
-        assert_eq!(rt; judged(&Kind::Leaf(leaf), &v), want);
-    }
+    expect_leaf(&rt, byte, &Value::Num(1), None);
+    expect_leaf(&rt, byte, &Value::Num(254), None);
+    expect_leaf(&rt, byte, &Value::Num(0), range(0));
+    expect_leaf(&rt, byte, &Value::Num(255), range(255));
+    expect_leaf(&rt, byte, &Value::Num(-1), range(-1));
+    expect_leaf(&rt, byte, &Value::Null, OTHER);
+    expect_leaf(&rt, optional(byte), &Value::Null, None);
+    expect_leaf(&rt, optional(byte), &Value::Num(255), range(255));
+    expect_leaf(&rt, inside, &Value::Num(7), range(7));
+    expect_leaf(&rt, inside, &Value::Null, None);
+}
+
+/// A number, a text and an array take no value of another kind.
+fn expect_other(rt: &impl Abort, v: &Value) {
+    let byte = leaf(Prim::U8, 1, LeafShape::Number, 0, 254);
+    let text = leaf(Prim::Char, 2, LeafShape::RangedText, 32, 126);
+    let array = leaf(Prim::U16, 2, LeafShape::Numbers, 0, 1000);
+    expect_leaf(rt, byte, v, OTHER);
+    expect_leaf(rt, text, v, OTHER);
+    expect_leaf(rt, array, v, OTHER);
 }
 
 #[test]
 fn judges_values_of_another_kind(rt: HostRuntime) {
-    let byte = Kind::Leaf(leaf(Prim::U8, 1, LeafShape::Number, 0, 254));
-    let text = Kind::Leaf(leaf(Prim::Char, 2, LeafShape::RangedText, 32, 126));
-    let array = Kind::Leaf(leaf(Prim::U16, 2, LeafShape::Numbers, 0, 1000));
-    for v in [Value::Const, Value::Absent, Value::Enum(1), Value::Set(1)] {
-        assert_eq!(rt; judged(&byte, &v), OTHER);
-        assert_eq!(rt; judged(&text, &v), OTHER);
-        assert_eq!(rt; judged(&array, &v), OTHER);
-    }
-    assert_eq!(rt; judged(&text, &Value::Num(65)), OTHER);
-    assert_eq!(rt; judged(&array, &Value::Num(65)), OTHER);
-    assert_eq!(rt; judged(&array, &Value::Null), OTHER);
+    expect_other(&rt, &Value::Const);
+    expect_other(&rt, &Value::Absent);
+    expect_other(&rt, &Value::Enum(1));
+    expect_other(&rt, &Value::Set(1));
+    let text = leaf(Prim::Char, 2, LeafShape::RangedText, 32, 126);
+    let array = leaf(Prim::U16, 2, LeafShape::Numbers, 0, 1000);
+    expect_leaf(&rt, text, &Value::Num(65), OTHER);
+    expect_leaf(&rt, array, &Value::Num(65), OTHER);
+    expect_leaf(&rt, array, &Value::Null, OTHER);
 }
 
 fn text(alloc: Global, bytes: &[u8]) -> Result<Value, NoMem> {
@@ -95,6 +110,17 @@ fn text(alloc: Global, bytes: &[u8]) -> Result<Value, NoMem> {
 
 fn byte(n: i128) -> Told {
     Some((FieldCause::TextByte, None, n))
+}
+
+fn expect_text(
+    rt: &impl Abort,
+    alloc: Global,
+    leaf: Leaf,
+    bytes: &[u8],
+    wanted: Told,
+) -> Result<(), Fail> {
+    expect_leaf(rt, leaf, &text(alloc, bytes)?, wanted);
+    Ok(())
 }
 
 #[test]
@@ -113,13 +139,23 @@ fn judges_texts(rt: HostRuntime) -> Result<(), Fail> {
         (encoded, b"\x01\x00", byte(0)),
         (encoded, b"\xff\xff\xff\xff\xff", range(5)),
     ];
-    for (leaf, bytes, want) in rows {
-        let v = text(rt.alloc(), bytes)?;
-        assert_eq!(rt; judged(&Kind::Leaf(leaf), &v), want);
+    for (leaf, bytes, wanted) in rows {
+        expect_text(&rt, rt.alloc(), leaf, bytes, wanted)?;
     }
-    let kind = Kind::Leaf(ranged);
-    assert_eq!(rt; judged(&kind, &Value::Null), OTHER);
-    assert_eq!(rt; judged(&Kind::Leaf(optional(ranged)), &Value::Null), None);
+    expect_leaf(&rt, ranged, &Value::Null, OTHER);
+    expect_leaf(&rt, optional(ranged), &Value::Null, None);
+    Ok(())
+}
+
+fn expect_array(
+    rt: &impl Abort,
+    alloc: Global,
+    leaf: Leaf,
+    elements: &[Elem],
+    wanted: Told,
+) -> Result<(), Fail> {
+    let v = Value::Nums(List::from_slice(alloc, elements)?);
+    expect_leaf(rt, leaf, &v, wanted);
     Ok(())
 }
 
@@ -131,11 +167,10 @@ fn judges_arrays(rt: HostRuntime) -> Result<(), Fail> {
     let over = [Elem::Num(0), Elem::Num(1001)];
     let null = [Elem::Null, Elem::Num(1)];
     let bytes = [Elem::Num(255), Elem::Num(0)];
-    let at = |i: usize, n: i128| Some((FieldCause::Range, Some(i), n));
     let absent = Some((FieldCause::Kind, Some(0), 0));
     let rows: [(Leaf, &[Elem], Told); 9] = [
         (pair, &ends, None),
-        (pair, &over, at(1, 1001)),
+        (pair, &over, Some((FieldCause::Range, Some(1), 1001))),
         (pair, &ends[..1], OTHER),
         (pair, &[Elem::Num(1); 3], OTHER),
         (pair, &null, absent),
@@ -144,9 +179,8 @@ fn judges_arrays(rt: HostRuntime) -> Result<(), Fail> {
         (octets, &null, absent),
         (optional(octets), &null, absent),
     ];
-    for (leaf, elements, want) in rows {
-        let v = Value::Nums(List::from_slice(rt.alloc(), elements)?);
-        assert_eq!(rt; judged(&Kind::Leaf(leaf), &v), want);
+    for (leaf, elements, wanted) in rows {
+        expect_array(&rt, rt.alloc(), leaf, elements, wanted)?;
     }
     Ok(())
 }
@@ -158,49 +192,68 @@ fn named(alloc: Global, name: &[u8], number: i128) -> Result<Named, NoMem> {
     })
 }
 
-#[test]
-fn judges_enums(rt: HostRuntime) -> Result<(), Fail> {
-    let mut sides = List::new(rt.alloc());
-    sides.push(named(rt.alloc(), b"Buy", 49)?)?;
-    sides.push(named(rt.alloc(), b"Null", 0)?)?;
+/// Two values of an enum, of which the second one's number is the null.
+fn side(alloc: Global) -> Result<Kind, NoMem>
+    ensures { IfOk result (λ kind. is_single kind ≡ true) }
+{
+    let mut sides = List::new(alloc);
+    sides.push(named(alloc, b"Buy", 49)?)?;
+    sides.push(named(alloc, b"Null", 0)?)?;
     let side = Leaf {
         null: 0,
         ..optional(leaf(Prim::Char, 1, LeafShape::Number, 32, 126))
     };
-    let kind = Kind::Enum(side, sides);
+    Ok(Kind::Enum(side, sides))
+}
+
+fn expect_enums(rt: &impl Abort, kind: &Kind)
+    requires { is_single kind.now ≡ true }
+{
     let unknown = Some((FieldCause::EnumUnknown, None, 50));
-    let rows: [(Value, Told); 6] = [
-        (Value::Enum(49), None),
-        (Value::Enum(50), unknown),
-        (Value::Enum(0), range(0)),
-        (Value::Null, None),
-        (Value::Num(49), OTHER),
-        (Value::Set(49), OTHER),
-    ];
-    for (v, want) in rows {
-        assert_eq!(rt; judged(&kind, &v), want);
-    }
+    expect(rt, kind, &Value::Enum(49), None);
+    expect(rt, kind, &Value::Enum(50), unknown);
+    expect(rt, kind, &Value::Enum(0), range(0));
+    expect(rt, kind, &Value::Null, None);
+    expect(rt, kind, &Value::Num(49), OTHER);
+    expect(rt, kind, &Value::Set(49), OTHER);
+}
+
+#[test]
+fn judges_enums(rt: HostRuntime) -> Result<(), Fail> {
+    let kind = side(rt.alloc())?;
+    expect_enums(&rt, &kind);
     Ok(())
+}
+
+/// The first and the last choice of a set.
+fn ends_of_a_set(alloc: Global) -> Result<Kind, NoMem>
+    ensures { IfOk result (λ kind. is_single kind ≡ true) }
+{
+    let mut choices = List::new(alloc);
+    choices.push(named(alloc, b"Open", 0)?)?;
+    choices.push(named(alloc, b"Last", 63)?)?;
+    Ok(Kind::Set(Prim::U64, choices))
+}
+
+fn unknown(bits: i128) -> Told {
+    Some((FieldCause::SetUnknown, None, bits))
+}
+
+fn expect_sets(rt: &impl Abort, kind: &Kind)
+    requires { is_single kind.now ≡ true }
+{
+    expect(rt, kind, &Value::Set(0), None);
+    expect(rt, kind, &Value::Set(1), None);
+    expect(rt, kind, &Value::Set(9223372036854775809), None);
+    expect(rt, kind, &Value::Set(2), unknown(2));
+    expect(rt, kind, &Value::Set(3), unknown(3));
+    expect(rt, kind, &Value::Null, OTHER);
+    expect(rt, kind, &Value::Enum(1), OTHER);
 }
 
 #[test]
 fn judges_sets(rt: HostRuntime) -> Result<(), Fail> {
-    let mut choices = List::new(rt.alloc());
-    choices.push(named(rt.alloc(), b"Open", 0)?)?;
-    choices.push(named(rt.alloc(), b"Last", 63)?)?;
-    let kind = Kind::Set(Prim::U64, choices);
-    let unknown = |bits: i128| Some((FieldCause::SetUnknown, None, bits));
-    let rows: [(Value, Told); 7] = [
-        (Value::Set(0), None),
-        (Value::Set(1), None),
-        (Value::Set(9223372036854775809), None),
-        (Value::Set(2), unknown(2)),
-        (Value::Set(3), unknown(3)),
-        (Value::Null, OTHER),
-        (Value::Enum(1), OTHER),
-    ];
-    for (v, want) in rows {
-        assert_eq!(rt; judged(&kind, &v), want);
-    }
+    let kind = ends_of_a_set(rt.alloc())?;
+    expect_sets(&rt, &kind);
     Ok(())
 }

@@ -6,6 +6,8 @@ ghost use Rattle.field_bytes.specs.Faults.{is_single};
 use field_bytes::{FieldCause, ValueFault, leaf_writes};
 use lists::List;
 use sbe_types::{Elem, Kind, Leaf, LeafShape, Order, Presence, Prim, Value};
+use std::alloc::Global;
+use std::process::Abort;
 use std::test::Fail;
 
 /// A text of four bytes, which may be null.
@@ -50,25 +52,48 @@ fn refused(cause: FieldCause, elem: Option<usize>, detail: i128) -> Result<(), V
     })
 }
 
+/// What is answered for a text, and the four bytes then.
+fn expect_text(
+    rt: &impl Abort,
+    order: Order,
+    v: &Value,
+    answer: Result<(), ValueFault>,
+    wanted: [u8; 4],
+) {
+    let mut out = [170; 4];
+    assert_eq!(rt; leaf_writes(order, &text(), v, &mut out), answer);
+    assert_eq!(rt; out, wanted);
+}
+
+fn expect_written(
+    rt: &impl Abort,
+    alloc: Global,
+    bytes: &[u8],
+    wanted: [u8; 4],
+) -> Result<(), Fail> {
+    let v = Value::Text(List::from_slice(alloc, bytes)?);
+    expect_text(rt, Order::Little, &v, Ok(()), wanted);
+    Ok(())
+}
+
 #[test]
 fn writes_texts(rt: HostRuntime) -> Result<(), Fail> {
-    let rows: [(&[u8], [u8; 4]); 3] = [
-        (b"ab", *b"ab\x00\x00"),
-        (b"GEM4", *b"GEM4"),
-        (b"~", *b"~\x00\x00\x00"),
-    ];
-    for (bytes, want) in rows {
-        let v = Value::Text(List::from_slice(rt.alloc(), bytes)?);
-        let mut out = [170; 4];
-        assert_eq!(rt; leaf_writes(Order::Little, &text(), &v, &mut out), Ok(()));
-        assert_eq!(rt; out, want);
-    }
-    let mut out = [170; 4];
-    assert_eq!(rt;
-        leaf_writes(Order::Little, &text(), &Value::Null, &mut out),
-        Ok(())
-    );
-    assert_eq!(rt; out, [0; 4]);
+    expect_written(&rt, rt.alloc(), b"ab", *b"ab\x00\x00")?;
+    expect_written(&rt, rt.alloc(), b"GEM4", *b"GEM4")?;
+    expect_written(&rt, rt.alloc(), b"~", *b"~\x00\x00\x00")?;
+    expect_text(&rt, Order::Little, &Value::Null, Ok(()), [0; 4]);
+    Ok(())
+}
+
+fn expect_no_text(
+    rt: &impl Abort,
+    alloc: Global,
+    bytes: &[u8],
+    cause: FieldCause,
+    detail: i128,
+) -> Result<(), Fail> {
+    let v = Value::Text(List::from_slice(alloc, bytes)?);
+    expect_text(rt, Order::Big, &v, refused(cause, None, detail), [170; 4]);
     Ok(())
 }
 
@@ -82,24 +107,49 @@ fn leaves_the_bytes_of_a_refused_text(rt: HostRuntime) -> Result<(), Fail> {
         (b"\x1fbcdef", FieldCause::Range, 6),
     ];
     for (bytes, cause, detail) in rows {
-        let v = Value::Text(List::from_slice(rt.alloc(), bytes)?);
-        let mut out = [170; 4];
-        let want = refused(cause, None, detail);
-        assert_eq!(rt; leaf_writes(Order::Big, &text(), &v, &mut out), want);
-        assert_eq!(rt; out, [170; 4]);
+        expect_no_text(&rt, rt.alloc(), bytes, cause, detail)?;
     }
     Ok(())
+}
+
+/// What is answered for an array, and the four bytes then.
+fn expect_array(
+    rt: &impl Abort,
+    order: Order,
+    v: &Value,
+    answer: Result<(), ValueFault>,
+    wanted: [u8; 4],
+) {
+    let mut out = [170; 4];
+    assert_eq!(rt; leaf_writes(order, &pair(), v, &mut out), answer);
+    assert_eq!(rt; out, wanted);
 }
 
 #[test]
 fn writes_arrays(rt: HostRuntime) -> Result<(), Fail> {
     let one = [Elem::Num(1), Elem::Null];
     let v = Value::Nums(List::from_slice(rt.alloc(), &one)?);
-    let mut out = [170; 4];
-    assert_eq!(rt; leaf_writes(Order::Little, &pair(), &v, &mut out), Ok(()));
-    assert_eq!(rt; out, *b"\x01\x00\xff\xff");
-    assert_eq!(rt; leaf_writes(Order::Big, &pair(), &v, &mut out), Ok(()));
-    assert_eq!(rt; out, *b"\x00\x01\xff\xff");
+    expect_array(&rt, Order::Little, &v, Ok(()), *b"\x01\x00\xff\xff");
+    expect_array(&rt, Order::Big, &v, Ok(()), *b"\x00\x01\xff\xff");
+    Ok(())
+}
+
+fn expect_no_array(
+    rt: &impl Abort,
+    alloc: Global,
+    elements: &[Elem],
+    cause: FieldCause,
+    elem: Option<usize>,
+    detail: i128,
+) -> Result<(), Fail> {
+    let v = Value::Nums(List::from_slice(alloc, elements)?);
+    expect_array(
+        rt,
+        Order::Little,
+        &v,
+        refused(cause, elem, detail),
+        [170; 4],
+    );
     Ok(())
 }
 
@@ -114,11 +164,7 @@ fn leaves_the_bytes_of_a_refused_array(rt: HostRuntime) -> Result<(), Fail> {
         (&[Elem::Null; 3], FieldCause::Kind, None, 0),
     ];
     for (elements, cause, elem, detail) in rows {
-        let v = Value::Nums(List::from_slice(rt.alloc(), elements)?);
-        let mut out = [170; 4];
-        let want = refused(cause, elem, detail);
-        assert_eq!(rt; leaf_writes(Order::Little, &pair(), &v, &mut out), want);
-        assert_eq!(rt; out, [170; 4]);
+        expect_no_array(&rt, rt.alloc(), elements, cause, elem, detail)?;
     }
     Ok(())
 }

@@ -1,9 +1,7 @@
 use run_trials::{FRAME, LINE, TWICE, Trial, expect, sample};
 use sbe_base::Status;
+use std::alloc::Global;
 use std::test::Fail;
-
-/// The words of a build.
-const BUILD: &[&str] = &["build", "ping.json"];
 
 /// Lines that are refused one after another, and one that is a message.
 const FOUR: &[u8] =
@@ -13,10 +11,29 @@ const FOUR: &[u8] =
 const THREE: &[u8] =
     b"{\"refused\":\"J01\",\"item\":0,\"offset\":null,\"path\":\"\",\"detail\":\"\"}\n{\"refused\":\"J02\",\"item\":1,\"offset\":null,\"path\":\"a\",\"detail\":\"\"}\n{\"refused\":\"J03\",\"item\":2,\"offset\":null,\"path\":\"Pong\",\"detail\":\"\"}\n";
 
+/// Asserts what a build of this input answers, in pieces of several sizes.
+fn expect_answer(
+    alloc: Global,
+    input: &[u8],
+    status: Status,
+    output: &[u8],
+    notes: &[u8],
+) -> Result<(), Fail> {
+    for piece in [1, 2, 7, 1_048_577usize] {
+        let trial = Trial {
+            words: &["build", "ping.json"],
+            input,
+            piece,
+            ..sample()
+        };
+        expect(alloc, &trial, status, output, notes)?;
+    }
+    Ok(())
+}
+
 /// Lines and what they are answered, in pieces of every size.
 #[test]
 fn answers_each_line(rt: HostRuntime) -> Result<(), Fail> {
-    let alloc = rt.alloc();
     let rows: [(&[u8], Status, &[u8], &[u8]); 8] = [
         (b"", Status::Done, b"", b""),
         (b"\n\n", Status::Done, b"", b""),
@@ -48,15 +65,7 @@ fn answers_each_line(rt: HostRuntime) -> Result<(), Fail> {
         ),
     ];
     for (input, status, output, notes) in rows {
-        for piece in [1, 2, 7, 1_048_577usize] {
-            let trial = Trial {
-                words: BUILD,
-                input,
-                piece,
-                ..sample()
-            };
-            expect(alloc, &trial, status, output, notes)?;
-        }
+        expect_answer(rt.alloc(), input, status, output, notes)?;
     }
     Ok(())
 }

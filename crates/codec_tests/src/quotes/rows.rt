@@ -21,6 +21,7 @@ pub const FIELD_ROWS: &str = r#""number":65535|Range 65535| Part(0)
 "text":"é"|TextByte 195| Part(3)
 "marks":[1,10]|Range 10| Part(4) Elem(1)
 "marks":[1]|Kind 0| Part(4)
+"marks":[null,1]|Kind 0| Part(4) Elem(0)
 "marks":[1,2,3]|Kind 0| Part(4)
 "side":3,"text":"abcd"|EnumUnknown 3| Part(1)"#;
 
@@ -33,6 +34,7 @@ pub const MEMBER_ROWS: &str = r#""number":-32768|Range -32768| Part(5) Part(0)
 "text":"abcd"|Range 4| Part(5) Part(3)
 "marks":[65535,1]|Range 65535| Part(5) Part(4) Elem(0)
 "marks":[]|Kind 0| Part(5) Part(4)
+"marks":[1,null]|Kind 0| Part(5) Part(4) Elem(1)
 "deep":{"exact":-10}|Range -10| Part(5) Part(5) Part(0)
 "deep":{"exact":10}|Range 10| Part(5) Part(5) Part(0)
 "side":0,"marks":[1]|EnumUnknown 0| Part(5) Part(1)"#;
@@ -69,7 +71,7 @@ pub const NEEDED: &str = "38
 174
 176";
 
-/// A field of the root, a value that no line gives, and what is told.
+/// A field of the root, a value that is put there, and what is told.
 pub const TREES: &str = "0|null|Kind 0 Part(0)
 0|absent|Kind 0 Part(0)
 0|constant|Kind 0 Part(0)
@@ -82,6 +84,24 @@ pub const TREES: &str = "0|null|Kind 0 Part(0)
 4|null and one|Kind 0 Part(4) Elem(0)
 5|null|Kind 0 Part(5)
 5|no members|Kind 0 Part(5)";
+
+/// Bodies of the message at other versions than the schema's: from which place on bytes are put, those in the little-endian body and
+/// those in the big-endian one, how long the body is then, and its version.
+pub const VERSIONS: &str = "0|||180|3
+180|0001|0001|182|3
+10|03|03|180|3
+11|0302|0203|180|3
+22|00|00|180|3
+23|0200|0002|180|3
+78|03|03|180|3
+79|0302|0203|180|3
+90|00|00|180|3
+91|0200|0002|180|3
+141|03|03|180|3
+142|0302|0203|180|3
+153|00|00|180|3
+154|0200|0002|180|3
+0|||178|1";
 
 /// The message in blocks of the declared length, with zeros as padding.
 pub const CANONICAL_LITTLE: &str =

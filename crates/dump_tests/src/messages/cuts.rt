@@ -7,21 +7,12 @@ use sbe_base::Status;
 use std::alloc::Global;
 use std::test::Fail;
 
-/// A body, and what a dump writes for its prefixes in frames of their own, from the empty one to the whole.
-#[derive(Clone, Copy)]
-struct Cut {
-    schema: SchemaFile,
-    encoding: &'static [u8],
-    body: &'static [u8],
-    lines: &'static str,
-}
-
 /// Two entries, one with a nested group and data.
-const NEST_CUT: Cut = Cut {
-    schema: SIX,
-    encoding: b"\xeb\x50",
-    body: b"\x00\x00\x05\x00\x07\x00\x00\x00\x01\x00\x02\x00\x01\x01\x00\x02\x00\x07\x08\x02\x00\x68\x69\x02\x02\x00\x00\x00\x01\x00\x41",
-    lines: r#"{"refused":"F01","item":0,"offset":0,"path":"","detail":"0"}
+const NEST_BODY: &[u8] =
+    b"\x00\x00\x05\x00\x07\x00\x00\x00\x01\x00\x02\x00\x01\x01\x00\x02\x00\x07\x08\x02\x00\x68\x69\x02\x02\x00\x00\x00\x01\x00\x41";
+
+/// What a dump writes for the prefixes of that body in frames of their own, from the empty one to the whole.
+const NEST_LINES: &str = r#"{"refused":"F01","item":0,"offset":0,"path":"","detail":"0"}
 {"refused":"F01","item":1,"offset":0,"path":"","detail":"1"}
 {"refused":"F01","item":2,"offset":0,"path":"","detail":"2"}
 {"refused":"F01","item":3,"offset":0,"path":"","detail":"3"}
@@ -53,15 +44,14 @@ const NEST_CUT: Cut = Cut {
 {"refused":"F05","item":29,"offset":28,"path":"legs[1].note","detail":"2"}
 {"refused":"F05","item":30,"offset":28,"path":"legs[1].note","detail":"3"}
 {"data":{},"fields":{},"groups":{"legs":[{"data":{"note":"hi"},"fields":{"q":1},"groups":{"subs":[{"data":{},"fields":{"s":7},"groups":{}},{"data":{},"fields":{"s":8},"groups":{}}]}},{"data":{"note":"A"},"fields":{"q":2},"groups":{"subs":[]}}]},"template":"Nest","version":0}
-"#,
-};
+"#;
 
 /// Fields of several kinds, and a group.
-const ORDER_CUT: Cut = Cut {
-    schema: BRIDGE,
-    encoding: b"\xeb\x50",
-    body: b"\x1e\x00\x04\x00\x0a\x00\x00\x00\x4f\x52\x44\x30\x30\x30\x30\x31\x47\x45\x4d\x34\x00\x00\x00\x00\x31\x07\x00\x00\x00\x32\xde\x26\x00\x00\x00\x00\x00\x00\x09\x00\x01\x00\x46\x49\x52\x4d\x00\x00\x00\x00\x01",
-    lines: r#"{"refused":"F01","item":0,"offset":0,"path":"","detail":"0"}
+const ORDER_BODY: &[u8] =
+    b"\x1e\x00\x04\x00\x0a\x00\x00\x00\x4f\x52\x44\x30\x30\x30\x30\x31\x47\x45\x4d\x34\x00\x00\x00\x00\x31\x07\x00\x00\x00\x32\xde\x26\x00\x00\x00\x00\x00\x00\x09\x00\x01\x00\x46\x49\x52\x4d\x00\x00\x00\x00\x01";
+
+/// What a dump writes for the prefixes of that body in frames of their own, from the empty one to the whole.
+const ORDER_LINES: &str = r#"{"refused":"F01","item":0,"offset":0,"path":"","detail":"0"}
 {"refused":"F01","item":1,"offset":0,"path":"","detail":"1"}
 {"refused":"F01","item":2,"offset":0,"path":"","detail":"2"}
 {"refused":"F01","item":3,"offset":0,"path":"","detail":"3"}
@@ -113,15 +103,14 @@ const ORDER_CUT: Cut = Cut {
 {"refused":"F05","item":49,"offset":42,"path":"Parties[0]","detail":"9"}
 {"refused":"F05","item":50,"offset":42,"path":"Parties[0]","detail":"9"}
 {"data":{},"fields":{"ClOrdID":"ORD00001","Symbol":"GEM4","Side":"Buy","OrderQty":{"mantissa":7,"exponent":0},"OrdType":"Limit","Price":{"mantissa":9950,"exponent":-2}},"groups":{"Parties":[{"data":{},"fields":{"PartyID":"FIRM","PartyRole":1},"groups":{}}]},"template":"Order","version":0}
-"#,
-};
+"#;
 
 /// Two groups and two data parts.
-const TAIL_CUT: Cut = Cut {
-    schema: TAILS,
-    encoding: b"\xeb\x50",
-    body: b"\x01\x00\x01\x00\x15\x00\x00\x00\x07\x02\x00\x00\x00\x02\x05\xaa\x06\xbb\x01\x00\x00\x00\x00\x00\x02\x00\x00\xcc\x01\x41\x02\x42\x43\x02\x00\x00\x00\x7a\x7b",
-    lines: r#"{"refused":"F01","item":0,"offset":0,"path":"","detail":"0"}
+const TAIL_BODY: &[u8] =
+    b"\x01\x00\x01\x00\x15\x00\x00\x00\x07\x02\x00\x00\x00\x02\x05\xaa\x06\xbb\x01\x00\x00\x00\x00\x00\x02\x00\x00\xcc\x01\x41\x02\x42\x43\x02\x00\x00\x00\x7a\x7b";
+
+/// What a dump writes for the prefixes of that body in frames of their own, from the empty one to the whole.
+const TAIL_LINES: &str = r#"{"refused":"F01","item":0,"offset":0,"path":"","detail":"0"}
 {"refused":"F01","item":1,"offset":0,"path":"","detail":"1"}
 {"refused":"F01","item":2,"offset":0,"path":"","detail":"2"}
 {"refused":"F01","item":3,"offset":0,"path":"","detail":"3"}
@@ -161,15 +150,13 @@ const TAIL_CUT: Cut = Cut {
 {"refused":"F05","item":37,"offset":33,"path":"few","detail":"6"}
 {"refused":"F05","item":38,"offset":33,"path":"few","detail":"6"}
 {"data":{"short":"BC","few":"z{"},"fields":{"n":7},"groups":{"w":[{"data":{},"fields":{"x":5},"groups":{}},{"data":{},"fields":{"x":6},"groups":{}}],"f":[{"data":{"t":""},"fields":{},"groups":{}},{"data":{"t":"A"},"fields":{},"groups":{}}]},"template":"Tail","version":0}
-"#,
-};
+"#;
 
 /// A message of a later version, of which some prefixes are messages too.
-const EVENT_CUT: Cut = Cut {
-    schema: EVENT,
-    encoding: b"\xeb\x50",
-    body: b"\x04\x00\x01\x00\x08\x00\x02\x00\x35\x07\x09\x00\x01\x00\x41",
-    lines: r#"{"refused":"F01","item":0,"offset":0,"path":"","detail":"0"}
+const EVENT_BODY: &[u8] = b"\x04\x00\x01\x00\x08\x00\x02\x00\x35\x07\x09\x00\x01\x00\x41";
+
+/// What a dump writes for the prefixes of that body in frames of their own, from the empty one to the whole.
+const EVENT_LINES: &str = r#"{"refused":"F01","item":0,"offset":0,"path":"","detail":"0"}
 {"refused":"F01","item":1,"offset":0,"path":"","detail":"1"}
 {"refused":"F01","item":2,"offset":0,"path":"","detail":"2"}
 {"refused":"F01","item":3,"offset":0,"path":"","detail":"3"}
@@ -185,15 +172,14 @@ const EVENT_CUT: Cut = Cut {
 {"data":{},"fields":{"e":53,"k":7},"groups":{},"template":"Ev","version":2}
 {"data":{},"fields":{"e":53,"k":7},"groups":{},"template":"Ev","version":2}
 {"data":{},"fields":{"e":53,"k":7},"groups":{},"template":"Ev","version":2}
-"#,
-};
+"#;
 
 /// Big endian fields.
-const MIX_CUT: Cut = Cut {
-    schema: MIX,
-    encoding: b"\x5b\xe0",
-    body: b"\x00\x0e\x00\x01\x00\x0c\x00\x00\xff\xff\xff\x85\xfe\x05\x41\x42\x00\x00\x00\x01\x00\x02",
-    lines: r#"{"refused":"F01","item":0,"offset":0,"path":"","detail":"0"}
+const MIX_BODY: &[u8] =
+    b"\x00\x0e\x00\x01\x00\x0c\x00\x00\xff\xff\xff\x85\xfe\x05\x41\x42\x00\x00\x00\x01\x00\x02";
+
+/// What a dump writes for the prefixes of that body in frames of their own, from the empty one to the whole.
+const MIX_LINES: &str = r#"{"refused":"F01","item":0,"offset":0,"path":"","detail":"0"}
 {"refused":"F01","item":1,"offset":0,"path":"","detail":"1"}
 {"refused":"F01","item":2,"offset":0,"path":"","detail":"2"}
 {"refused":"F01","item":3,"offset":0,"path":"","detail":"3"}
@@ -216,10 +202,7 @@ const MIX_CUT: Cut = Cut {
 {"refused":"F05","item":20,"offset":8,"path":"","detail":"14"}
 {"refused":"F05","item":21,"offset":8,"path":"","detail":"14"}
 {"data":{},"fields":{"px":{"mantissa":-123,"exponent":-2},"fl":["A","B"],"nm":"AB","ar":[1,2]},"groups":{},"template":"Mix","version":0}
-"#,
-};
-
-const CUTS: [Cut; 5] = [NEST_CUT, ORDER_CUT, TAIL_CUT, EVENT_CUT, MIX_CUT];
+"#;
 
 /// Adds a frame of these bytes to the input.
 fn push_frame(input: &mut Vec<u8>, encoding: &[u8], body: &[u8]) -> Result<(), Fail> {
@@ -232,53 +215,83 @@ fn push_frame(input: &mut Vec<u8>, encoding: &[u8], body: &[u8]) -> Result<(), F
     Ok(())
 }
 
-/// Asserts what a dump writes for every prefix of a body.
-fn expect_prefixes(alloc: Global, cut: &Cut) -> Result<(), Fail> {
-    let schema = cut.schema.text(alloc)?;
+/// Every prefix of a body in a frame of its own, and the whole.
+fn prefixes(alloc: Global, encoding: &[u8], body: &[u8]) -> Result<Vec<u8>, Fail> {
     let mut input = Vec::new(alloc);
-    for end in 0..cut.body.len() {
-        push_frame(&mut input, cut.encoding, &cut.body[..end])?;
+    for end in 0..body.len() {
+        push_frame(&mut input, encoding, &body[..end])?;
     }
-    push_frame(&mut input, cut.encoding, cut.body)?;
+    push_frame(&mut input, encoding, body)?;
+    Ok(input)
+}
+
+/// Asserts what a dump writes for every prefix of a body.
+pub(super) fn expect_prefixes(
+    alloc: Global,
+    schema: &[u8],
+    encoding: &[u8],
+    body: &[u8],
+    lines: &str,
+) -> Result<(), Fail> {
+    let input = prefixes(alloc, encoding, body)?;
     let trial = Trial {
-        schema: schema.as_bytes(),
+        schema,
         input: input.as_slice(),
         ..sample()
     };
-    expect(
-        alloc,
-        &trial,
-        Status::SomeRefused,
-        cut.lines.as_bytes(),
-        b"",
-    )
+    expect(alloc, &trial, Status::SomeRefused, lines.as_bytes(), b"")
 }
 
-/// Asserts that every proper prefix of a body's frame ends inside it.
-fn expect_ends_inside(alloc: Global, cut: &Cut) -> Result<(), Fail> {
-    let schema = cut.schema.text(alloc)?;
-    let mut frame = Vec::new(alloc);
-    push_frame(&mut frame, cut.encoding, cut.body)?;
+/// Asserts that a dump ends inside the frame of which this is a front.
+fn expect_inside(alloc: Global, schema: &[u8], front: &[u8]) -> Result<(), Fail> {
+    let notes = format!(in alloc;
+        "{{\"framing\":\"EndInside\",\"at\":0,\"number\":{}}}\n",
+        front.len()
+    )?;
+    let trial = Trial {
+        schema,
+        input: front,
+        ..sample()
+    };
+    expect(alloc, &trial, Status::FramingRefused, b"", notes.as_bytes())
+}
+
+/// Asserts that every proper prefix of a frame ends inside it.
+fn expect_fronts(alloc: Global, schema: &[u8], frame: &[u8]) -> Result<(), Fail> {
     for held in 1..frame.len() {
-        let trial = Trial {
-            schema: schema.as_bytes(),
-            input: &frame.as_slice()[..held],
-            ..sample()
-        };
-        let notes = format!(in alloc;
-            "{{\"framing\":\"EndInside\",\"at\":0,\"number\":{held}}}\n"
-        )?;
-        expect(alloc, &trial, Status::FramingRefused, b"", notes.as_bytes())?;
+        expect_inside(alloc, schema, &frame[..held])?;
     }
     Ok(())
+}
+
+fn frame_of(alloc: Global, encoding: &[u8], body: &[u8]) -> Result<Vec<u8>, Fail> {
+    let mut frame = Vec::new(alloc);
+    push_frame(&mut frame, encoding, body)?;
+    Ok(frame)
+}
+
+/// A body cut short, under the schema of a file.
+fn expect_cut(
+    alloc: Global,
+    file: &SchemaFile,
+    encoding: &[u8],
+    body: &[u8],
+    lines: &str,
+) -> Result<(), Fail> {
+    let schema = file.text(alloc)?;
+    expect_prefixes(alloc, schema.as_bytes(), encoding, body, lines)?;
+    expect_fronts(
+        alloc,
+        schema.as_bytes(),
+        frame_of(alloc, encoding, body)?.as_slice(),
+    )
 }
 
 #[test]
 fn answers_each_prefix_of_a_body(rt: HostRuntime) -> Result<(), Fail> {
-    let alloc = rt.alloc();
-    for cut in CUTS {
-        expect_prefixes(alloc, &cut)?;
-        expect_ends_inside(alloc, &cut)?;
-    }
-    Ok(())
+    expect_cut(rt.alloc(), &SIX, b"\xeb\x50", NEST_BODY, NEST_LINES)?;
+    expect_cut(rt.alloc(), &BRIDGE, b"\xeb\x50", ORDER_BODY, ORDER_LINES)?;
+    expect_cut(rt.alloc(), &TAILS, b"\xeb\x50", TAIL_BODY, TAIL_LINES)?;
+    expect_cut(rt.alloc(), &EVENT, b"\xeb\x50", EVENT_BODY, EVENT_LINES)?;
+    expect_cut(rt.alloc(), &MIX, b"\x5b\xe0", MIX_BODY, MIX_LINES)
 }

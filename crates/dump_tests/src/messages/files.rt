@@ -48,3 +48,37 @@ pub const TAILS: SchemaFile = SchemaFile {
         {"data":{"name":"short","id":6,"type":"varData8"}},{"data":{"name":"few","id":7,"type":"varFew"}}]}},
     {"message":{"name":"Deep","id":2,"content":[{"group":{"name":"g1","id":11,"content":[{"field":{"name":"x","id":21,"type":"uint8"}},{"group":{"name":"g2","id":12,"content":[{"field":{"name":"x","id":22,"type":"uint8"}},{"group":{"name":"g3","id":13,"content":[{"field":{"name":"x","id":23,"type":"uint8"}},{"group":{"name":"g4","id":14,"content":[{"field":{"name":"x","id":24,"type":"uint8"}},{"group":{"name":"g5","id":15,"content":[{"field":{"name":"x","id":25,"type":"uint8"}},{"group":{"name":"g6","id":16,"content":[{"field":{"name":"x","id":26,"type":"uint8"}}]}}]}}]}}]}}]}}]}}]}}]}}"#,
 };
+
+/// Entries of one number, whose count may be each number of its type.
+pub const MANY: SchemaFile = SchemaFile {
+    before: r#"{"messageSchema":{"package":"demo","id":14,"content":[{"types":{"content":["#,
+    behind: r#",
+    {"composite":{"name":"anySize","content":[
+        {"type":{"name":"blockLength","primitiveType":"uint16"}},{"type":{"name":"numInGroup","primitiveType":"uint16","maxValue":65535}}]}}]}},
+    {"message":{"name":"Ne","id":1,"content":[{"group":{"name":"g","id":1001,"dimensionType":"anySize","content":[{"field":{"name":"x","id":1002,"type":"uint8"}}]}}]}}]}}"#,
+};
+
+/// Texts of five lengths and numbers of eight bytes: each as the field of a message, and as that of a group's entries.
+pub const FIELDS: SchemaFile = SchemaFile {
+    before: r#"{"messageSchema":{"package":"demo","id":23,"content":[{"types":{"content":["#,
+    behind: r#",
+    {"type":{"name":"Text8","primitiveType":"char","length":8}},
+    {"type":{"name":"Text16","primitiveType":"char","length":16}},
+    {"type":{"name":"Text20","primitiveType":"char","length":20}},
+    {"type":{"name":"Text32","primitiveType":"char","length":32}},
+    {"type":{"name":"Text40","primitiveType":"char","length":40}}]}},
+    {"message":{"name":"T8","id":8,"content":[{"field":{"name":"t","id":1,"type":"Text8"}}]}},
+    {"message":{"name":"G8","id":108,"content":[{"group":{"name":"g","id":1,"content":[{"field":{"name":"t","id":2,"type":"Text8"}}]}}]}},
+    {"message":{"name":"T16","id":16,"content":[{"field":{"name":"t","id":1,"type":"Text16"}}]}},
+    {"message":{"name":"G16","id":116,"content":[{"group":{"name":"g","id":1,"content":[{"field":{"name":"t","id":2,"type":"Text16"}}]}}]}},
+    {"message":{"name":"T20","id":20,"content":[{"field":{"name":"t","id":1,"type":"Text20"}}]}},
+    {"message":{"name":"G20","id":120,"content":[{"group":{"name":"g","id":1,"content":[{"field":{"name":"t","id":2,"type":"Text20"}}]}}]}},
+    {"message":{"name":"T32","id":32,"content":[{"field":{"name":"t","id":1,"type":"Text32"}}]}},
+    {"message":{"name":"G32","id":132,"content":[{"group":{"name":"g","id":1,"content":[{"field":{"name":"t","id":2,"type":"Text32"}}]}}]}},
+    {"message":{"name":"T40","id":40,"content":[{"field":{"name":"t","id":1,"type":"Text40"}}]}},
+    {"message":{"name":"G40","id":140,"content":[{"group":{"name":"g","id":1,"content":[{"field":{"name":"t","id":2,"type":"Text40"}}]}}]}},
+    {"message":{"name":"T64","id":64,"content":[{"field":{"name":"t","id":1,"type":"int64"}}]}},
+    {"message":{"name":"G64","id":164,"content":[{"group":{"name":"g","id":1,"content":[{"field":{"name":"t","id":2,"type":"int64"}}]}}]}},
+    {"message":{"name":"T65","id":65,"content":[{"field":{"name":"t","id":1,"type":"uint64"}}]}},
+    {"message":{"name":"G65","id":165,"content":[{"group":{"name":"g","id":1,"content":[{"field":{"name":"t","id":2,"type":"uint64"}}]}}]}}]}}"#,
+};

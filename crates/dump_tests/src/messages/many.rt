@@ -1,10 +1,10 @@
 //! Groups of many entries of one byte.
 
-use run_trials::{Trial, run_trial, sample};
+use super::files::MANY;
+use run_trials::{Trial, expect_within, sample};
 use sample_schemas::ENTRIES;
 use sbe_base::Status;
 use std::alloc::Global;
-use std::process::Abort;
 use std::test::Fail;
 
 /// The frame of a message with so many entries, whose numbers go from 0 to 250 again and again.
@@ -36,34 +36,36 @@ fn line_of(alloc: Global, count: u16) -> Result<String, Fail> {
     Ok(line)
 }
 
-/// Asserts the line of a message with so many entries.
-fn expect_entries(rt: &impl Abort, alloc: Global, count: u16) -> Result<(), Fail> {
-    let schema = ENTRIES.text(alloc)?;
-    let frame = frame_of(alloc, count)?;
+/// Asserts the line of a frame.
+fn expect_line(alloc: Global, schema: &[u8], frame: &[u8], line: &[u8]) -> Result<(), Fail> {
     let trial = Trial {
         words: &["dump", "ping.json", "--max-frame", "131072"],
-        schema: schema.as_bytes(),
-        input: frame.as_slice(),
+        schema,
+        input: frame,
         piece: 65_536,
         ..sample()
     };
-    let ended = run_trial(alloc, &trial, 4_194_304)?;
-    assert_eq!(rt; ended.status, Status::Done, "{count} entries");
-    assert_eq!(rt;
-        ended.output.bytes(),
-        line_of(alloc, count)?.as_bytes(),
-        "{count} entries"
-    );
-    assert!(rt; ended.notes.bytes().is_empty());
-    Ok(())
+    expect_within(alloc, &trial, 4_194_304, Status::Done, line, b"")
+}
+
+/// Asserts the line of a message with so many entries.
+fn expect_entries(alloc: Global, schema: &[u8], count: u16) -> Result<(), Fail> {
+    let frame = frame_of(alloc, count)?;
+    let line = line_of(alloc, count)?;
+    expect_line(alloc, schema, frame.as_slice(), line.as_bytes())
 }
 
 #[test]
 fn prints_many_entries(rt: HostRuntime) -> Result<(), Fail> {
-    let alloc = rt.alloc();
-    let counts = [1u16, 2, 255, 256, 300, 65_534];
-    for count in counts {
-        expect_entries(&rt, alloc, count)?;
+    let schema = ENTRIES.text(rt.alloc())?;
+    for count in [1u16, 2, 255, 256, 300, 65_534] {
+        expect_entries(rt.alloc(), schema.as_bytes(), count)?;
     }
     Ok(())
+}
+
+#[test]
+fn prints_as_many_entries_as_two_bytes_count(rt: HostRuntime) -> Result<(), Fail> {
+    let schema = MANY.text(rt.alloc())?;
+    expect_entries(rt.alloc(), schema.as_bytes(), 65_535)
 }

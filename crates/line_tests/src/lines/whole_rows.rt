@@ -222,3 +222,15 @@ pub const ENTRIES: [Line; 8] = [
         told: "J04 legs[0].subs[0]",
     },
 ];
+
+/// Keys that are unknown, missing or there twice, at each level: what the line is told to be, and the line.
+pub const LEVELS: &str =
+    r#"J03 legs[0].zz|{"template":"Nest","groups":{"legs":[{"fields":{"q":1},"groups":{"zz":[]}}]}}
+J03 legs[0].subs[0].zz|{"template":"Nest","groups":{"legs":[{"fields":{"q":1},"groups":{"subs":[{"fields":{"s":1},"zz":0}]}}]}}
+J03 legs[0].subs[0].zz|{"template":"Nest","groups":{"legs":[{"fields":{"q":1},"groups":{"subs":[{"fields":{"s":1,"zz":0}}]}}]}}
+J02 px|{"template":"All","fields":{"n":0,"u":0,"c":"A","t":"","o":[],"e":"Buy","f":[]}}
+J02 f|{"template":"All","fields":{"n":0,"u":0,"c":"A","t":"","o":[],"e":"Buy","px":{"mantissa":1}}}
+J02 e|{"template":"All","fields":{"n":0,"u":0,"c":"A","t":"","o":[],"f":[],"px":{"mantissa":1}}}
+0 0 (1,null,)|{"template":"Ping","fields":{"zz":1},"fields":{"a":1}}
+2 0 ()[(5,)]|{"template":"Grp","groups":1,"groups":{"g":1,"g":[{"fields":{"zz":1},"fields":{"x":5}}]}}
+3 0 ()[(1,)[]<6869>]|{"template":"Nest","groups":{"legs":[{"fields":{"q":1},"data":1,"data":{"note":1,"note":"hi"}}]}}"#;

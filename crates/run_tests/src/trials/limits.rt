@@ -7,71 +7,72 @@ use std::test::Fail;
 const NO_SCHEMA: &[u8] =
     b"{\"refused\":\"F02\",\"item\":0,\"offset\":4,\"path\":\"\",\"detail\":\"0\"}\n";
 
-#[test]
-fn keeps_the_limit_of_a_frame(rt: HostRuntime) -> Result<(), Fail> {
-    let alloc = rt.alloc();
-    let mut frame = Vec::from_slice(alloc, b"\x01\x00\x00\x00\xeb\x50")?;
-    frame.resize(16_777_216, 0)?;
+fn expect_frame(
+    alloc: Global,
+    words: &[&str],
+    input: &[u8],
+    status: Status,
+    output: &[u8],
+    notes: &[u8],
+) -> Result<(), Fail> {
     let trial = Trial {
-        input: frame.as_slice(),
+        words,
+        input,
         piece: 1_048_576,
         ..sample()
     };
+    expect(alloc, &trial, status, output, notes)
+}
+
+/// A frame of 16777216 bytes, within the limit that is told, within that length, and within one byte less.
+fn expect_limits(alloc: Global, frame: &[u8]) -> Result<(), Fail> {
     let over = b"{\"framing\":\"LengthOver\",\"at\":0,\"number\":16777216}\n";
-    expect(alloc, &trial, Status::FramingRefused, b"", over)?;
-    let rows: [(&str, Status, &[u8], &[u8]); 2] = [
-        ("16777216", Status::SomeRefused, NO_SCHEMA, b""),
-        ("16777215", Status::FramingRefused, b"", over),
-    ];
-    for (limit, status, output, notes) in rows {
-        let words = ["dump", "ping.json", "--max-frame", limit];
-        let given = Trial {
-            words: &words,
-            ..trial
-        };
-        expect(alloc, &given, status, output, notes)?;
-    }
-    Ok(())
+    let told = ["dump", "ping.json"];
+    expect_frame(alloc, &told, frame, Status::FramingRefused, b"", over)?;
+    let same = ["dump", "ping.json", "--max-frame", "16777216"];
+    expect_frame(alloc, &same, frame, Status::SomeRefused, NO_SCHEMA, b"")?;
+    let less = ["dump", "ping.json", "--max-frame", "16777215"];
+    expect_frame(alloc, &less, frame, Status::FramingRefused, b"", over)
+}
+
+fn long_frame(alloc: Global) -> Result<Vec<u8>, Fail> {
+    let mut frame = Vec::from_slice(alloc, b"\x01\x00\x00\x00\xeb\x50")?;
+    frame.resize(16_777_216, 0)?;
+    Ok(frame)
+}
+
+#[test]
+fn keeps_the_limit_of_a_frame(rt: HostRuntime) -> Result<(), Fail> {
+    expect_limits(rt.alloc(), long_frame(rt.alloc())?.as_slice())
+}
+
+fn expect_input(
+    alloc: Global,
+    input: &[u8],
+    limit: &str,
+    status: Status,
+    output: &[u8],
+    notes: &[u8],
+) -> Result<(), Fail> {
+    let words = ["dump", "ping.json", "--max-input", limit];
+    let trial = Trial {
+        words: &words,
+        input,
+        ..sample()
+    };
+    expect(alloc, &trial, status, output, notes)
 }
 
 #[test]
 fn keeps_the_limit_of_the_input(rt: HostRuntime) -> Result<(), Fail> {
-    let alloc = rt.alloc();
-    let rows: [(&[u8], &str, Status, &[u8], &[u8]); 5] = [
-        (
-            FRAME,
-            "10",
-            Status::InputLimit,
-            b"",
-            b"{\"limit\":\"Input\",\"at\":10}\n",
-        ),
-        (
-            FRAME,
-            "19",
-            Status::InputLimit,
-            b"",
-            b"{\"limit\":\"Input\",\"at\":19}\n",
-        ),
-        (FRAME, "20", Status::Done, LINE, b""),
-        (
-            TWICE,
-            "20",
-            Status::InputLimit,
-            LINE,
-            b"{\"limit\":\"Input\",\"at\":20}\n",
-        ),
-        (FRAME, "1099511627776", Status::Done, LINE, b""),
-    ];
-    for (input, limit, status, output, notes) in rows {
-        let words = ["dump", "ping.json", "--max-input", limit];
-        let trial = Trial {
-            words: &words,
-            input,
-            ..sample()
-        };
-        expect(alloc, &trial, status, output, notes)?;
-    }
-    Ok(())
+    let at_10 = b"{\"limit\":\"Input\",\"at\":10}\n";
+    expect_input(rt.alloc(), FRAME, "10", Status::InputLimit, b"", at_10)?;
+    let at_19 = b"{\"limit\":\"Input\",\"at\":19}\n";
+    expect_input(rt.alloc(), FRAME, "19", Status::InputLimit, b"", at_19)?;
+    expect_input(rt.alloc(), FRAME, "20", Status::Done, LINE, b"")?;
+    let at_20 = b"{\"limit\":\"Input\",\"at\":20}\n";
+    expect_input(rt.alloc(), TWICE, "20", Status::InputLimit, LINE, at_20)?;
+    expect_input(rt.alloc(), FRAME, "1099511627776", Status::Done, LINE, b"")
 }
 
 /// Frames of the greatest length that fill the input's limit, and a number of bytes behind them.
@@ -88,9 +89,8 @@ fn frames_to_the_limit(alloc: Global, behind: u8) -> Result<Vec<u8>, Fail> {
     Ok(input)
 }
 
-#[test]
-fn ends_at_the_limit_of_the_input(rt: HostRuntime) -> Result<(), Fail> {
-    let alloc = rt.alloc();
+/// The lines of these frames.
+fn lines_to_the_limit(alloc: Global) -> Result<String, Fail> {
     let mut lines = String::new(alloc);
     for i in 0..256usize {
         let line = format!(in alloc;
@@ -98,33 +98,41 @@ fn ends_at_the_limit_of_the_input(rt: HostRuntime) -> Result<(), Fail> {
         )?;
         lines.push_str(line.as_str())?;
     }
+    Ok(lines)
+}
+
+fn expect_behind(
+    alloc: Global,
+    behind: u8,
+    status: Status,
+    output: &[u8],
+    notes: &[u8],
+) -> Result<(), Fail> {
+    let words = ["dump", "ping.json", "--max-input", "16777216"];
+    let input = frames_to_the_limit(alloc, behind)?;
+    expect_frame(alloc, &words, input.as_slice(), status, output, notes)
+}
+
+#[test]
+fn ends_at_the_limit_of_the_input(rt: HostRuntime) -> Result<(), Fail> {
+    let lines = lines_to_the_limit(rt.alloc())?;
     let limit = b"{\"limit\":\"Input\",\"at\":16777216}\n";
-    let rows: [(u8, Status, &[u8]); 2] = [
-        (0, Status::SomeRefused, b""),
-        (1, Status::InputLimit, limit),
-    ];
-    for (behind, status, notes) in rows {
-        let input = frames_to_the_limit(alloc, behind)?;
-        let trial = Trial {
-            words: &["dump", "ping.json", "--max-input", "16777216"],
-            input: input.as_slice(),
-            piece: 1_048_576,
-            ..sample()
-        };
-        expect(alloc, &trial, status, lines.as_bytes(), notes)?;
-    }
-    Ok(())
+    expect_behind(rt.alloc(), 0, Status::SomeRefused, lines.as_bytes(), b"")?;
+    expect_behind(rt.alloc(), 1, Status::InputLimit, lines.as_bytes(), limit)
 }
 
 #[test]
 fn refuses_so_many_zeros(rt: HostRuntime) -> Result<(), Fail> {
     let alloc = rt.alloc();
     let zeros = vec![in alloc; 0u8; 16_777_216]?;
-    let trial = Trial {
-        input: zeros.as_slice(),
-        piece: 1_048_576,
-        ..sample()
-    };
+    let words = ["dump", "ping.json"];
     let short = b"{\"framing\":\"LengthShort\",\"at\":0,\"number\":0}\n";
-    expect(alloc, &trial, Status::FramingRefused, b"", short)
+    expect_frame(
+        alloc,
+        &words,
+        zeros.as_slice(),
+        Status::FramingRefused,
+        b"",
+        short,
+    )
 }

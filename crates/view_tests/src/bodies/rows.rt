@@ -1,699 +1,89 @@
 //! Bodies in which one part is changed, and what is told of each at three versions.
-
-/// What is put into the body, and how long it is then; and what is told of it as a message of the schema's version, of the one
-/// before and of the one behind.
-#[derive(Clone, Copy)]
-pub struct Row {
-    pub what: &'static str,
-    pub at: usize,
-    pub little: &'static [u8],
-    pub big: &'static [u8],
-    pub end: usize,
-    pub own: &'static str,
-    pub older: &'static str,
-    pub newer: &'static str,
-}
+//!
+//! A row tells what is changed, from which place on, the bytes that are put there in hex, first in the little-endian body and then
+//! in the big-endian one, how long the body is then, and what is told of it as a message of the schema's version, of the one before
+//! and of the one behind.
 
 /// The header, the root's block, and what stands behind the message.
-pub const MESSAGE: [Row; 10] = [
-    Row {
-        what: "as it is",
-        at: 0,
-        little: b"",
-        big: b"",
-        end: 180,
-        own: "message of version 2",
-        older: "Trailing: 2 at 178",
-        newer: "message of version 3",
-    },
-    Row {
-        what: "the header cut off",
-        at: 0,
-        little: b"",
-        big: b"",
-        end: 7,
-        own: "ShortHeader: 7 at 0",
-        older: "ShortHeader: 7 at 0",
-        newer: "ShortHeader: 7 at 0",
-    },
-    Row {
-        what: "nothing",
-        at: 0,
-        little: b"",
-        big: b"",
-        end: 0,
-        own: "ShortHeader: 0 at 0",
-        older: "ShortHeader: 0 at 0",
-        newer: "ShortHeader: 0 at 0",
-    },
-    Row {
-        what: "another schema",
-        at: 4,
-        little: b"\x2d\x01",
-        big: b"\x01\x2d",
-        end: 180,
-        own: "SchemaId: 301 at 4",
-        older: "SchemaId: 301 at 4",
-        newer: "SchemaId: 301 at 4",
-    },
-    Row {
-        what: "no template",
-        at: 2,
-        little: b"\x08\x00",
-        big: b"\x00\x08",
-        end: 180,
-        own: "Template: 8 at 2",
-        older: "Template: 8 at 2",
-        newer: "Template: 8 at 2",
-    },
-    Row {
-        what: "another schema and no template",
-        at: 2,
-        little: b"\x08\x00\x2d\x01",
-        big: b"\x00\x08\x01\x2d",
-        end: 180,
-        own: "SchemaId: 301 at 4",
-        older: "SchemaId: 301 at 4",
-        newer: "SchemaId: 301 at 4",
-    },
-    Row {
-        what: "root below the floor",
-        at: 0,
-        little: b"\x1d\x00",
-        big: b"\x00\x1d",
-        end: 180,
-        own: "BlockShort: 29 at 0",
-        older: "Count: 252 at 39 in Part(7)",
-        newer: "BlockShort: 29 at 0",
-    },
-    Row {
-        what: "root cut off",
-        at: 0,
-        little: b"",
-        big: b"",
-        end: 39,
-        own: "Truncated: 32 at 8",
-        older: "Truncated: 32 at 8",
-        newer: "Truncated: 32 at 8",
-    },
-    Row {
-        what: "root without bytes",
-        at: 0,
-        little: b"",
-        big: b"",
-        end: 8,
-        own: "Truncated: 32 at 8",
-        older: "Truncated: 32 at 8",
-        newer: "Truncated: 32 at 8",
-    },
-    Row {
-        what: "behind it",
-        at: 180,
-        little: b"\x00\x01",
-        big: b"\x00\x01",
-        end: 182,
-        own: "Trailing: 2 at 180",
-        older: "Trailing: 4 at 178",
-        newer: "message of version 3",
-    },
-];
+pub const MESSAGE: &str =
+    "as it is|0|||180|message of version 2|Trailing: 2 at 178|message of version 3
+the header cut off|0|||7|ShortHeader: 7 at 0|ShortHeader: 7 at 0|ShortHeader: 7 at 0
+nothing|0|||0|ShortHeader: 0 at 0|ShortHeader: 0 at 0|ShortHeader: 0 at 0
+another schema|4|2d01|012d|180|SchemaId: 301 at 4|SchemaId: 301 at 4|SchemaId: 301 at 4
+no template|2|0800|0008|180|Template: 8 at 2|Template: 8 at 2|Template: 8 at 2
+another schema and no template|2|08002d01|0008012d|180|SchemaId: 301 at 4|SchemaId: 301 at 4|SchemaId: 301 at 4
+root below the floor|0|1d00|001d|180|BlockShort: 29 at 0|Count: 252 at 39 in Part(7)|BlockShort: 29 at 0
+root cut off|0|||39|Truncated: 32 at 8|Truncated: 32 at 8|Truncated: 32 at 8
+root without bytes|0|||8|Truncated: 32 at 8|Truncated: 32 at 8|Truncated: 32 at 8
+behind it|180|0001|0001|182|Trailing: 2 at 180|Trailing: 4 at 178|message of version 3";
 
 /// Fields of the root.
-pub const ROOT: [Row; 12] = [
-    Row {
-        what: "root number",
-        at: 8,
-        little: b"\xff\xff",
-        big: b"\xff\xff",
-        end: 180,
-        own: "Range: 65535 at 8 in Part(0)",
-        older: "Range: 65535 at 8 in Part(0)",
-        newer: "Range: 65535 at 8 in Part(0)",
-    },
-    Row {
-        what: "root enum",
-        at: 10,
-        little: b"\x03",
-        big: b"\x03",
-        end: 180,
-        own: "EnumUnknown: 3 at 10 in Part(1)",
-        older: "EnumUnknown: 3 at 10 in Part(1)",
-        newer: "message of version 3",
-    },
-    Row {
-        what: "root set",
-        at: 11,
-        little: b"\x03\x02",
-        big: b"\x02\x03",
-        end: 180,
-        own: "SetUnknown: 515 at 11 in Part(2)",
-        older: "SetUnknown: 515 at 11 in Part(2)",
-        newer: "message of version 3",
-    },
-    Row {
-        what: "root text",
-        at: 13,
-        little: b"\x61\x7f\x00",
-        big: b"\x61\x7f\x00",
-        end: 180,
-        own: "TextByte: 127 at 14 in Part(3)",
-        older: "TextByte: 127 at 14 in Part(3)",
-        newer: "TextByte: 127 at 14 in Part(3)",
-    },
-    Row {
-        what: "root element",
-        at: 18,
-        little: b"\x0a\x00",
-        big: b"\x00\x0a",
-        end: 180,
-        own: "Range: 10 at 18 in Part(4).Elem(1)",
-        older: "Range: 10 at 18 in Part(4).Elem(1)",
-        newer: "Range: 10 at 18 in Part(4).Elem(1)",
-    },
-    Row {
-        what: "root member number",
-        at: 20,
-        little: b"\x00\x80",
-        big: b"\x80\x00",
-        end: 180,
-        own: "Range: -32768 at 20 in Part(5).Part(0)",
-        older: "Range: -32768 at 20 in Part(5).Part(0)",
-        newer: "Range: -32768 at 20 in Part(5).Part(0)",
-    },
-    Row {
-        what: "root member enum",
-        at: 22,
-        little: b"\x00",
-        big: b"\x00",
-        end: 180,
-        own: "EnumUnknown: 0 at 22 in Part(5).Part(1)",
-        older: "EnumUnknown: 0 at 22 in Part(5).Part(1)",
-        newer: "message of version 3",
-    },
-    Row {
-        what: "root member set",
-        at: 23,
-        little: b"\x02\x00",
-        big: b"\x00\x02",
-        end: 180,
-        own: "SetUnknown: 2 at 23 in Part(5).Part(2)",
-        older: "SetUnknown: 2 at 23 in Part(5).Part(2)",
-        newer: "message of version 3",
-    },
-    Row {
-        what: "root member text",
-        at: 25,
-        little: b"\x1f",
-        big: b"\x1f",
-        end: 180,
-        own: "TextByte: 31 at 25 in Part(5).Part(3)",
-        older: "TextByte: 31 at 25 in Part(5).Part(3)",
-        newer: "TextByte: 31 at 25 in Part(5).Part(3)",
-    },
-    Row {
-        what: "root member element",
-        at: 28,
-        little: b"\xff\xff",
-        big: b"\xff\xff",
-        end: 180,
-        own: "Range: 65535 at 28 in Part(5).Part(4).Elem(0)",
-        older: "Range: 65535 at 28 in Part(5).Part(4).Elem(0)",
-        newer: "Range: 65535 at 28 in Part(5).Part(4).Elem(0)",
-    },
-    Row {
-        what: "root member of a member",
-        at: 32,
-        little: b"\xf6\xff\xff\xff",
-        big: b"\xff\xff\xff\xf6",
-        end: 180,
-        own: "Range: -10 at 32 in Part(5).Part(5).Part(0)",
-        older: "Range: -10 at 32 in Part(5).Part(5).Part(0)",
-        newer: "Range: -10 at 32 in Part(5).Part(5).Part(0)",
-    },
-    Row {
-        what: "root later number",
-        at: 37,
-        little: b"\xff",
-        big: b"\xff",
-        end: 180,
-        own: "Range: 255 at 37 in Part(6)",
-        older: "Trailing: 2 at 178",
-        newer: "Range: 255 at 37 in Part(6)",
-    },
-];
+pub const ROOT: &str =
+    "root number|8|ffff|ffff|180|Range: 65535 at 8 in Part(0)|Range: 65535 at 8 in Part(0)|Range: 65535 at 8 in Part(0)
+root enum|10|03|03|180|EnumUnknown: 3 at 10 in Part(1)|EnumUnknown: 3 at 10 in Part(1)|message of version 3
+root set|11|0302|0203|180|SetUnknown: 515 at 11 in Part(2)|SetUnknown: 515 at 11 in Part(2)|message of version 3
+root text|13|617f00|617f00|180|TextByte: 127 at 14 in Part(3)|TextByte: 127 at 14 in Part(3)|TextByte: 127 at 14 in Part(3)
+root element|18|0a00|000a|180|Range: 10 at 18 in Part(4).Elem(1)|Range: 10 at 18 in Part(4).Elem(1)|Range: 10 at 18 in Part(4).Elem(1)
+root member number|20|0080|8000|180|Range: -32768 at 20 in Part(5).Part(0)|Range: -32768 at 20 in Part(5).Part(0)|Range: -32768 at 20 in Part(5).Part(0)
+root member enum|22|00|00|180|EnumUnknown: 0 at 22 in Part(5).Part(1)|EnumUnknown: 0 at 22 in Part(5).Part(1)|message of version 3
+root member set|23|0200|0002|180|SetUnknown: 2 at 23 in Part(5).Part(2)|SetUnknown: 2 at 23 in Part(5).Part(2)|message of version 3
+root member text|25|1f|1f|180|TextByte: 31 at 25 in Part(5).Part(3)|TextByte: 31 at 25 in Part(5).Part(3)|TextByte: 31 at 25 in Part(5).Part(3)
+root member element|28|ffff|ffff|180|Range: 65535 at 28 in Part(5).Part(4).Elem(0)|Range: 65535 at 28 in Part(5).Part(4).Elem(0)|Range: 65535 at 28 in Part(5).Part(4).Elem(0)
+root member of a member|32|f6ffffff|fffffff6|180|Range: -10 at 32 in Part(5).Part(5).Part(0)|Range: -10 at 32 in Part(5).Part(5).Part(0)|Range: -10 at 32 in Part(5).Part(5).Part(0)
+root later number|37|ff|ff|180|Range: 255 at 37 in Part(6)|Trailing: 2 at 178|Range: 255 at 37 in Part(6)";
 
 /// Fields of an entry.
-pub const ENTRY: [Row; 11] = [
-    Row {
-        what: "legs[1] number",
-        at: 76,
-        little: b"\xff\xff",
-        big: b"\xff\xff",
-        end: 180,
-        own: "Range: 65535 at 76 in Part(7).Entry(1).Part(0)",
-        older: "Range: 65535 at 76 in Part(7).Entry(1).Part(0)",
-        newer: "Range: 65535 at 76 in Part(7).Entry(1).Part(0)",
-    },
-    Row {
-        what: "legs[1] enum",
-        at: 78,
-        little: b"\x03",
-        big: b"\x03",
-        end: 180,
-        own: "EnumUnknown: 3 at 78 in Part(7).Entry(1).Part(1)",
-        older: "EnumUnknown: 3 at 78 in Part(7).Entry(1).Part(1)",
-        newer: "message of version 3",
-    },
-    Row {
-        what: "legs[1] set",
-        at: 79,
-        little: b"\x03\x02",
-        big: b"\x02\x03",
-        end: 180,
-        own: "SetUnknown: 515 at 79 in Part(7).Entry(1).Part(2)",
-        older: "SetUnknown: 515 at 79 in Part(7).Entry(1).Part(2)",
-        newer: "message of version 3",
-    },
-    Row {
-        what: "legs[1] text",
-        at: 81,
-        little: b"\x61\x7f\x00",
-        big: b"\x61\x7f\x00",
-        end: 180,
-        own: "TextByte: 127 at 82 in Part(7).Entry(1).Part(3)",
-        older: "TextByte: 127 at 82 in Part(7).Entry(1).Part(3)",
-        newer: "TextByte: 127 at 82 in Part(7).Entry(1).Part(3)",
-    },
-    Row {
-        what: "legs[1] element",
-        at: 86,
-        little: b"\x0a\x00",
-        big: b"\x00\x0a",
-        end: 180,
-        own: "Range: 10 at 86 in Part(7).Entry(1).Part(4).Elem(1)",
-        older: "Range: 10 at 86 in Part(7).Entry(1).Part(4).Elem(1)",
-        newer: "Range: 10 at 86 in Part(7).Entry(1).Part(4).Elem(1)",
-    },
-    Row {
-        what: "legs[1] member number",
-        at: 88,
-        little: b"\x00\x80",
-        big: b"\x80\x00",
-        end: 180,
-        own: "Range: -32768 at 88 in Part(7).Entry(1).Part(5).Part(0)",
-        older: "Range: -32768 at 88 in Part(7).Entry(1).Part(5).Part(0)",
-        newer: "Range: -32768 at 88 in Part(7).Entry(1).Part(5).Part(0)",
-    },
-    Row {
-        what: "legs[1] member enum",
-        at: 90,
-        little: b"\x00",
-        big: b"\x00",
-        end: 180,
-        own: "EnumUnknown: 0 at 90 in Part(7).Entry(1).Part(5).Part(1)",
-        older: "EnumUnknown: 0 at 90 in Part(7).Entry(1).Part(5).Part(1)",
-        newer: "message of version 3",
-    },
-    Row {
-        what: "legs[1] member set",
-        at: 91,
-        little: b"\x02\x00",
-        big: b"\x00\x02",
-        end: 180,
-        own: "SetUnknown: 2 at 91 in Part(7).Entry(1).Part(5).Part(2)",
-        older: "SetUnknown: 2 at 91 in Part(7).Entry(1).Part(5).Part(2)",
-        newer: "message of version 3",
-    },
-    Row {
-        what: "legs[1] member text",
-        at: 93,
-        little: b"\x1f",
-        big: b"\x1f",
-        end: 180,
-        own: "TextByte: 31 at 93 in Part(7).Entry(1).Part(5).Part(3)",
-        older: "TextByte: 31 at 93 in Part(7).Entry(1).Part(5).Part(3)",
-        newer: "TextByte: 31 at 93 in Part(7).Entry(1).Part(5).Part(3)",
-    },
-    Row {
-        what: "legs[1] member element",
-        at: 96,
-        little: b"\xff\xff",
-        big: b"\xff\xff",
-        end: 180,
-        own: "Range: 65535 at 96 in Part(7).Entry(1).Part(5).Part(4).Elem(0)",
-        older: "Range: 65535 at 96 in Part(7).Entry(1).Part(5).Part(4).Elem(0)",
-        newer: "Range: 65535 at 96 in Part(7).Entry(1).Part(5).Part(4).Elem(0)",
-    },
-    Row {
-        what: "legs[1] member of a member",
-        at: 100,
-        little: b"\xf6\xff\xff\xff",
-        big: b"\xff\xff\xff\xf6",
-        end: 180,
-        own: "Range: -10 at 100 in Part(7).Entry(1).Part(5).Part(5).Part(0)",
-        older: "Range: -10 at 100 in Part(7).Entry(1).Part(5).Part(5).Part(0)",
-        newer: "Range: -10 at 100 in Part(7).Entry(1).Part(5).Part(5).Part(0)",
-    },
-];
+pub const ENTRY: &str =
+    "legs[1] number|76|ffff|ffff|180|Range: 65535 at 76 in Part(7).Entry(1).Part(0)|Range: 65535 at 76 in Part(7).Entry(1).Part(0)|Range: 65535 at 76 in Part(7).Entry(1).Part(0)
+legs[1] enum|78|03|03|180|EnumUnknown: 3 at 78 in Part(7).Entry(1).Part(1)|EnumUnknown: 3 at 78 in Part(7).Entry(1).Part(1)|message of version 3
+legs[1] set|79|0302|0203|180|SetUnknown: 515 at 79 in Part(7).Entry(1).Part(2)|SetUnknown: 515 at 79 in Part(7).Entry(1).Part(2)|message of version 3
+legs[1] text|81|617f00|617f00|180|TextByte: 127 at 82 in Part(7).Entry(1).Part(3)|TextByte: 127 at 82 in Part(7).Entry(1).Part(3)|TextByte: 127 at 82 in Part(7).Entry(1).Part(3)
+legs[1] element|86|0a00|000a|180|Range: 10 at 86 in Part(7).Entry(1).Part(4).Elem(1)|Range: 10 at 86 in Part(7).Entry(1).Part(4).Elem(1)|Range: 10 at 86 in Part(7).Entry(1).Part(4).Elem(1)
+legs[1] member number|88|0080|8000|180|Range: -32768 at 88 in Part(7).Entry(1).Part(5).Part(0)|Range: -32768 at 88 in Part(7).Entry(1).Part(5).Part(0)|Range: -32768 at 88 in Part(7).Entry(1).Part(5).Part(0)
+legs[1] member enum|90|00|00|180|EnumUnknown: 0 at 90 in Part(7).Entry(1).Part(5).Part(1)|EnumUnknown: 0 at 90 in Part(7).Entry(1).Part(5).Part(1)|message of version 3
+legs[1] member set|91|0200|0002|180|SetUnknown: 2 at 91 in Part(7).Entry(1).Part(5).Part(2)|SetUnknown: 2 at 91 in Part(7).Entry(1).Part(5).Part(2)|message of version 3
+legs[1] member text|93|1f|1f|180|TextByte: 31 at 93 in Part(7).Entry(1).Part(5).Part(3)|TextByte: 31 at 93 in Part(7).Entry(1).Part(5).Part(3)|TextByte: 31 at 93 in Part(7).Entry(1).Part(5).Part(3)
+legs[1] member element|96|ffff|ffff|180|Range: 65535 at 96 in Part(7).Entry(1).Part(5).Part(4).Elem(0)|Range: 65535 at 96 in Part(7).Entry(1).Part(5).Part(4).Elem(0)|Range: 65535 at 96 in Part(7).Entry(1).Part(5).Part(4).Elem(0)
+legs[1] member of a member|100|f6ffffff|fffffff6|180|Range: -10 at 100 in Part(7).Entry(1).Part(5).Part(5).Part(0)|Range: -10 at 100 in Part(7).Entry(1).Part(5).Part(5).Part(0)|Range: -10 at 100 in Part(7).Entry(1).Part(5).Part(5).Part(0)";
 
 /// Fields of an entry inside an entry.
-pub const NESTED: [Row; 11] = [
-    Row {
-        what: "legs[1].subs[1] number",
-        at: 139,
-        little: b"\xff\xff",
-        big: b"\xff\xff",
-        end: 180,
-        own: "Range: 65535 at 139 in Part(7).Entry(1).Part(6).Entry(1).Part(0)",
-        older: "Range: 65535 at 139 in Part(7).Entry(1).Part(6).Entry(1).Part(0)",
-        newer: "Range: 65535 at 139 in Part(7).Entry(1).Part(6).Entry(1).Part(0)",
-    },
-    Row {
-        what: "legs[1].subs[1] enum",
-        at: 141,
-        little: b"\x03",
-        big: b"\x03",
-        end: 180,
-        own: "EnumUnknown: 3 at 141 in Part(7).Entry(1).Part(6).Entry(1).Part(1)",
-        older: "EnumUnknown: 3 at 141 in Part(7).Entry(1).Part(6).Entry(1).Part(1)",
-        newer: "message of version 3",
-    },
-    Row {
-        what: "legs[1].subs[1] set",
-        at: 142,
-        little: b"\x03\x02",
-        big: b"\x02\x03",
-        end: 180,
-        own: "SetUnknown: 515 at 142 in Part(7).Entry(1).Part(6).Entry(1).Part(2)",
-        older: "SetUnknown: 515 at 142 in Part(7).Entry(1).Part(6).Entry(1).Part(2)",
-        newer: "message of version 3",
-    },
-    Row {
-        what: "legs[1].subs[1] text",
-        at: 144,
-        little: b"\x61\x7f\x00",
-        big: b"\x61\x7f\x00",
-        end: 180,
-        own: "TextByte: 127 at 145 in Part(7).Entry(1).Part(6).Entry(1).Part(3)",
-        older: "TextByte: 127 at 145 in Part(7).Entry(1).Part(6).Entry(1).Part(3)",
-        newer: "TextByte: 127 at 145 in Part(7).Entry(1).Part(6).Entry(1).Part(3)",
-    },
-    Row {
-        what: "legs[1].subs[1] element",
-        at: 149,
-        little: b"\x0a\x00",
-        big: b"\x00\x0a",
-        end: 180,
-        own: "Range: 10 at 149 in Part(7).Entry(1).Part(6).Entry(1).Part(4).Elem(1)",
-        older: "Range: 10 at 149 in Part(7).Entry(1).Part(6).Entry(1).Part(4).Elem(1)",
-        newer: "Range: 10 at 149 in Part(7).Entry(1).Part(6).Entry(1).Part(4).Elem(1)",
-    },
-    Row {
-        what: "legs[1].subs[1] member number",
-        at: 151,
-        little: b"\x00\x80",
-        big: b"\x80\x00",
-        end: 180,
-        own: "Range: -32768 at 151 in Part(7).Entry(1).Part(6).Entry(1).Part(5).Part(0)",
-        older: "Range: -32768 at 151 in Part(7).Entry(1).Part(6).Entry(1).Part(5).Part(0)",
-        newer: "Range: -32768 at 151 in Part(7).Entry(1).Part(6).Entry(1).Part(5).Part(0)",
-    },
-    Row {
-        what: "legs[1].subs[1] member enum",
-        at: 153,
-        little: b"\x00",
-        big: b"\x00",
-        end: 180,
-        own: "EnumUnknown: 0 at 153 in Part(7).Entry(1).Part(6).Entry(1).Part(5).Part(1)",
-        older: "EnumUnknown: 0 at 153 in Part(7).Entry(1).Part(6).Entry(1).Part(5).Part(1)",
-        newer: "message of version 3",
-    },
-    Row {
-        what: "legs[1].subs[1] member set",
-        at: 154,
-        little: b"\x02\x00",
-        big: b"\x00\x02",
-        end: 180,
-        own: "SetUnknown: 2 at 154 in Part(7).Entry(1).Part(6).Entry(1).Part(5).Part(2)",
-        older: "SetUnknown: 2 at 154 in Part(7).Entry(1).Part(6).Entry(1).Part(5).Part(2)",
-        newer: "message of version 3",
-    },
-    Row {
-        what: "legs[1].subs[1] member text",
-        at: 156,
-        little: b"\x1f",
-        big: b"\x1f",
-        end: 180,
-        own: "TextByte: 31 at 156 in Part(7).Entry(1).Part(6).Entry(1).Part(5).Part(3)",
-        older: "TextByte: 31 at 156 in Part(7).Entry(1).Part(6).Entry(1).Part(5).Part(3)",
-        newer: "TextByte: 31 at 156 in Part(7).Entry(1).Part(6).Entry(1).Part(5).Part(3)",
-    },
-    Row {
-        what: "legs[1].subs[1] member element",
-        at: 159,
-        little: b"\xff\xff",
-        big: b"\xff\xff",
-        end: 180,
-        own: "Range: 65535 at 159 in Part(7).Entry(1).Part(6).Entry(1).Part(5).Part(4).Elem(0)",
-        older: "Range: 65535 at 159 in Part(7).Entry(1).Part(6).Entry(1).Part(5).Part(4).Elem(0)",
-        newer: "Range: 65535 at 159 in Part(7).Entry(1).Part(6).Entry(1).Part(5).Part(4).Elem(0)",
-    },
-    Row {
-        what: "legs[1].subs[1] member of a member",
-        at: 163,
-        little: b"\xf6\xff\xff\xff",
-        big: b"\xff\xff\xff\xf6",
-        end: 180,
-        own: "Range: -10 at 163 in Part(7).Entry(1).Part(6).Entry(1).Part(5).Part(5).Part(0)",
-        older: "Range: -10 at 163 in Part(7).Entry(1).Part(6).Entry(1).Part(5).Part(5).Part(0)",
-        newer: "Range: -10 at 163 in Part(7).Entry(1).Part(6).Entry(1).Part(5).Part(5).Part(0)",
-    },
-];
+pub const NESTED: &str =
+    "legs[1].subs[1] number|139|ffff|ffff|180|Range: 65535 at 139 in Part(7).Entry(1).Part(6).Entry(1).Part(0)|Range: 65535 at 139 in Part(7).Entry(1).Part(6).Entry(1).Part(0)|Range: 65535 at 139 in Part(7).Entry(1).Part(6).Entry(1).Part(0)
+legs[1].subs[1] enum|141|03|03|180|EnumUnknown: 3 at 141 in Part(7).Entry(1).Part(6).Entry(1).Part(1)|EnumUnknown: 3 at 141 in Part(7).Entry(1).Part(6).Entry(1).Part(1)|message of version 3
+legs[1].subs[1] set|142|0302|0203|180|SetUnknown: 515 at 142 in Part(7).Entry(1).Part(6).Entry(1).Part(2)|SetUnknown: 515 at 142 in Part(7).Entry(1).Part(6).Entry(1).Part(2)|message of version 3
+legs[1].subs[1] text|144|617f00|617f00|180|TextByte: 127 at 145 in Part(7).Entry(1).Part(6).Entry(1).Part(3)|TextByte: 127 at 145 in Part(7).Entry(1).Part(6).Entry(1).Part(3)|TextByte: 127 at 145 in Part(7).Entry(1).Part(6).Entry(1).Part(3)
+legs[1].subs[1] element|149|0a00|000a|180|Range: 10 at 149 in Part(7).Entry(1).Part(6).Entry(1).Part(4).Elem(1)|Range: 10 at 149 in Part(7).Entry(1).Part(6).Entry(1).Part(4).Elem(1)|Range: 10 at 149 in Part(7).Entry(1).Part(6).Entry(1).Part(4).Elem(1)
+legs[1].subs[1] member number|151|0080|8000|180|Range: -32768 at 151 in Part(7).Entry(1).Part(6).Entry(1).Part(5).Part(0)|Range: -32768 at 151 in Part(7).Entry(1).Part(6).Entry(1).Part(5).Part(0)|Range: -32768 at 151 in Part(7).Entry(1).Part(6).Entry(1).Part(5).Part(0)
+legs[1].subs[1] member enum|153|00|00|180|EnumUnknown: 0 at 153 in Part(7).Entry(1).Part(6).Entry(1).Part(5).Part(1)|EnumUnknown: 0 at 153 in Part(7).Entry(1).Part(6).Entry(1).Part(5).Part(1)|message of version 3
+legs[1].subs[1] member set|154|0200|0002|180|SetUnknown: 2 at 154 in Part(7).Entry(1).Part(6).Entry(1).Part(5).Part(2)|SetUnknown: 2 at 154 in Part(7).Entry(1).Part(6).Entry(1).Part(5).Part(2)|message of version 3
+legs[1].subs[1] member text|156|1f|1f|180|TextByte: 31 at 156 in Part(7).Entry(1).Part(6).Entry(1).Part(5).Part(3)|TextByte: 31 at 156 in Part(7).Entry(1).Part(6).Entry(1).Part(5).Part(3)|TextByte: 31 at 156 in Part(7).Entry(1).Part(6).Entry(1).Part(5).Part(3)
+legs[1].subs[1] member element|159|ffff|ffff|180|Range: 65535 at 159 in Part(7).Entry(1).Part(6).Entry(1).Part(5).Part(4).Elem(0)|Range: 65535 at 159 in Part(7).Entry(1).Part(6).Entry(1).Part(5).Part(4).Elem(0)|Range: 65535 at 159 in Part(7).Entry(1).Part(6).Entry(1).Part(5).Part(4).Elem(0)
+legs[1].subs[1] member of a member|163|f6ffffff|fffffff6|180|Range: -10 at 163 in Part(7).Entry(1).Part(6).Entry(1).Part(5).Part(5).Part(0)|Range: -10 at 163 in Part(7).Entry(1).Part(6).Entry(1).Part(5).Part(5).Part(0)|Range: -10 at 163 in Part(7).Entry(1).Part(6).Entry(1).Part(5).Part(5).Part(0)";
 
 /// Dimensions and the blocks of entries.
-pub const GROUPS: [Row; 10] = [
-    Row {
-        what: "legs dimension cut off",
-        at: 0,
-        little: b"",
-        big: b"",
-        end: 42,
-        own: "Truncated: 3 at 40 in Part(7)",
-        older: "Truncated: 3 at 40 in Part(7)",
-        newer: "Truncated: 3 at 40 in Part(7)",
-    },
-    Row {
-        what: "legs count",
-        at: 42,
-        little: b"\x04",
-        big: b"\x04",
-        end: 180,
-        own: "Count: 4 at 42 in Part(7)",
-        older: "Count: 4 at 42 in Part(7)",
-        newer: "Count: 4 at 42 in Part(7)",
-    },
-    Row {
-        what: "legs block",
-        at: 40,
-        little: b"\x1b\x00",
-        big: b"\x00\x1b",
-        end: 180,
-        own: "BlockShort: 27 at 40 in Part(7)",
-        older: "BlockShort: 27 at 40 in Part(7)",
-        newer: "BlockShort: 27 at 40 in Part(7)",
-    },
-    Row {
-        what: "legs block and count",
-        at: 40,
-        little: b"\x1b\x00\x05",
-        big: b"\x00\x1b\x05",
-        end: 180,
-        own: "Count: 5 at 42 in Part(7)",
-        older: "Count: 5 at 42 in Part(7)",
-        newer: "Count: 5 at 42 in Part(7)",
-    },
-    Row {
-        what: "legs entry cut off",
-        at: 0,
-        little: b"",
-        big: b"",
-        end: 104,
-        own: "Truncated: 29 at 76 in Part(7).Entry(1)",
-        older: "Truncated: 29 at 76 in Part(7).Entry(1)",
-        newer: "Truncated: 29 at 76 in Part(7).Entry(1)",
-    },
-    Row {
-        what: "legs[1].subs dimension cut off",
-        at: 0,
-        little: b"",
-        big: b"",
-        end: 107,
-        own: "Truncated: 3 at 105 in Part(7).Entry(1).Part(6)",
-        older: "Truncated: 3 at 105 in Part(7).Entry(1).Part(6)",
-        newer: "Truncated: 3 at 105 in Part(7).Entry(1).Part(6)",
-    },
-    Row {
-        what: "legs[1].subs count",
-        at: 107,
-        little: b"\x04",
-        big: b"\x04",
-        end: 180,
-        own: "Count: 4 at 107 in Part(7).Entry(1).Part(6)",
-        older: "Count: 4 at 107 in Part(7).Entry(1).Part(6)",
-        newer: "Count: 4 at 107 in Part(7).Entry(1).Part(6)",
-    },
-    Row {
-        what: "legs[1].subs block",
-        at: 105,
-        little: b"\x1b\x00",
-        big: b"\x00\x1b",
-        end: 180,
-        own: "BlockShort: 27 at 105 in Part(7).Entry(1).Part(6)",
-        older: "BlockShort: 27 at 105 in Part(7).Entry(1).Part(6)",
-        newer: "BlockShort: 27 at 105 in Part(7).Entry(1).Part(6)",
-    },
-    Row {
-        what: "legs[1].subs block and count",
-        at: 105,
-        little: b"\x1b\x00\x05",
-        big: b"\x00\x1b\x05",
-        end: 180,
-        own: "Count: 5 at 107 in Part(7).Entry(1).Part(6)",
-        older: "Count: 5 at 107 in Part(7).Entry(1).Part(6)",
-        newer: "Count: 5 at 107 in Part(7).Entry(1).Part(6)",
-    },
-    Row {
-        what: "legs[1].subs entry cut off",
-        at: 0,
-        little: b"",
-        big: b"",
-        end: 166,
-        own: "Truncated: 28 at 139 in Part(7).Entry(1).Part(6).Entry(1)",
-        older: "Truncated: 28 at 139 in Part(7).Entry(1).Part(6).Entry(1)",
-        newer: "Truncated: 28 at 139 in Part(7).Entry(1).Part(6).Entry(1)",
-    },
-];
+pub const GROUPS: &str =
+    "legs dimension cut off|0|||42|Truncated: 3 at 40 in Part(7)|Truncated: 3 at 40 in Part(7)|Truncated: 3 at 40 in Part(7)
+legs count|42|04|04|180|Count: 4 at 42 in Part(7)|Count: 4 at 42 in Part(7)|Count: 4 at 42 in Part(7)
+legs block|40|1b00|001b|180|BlockShort: 27 at 40 in Part(7)|BlockShort: 27 at 40 in Part(7)|BlockShort: 27 at 40 in Part(7)
+legs block and count|40|1b0005|001b05|180|Count: 5 at 42 in Part(7)|Count: 5 at 42 in Part(7)|Count: 5 at 42 in Part(7)
+legs entry cut off|0|||104|Truncated: 29 at 76 in Part(7).Entry(1)|Truncated: 29 at 76 in Part(7).Entry(1)|Truncated: 29 at 76 in Part(7).Entry(1)
+legs[1].subs dimension cut off|0|||107|Truncated: 3 at 105 in Part(7).Entry(1).Part(6)|Truncated: 3 at 105 in Part(7).Entry(1).Part(6)|Truncated: 3 at 105 in Part(7).Entry(1).Part(6)
+legs[1].subs count|107|04|04|180|Count: 4 at 107 in Part(7).Entry(1).Part(6)|Count: 4 at 107 in Part(7).Entry(1).Part(6)|Count: 4 at 107 in Part(7).Entry(1).Part(6)
+legs[1].subs block|105|1b00|001b|180|BlockShort: 27 at 105 in Part(7).Entry(1).Part(6)|BlockShort: 27 at 105 in Part(7).Entry(1).Part(6)|BlockShort: 27 at 105 in Part(7).Entry(1).Part(6)
+legs[1].subs block and count|105|1b0005|001b05|180|Count: 5 at 107 in Part(7).Entry(1).Part(6)|Count: 5 at 107 in Part(7).Entry(1).Part(6)|Count: 5 at 107 in Part(7).Entry(1).Part(6)
+legs[1].subs entry cut off|0|||166|Truncated: 28 at 139 in Part(7).Entry(1).Part(6).Entry(1)|Truncated: 28 at 139 in Part(7).Entry(1).Part(6).Entry(1)|Truncated: 28 at 139 in Part(7).Entry(1).Part(6).Entry(1)";
 
 /// Data of the root, of an entry and of an entry inside an entry.
-pub const DATA: [Row; 12] = [
-    Row {
-        what: "legs[1].subs[1].memo length cut off",
-        at: 0,
-        little: b"",
-        big: b"",
-        end: 167,
-        own: "Truncated: 1 at 167 in Part(7).Entry(1).Part(6).Entry(1).Part(6)",
-        older: "Truncated: 1 at 167 in Part(7).Entry(1).Part(6).Entry(1).Part(6)",
-        newer: "Truncated: 1 at 167 in Part(7).Entry(1).Part(6).Entry(1).Part(6)",
-    },
-    Row {
-        what: "legs[1].subs[1].memo length",
-        at: 167,
-        little: b"\x06",
-        big: b"\x06",
-        end: 180,
-        own: "Length: 6 at 167 in Part(7).Entry(1).Part(6).Entry(1).Part(6)",
-        older: "Length: 6 at 167 in Part(7).Entry(1).Part(6).Entry(1).Part(6)",
-        newer: "Length: 6 at 167 in Part(7).Entry(1).Part(6).Entry(1).Part(6)",
-    },
-    Row {
-        what: "legs[1].subs[1].memo cut off",
-        at: 0,
-        little: b"",
-        big: b"",
-        end: 168,
-        own: "Truncated: 2 at 167 in Part(7).Entry(1).Part(6).Entry(1).Part(6)",
-        older: "Truncated: 2 at 167 in Part(7).Entry(1).Part(6).Entry(1).Part(6)",
-        newer: "Truncated: 2 at 167 in Part(7).Entry(1).Part(6).Entry(1).Part(6)",
-    },
-    Row {
-        what: "legs[1].note length cut off",
-        at: 0,
-        little: b"",
-        big: b"",
-        end: 169,
-        own: "Truncated: 1 at 169 in Part(7).Entry(1).Part(7)",
-        older: "Truncated: 1 at 169 in Part(7).Entry(1).Part(7)",
-        newer: "Truncated: 1 at 169 in Part(7).Entry(1).Part(7)",
-    },
-    Row {
-        what: "legs[1].note length",
-        at: 169,
-        little: b"\x06",
-        big: b"\x06",
-        end: 180,
-        own: "Length: 6 at 169 in Part(7).Entry(1).Part(7)",
-        older: "Length: 6 at 169 in Part(7).Entry(1).Part(7)",
-        newer: "Length: 6 at 169 in Part(7).Entry(1).Part(7)",
-    },
-    Row {
-        what: "legs[1].note cut off",
-        at: 0,
-        little: b"",
-        big: b"",
-        end: 171,
-        own: "Truncated: 3 at 169 in Part(7).Entry(1).Part(7)",
-        older: "Truncated: 3 at 169 in Part(7).Entry(1).Part(7)",
-        newer: "Truncated: 3 at 169 in Part(7).Entry(1).Part(7)",
-    },
-    Row {
-        what: "memo length cut off",
-        at: 0,
-        little: b"",
-        big: b"",
-        end: 172,
-        own: "Truncated: 1 at 172 in Part(8)",
-        older: "Truncated: 1 at 172 in Part(8)",
-        newer: "Truncated: 1 at 172 in Part(8)",
-    },
-    Row {
-        what: "memo length",
-        at: 172,
-        little: b"\x06",
-        big: b"\x06",
-        end: 180,
-        own: "Length: 6 at 172 in Part(8)",
-        older: "Length: 6 at 172 in Part(8)",
-        newer: "Length: 6 at 172 in Part(8)",
-    },
-    Row {
-        what: "memo cut off",
-        at: 0,
-        little: b"",
-        big: b"",
-        end: 177,
-        own: "Truncated: 6 at 172 in Part(8)",
-        older: "Truncated: 6 at 172 in Part(8)",
-        newer: "Truncated: 6 at 172 in Part(8)",
-    },
-    Row {
-        what: "tail length cut off",
-        at: 0,
-        little: b"",
-        big: b"",
-        end: 178,
-        own: "Truncated: 1 at 178 in Part(9)",
-        older: "message of version 1",
-        newer: "Truncated: 1 at 178 in Part(9)",
-    },
-    Row {
-        what: "tail length",
-        at: 178,
-        little: b"\x06",
-        big: b"\x06",
-        end: 180,
-        own: "Length: 6 at 178 in Part(9)",
-        older: "Trailing: 2 at 178",
-        newer: "Length: 6 at 178 in Part(9)",
-    },
-    Row {
-        what: "tail cut off",
-        at: 0,
-        little: b"",
-        big: b"",
-        end: 179,
-        own: "Truncated: 2 at 178 in Part(9)",
-        older: "Trailing: 1 at 178",
-        newer: "Truncated: 2 at 178 in Part(9)",
-    },
-];
+pub const DATA: &str =
+    "legs[1].subs[1].memo length cut off|0|||167|Truncated: 1 at 167 in Part(7).Entry(1).Part(6).Entry(1).Part(6)|Truncated: 1 at 167 in Part(7).Entry(1).Part(6).Entry(1).Part(6)|Truncated: 1 at 167 in Part(7).Entry(1).Part(6).Entry(1).Part(6)
+legs[1].subs[1].memo length|167|06|06|180|Length: 6 at 167 in Part(7).Entry(1).Part(6).Entry(1).Part(6)|Length: 6 at 167 in Part(7).Entry(1).Part(6).Entry(1).Part(6)|Length: 6 at 167 in Part(7).Entry(1).Part(6).Entry(1).Part(6)
+legs[1].subs[1].memo cut off|0|||168|Truncated: 2 at 167 in Part(7).Entry(1).Part(6).Entry(1).Part(6)|Truncated: 2 at 167 in Part(7).Entry(1).Part(6).Entry(1).Part(6)|Truncated: 2 at 167 in Part(7).Entry(1).Part(6).Entry(1).Part(6)
+legs[1].note length cut off|0|||169|Truncated: 1 at 169 in Part(7).Entry(1).Part(7)|Truncated: 1 at 169 in Part(7).Entry(1).Part(7)|Truncated: 1 at 169 in Part(7).Entry(1).Part(7)
+legs[1].note length|169|06|06|180|Length: 6 at 169 in Part(7).Entry(1).Part(7)|Length: 6 at 169 in Part(7).Entry(1).Part(7)|Length: 6 at 169 in Part(7).Entry(1).Part(7)
+legs[1].note cut off|0|||171|Truncated: 3 at 169 in Part(7).Entry(1).Part(7)|Truncated: 3 at 169 in Part(7).Entry(1).Part(7)|Truncated: 3 at 169 in Part(7).Entry(1).Part(7)
+memo length cut off|0|||172|Truncated: 1 at 172 in Part(8)|Truncated: 1 at 172 in Part(8)|Truncated: 1 at 172 in Part(8)
+memo length|172|06|06|180|Length: 6 at 172 in Part(8)|Length: 6 at 172 in Part(8)|Length: 6 at 172 in Part(8)
+memo cut off|0|||177|Truncated: 6 at 172 in Part(8)|Truncated: 6 at 172 in Part(8)|Truncated: 6 at 172 in Part(8)
+tail length cut off|0|||178|Truncated: 1 at 178 in Part(9)|message of version 1|Truncated: 1 at 178 in Part(9)
+tail length|178|06|06|180|Length: 6 at 178 in Part(9)|Trailing: 2 at 178|Length: 6 at 178 in Part(9)
+tail cut off|0|||179|Truncated: 2 at 178 in Part(9)|Trailing: 1 at 178|Truncated: 2 at 178 in Part(9)";

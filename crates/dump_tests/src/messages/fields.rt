@@ -1,0 +1,362 @@
+//! Texts and numbers of many lengths: each in the field of a message, and all of them in the entries of a group.
+
+use super::files::FIELDS;
+use run_trials::{Trial, cut, expect, sample};
+use sbe_base::Status;
+use std::alloc::Global;
+use std::test::Fail;
+
+/// Texts of 1 to 9, 15 to 17 and 31 to 33 characters: plain, or with a quote or a backslash at the first, the eighth or the
+/// last place. Behind the bar stands what a string of JSON has between its quotes.
+const TEXTS: &str = r#"A|A
+"|\"
+\|\\
+AB|AB
+"B|\"B
+\B|\\B
+A"|A\"
+A\|A\\
+ABC|ABC
+"BC|\"BC
+\BC|\\BC
+AB"|AB\"
+AB\|AB\\
+ABCD|ABCD
+"BCD|\"BCD
+\BCD|\\BCD
+ABC"|ABC\"
+ABC\|ABC\\
+ABCDE|ABCDE
+"BCDE|\"BCDE
+\BCDE|\\BCDE
+ABCD"|ABCD\"
+ABCD\|ABCD\\
+ABCDEF|ABCDEF
+"BCDEF|\"BCDEF
+\BCDEF|\\BCDEF
+ABCDE"|ABCDE\"
+ABCDE\|ABCDE\\
+ABCDEFG|ABCDEFG
+"BCDEFG|\"BCDEFG
+\BCDEFG|\\BCDEFG
+ABCDEF"|ABCDEF\"
+ABCDEF\|ABCDEF\\
+ABCDEFGH|ABCDEFGH
+"BCDEFGH|\"BCDEFGH
+\BCDEFGH|\\BCDEFGH
+ABCDEFG"|ABCDEFG\"
+ABCDEFG\|ABCDEFG\\
+ABCDEFGHI|ABCDEFGHI
+"BCDEFGHI|\"BCDEFGHI
+\BCDEFGHI|\\BCDEFGHI
+ABCDEFG"I|ABCDEFG\"I
+ABCDEFG\I|ABCDEFG\\I
+ABCDEFGH"|ABCDEFGH\"
+ABCDEFGH\|ABCDEFGH\\
+ABCDEFGHIJKLMNO|ABCDEFGHIJKLMNO
+"BCDEFGHIJKLMNO|\"BCDEFGHIJKLMNO
+\BCDEFGHIJKLMNO|\\BCDEFGHIJKLMNO
+ABCDEFG"IJKLMNO|ABCDEFG\"IJKLMNO
+ABCDEFG\IJKLMNO|ABCDEFG\\IJKLMNO
+ABCDEFGHIJKLMN"|ABCDEFGHIJKLMN\"
+ABCDEFGHIJKLMN\|ABCDEFGHIJKLMN\\
+ABCDEFGHIJKLMNOP|ABCDEFGHIJKLMNOP
+"BCDEFGHIJKLMNOP|\"BCDEFGHIJKLMNOP
+\BCDEFGHIJKLMNOP|\\BCDEFGHIJKLMNOP
+ABCDEFG"IJKLMNOP|ABCDEFG\"IJKLMNOP
+ABCDEFG\IJKLMNOP|ABCDEFG\\IJKLMNOP
+ABCDEFGHIJKLMNO"|ABCDEFGHIJKLMNO\"
+ABCDEFGHIJKLMNO\|ABCDEFGHIJKLMNO\\
+ABCDEFGHIJKLMNOPQ|ABCDEFGHIJKLMNOPQ
+"BCDEFGHIJKLMNOPQ|\"BCDEFGHIJKLMNOPQ
+\BCDEFGHIJKLMNOPQ|\\BCDEFGHIJKLMNOPQ
+ABCDEFG"IJKLMNOPQ|ABCDEFG\"IJKLMNOPQ
+ABCDEFG\IJKLMNOPQ|ABCDEFG\\IJKLMNOPQ
+ABCDEFGHIJKLMNOP"|ABCDEFGHIJKLMNOP\"
+ABCDEFGHIJKLMNOP\|ABCDEFGHIJKLMNOP\\
+ABCDEFGHIJKLMNOPQRSTUVWXYZabcde|ABCDEFGHIJKLMNOPQRSTUVWXYZabcde
+"BCDEFGHIJKLMNOPQRSTUVWXYZabcde|\"BCDEFGHIJKLMNOPQRSTUVWXYZabcde
+\BCDEFGHIJKLMNOPQRSTUVWXYZabcde|\\BCDEFGHIJKLMNOPQRSTUVWXYZabcde
+ABCDEFG"IJKLMNOPQRSTUVWXYZabcde|ABCDEFG\"IJKLMNOPQRSTUVWXYZabcde
+ABCDEFG\IJKLMNOPQRSTUVWXYZabcde|ABCDEFG\\IJKLMNOPQRSTUVWXYZabcde
+ABCDEFGHIJKLMNOPQRSTUVWXYZabcd"|ABCDEFGHIJKLMNOPQRSTUVWXYZabcd\"
+ABCDEFGHIJKLMNOPQRSTUVWXYZabcd\|ABCDEFGHIJKLMNOPQRSTUVWXYZabcd\\
+ABCDEFGHIJKLMNOPQRSTUVWXYZabcdef|ABCDEFGHIJKLMNOPQRSTUVWXYZabcdef
+"BCDEFGHIJKLMNOPQRSTUVWXYZabcdef|\"BCDEFGHIJKLMNOPQRSTUVWXYZabcdef
+\BCDEFGHIJKLMNOPQRSTUVWXYZabcdef|\\BCDEFGHIJKLMNOPQRSTUVWXYZabcdef
+ABCDEFG"IJKLMNOPQRSTUVWXYZabcdef|ABCDEFG\"IJKLMNOPQRSTUVWXYZabcdef
+ABCDEFG\IJKLMNOPQRSTUVWXYZabcdef|ABCDEFG\\IJKLMNOPQRSTUVWXYZabcdef
+ABCDEFGHIJKLMNOPQRSTUVWXYZabcde"|ABCDEFGHIJKLMNOPQRSTUVWXYZabcde\"
+ABCDEFGHIJKLMNOPQRSTUVWXYZabcde\|ABCDEFGHIJKLMNOPQRSTUVWXYZabcde\\
+ABCDEFGHIJKLMNOPQRSTUVWXYZabcdefg|ABCDEFGHIJKLMNOPQRSTUVWXYZabcdefg
+"BCDEFGHIJKLMNOPQRSTUVWXYZabcdefg|\"BCDEFGHIJKLMNOPQRSTUVWXYZabcdefg
+\BCDEFGHIJKLMNOPQRSTUVWXYZabcdefg|\\BCDEFGHIJKLMNOPQRSTUVWXYZabcdefg
+ABCDEFG"IJKLMNOPQRSTUVWXYZabcdefg|ABCDEFG\"IJKLMNOPQRSTUVWXYZabcdefg
+ABCDEFG\IJKLMNOPQRSTUVWXYZabcdefg|ABCDEFG\\IJKLMNOPQRSTUVWXYZabcdefg
+ABCDEFGHIJKLMNOPQRSTUVWXYZabcdef"|ABCDEFGHIJKLMNOPQRSTUVWXYZabcdef\"
+ABCDEFGHIJKLMNOPQRSTUVWXYZabcdef\|ABCDEFGHIJKLMNOPQRSTUVWXYZabcdef\\"#;
+
+/// Numbers of each count of digits that eight bytes with a sign can show: the least, the greatest, and one between them.
+const SIGNED: &str = "0 1 9 -1 -9 \
+    10 12 99 -10 -99 \
+    100 123 999 -100 -999 \
+    1000 1234 9999 -1000 -9999 \
+    10000 12345 99999 -10000 -99999 \
+    100000 123456 999999 -100000 -999999 \
+    1000000 1234567 9999999 -1000000 -9999999 \
+    10000000 12345678 99999999 -10000000 -99999999 \
+    100000000 123456789 999999999 -100000000 -999999999 \
+    1000000000 1234567890 9999999999 -1000000000 -9999999999 \
+    10000000000 12345678901 99999999999 -10000000000 -99999999999 \
+    100000000000 123456789012 999999999999 -100000000000 -999999999999 \
+    1000000000000 1234567890123 9999999999999 -1000000000000 -9999999999999 \
+    10000000000000 12345678901234 99999999999999 -10000000000000 -99999999999999 \
+    100000000000000 123456789012345 999999999999999 -100000000000000 -999999999999999 \
+    1000000000000000 1234567890123456 9999999999999999 -1000000000000000 -9999999999999999 \
+    10000000000000000 12345678901234567 99999999999999999 -10000000000000000 -99999999999999999 \
+    100000000000000000 123456789012345678 999999999999999999 -100000000000000000 -999999999999999999 \
+    1000000000000000000 1234567890123456789 9223372036854775807 -1000000000000000000 -9223372036854775807";
+
+/// Numbers that eight bytes without a sign can show.
+const UNSIGNED: &str = "0 99 1234 99999 12345678 123456789 \
+    9223372036854775807 9223372036854775808 9999999999999999999 10000000000000000000 \
+    12345678901234567890 18446744073709551614";
+
+// ---- fields, and what is printed of each
+
+/// Adds a field of so many bytes with a text: a 00 behind it, where there is room, and then this byte to the end.
+fn push_text(fields: &mut Vec<u8>, width: usize, text: &str, behind: u8) -> Result<(), Fail> {
+    fields.extend_from_slice(text.as_bytes())?;
+    for at in text.len()..width {
+        fields.push(if at == text.len() { 0 } else { behind })?;
+    }
+    Ok(())
+}
+
+/// The fields of the rows whose texts fit so many bytes, one behind another.
+fn text_fields(alloc: Global, rows: &str, width: usize, behind: u8) -> Result<Vec<u8>, Fail> {
+    let mut fields = Vec::new(alloc);
+    for row in rows.lines() {
+        let (text, _) = cut(row)?;
+        if text.len() <= width {
+            push_text(&mut fields, width, text, behind)?;
+        }
+    }
+    Ok(fields)
+}
+
+/// What is printed of the same rows, a line each.
+fn text_values(alloc: Global, rows: &str, width: usize) -> Result<String, Fail> {
+    let mut values = String::new(alloc);
+    for row in rows.lines() {
+        let (text, inside) = cut(row)?;
+        if text.len() <= width {
+            values.push_str(format!(in alloc; "\"{inside}\"\n")?.as_str())?;
+        }
+    }
+    Ok(values)
+}
+
+/// Fields of eight bytes with these numbers, one behind another.
+fn number_fields(alloc: Global, numbers: &str) -> Result<Vec<u8>, Fail> {
+    let mut fields = Vec::new(alloc);
+    for number in numbers.split(' ') {
+        let bytes = number.parse::<i128>()?.to_le_bytes();
+        fields.extend_from_slice(&bytes[..8])?;
+    }
+    Ok(fields)
+}
+
+/// The same numbers, a line each.
+fn number_values(alloc: Global, numbers: &str) -> Result<String, Fail> {
+    let mut values = String::new(alloc);
+    for number in numbers.split(' ') {
+        values.push_str(number)?;
+        values.push_str("\n")?;
+    }
+    Ok(values)
+}
+
+// ---- a message for each field
+
+/// A number as one of two bytes.
+fn small(number: usize) -> Result<u16, Fail> {
+    match u16::try_from(number) {
+        Ok(small) => Ok(small),
+        Err(_) => Err(Fail::new("a number of more than two bytes")),
+    }
+}
+
+/// Adds the head of a frame and the header of its message, behind which so many bytes stand.
+fn push_heads(input: &mut Vec<u8>, template: u16, block: u16, behind: u16) -> Result<(), Fail> {
+    let length = u32::from(behind).saturating_add(14);
+    input.extend_from_slice(&length.to_be_bytes())?;
+    input.extend_from_slice(b"\xeb\x50")?;
+    input.extend_from_slice(&block.to_le_bytes())?;
+    input.extend_from_slice(&template.to_le_bytes())?;
+    input.extend_from_slice(b"\x17\x00\x00\x00")?;
+    Ok(())
+}
+
+/// Adds the frame of a message of one field.
+fn push_alone(input: &mut Vec<u8>, template: u16, field: &[u8]) -> Result<(), Fail> {
+    let block = small(field.len())?;
+    push_heads(input, template, block, block)?;
+    input.extend_from_slice(field)?;
+    Ok(())
+}
+
+/// The frames of messages of one field each, of which these values are printed.
+fn frames_of(
+    alloc: Global,
+    template: u16,
+    width: usize,
+    fields: &[u8],
+    values: &str,
+) -> Result<Vec<u8>, Fail> {
+    let mut input = Vec::new(alloc);
+    let mut rest = fields;
+    for value in values.lines() {
+        let Some((field, others)) = rest.split_at_checked(width) else {
+            return Err(Fail::new(format_args!("no field: {value}")));
+        };
+        push_alone(&mut input, template, field)?;
+        rest = others;
+    }
+    Ok(input)
+}
+
+/// The lines of these messages.
+fn lines_of(alloc: Global, template: u16, values: &str) -> Result<String, Fail> {
+    let mut lines = String::new(alloc);
+    for value in values.lines() {
+        let line = format!(in alloc;
+            "{{\"data\":{{}},\"fields\":{{\"t\":{value}}},\"groups\":{{}},\"template\":\"T{template}\",\"version\":0}}\n"
+        )?;
+        lines.push_str(line.as_str())?;
+    }
+    Ok(lines)
+}
+
+// ---- one message with all fields in entries
+
+/// The frame of a message whose group has a field in each entry.
+fn frame_of(alloc: Global, template: u16, width: usize, fields: &[u8]) -> Result<Vec<u8>, Fail> {
+    let Some(count) = fields.len().checked_div(width) else {
+        return Err(Fail::new("fields of no bytes"));
+    };
+    let mut frame = Vec::new(alloc);
+    push_heads(
+        &mut frame,
+        template,
+        0,
+        small(fields.len().saturating_add(4))?,
+    )?;
+    frame.extend_from_slice(&small(width)?.to_le_bytes())?;
+    frame.extend_from_slice(&small(count)?.to_le_bytes())?;
+    frame.extend_from_slice(fields)?;
+    Ok(frame)
+}
+
+/// The line of that message.
+fn line_of(alloc: Global, template: u16, values: &str) -> Result<String, Fail> {
+    let mut line = String::from_str(alloc, "{\"data\":{},\"fields\":{},\"groups\":{\"g\":[")?;
+    for (i, value) in values.lines().enumerate() {
+        let comma = if i > 0 { "," } else { "" };
+        let entry = format!(in alloc;
+            "{comma}{{\"data\":{{}},\"fields\":{{\"t\":{value}}},\"groups\":{{}}}}"
+        )?;
+        line.push_str(entry.as_str())?;
+    }
+    let end = format!(in alloc; "]}},\"template\":\"G{template}\",\"version\":0}}\n")?;
+    line.push_str(end.as_str())?;
+    Ok(line)
+}
+
+// ---- what is asserted
+
+/// Asserts what a dump of this input writes.
+fn expect_lines(alloc: Global, schema: &[u8], input: &[u8], lines: &str) -> Result<(), Fail> {
+    let trial = Trial {
+        schema,
+        input,
+        piece: 512,
+        ..sample()
+    };
+    expect(alloc, &trial, Status::Done, lines.as_bytes(), b"")
+}
+
+/// Asserts what is printed of fields of so many bytes, each alone and all of them in entries.
+fn expect_fields(
+    alloc: Global,
+    schema: &[u8],
+    template: u16,
+    width: usize,
+    fields: &[u8],
+    values: &str,
+) -> Result<(), Fail> {
+    let alone = frames_of(alloc, template, width, fields, values)?;
+    let lines = lines_of(alloc, template, values)?;
+    expect_lines(alloc, schema, alone.as_slice(), lines.as_str())?;
+    let together = frame_of(alloc, template.saturating_add(100), width, fields)?;
+    let line = line_of(alloc, template, values)?;
+    expect_lines(alloc, schema, together.as_slice(), line.as_str())
+}
+
+/// Asserts what is printed of the texts of these rows in fields of so many bytes, with this byte behind their ends.
+fn expect_texts(
+    alloc: Global,
+    schema: &[u8],
+    rows: &str,
+    width: usize,
+    behind: u8,
+) -> Result<(), Fail> {
+    let fields = text_fields(alloc, rows, width, behind)?;
+    let values = text_values(alloc, rows, width)?;
+    expect_fields(
+        alloc,
+        schema,
+        small(width)?,
+        width,
+        fields.as_slice(),
+        values.as_str(),
+    )
+}
+
+/// Asserts it with a 00, a letter and a byte that isn't printable behind their ends.
+fn expect_width(alloc: Global, schema: &[u8], rows: &str, width: usize) -> Result<(), Fail> {
+    for behind in [0u8, b'A', 0xff] {
+        expect_texts(alloc, schema, rows, width, behind)?;
+    }
+    Ok(())
+}
+
+/// Asserts that numbers are printed by their digits.
+fn expect_numbers(alloc: Global, schema: &[u8], template: u16, numbers: &str) -> Result<(), Fail> {
+    let fields = number_fields(alloc, numbers)?;
+    let values = number_values(alloc, numbers)?;
+    expect_fields(
+        alloc,
+        schema,
+        template,
+        8,
+        fields.as_slice(),
+        values.as_str(),
+    )
+}
+
+#[test]
+fn prints_texts_of_each_length(rt: HostRuntime) -> Result<(), Fail> {
+    let schema = FIELDS.text(rt.alloc())?;
+    for width in [8usize, 16, 20, 32, 40] {
+        expect_width(rt.alloc(), schema.as_bytes(), TEXTS, width)?;
+    }
+    Ok(())
+}
+
+#[test]
+fn prints_numbers_of_each_length(rt: HostRuntime) -> Result<(), Fail> {
+    let schema = FIELDS.text(rt.alloc())?;
+    expect_numbers(rt.alloc(), schema.as_bytes(), 64, SIGNED)?;
+    expect_numbers(rt.alloc(), schema.as_bytes(), 65, UNSIGNED)
+}
