@@ -21,7 +21,7 @@ use crate::zeros::are_bytes;
 use sbe_types::{DataField, Group, Level, Order, WireSchema};
 
 /// Whether a body's bytes are the canonical ones of the message of this template and of the schema's own version that lies in
-/// it, if one does.
+/// it, if one does. A no tells nothing of the body.
 pub fn is_clean_body(schema: &WireSchema, template: usize, body: &[u8]) -> bool
     requires { IsChecked schema.now }
     ensures { result ≡ true → IsCanonicalOf schema.now template body.now }

@@ -5,8 +5,8 @@ use crate::kinds::{begin_of, end_of, past};
 use crate::tail::template_in;
 use sbe_types::{Kind, Level, WireSchema};
 
-/// Writes the body of the message that a line seems to hold, if it was printed by the schema. False where it can't have been, or
-/// where there is no room.
+/// Writes the body of the message that a line seems to hold, if it was printed by the schema. False is for a line that can't have
+/// been, and for want of room; neither answer promises anything.
 pub fn draft_body(schema: &WireSchema, line: &[u8], draft: &mut BodyDraft) -> bool {
     draft.clear();
     let levels = schema.messages.as_slice();

@@ -7,7 +7,7 @@ use flyweight_view::MsgView;
 use sbe_base::WriteFault;
 use tree_json::line_of;
 
-/// Whether the line of a message is this one. It takes no memory.
+/// Whether the line of a message is this one; a no tells nothing of the line. It takes no memory.
 pub fn is_line_of(view: &MsgView<'_>, line: &[u8]) -> bool
     ensures { result ≡ true → line.now ≡ compact_text (message_at (Some view.now.level) view.now.message) }
 {

@@ -178,7 +178,7 @@ impl<'b> TailW<'b> {
     /// # Errors
     ///
     /// `Count` exactly where the group may not have so many entries, then `Full` exactly where its dimension passes
-    /// the limit. The writer stands where it stood.
+    /// the limit.
     pub fn group(&mut self, count: u32) -> Result<EntriesW<'_>, TailErr>
         requires state { AppendsParts self.old.layout.now self.old.buf.now }
         requires group { parts_done self.old.buf.now.frames < length (groups_at self.old.layout.now (level_of self.old.buf.now.frames)) }
