@@ -1,4 +1,4 @@
-ghost use Rattle.std.specs.Prelude.{◌≡◌, ◌<◌, ◌≤◌, ◌-◌, None, [], length, take, drop, true, false, IfOk, IsSome, IsTrue, OnOk};
+ghost use Rattle.std.specs.Prelude.{◌≡◌, ◌<◌, ◌≤◌, ◌+◌, ◌-◌, ◌↔◌, None, [], length, take, drop, true, false, IfOk, IsSome, IsTrue, OnOk};
 ghost use Rattle.open_framing.specs.Lines.{before_end};
 ghost use Rattle.frame_stream.specs.Held.{released};
 ghost use Rattle.frame_stream.specs.Reading.{DryCause};
@@ -10,6 +10,16 @@ use open_framing::LINE_END;
 use sbe_base::{NoMem, Source};
 use std::alloc::Global;
 use std::marker::Model;
+use std::simd::Simd;
+
+/// How many bytes are copied where a frame has no more.
+const SHORT: usize = 32;
+
+/// How many bytes are copied at once where a frame has more.
+const HALF: usize = 64;
+
+/// How many bytes are copied where a frame has more than the short ones, and no more than these.
+const LONG: usize = 2 * HALF;
 
 /// Why no line's end is held.
 #[derive(Clone, Copy, Debug, PartialEq, Eq)]
@@ -244,12 +254,41 @@ fn move_front(buf: &mut [u8], start: usize, end: usize)
     buf.copy_within(start..end, 0);
 }
 
-/// Copies the first bytes of a slice to the front of a buffer.
+/// Copies the first bytes of a slice to the front of a buffer. What lies behind them in the buffer may change: a few bytes
+/// are copied in blocks of one size, so that the way of the copy doesn't go by their number.
+#[inline(always)]
 fn copy_front(buf: &mut [u8], from: &[u8], n: usize)
     requires there { n ≤ length from.now }
     requires room { n ≤ length buf.old }
     ensures size { length buf.new ≡ length buf.old }
     ensures copied { take n buf.new ≡ take n from.now }
 {
-    buf[..n].copy_from_slice(&from[..n]);
+    if n <= SHORT && has_both(buf, from, SHORT) {
+        copy_block::<SHORT>(buf, from, 0);
+    } else if n <= LONG && has_both(buf, from, LONG) {
+        copy_block::<HALF>(buf, from, 0);
+        copy_block::<HALF>(buf, from, HALF);
+    } else {
+        buf[..n].copy_from_slice(&from[..n]);
+    }
+}
+
+/// Whether two slices have so many bytes.
+#[inline(always)]
+fn has_both(buf: &[u8], from: &[u8], n: usize) -> bool
+    ensures { IsTrue result ↔ ((n ≤ length buf.now) × (n ≤ length from.now)) }
+{
+    buf.len() >= n && from.len() >= n
+}
+
+/// Copies the `N` bytes of a slice that stand behind its first `at` to the same place of a buffer, which has these.
+#[inline(always)]
+fn copy_block<const N: usize>(buf: &mut [u8], from: &[u8], at: usize)
+    requires there { at + N ≤ length from.now }
+    requires room { at + N ≤ length buf.old }
+    requires before { take at buf.old ≡ take at from.now }
+    ensures size { length buf.new ≡ length buf.old }
+    ensures copied { take (at + N) buf.new ≡ take (at + N) from.now }
+{
+    Simd::<u8, N>::from_slice(&from[at..]).copy_to_slice(&mut buf[at..]);
 }
