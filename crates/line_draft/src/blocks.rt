@@ -118,7 +118,7 @@ fn entries_in(
     Some(count)
 }
 
-/// The numbers of a dimension that begins at a place of the draft.
+/// The numbers of a dimension that begins at a place of the draft. Its two names differ in how many bytes they have.
 fn put_dim(
     order: Order,
     members: &[Member],
@@ -132,7 +132,7 @@ fn put_dim(
         let Kind::Leaf(leaf) = &member.kind else {
             return false;
         };
-        let is_block = member.name.as_slice() == b"blockLength".as_slice();
+        let is_block = member.name.len() == b"blockLength".len();
         let number = if is_block { block } else { count };
         let begin = begin_of(end, member.offset);
         if !draft.put_bits(order, leaf.prim, number as u64, at.saturating_add(begin)) {

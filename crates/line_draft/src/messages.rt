@@ -22,13 +22,14 @@ fn message_in(schema: &WireSchema, level: &Level, line: &[u8], draft: &mut BodyD
     put_header(schema, level, draft) && block_in(&mut cursor, schema.order, level, draft)
 }
 
-/// The number of a header's member.
+/// The number of a header's member. The four names differ in how many bytes they have, so no more of them is looked at.
 fn header_number(schema: &WireSchema, level: &Level, name: &[u8]) -> u32 {
-    if name == b"blockLength".as_slice() {
+    let long = name.len();
+    if long == b"blockLength".len() {
         level.block_length
-    } else if name == b"templateId".as_slice() {
+    } else if long == b"templateId".len() {
         level.id
-    } else if name == b"schemaId".as_slice() {
+    } else if long == b"schemaId".len() {
         schema.id
     } else {
         schema.version
