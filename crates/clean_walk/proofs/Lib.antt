@@ -4,3 +4,4 @@ pub mod Fields
 pub mod Saying
 pub mod Parts
 pub mod Entries
+pub mod Words

@@ -4,6 +4,7 @@ ghost use Rattle.sbe_types.specs.Places.{end_past, members_end};
 ghost use Rattle.clean_bodies.specs.Says.{SaysNumber, SayNumbers};
 ghost use Rattle.clean_walk.specs.Heads.{number_of_name};
 
+use crate::names::is_same;
 use crate::places::{begin_of, natural_at};
 use crate::zeros::is_zero;
 use sbe_types::{Kind, Member, Order};
@@ -35,18 +36,18 @@ impl Numbers {
                 schema,
                 version,
             } => {
-                if name == b"blockLength".as_slice() {
+                if is_same(name, b"blockLength") {
                     block
-                } else if name == b"templateId".as_slice() {
+                } else if is_same(name, b"templateId") {
                     template
-                } else if name == b"schemaId".as_slice() {
+                } else if is_same(name, b"schemaId") {
                     schema
                 } else {
                     version
                 }
             }
             Numbers::Dimension { block, count } => {
-                if name == b"blockLength".as_slice() {
+                if is_same(name, b"blockLength") {
                     block
                 } else {
                     count
@@ -127,7 +128,7 @@ pub(crate) fn count_in(order: Order, members: &[Member], bytes: &[u8]) -> Option
     let mut end = 0usize;
     for member in members {
         let (number, next) = number_in(order, end, member, bytes)?;
-        if member.name.as_slice() != b"blockLength".as_slice() {
+        if !is_same(member.name.as_slice(), b"blockLength") {
             return Some(number);
         }
         end = next;

@@ -4,6 +4,7 @@
 mod blocks;
 mod heads;
 mod kinds;
+mod names;
 mod places;
 mod walk;
 mod zeros;
