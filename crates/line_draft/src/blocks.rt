@@ -13,19 +13,19 @@ pub(crate) fn block_in(
     level: &Level,
     draft: &mut BodyDraft,
 ) -> bool {
-    if !cursor.takes_text(b"{\"data\":{") {
+    if !cursor.passes_text(b"{\"data\":{") {
         return false;
     }
     let mut data = cursor.again();
     let parts = level.parts.as_slice();
-    if !past_parts(cursor, parts) || !cursor.takes_text(b"},\"fields\":{") {
+    if !past_parts(cursor, parts) || !cursor.passes_text(b"},\"fields\":{") {
         return false;
     }
     let Some(at) = draft.zeros(level.block_length as usize) else {
         return false;
     };
     if !fields_in(cursor, order, level.fields.as_slice(), draft, at)
-        || !cursor.takes_text(b"},\"groups\":{")
+        || !cursor.passes_text(b"},\"groups\":{")
     {
         return false;
     }
@@ -46,7 +46,7 @@ fn fields_in(
     let mut end = 0usize;
     for field in fields {
         let begin = begin_of(end, field.offset);
-        if !cursor.takes_key(later, field.name.as_slice())
+        if !cursor.passes_key(later, field.name.as_slice())
             || !value_in(cursor, order, &field.kind, draft, at.saturating_add(begin))
         {
             return false;
@@ -67,7 +67,7 @@ fn groups_in(
 ) -> bool {
     let mut later = false;
     for group in groups {
-        if !cursor.takes_key(later, group.level.name.as_slice())
+        if !cursor.passes_key(later, group.level.name.as_slice())
             || !group_in(cursor, order, group, draft)
         {
             return false;

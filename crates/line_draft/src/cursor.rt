@@ -71,9 +71,25 @@ impl<'a> Cursor<'a> {
         false
     }
 
-    /// Passes the key of a member, if it comes next, behind a comma where another stands before.
+    /// Passes a text where no other can stand, if its last byte stands where the text would end. Whether the others stand
+    /// there too is seen once the message is printed again.
     #[inline(always)]
-    pub(crate) fn takes_key(&mut self, later: bool, name: &[u8]) -> bool {
+    pub(crate) fn passes_text(&mut self, text: &[u8]) -> bool {
+        let long = text.len();
+        if long == 0 || long > self.line.len() - self.at {
+            return false;
+        }
+        if self.line[self.at + (long - 1)] != text[long - 1] {
+            return false;
+        }
+        self.at += long;
+        true
+    }
+
+    /// Passes the key of a member, behind a comma where another stands before, if it has the quotes and the colon of that
+    /// name's key. Whether it is that name is seen once the message is printed again.
+    #[inline(always)]
+    pub(crate) fn passes_key(&mut self, later: bool, name: &[u8]) -> bool {
         if later && !self.takes(b',') {
             return false;
         }
@@ -82,10 +98,7 @@ impl<'a> Cursor<'a> {
         if rest.len() <= end || rest.len() - end < 3 {
             return false;
         }
-        if rest[0] != b'"' || &rest[1..end + 1] != name {
-            return false;
-        }
-        if rest[end + 1] != b'"' || rest[end + 2] != b':' {
+        if rest[0] != b'"' || rest[end + 1] != b'"' || rest[end + 2] != b':' {
             return false;
         }
         self.pass(end + 3);

@@ -92,7 +92,7 @@ fn members_in(
     let mut end = 0usize;
     for member in members {
         let begin = begin_of(end, member.offset);
-        if !cursor.takes_key(later, member.name.as_slice())
+        if !cursor.passes_key(later, member.name.as_slice())
             || !value_in(cursor, order, &member.kind, draft, at.saturating_add(begin))
         {
             return false;
@@ -118,7 +118,10 @@ fn leaf_in(
             draft.put_bits(order, leaf.prim, bits, at)
         }
         LeafShape::RangedText | LeafShape::EncodedText => {
-            cursor.takes_text(b"null") || text_in(cursor, draft, at).is_some()
+            if cursor.next() == b'n' {
+                return cursor.takes_text(b"null");
+            }
+            text_in(cursor, draft, at).is_some()
         }
         LeafShape::Octets | LeafShape::Numbers => array_in(cursor, order, leaf, draft, at),
     }

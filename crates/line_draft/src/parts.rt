@@ -8,7 +8,7 @@ use sbe_types::{DataField, Order};
 pub(crate) fn past_parts(cursor: &mut Cursor<'_>, parts: &[DataField]) -> bool {
     let mut later = false;
     for part in parts {
-        if !cursor.takes_key(later, part.name.as_slice()) || past_text(cursor).is_none() {
+        if !cursor.passes_key(later, part.name.as_slice()) || past_text(cursor).is_none() {
             return false;
         }
         later = true;
@@ -25,7 +25,7 @@ pub(crate) fn parts_in(
 ) -> bool {
     let mut later = false;
     for part in parts {
-        if !cursor.takes_key(later, part.name.as_slice()) || !part_in(cursor, order, part, draft) {
+        if !cursor.passes_key(later, part.name.as_slice()) || !part_in(cursor, order, part, draft) {
             return false;
         }
         later = true;
