@@ -4,8 +4,8 @@ use Rattle.std.proofs.lemmas.Bool.{agree_below_at, ltb-true, ltb-false}
 use Rattle.std.specs.Str.{bytes_eq}
 use Rattle.std.proofs.lemmas.Slice.Eq.{bytes_eq-Decides}
 use Rattle.std.proofs.lemmas.Fmt.{decimal_digit, decimal_step}
-use Rattle.std.specs.Fmt.{signed_decimal, decimal}
-use Rattle.tree_json.specs.Values.{number_data, last_four, digit_pairs, digits_in}
+use Rattle.std.specs.Fmt.{signed_decimal, decimal, digits}
+use Rattle.tree_json.specs.Values.{number_data, last_four, digit_pairs, digits_in, padded_digits, digits_in_byte}
 use Rattle.tree_json.specs.Plain.{plain_text}
 use Rattle.tree_json.specs.Writes.{Output, Writes}
 use Rattle.tree_json.proofs.Written.{retold, then_writes}
@@ -13,6 +13,17 @@ use Rattle.tree_json.proofs.Written.{retold, then_writes}
 pub number_is : (n : ℤ) → signed_decimal n ≡ plain_text (number_data n)
 number_is (pos n) = refl
 number_is (negsuc n) = refl
+
+-- ---- a byte
+
+pub first_there : (n : ℕ) → n < 256 → take (digits_in_byte n) (take 4 (drop (4 * n) padded_digits)) ≡ decimal n
+unfolding digits
+first_there n h =
+    (bytes_eq-Decides (take (digits_in_byte n) (take 4 (drop (4 * n) padded_digits))) (decimal n)).0
+    (agree_below_at (λ k. bytes_eq (take (digits_in_byte k) (take 4 (drop (4 * k) padded_digits))) (decimal k)) (λ k. true) 256 n refl h)
+
+pub byte_alone : {a b : Output} (x : List ℕ) (r n : ℕ) → r ≡ digits_in_byte n → take (digits_in_byte n) x ≡ decimal n → Writes a b (take r x ++ ([] ++ [])) → Writes a b (plain_text (number_data (pos n)))
+byte_alone x r n run is w = retold (append-nil (take r x) ∙ ap (λ k. take k x) run ∙ is) w
 
 -- ---- by pairs of digits
 
@@ -59,11 +70,7 @@ split_two n least h =
     ∙ append_assoc (decimal (n / 10 / 10)) ((48 + n / 10 % 10) ∷ []) ((48 + n % 10) ∷ [])
     ∙ rw (x, y, z) refl
 
--- a number of at most two digits
-pub lead_alone : {a b : Output} (x : List ℕ) (r n : ℕ) → r ≡ digits_in n → take (digits_in n) x ≡ decimal n → Writes a b (take r x ++ ([] ++ [])) → Writes a b (plain_text (number_data (pos n)))
-lead_alone x r n run is w = retold (append-nil (take r x) ∙ ap (λ k. take k x) run ∙ is) w
-
--- with two digits behind
+-- a number of at most two digits, with two digits behind
 pub lead_pair : {a b : Output} {y : List ℕ} (x : List ℕ) (r n : ℕ) → 100 ≤ n → n < 10000 → r ≡ digits_in (n / 100) → take (digits_in (n / 100)) x ≡ decimal (n / 100) →
     y ≡ (48 + n % 100 / 10) ∷ (48 + n % 100 % 10) ∷ [] → Writes a b (take r x ++ (y ++ [])) → Writes a b (plain_text (number_data (pos n)))
 lead_pair x r n least h run is q w =

@@ -3,7 +3,7 @@ ghost use Rattle.std.specs.Fmt.{decimal};
 ghost use Rattle.std.specs.Option.{option_map};
 ghost use Rattle.serde_json.specs.Data.{null, number, unsigned};
 ghost use Rattle.serde_json.specs.Written.{comma_if};
-ghost use Rattle.tree_json.specs.Values.{number_data, char_data, single_data, enum_data, name_of, constant_data, last_four, digit_pairs, digits_in};
+ghost use Rattle.tree_json.specs.Values.{number_data, char_data, single_data, enum_data, name_of, constant_data, last_four, digit_pairs, digits_in, padded_digits, digits_in_byte};
 ghost use Rattle.tree_json.specs.Plain.{plain_text};
 ghost use Rattle.tree_json.specs.Writes.{output, Writes};
 
@@ -27,8 +27,8 @@ pub fn put_number<O: Sink>(chunk: &mut Chunk, sink: &mut O, n: &i128)
     ensures { Writes (output (O.held sink.old) (O.faults sink.old) chunk.old)
         (output (O.held sink.new) (O.faults sink.new) chunk.new) (plain_text (number_data n.now)) }
 {
-    if *n >= 0 && *n < 100 {
-        put_small(chunk, sink, *n as u16);
+    if *n >= 0 && *n < 256 {
+        put_small(chunk, sink, *n as u8);
     } else if *n >= 0 && *n < 100_000_000 {
         put_middle(chunk, sink, *n as u32);
     } else {
@@ -42,8 +42,8 @@ pub(crate) fn put_small_number<O: Sink>(chunk: &mut Chunk, sink: &mut O, n: i64)
     ensures { Writes (output (O.held sink.old) (O.faults sink.old) chunk.old)
         (output (O.held sink.new) (O.faults sink.new) chunk.new) (plain_text (number_data n)) }
 {
-    if n >= 0 && n < 100 {
-        put_small(chunk, sink, n as u16);
+    if n >= 0 && n < 256 {
+        put_small(chunk, sink, n as u8);
     } else if n >= 0 && n < 100_000_000 {
         put_middle(chunk, sink, n as u32);
     } else {
@@ -51,15 +51,14 @@ pub(crate) fn put_small_number<O: Sink>(chunk: &mut Chunk, sink: &mut O, n: i64)
     }
 }
 
-/// Writes a number of at most two digits.
+/// Writes a byte as a number.
 #[inline(always)]
-#[tactic(auto, using(crate::proofs::Numbers::lead_alone))]
-fn put_small<O: Sink>(chunk: &mut Chunk, sink: &mut O, n: u16)
-    requires { n < 100 }
+#[tactic(auto, using(crate::proofs::Numbers::byte_alone))]
+fn put_small<O: Sink>(chunk: &mut Chunk, sink: &mut O, n: u8)
     ensures { Writes (output (O.held sink.old) (O.faults sink.old) chunk.old)
         (output (O.held sink.new) (O.faults sink.new) chunk.new) (plain_text (number_data (pos n))) }
 {
-    chunk.put_front(sink, lead_of(n), digits_of(n), b"", b"");
+    chunk.put_front(sink, first_of(n), digits_of_byte(n), b"", b"");
 }
 
 /// Writes a number of three to eight digits.
@@ -172,6 +171,38 @@ fn two_at(at: usize) -> &'static [u8]
     &PAIRS[at..at + 2]
 }
 
+/// The digits of each byte to the base 10, filled to four bytes by spaces behind them.
+const PADDED_DIGITS: &[u8] =
+    b"0   1   2   3   4   5   6   7   8   9   10  11  12  13  14  15  16  17  18  19  20  21  22  23  24  25  26  27  28  29  30  31  32  33  34  35  36  37  38  39  40  41  42  43  44  45  46  47  48  49  50  51  52  53  54  55  56  57  58  59  60  61  62  63  64  65  66  67  68  69  70  71  72  73  74  75  76  77  78  79  80  81  82  83  84  85  86  87  88  89  90  91  92  93  94  95  96  97  98  99  100 101 102 103 104 105 106 107 108 109 110 111 112 113 114 115 116 117 118 119 120 121 122 123 124 125 126 127 128 129 130 131 132 133 134 135 136 137 138 139 140 141 142 143 144 145 146 147 148 149 150 151 152 153 154 155 156 157 158 159 160 161 162 163 164 165 166 167 168 169 170 171 172 173 174 175 176 177 178 179 180 181 182 183 184 185 186 187 188 189 190 191 192 193 194 195 196 197 198 199 200 201 202 203 204 205 206 207 208 209 210 211 212 213 214 215 216 217 218 219 220 221 222 223 224 225 226 227 228 229 230 231 232 233 234 235 236 237 238 239 240 241 242 243 244 245 246 247 248 249 250 251 252 253 254 255 ";
+
+/// How many digits a byte has.
+#[inline(always)]
+fn digits_of_byte(n: u8) -> usize
+    ensures { result ≡ digits_in_byte n }
+{
+    3 - (n < 10) as usize - (n < 100) as usize
+}
+
+/// Four bytes that begin with the digits of a byte.
+#[inline(always)]
+#[tactic(auto, using(crate::proofs::Numbers::first_there))]
+fn first_of(n: u8) -> &'static [u8]
+    ensures digits { take (digits_in_byte n) result.now ≡ decimal n }
+    ensures size { length result.now ≡ 4 }
+{
+    four_at(4 * n as usize)
+}
+
+/// Four bytes of the filled digits.
+#[inline(always)]
+fn four_at(at: usize) -> &'static [u8]
+    requires { at + 4 ≤ 1_024 }
+    ensures bytes { result.now ≡ take 4 (drop at padded_digits) }
+    ensures size { length result.now ≡ 4 }
+{
+    &PADDED_DIGITS[at..at + 4]
+}
+
 /// Writes an integer of any number of digits.
 #[inline(never)]
 #[tactic(auto, using(crate::proofs::Numbers::number_is))]
@@ -189,8 +220,8 @@ pub fn put_count<O: Sink>(chunk: &mut Chunk, sink: &mut O, n: u64)
     ensures { Writes (output (O.held sink.old) (O.faults sink.old) chunk.old)
         (output (O.held sink.new) (O.faults sink.new) chunk.new) (plain_text (number (unsigned n))) }
 {
-    if n < 100 {
-        put_small(chunk, sink, n as u16);
+    if n < 256 {
+        put_small(chunk, sink, n as u8);
     } else if n < 100_000_000 {
         put_middle(chunk, sink, n as u32);
     } else {
