@@ -6,10 +6,10 @@ use std::process::Abort;
 use std::test::Fail;
 use tree_json::{Chunk, put_count, put_number};
 
-/// The least and the greatest number of each count of digits, and two between them.
+/// The least and the greatest number of each count of digits, and some between them: also the greatest of one byte and the next.
 const WHOLE: &str = "0 1 9 \
     10 11 12 99 \
-    100 101 123 999 \
+    100 101 123 199 200 255 256 257 999 \
     1000 1001 1234 9999 \
     10000 10001 12345 99999 \
     100000 100001 123456 999999 \
@@ -102,7 +102,7 @@ fn expect_behind(rt: &impl Abort, alloc: Global, before: &[u8], digits: &str) ->
 
 /// Asserts it of a number of each way of writing digits.
 fn expect_each_behind(rt: &impl Abort, alloc: Global, before: &[u8]) -> Result<(), Fail> {
-    for digits in "7 42 305 6789 54321 106020 7654321 98765432 123456789012 -8".split(' ') {
+    for digits in "7 42 255 256 305 6789 54321 106020 7654321 98765432 123456789012 -8".split(' ') {
         expect_behind(rt, alloc, before, digits)?;
     }
     Ok(())

@@ -96,10 +96,56 @@ ABCDEFG\IJKLMNOPQRSTUVWXYZabcdefg|ABCDEFG\\IJKLMNOPQRSTUVWXYZabcdefg
 ABCDEFGHIJKLMNOPQRSTUVWXYZabcdef"|ABCDEFGHIJKLMNOPQRSTUVWXYZabcdef\"
 ABCDEFGHIJKLMNOPQRSTUVWXYZabcdef\|ABCDEFGHIJKLMNOPQRSTUVWXYZabcdef\\"#;
 
-/// Numbers of each count of digits that eight bytes with a sign can show: the least, the greatest, and one between them.
+/// Fields of eight bytes in hex, and what is printed of each: a 00 at each place and at none, with plain bytes, a quote, a backslash
+/// and bytes that aren't printable behind it, and a quote or a backslash in front of it.
+const EIGHT: &str = r#"0000000000000000|""
+0041424344454647|""
+00221f5cff7f4142|""
+4100000000000000|"A"
+4100221f5cff7f42|"A"
+2200414243444546|"\""
+4142000000000000|"AB"
+414200225c1fff7f|"AB"
+4122004344454647|"A\""
+4142430000000000|"ABC"
+41424300221f5cff|"ABC"
+415c430041000000|"A\\C"
+4142434400000000|"ABCD"
+4142434400221fff|"ABCD"
+4142435c00414141|"ABC\\"
+4142434445000000|"ABCDE"
+4142434445005c22|"ABCDE"
+2242434445007f00|"\"BCDE"
+4142434445460000|"ABCDEF"
+414243444546001f|"ABCDEF"
+414243442246005c|"ABCD\"F"
+4142434445464700|"ABCDEFG"
+4142434445462200|"ABCDEF\""
+5c42434445464700|"\\BCDEFG"
+4142434445464748|"ABCDEFGH"
+4142434445464722|"ABCDEFG\""
+4142435c45464748|"ABC\\EFGH"
+2042434445464748|" BCDEFGH"
+7e20002000200020|"~ ""#;
+
+/// The same with bytes in front of the 00 that aren't printable, as they may stand where a field has an encoding.
+const CODED: &str = r#"1f00414243444546|{"hex":"1f"}
+ff41000000000000|{"hex":"ff41"}
+411f004243444546|{"hex":"411f"}
+417f430022220000|{"hex":"417f43"}
+1f22424300000041|{"hex":"1f224243"}
+4142431f44001f00|{"hex":"4142431f44"}
+41424344451f0022|{"hex":"41424344451f"}
+41424344454680ff|{"hex":"41424344454680ff"}
+4142434445467f00|{"hex":"4142434445467f"}
+1f42434445464748|{"hex":"1f42434445464748"}
+414243444546471f|{"hex":"414243444546471f"}
+01ff02fe03fd04fc|{"hex":"01ff02fe03fd04fc"}"#;
+
+/// Numbers of each count of digits that eight bytes with a sign can show: the least, the greatest, and some between them.
 const SIGNED: &str = "0 1 9 -1 -9 \
     10 12 99 -10 -99 \
-    100 123 999 -100 -999 \
+    100 123 199 200 255 256 257 999 -100 -255 -256 -999 \
     1000 1234 9999 -1000 -9999 \
     10000 12345 99999 -10000 -99999 \
     100000 123456 999999 -100000 -999999 \
@@ -118,7 +164,7 @@ const SIGNED: &str = "0 1 9 -1 -9 \
     1000000000000000000 1234567890123456789 9223372036854775807 -1000000000000000000 -9223372036854775807";
 
 /// Numbers that eight bytes without a sign can show.
-const UNSIGNED: &str = "0 99 1234 99999 12345678 123456789 \
+const UNSIGNED: &str = "0 9 10 99 100 199 200 255 256 257 999 1000 1234 99999 12345678 123456789 \
     9223372036854775807 9223372036854775808 9999999999999999999 10000000000000000000 \
     12345678901234567890 18446744073709551614";
 
@@ -153,6 +199,27 @@ fn text_values(alloc: Global, rows: &str, width: usize) -> Result<String, Fail> 
         if text.len() <= width {
             values.push_str(format!(in alloc; "\"{inside}\"\n")?.as_str())?;
         }
+    }
+    Ok(values)
+}
+
+/// Fields that are given in hex, one behind another.
+fn hex_fields(alloc: Global, rows: &str) -> Result<Vec<u8>, Fail> {
+    let mut fields = Vec::new(alloc);
+    for row in rows.lines() {
+        let (field, _) = cut(row)?;
+        fields.extend_from_slice(hex::decode(alloc, field)?.as_slice())?;
+    }
+    Ok(fields)
+}
+
+/// What is printed of them, a line each.
+fn hex_values(alloc: Global, rows: &str) -> Result<String, Fail> {
+    let mut values = String::new(alloc);
+    for row in rows.lines() {
+        let (_, value) = cut(row)?;
+        values.push_str(value)?;
+        values.push_str("\n")?;
     }
     Ok(values)
 }
@@ -343,6 +410,28 @@ fn expect_numbers(alloc: Global, schema: &[u8], template: u16, numbers: &str) ->
         fields.as_slice(),
         values.as_str(),
     )
+}
+
+/// Asserts what is printed of fields of eight bytes that are given in hex.
+fn expect_eight(alloc: Global, schema: &[u8], template: u16, rows: &str) -> Result<(), Fail> {
+    let fields = hex_fields(alloc, rows)?;
+    let values = hex_values(alloc, rows)?;
+    expect_fields(
+        alloc,
+        schema,
+        template,
+        8,
+        fields.as_slice(),
+        values.as_str(),
+    )
+}
+
+#[test]
+fn prints_texts_in_eight_bytes(rt: HostRuntime) -> Result<(), Fail> {
+    let schema = FIELDS.text(rt.alloc())?;
+    expect_eight(rt.alloc(), schema.as_bytes(), 8, EIGHT)?;
+    expect_eight(rt.alloc(), schema.as_bytes(), 7, EIGHT)?;
+    expect_eight(rt.alloc(), schema.as_bytes(), 7, CODED)
 }
 
 #[test]

@@ -58,15 +58,19 @@ pub const MANY: SchemaFile = SchemaFile {
     {"message":{"name":"Ne","id":1,"content":[{"group":{"name":"g","id":1001,"dimensionType":"anySize","content":[{"field":{"name":"x","id":1002,"type":"uint8"}}]}}]}}]}}"#,
 };
 
-/// Texts of five lengths and numbers of eight bytes: each as the field of a message, and as that of a group's entries.
+/// Texts of five lengths, eight bytes with an encoding, and numbers of eight bytes: each as the field of a message, and as that of a
+/// group's entries.
 pub const FIELDS: SchemaFile = SchemaFile {
     before: r#"{"messageSchema":{"package":"demo","id":23,"content":[{"types":{"content":["#,
     behind: r#",
+    {"type":{"name":"Coded8","primitiveType":"char","length":8,"characterEncoding":"ISO_8859_1"}},
     {"type":{"name":"Text8","primitiveType":"char","length":8}},
     {"type":{"name":"Text16","primitiveType":"char","length":16}},
     {"type":{"name":"Text20","primitiveType":"char","length":20}},
     {"type":{"name":"Text32","primitiveType":"char","length":32}},
     {"type":{"name":"Text40","primitiveType":"char","length":40}}]}},
+    {"message":{"name":"T7","id":7,"content":[{"field":{"name":"t","id":1,"type":"Coded8"}}]}},
+    {"message":{"name":"G107","id":107,"content":[{"group":{"name":"g","id":1,"content":[{"field":{"name":"t","id":2,"type":"Coded8"}}]}}]}},
     {"message":{"name":"T8","id":8,"content":[{"field":{"name":"t","id":1,"type":"Text8"}}]}},
     {"message":{"name":"G8","id":108,"content":[{"group":{"name":"g","id":1,"content":[{"field":{"name":"t","id":2,"type":"Text8"}}]}}]}},
     {"message":{"name":"T16","id":16,"content":[{"field":{"name":"t","id":1,"type":"Text16"}}]}},
