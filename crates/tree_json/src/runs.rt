@@ -1,5 +1,5 @@
 // How many bytes of a text stand for themselves in a string of JSON.
-ghost use Rattle.std.specs.Prelude.{◌≡◌, ◌+◌, ◌-◌, ◌≤◌, ◌<◌, true, length, take, drop, IfSome};
+ghost use Rattle.std.specs.Prelude.{◌≡◌, ◌+◌, ◌-◌, ◌≤◌, ◌<◌, ◌==◌, true, not, length, take, drop, IfSome};
 ghost use Rattle.std.specs.List.{prefix_len, list_all};
 ghost use Rattle.field_values.specs.Told.{before_zero};
 ghost use Rattle.tree_json.specs.Plain.{is_plain_byte};
@@ -18,11 +18,30 @@ pub(crate) fn plain_front(bytes: &[u8]) -> Option<usize>
     ensures within { IfSome result (λ run. run ≤ length bytes.now) }
     ensures some { IfSome result (λ run. 0 < run) }
 {
+    if bytes.len() == LANES {
+        return lane_front(bytes);
+    }
     let run = plain_run(bytes);
     if run == 0 {
         return None;
     }
     if run < bytes.len() && bytes[run] != 0 {
+        return None;
+    }
+    Some(run)
+}
+
+/// The same of eight bytes: no branch goes by how many bytes the text has.
+#[inline(always)]
+fn lane_front(bytes: &[u8]) -> Option<usize>
+    requires { length bytes.now ≡ LANES }
+    ensures front { IfSome result (λ run. take run bytes.now ≡ before_zero bytes.now) }
+    ensures plain { IfSome result (λ run. list_all is_plain_byte (take run bytes.now) ≡ true) }
+    ensures within { IfSome result (λ run. run ≤ length bytes.now) }
+    ensures some { IfSome result (λ run. 0 < run) }
+{
+    let run = lane_run(bytes, 0);
+    if run == 0 || run != lane_text(bytes, 0) {
         return None;
     }
     Some(run)
@@ -88,4 +107,14 @@ fn lane_run(bytes: &[u8], at: usize) -> usize
     let outside = lanes.simd_lt(u8x8::splat(b' ')) | lanes.simd_gt(u8x8::splat(b'~'));
     let escaped = lanes.simd_eq(u8x8::splat(b'"')) | lanes.simd_eq(u8x8::splat(b'\\'));
     first_set((outside | escaped).to_bitmask())
+}
+
+/// How many of eight bytes stand before the first 00.
+#[inline(always)]
+fn lane_text(bytes: &[u8], at: usize) -> usize
+    requires { at + LANES ≤ length bytes.now }
+    ensures { result ≡ prefix_len (λ b. not (b == 0)) (take LANES (drop at bytes.now)) }
+{
+    let lanes = u8x8::from_slice(&bytes[at..]);
+    first_set(lanes.simd_eq(u8x8::splat(0)).to_bitmask())
 }
