@@ -1,5 +1,6 @@
 -- Writes, one after another.
-use Rattle.std.proofs.Common.{◌≡◌, ℕ, Bool, true, false, List, [], ◌++◌, Option, Some, None, refl, sym, ap, ◌∙◌, subst, arith, append_assoc, append-nil}
+use Rattle.std.proofs.Common.{◌≡◌, ℕ, ◌-◌, Bool, true, false, List, [], ◌++◌, length, take, drop, Option, Some, None, refl, sym, ap, ◌∙◌, subst, arith, append_assoc, append-nil}
+use Rattle.std.proofs.lemmas.List.{take-append-drop, take_rest}
 use Rattle.std.specs.Prelude.{Result, Ok, Err, OnOk, OnErr}
 use Rattle.sbe_base.specs.declared.stream.WriteFault.{WriteFault}
 use Rattle.std.specs.Io.KnownBytes.{Appends}
@@ -16,6 +17,19 @@ appends_more (Some a) (Some b) (Some c) x y h k = k ∙ ap (λ r. r ++ y) h ∙ 
 part_more : (a b c : Option (List ℕ)) (x y z : List ℕ) → Appends a b x → AppendsPart b c y → AppendsPart a c ((x ++ y) ++ z)
 part_more a b c x y z h k =
     (x ++ k.0, k.1 ++ z, append_assoc x y z ∙ ap (λ r. x ++ (r ++ z)) k.2 ∙ ap (λ r. x ++ r) (append_assoc k.0 k.1 z) ∙ sym (append_assoc x k.0 (k.1 ++ z)), appends_more a b c x k.0 h k.3)
+
+-- a front of what one call left, behind what it took, is a front of all
+part_of_rest : (a b c : Option (List ℕ)) (bytes : List ℕ) (n : ℕ) → Appends a b (take n bytes) → AppendsPart b c (take (length bytes - n) (drop n bytes)) → AppendsPart a c bytes
+part_of_rest a b c bytes n h k =
+    let first = take n bytes in
+    let whole : first ++ take (length bytes - n) (drop n bytes) ≡ bytes = ap (λ r. first ++ r) (take_rest bytes n) ∙ take-append-drop n bytes in
+    (first ++ k.0, k.1, sym whole ∙ ap (λ r. first ++ r) k.2 ∙ sym (append_assoc first k.0 k.1), appends_more a b c first k.0 h k.3)
+
+-- the same of a call for the rest that may have failed
+pub part_by_rest : (r : Result (Unit {0}) WriteFault) (a b c : Option (List ℕ)) (bytes : List ℕ) (n : ℕ) → Appends a b (take n bytes)
+    → OnErr r (AppendsPart b c (take (length bytes - n) (drop n bytes))) → OnErr r (AppendsPart a c bytes)
+part_by_rest (Ok u) a b c bytes n h k = tt
+part_by_rest (Err e) a b c bytes n h k = part_of_rest a b c bytes n h k
 
 -- one writing behind another
 pub then_writes : {a b c : Output} {x y : List ℕ} → Writes a b x → Writes b c y → Writes a c (x ++ y)

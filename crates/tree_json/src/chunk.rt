@@ -1,11 +1,13 @@
-ghost use Rattle.std.specs.Prelude.{◌≡◌, ◌+◌, ◌≤◌, ◌++◌, [], codes, length, take, true, false, Result};
+ghost use Rattle.std.specs.Prelude.{◌≡◌, ◌+◌, ◌≤◌, ◌++◌, [], codes, length, take, true, false, Result, OnOk, OnErr};
+ghost use Rattle.std.specs.Io.KnownBytes.{Appends};
 ghost use Rattle.serde_json.specs.Written.{comma_if};
+ghost use Rattle.sbe_base.specs.Causes.{AppendsPart, HasCause};
 ghost use Rattle.tree_json.specs.declared.chunk.TheConstants.{CHUNK_BYTES};
 ghost use Rattle.tree_json.specs.Plain.{key_text};
 ghost use Rattle.tree_json.specs.Writes.{nothing_gathered, output, Writes, Finishes, Tried};
 
 use crate::places::place;
-use sbe_base::{Sink, WriteFault, write_all_to};
+use sbe_base::{Failed, Sink, WriteFault, write_all_to};
 use std::marker::Model;
 
 /// How many bytes a chunk gathers.
@@ -227,7 +229,7 @@ impl Chunk {
         if self.has_failed() {
             return Err(WriteFault);
         }
-        write_all_to(sink, self.as_slice())
+        write_whole(sink, self.as_slice())
     }
 
     /// Writes what is gathered, and tells whether a write has failed. Then it holds nothing, as a new one.
@@ -257,6 +259,34 @@ fn put_each<O: Sink>(chunk: &mut Chunk, sink: &mut O, before: &[u8], bytes: &[u8
     chunk.put(sink, before);
     chunk.put(sink, bytes);
     chunk.put(sink, behind);
+}
+
+/// Writes all bytes to the sink itself: by one call, where that takes them all. For no bytes it calls nothing.
+#[inline(always)]
+fn write_whole<O: Sink>(sink: &mut O, bytes: &[u8]) -> Result<(), WriteFault>
+    ensures ok { OnOk result (Appends (O.held sink.old) (O.held sink.new) bytes.now) }
+    ensures part { OnErr result (AppendsPart (O.held sink.old) (O.held sink.new) bytes.now) }
+    ensures cause { HasCause (O.faults sink.old) (O.faults sink.new) result }
+{
+    if bytes.is_empty() {
+        return Ok(());
+    }
+    match sink.write(bytes) {
+        Ok(n) if n == bytes.len() => Ok(()),
+        Ok(n) => write_rest(sink, &bytes[n..]),
+        Err(Failed) => Err(WriteFault),
+    }
+}
+
+/// Writes the bytes that one call didn't take.
+#[cold]
+#[inline(never)]
+fn write_rest<O: Sink>(sink: &mut O, bytes: &[u8]) -> Result<(), WriteFault>
+    ensures ok { OnOk result (Appends (O.held sink.old) (O.held sink.new) bytes.now) }
+    ensures part { OnErr result (AppendsPart (O.held sink.old) (O.held sink.new) bytes.now) }
+    ensures cause { HasCause (O.faults sink.old) (O.faults sink.new) result }
+{
+    write_all_to(sink, bytes)
 }
 
 /// Writes bytes to the sink itself, and tells whether that failed.
