@@ -20,6 +20,11 @@ front_of {b} {c} {j} {k} n y most within p =
       len = p.len;
     }
 
+-- the first n bytes of a text that was placed behind what stood there
+pub lead_placed : {a b : List ℕ} {i j : ℕ} (n k : ℕ) (x : List ℕ) → n ≤ k → k ≤ length x → i ≤ length a → Placed a b i (take k x) j → take (i + n) b ≡ take i a ++ take n x
+lead_placed {a} {b} {i} {j} n k x less most within p =
+    (front_of n (take k x) (omega (arith, less, length-take-le k x most)) within p).bytes ∙ ap (λ r. take i a ++ r) (take-take n k x less)
+
 -- a text, the first bytes of a second one, and a third one behind what stood there
 pub front_placed : {a b c d : List ℕ} {i j k l n : ℕ} (x y z : List ℕ) → n ≤ length y → j ≤ length b → Placed a b i x j → Placed b c j y k → Placed c d (j + n) z l
     → take l d ≡ take i a ++ (x ++ (take n y ++ z))

@@ -32,7 +32,7 @@ pub fn put_rows<O: Sink>(chunk: &mut Chunk, sink: &mut O, table: &FlatRows, bloc
     let mut start = 0;
     for row in table.rows.as_slice() {
         let end = row.end as usize;
-        chunk.put(sink, &table.bytes[start..end]);
+        chunk.put_lead(sink, &table.bytes[start..], end - start);
         put_row(chunk, sink, row, block);
         start = end;
     }

@@ -2,16 +2,19 @@ ghost use Rattle.std.specs.Prelude.{◌≡◌, ◌+◌, ◌≤◌, ◌++◌, [],
 ghost use Rattle.std.specs.Io.KnownBytes.{Appends};
 ghost use Rattle.serde_json.specs.Written.{comma_if};
 ghost use Rattle.sbe_base.specs.Causes.{AppendsPart, HasCause};
-ghost use Rattle.tree_json.specs.declared.chunk.TheConstants.{CHUNK_BYTES};
+ghost use Rattle.tree_json.specs.declared.chunk.TheConstants.{CHUNK_BYTES, LEAD_BYTES};
 ghost use Rattle.tree_json.specs.Plain.{key_text};
 ghost use Rattle.tree_json.specs.Writes.{nothing_gathered, output, Writes, Finishes, Tried};
 
-use crate::places::place;
+use crate::places::{place, place_front};
 use sbe_base::{Failed, Sink, WriteFault, write_all_to};
 use std::marker::Model;
 
 /// How many bytes a chunk gathers.
 pub const CHUNK_BYTES: usize = 1_024;
+
+/// How many bytes are copied of a lead, however few it has.
+const LEAD_BYTES: usize = 32;
 
 /// Bytes that wait to be written, and whether a write has failed. It takes no memory but its own.
 ///
@@ -99,6 +102,37 @@ impl Chunk {
         } else {
             spill(self, sink, bytes);
         }
+    }
+
+    /// Writes the first `run` of bytes, which lead to a value.
+    #[inline(always)]
+    pub(crate) fn put_lead<O: Sink>(&mut self, sink: &mut O, bytes: &[u8], run: usize)
+        requires { run ≤ length bytes.now }
+        ensures { Writes (output (O.held sink.old) (O.faults sink.old) self.old)
+            (output (O.held sink.new) (O.faults sink.new) self.new) (take run bytes.now) }
+    {
+        if run <= LEAD_BYTES
+            && bytes.len() >= LEAD_BYTES
+            && self.len() + LEAD_BYTES <= CHUNK_BYTES
+        {
+            self.add_lead(bytes, run);
+        } else {
+            put_apart(self, sink, &bytes[..run]);
+        }
+    }
+
+    /// Gathers the first `run` bytes of a lead. It has room for as many as are copied: so the way of the copy goes by no
+    /// number, and of what was copied behind them nothing is kept.
+    #[inline(always)]
+    fn add_lead(&mut self, bytes: &[u8], run: usize)
+        requires run { run ≤ LEAD_BYTES }
+        requires enough { LEAD_BYTES ≤ length bytes.now }
+        requires room { length self.old.bytes + LEAD_BYTES ≤ CHUNK_BYTES }
+        ensures { self.new ≡ record self.old { bytes = self.old.bytes ++ take run bytes.now } }
+    {
+        let at = self.len;
+        place_front::<LEAD_BYTES>(&mut self.room, at, bytes);
+        self.len = at + run;
     }
 
     /// Writes the key of a member, behind a comma where another stands before: its name between quotes, and a colon.
@@ -247,6 +281,15 @@ impl Chunk {
         self.clear(false);
         done
     }
+}
+
+/// Writes bytes by a call of its own: a lead that is long, or stands near an end.
+#[inline(never)]
+fn put_apart<O: Sink>(chunk: &mut Chunk, sink: &mut O, bytes: &[u8])
+    ensures { Writes (output (O.held sink.old) (O.faults sink.old) chunk.old)
+        (output (O.held sink.new) (O.faults sink.new) chunk.new) bytes.now }
+{
+    chunk.put(sink, bytes);
 }
 
 /// Writes bytes between others, piece by piece.

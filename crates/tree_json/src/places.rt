@@ -43,7 +43,7 @@ fn place_long(room: &mut [u8], at: usize, bytes: &[u8]) -> usize
 
 /// Copies the first bytes to a place.
 #[inline(always)]
-fn place_front<const N: usize>(room: &mut [u8], at: usize, bytes: &[u8]) -> usize
+pub(crate) fn place_front<const N: usize>(room: &mut [u8], at: usize, bytes: &[u8]) -> usize
     requires enough { N ≤ length bytes.now }
     requires within { at + N ≤ length room.old }
     ensures { Placed room.old room.new at (take N bytes.now) result }
