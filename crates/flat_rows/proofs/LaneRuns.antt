@@ -1,7 +1,7 @@
 -- How many elements pass a test, by the first n of them and by the lanes of a load.
-use Rattle.std.proofs.Common.{◌≡◌, ℕ, ◌+◌, ◌%◌, ◌^◌, ◌<◌, ◌≤◌, eqb, ltb, bit_or, cond, suc, ◌&&◌, ◌==◌, ◌∷◌, Bool, true, false, not, List, [], map, length, take, drop, get_or, pos, refl, sym, ap, ap₂, ◌∙◌, arith, length-take-le, length-drop, take-append-drop}
+use Rattle.std.proofs.Common.{◌≡◌, ℕ, ◌+◌, ◌%◌, ◌^◌, ◌<◌, ◌≤◌, eqb, ltb, bit_or, cond, suc, ◌&&◌, ◌==◌, ◌∷◌, Bool, true, false, not, List, [], map, length, take, drop, get_or, pos, refl, sym, ap, ap₂, ◌∙◌, arith, inl, inr, length-take-le, length-drop, take-append-drop}
 use Rattle.std.specs.Prelude.{nat_le, int_le}
-use Rattle.std.proofs.lemmas.Bool.{eq-eqb, cond-true}
+use Rattle.std.proofs.lemmas.Bool.{cases_eq, eq-eqb, ne_eqb, cond-true}
 use Rattle.std.proofs.lemmas.Bool.Decides.{nat_tests}
 use Rattle.std.proofs.lemmas.Simd.{map-map, mask_l-mod, length-chunk, first_set_mask_l, zip2-map}
 use Rattle.std.proofs.lemmas.List.{length-map, drop-drop}
@@ -11,7 +11,7 @@ use Rattle.std.specs.List.{prefix_len}
 use lib.Lanes.{chunk, zip2, mask_l, top}
 use Rattle.flat_rows.specs.declared.rows.Quick.{Quick}
 use Rattle.flat_rows.specs.Quick.{is_between, is_text_within}
-use Rattle.flat_rows.specs.Runs.{first_set, lies_between}
+use Rattle.flat_rows.specs.Runs.{first_set, is_set, lies_between}
 
 -- an operation on two vectors that were computed lane by lane from v
 pub joined : (h : ℕ → ℕ → ℕ) (f g : ℕ → ℕ) (v : List ℕ) {a b : List ℕ} → a ≡ map f v → b ≡ map g v → zip2 h a b ≡ map (λ x. h (f x) (g x)) v
@@ -53,6 +53,15 @@ outside_not low high x = by (ltb x low) (ltb high x) refl refl
 pub between_run : (low high : ℕ) (d : List ℕ) (i n r : ℕ) (z : List ℕ) → i + n ≤ length d → n ≤ 64 → r ≡ first_set (mask_l (map (top 7) z) % 2 ^ 64) n →
     z ≡ map (outside low high) (chunk i n d) → r ≡ prefix_len (lies_between low high) (chunk i n d)
 between_run low high d i n r z room few found lanes = lanes_run (lies_between low high) d i n r z room few found (outside low high) lanes (outside_not low high)
+
+zero_not : (t : Bool) → not (top 7 (cond t 255 0)) ≡ not t
+zero_not true = refl
+zero_not false = refl
+
+-- the lanes of bytes that are 00
+pub zero_run : (d : List ℕ) (i n r : ℕ) (z : List ℕ) → i + n ≤ length d → n ≤ 64 → r ≡ first_set (mask_l (map (top 7) z) % 2 ^ 64) n →
+    z ≡ map (λ x. cond (eqb x 0) 255 0) (chunk i n d) → r ≡ prefix_len is_set (chunk i n d)
+zero_run d i n r z room few found lanes = lanes_run is_set d i n r z room few found (λ x. cond (eqb x 0) 255 0) lanes (λ x. zero_not (eqb x 0))
 
 run_of : (q : ℕ → Bool) (xs : List ℕ) (n : ℕ) → prefix_len q xs ≡ cond (eqb (prefix_len q (take n xs)) (length (take n xs))) (length (take n xs) + prefix_len q (drop n xs)) (prefix_len q (take n xs))
 run_of q xs n = ap (prefix_len q) (sym (take-append-drop n xs)) ∙ prefix_len-append q (take n xs) (drop n xs)
@@ -102,3 +111,35 @@ pub text_whole : (q : Quick) (low high : ℕ) (bs : List ℕ) (run : ℕ) → q.
 text_whole q low high bs run least most is h =
     let same : run ≡ prefix_len (λ b. is_between q (pos b)) bs = is ∙ same_run _ _ bs (λ b. between_is q low high b least most) in
     whole_by q bs (omega (arith, h, same))
+
+-- ---- texts, by the first 00
+
+never : ◌≡◌ {A = Bool} true false → ⊥
+never h = cc
+
+meet_next : (t z : Bool) (m n : ℕ) (w : Bool) → (t ≡ true → z ≡ false) → eqb m n ≡ w → eqb (cond t (1 + m) 0) (cond (not z) (1 + n) 0) ≡ cond t w z
+meet_next true true m n w apart h = absurd (never (apart refl))
+meet_next true false m n w apart h =
+    elim (cases_eq m n) [
+      | inl same ↦ eq-eqb (1 + m) (1 + n) (omega (arith, same)) ∙ sym (eq-eqb m n same) ∙ h
+      | inr other ↦ ne_eqb (1 + m) (1 + n) (λ e. other (omega (arith, e))) ∙ sym (ne_eqb m n other) ∙ h
+    ]
+meet_next false true m n w apart h = eq-eqb 0 0 refl
+meet_next false false m n w apart h = ne_eqb 0 (1 + n) (λ e. omega (arith, e))
+
+-- 00 is out of a range that begins above it
+no_zero : (low high b : ℕ) → 0 < low → lies_between low high b ≡ true → eqb b 0 ≡ false
+no_zero low high b some h =
+    elim (cases_eq b 0) [
+      | inl same ↦
+          let out : nat_le low b ≡ false = grind (arith, nat_tests, same, some) in
+          absurd (never (sym h ∙ ap (λ t. t && nat_le b high) out))
+      | inr other ↦ ne_eqb b 0 other
+    ]
+
+-- the first byte out of the range is the first 00, or there is neither
+pub runs_meet : (q : Quick) (low high : ℕ) (bs : List ℕ) → q.low ≡ pos low → q.high ≡ pos high → 0 < low → (prefix_len (lies_between low high) bs == prefix_len is_set bs) ≡ is_text_within q bs
+runs_meet q low high [] least most some = refl
+runs_meet q low high (b ∷ bs) least most some =
+    meet_next (lies_between low high b) (eqb b 0) _ _ (is_text_within q bs) (no_zero low high b some) (runs_meet q low high bs least most some)
+    ∙ ap (λ t. cond t (is_text_within q bs) (b == 0)) (between_is q low high b least most)

@@ -1,3 +1,4 @@
+pub mod Coded
 pub mod Computing
 pub mod Growing
 pub mod Hex

@@ -5,6 +5,7 @@ use Rattle.sbe_types.specs.Places.{width}
 use Rattle.schema_facts.specs.InOrder.{IsKindInOrder}
 use Rattle.flat_rows.specs.declared.rows.FlatRow.{FlatRow}
 use Rattle.flat_rows.specs.declared.rows.FlatRows.{FlatRows}
+use Rattle.flat_rows.specs.Codes.{AreCodes}
 use Rattle.flat_rows.specs.Pieces.{Piece, Slot, Joined, with_pieces}
 use Rattle.flat_rows.specs.Quick.{IsQuick}
 
@@ -27,6 +28,7 @@ pub record IsRow (row : FlatRow) : Type 0 where
   pub order : IsKindInOrder row.kind
   pub behind : row.behind ≡ row.place + width row.kind
   pub quick : IsQuick row.quick row.kind
+  pub codes : AreCodes row.codes row.kind
 
 -- each row is one, and their literals end one behind another within n bytes
 abbrev pub AreRows : ℕ → ℕ → List FlatRow → Type 0

@@ -7,12 +7,14 @@ ghost use Rattle.sbe_types.specs.Places.{width};
 ghost use Rattle.sbe_types.specs.LeafBad.{leaf_bad};
 ghost use Rattle.sbe_types.specs.Shown.{is_listed, is_null};
 ghost use Rattle.schema_facts.specs.InOrder.{IsKindInOrder, IsLeafInOrder};
+ghost use Rattle.flat_rows.specs.Codes.{HasText};
 ghost use Rattle.flat_rows.specs.Judged.{bytes_there, ShowsSome, SlotsShow};
 ghost use Rattle.flat_rows.specs.Quick.{is_between, is_none, is_text_within, is_word, IsByte};
 ghost use Rattle.flat_rows.specs.Tables.{stands_for, IsRow, IsTable, RowsFit};
 
-use crate::rows::{FlatRow, FlatRows, Look, Quick};
-use crate::runs::run_between;
+use crate::codes::place_of;
+use crate::rows::{Codes, FlatRow, FlatRows, Look, Quick};
+use crate::runs::{LANES, is_lane_text, run_between};
 use byteorder::{ByteOrder, LittleEndian};
 use sbe_types::{Kind, Leaf, LeafCause, LeafFault, NamedList, Order, Prim, get_num, leaf_judge};
 
@@ -70,7 +72,7 @@ fn shows_value(row: &FlatRow, known: bool, bytes: &[u8]) -> bool
         Look::U16 => shows_number(quick, number_in(Prim::U16, bytes)),
         Look::U32 => shows_number(quick, number_in(Prim::U32, bytes)),
         Look::Text => is_text(quick, bytes),
-        Look::Enum => shows_listed(known, &row.kind, bytes),
+        Look::Enum => shows_listed(known, row, bytes),
         Look::Other => shows_kind(&row.kind, bytes),
     }
 }
@@ -128,6 +130,9 @@ fn is_text(quick: &Quick, bytes: &[u8]) -> bool
 {
     let low = as_byte(quick.low);
     let high = as_byte(quick.high);
+    if bytes.len() == LANES && low > 0 {
+        return is_lane_text(low, high, bytes);
+    }
     let run = run_between(low, high, bytes);
     if run < bytes.len() {
         return bytes[run] == 0;
@@ -156,10 +161,34 @@ fn shows_kind(kind: &Kind, bytes: &[u8]) -> bool
     }
 }
 
+/// Whether bytes are a value of a row whose kind is an enum.
+#[inline(always)]
+fn shows_listed(known: bool, row: &FlatRow, bytes: &[u8]) -> bool
+    requires row { IsRow row.now }
+    requires wide { length bytes.now ≡ width row.now.kind }
+    ensures { result ≡ true → ShowsSome Little known row.now.kind bytes.now }
+{
+    if has_text(&row.codes, bytes) {
+        return true;
+    }
+    shows_kind_listed(known, &row.kind, bytes)
+}
+
+/// Whether a text is kept of a value of one byte.
+#[inline(always)]
+fn has_text(codes: &Codes, bytes: &[u8]) -> bool
+    ensures { result ≡ true → HasText codes.now bytes.now }
+{
+    if bytes.len() != 1 {
+        return false;
+    }
+    place_of(codes, bytes[0]) > 0
+}
+
 /// Whether bytes are a value of a kind that is an enum.
 #[inline(always)]
 #[tactic(auto, using(crate::proofs::Looks::enum_kind))]
-fn shows_listed(known: bool, kind: &Kind, bytes: &[u8]) -> bool
+fn shows_kind_listed(known: bool, kind: &Kind, bytes: &[u8]) -> bool
     requires { length bytes.now ≡ width kind.now }
     ensures { result ≡ true → ShowsSome Little known kind.now bytes.now }
 {

@@ -10,6 +10,7 @@ ghost use Rattle.flat_rows.specs.Texts.{key_of, constant_text};
 ghost use Rattle.flat_rows.specs.Pieces.{literal, shown, joined, kind_pieces, pieces_between};
 ghost use Rattle.flat_rows.specs.Tables.{stands_for, Grows, IsRow, IsTable};
 
+use crate::codes::codes_of;
 use crate::places::{begin_of, end_behind, width_of};
 use crate::quick::quick_of;
 use crate::rows::{FlatRow, FlatRows};
@@ -128,11 +129,13 @@ fn row_of(alloc: Global, end: u32, kind: &Kind, at: u32) -> Result<FlatRow, NoMe
     ensures value { IfOk result (λ row. shown row.kind row.place ≡ shown kind.now at) }
 {
     let kept = kind.copy(alloc)?;
+    let codes = codes_of(alloc, kind)?;
     Ok(FlatRow {
         end,
         place: at,
         behind: at + width_of(kind),
         quick: quick_of(kind),
+        codes,
         kind: kept,
     })
 }

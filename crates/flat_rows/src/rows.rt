@@ -32,6 +32,17 @@ pub struct Quick {
     pub high: i64,
 }
 
+/// The names of an enum of one byte, looked up by the byte.
+#[derive(Drop)]
+pub struct Codes {
+    /// For each byte which of the texts is its name, counted from 1, or 0 where none is kept. It is empty where none is kept of
+    /// any byte.
+    pub index: Vec<u8>,
+    /// The texts, each of 16 bytes: a name between quotes, spaces behind it, and in the last byte how many bytes the name has
+    /// with its quotes.
+    pub texts: Vec<u8>,
+}
+
 /// A value of a block, behind bytes that stand before it in each line.
 #[derive(Drop)]
 pub struct FlatRow {
@@ -42,6 +53,7 @@ pub struct FlatRow {
     /// Where they end.
     pub behind: u32,
     pub quick: Quick,
+    pub codes: Codes,
     pub kind: Kind,
 }
 

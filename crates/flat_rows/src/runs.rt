@@ -1,11 +1,12 @@
 // How many bytes of a text, from the first, lie in a range.
-ghost use Rattle.std.specs.Prelude.{◌≡◌, ◌+◌, ◌≤◌, length, take, drop};
+ghost use Rattle.std.specs.Prelude.{◌≡◌, ◌==◌, ◌+◌, ◌≤◌, length, take, drop};
 ghost use Rattle.std.specs.List.{prefix_len};
-ghost use Rattle.flat_rows.specs.Runs.{first_set, lies_between};
+ghost use Rattle.flat_rows.specs.Runs.{first_set, is_set, lies_between};
 
 use std::simd::prelude::*;
 
-const LANES: usize = 8;
+/// How many bytes are looked at in one.
+pub(crate) const LANES: usize = 8;
 
 /// How many bytes, from the first, lie in the range of two bytes.
 #[inline(always)]
@@ -52,6 +53,26 @@ fn lane_run(low: u8, high: u8, bytes: &[u8], at: usize) -> usize
     let lanes = u8x8::from_slice(&bytes[at..]);
     let outside = lanes.simd_lt(u8x8::splat(low)) | lanes.simd_gt(u8x8::splat(high));
     first_set(outside.to_bitmask())
+}
+
+/// Whether the first of eight bytes that is out of the range of two bytes is the first 00, or there is neither. Which way is
+/// taken doesn't go by the bytes.
+#[inline(always)]
+pub(crate) fn is_lane_text(low: u8, high: u8, bytes: &[u8]) -> bool
+    requires { length bytes.now ≡ LANES }
+    ensures { result ≡ (prefix_len (lies_between low high) bytes.now == prefix_len is_set bytes.now) }
+{
+    lane_run(low, high, bytes, 0) == set_run(bytes)
+}
+
+/// How many of eight bytes, from the first, are not 00.
+#[inline(always)]
+fn set_run(bytes: &[u8]) -> usize
+    requires { LANES ≤ length bytes.now }
+    ensures { result ≡ prefix_len is_set (take LANES bytes.now) }
+{
+    let lanes = u8x8::from_slice(bytes);
+    first_set(lanes.simd_eq(u8x8::splat(0)).to_bitmask())
 }
 
 /// The place of the lowest bit of eight that is set, or 8.
