@@ -5,7 +5,7 @@ use Rattle.std.specs.Ordering.{int_eq}
 use Rattle.std.proofs.lemmas.Bool.{cases_eq}
 use Rattle.std.proofs.lemmas.Bool.Decides.{Decides-int_eq}
 use Rattle.std.proofs.Math.Nat.{mul-div_cancel_left}
-use Rattle.std.proofs.lemmas.List.{length-take, take-append-le, drop-append-le, take_all, take_at, drop_at, get_or_at, get_or-set_same, get_or-set_other, length-set}
+use Rattle.std.proofs.lemmas.List.{length-take, take-append-le, drop-append-le, take_all, take_at, drop_at, get_or_at, get_or-set_same, get_or-set_other}
 use Rattle.sbe_types.specs.declared.kind.Kind.{Kind, Leaf, Enum, Set, Const, Comp'}
 use Rattle.sbe_types.specs.declared.kind.Leaf.{Leaf as LeafOf}
 use Rattle.sbe_types.specs.declared.kind.Named.{Named}
@@ -186,11 +186,21 @@ named_listed (v ∷ vs) n name h = by (int_eq v.number n) h (named_listed vs n n
     by true h rest = refl
     by false h rest = rest h
 
--- a byte that has a name is a value of an enum
-listed_by : (s t : Bool) (names : List Named) (n : ℤ) (name : List ℕ) → cond (s && not t) (first_name names n) None ≡ Some name → (s ≡ true) × (is_listed names n ≡ true)
-listed_by true true names n name h = cc
-listed_by true false names n name h = (refl, named_listed names n name h)
-listed_by false t names n name h = cc
+-- what a byte that has a name is
+pub record IsNamedByte (leaf : LeafOf) (names : List Named) (b : ℕ) (name : List ℕ) : Type 0 where
+  pub byte : is_byte leaf.prim ≡ true
+  pub value : is_null leaf (pos b) ≡ false
+  pub first : first_name names (pos b) ≡ Some name
+
+both_tests : (s t : Bool) (o : Option (List ℕ)) (name : List ℕ) → cond (s && not t) o None ≡ Some name → (s ≡ true) × (t ≡ false) × (o ≡ Some name)
+both_tests true true o name h = cc
+both_tests true false o name h = (refl, refl, h)
+both_tests false t o name h = cc
+
+pub named_byte : (leaf : LeafOf) (names : List Named) (b : ℕ) (name : List ℕ) → byte_name (Enum leaf names) b ≡ Some name → IsNamedByte leaf names b name
+named_byte leaf names b name h =
+    let at = both_tests (is_byte leaf.prim) (is_null leaf (pos b)) (first_name names (pos b)) name h in
+    record { byte = at.0; value = at.1; first = at.2 }
 
 byte_number : (p : Primitive) (b : ℕ) → is_byte p ≡ true → (number_of Little p (b ∷ []) ≡ pos b) × (prim_width p ≡ 1)
 byte_number Char b h = (ap pos (omega arith), refl)
@@ -210,10 +220,11 @@ or_listed s false u h = absurd (untrue h)
 
 enum_named : (leaf : LeafOf) (names : List Named) (known : Bool) (b : ℕ) (name : List ℕ) → byte_name (Enum leaf names) b ≡ Some name → ShowsSome Little known (Enum leaf names) (b ∷ [])
 enum_named leaf names known b name h =
-    let is = listed_by (is_byte leaf.prim) (is_null leaf (pos b)) names (pos b) name h in
-    let number = byte_number leaf.prim b is.0 in
+    let at = named_byte leaf names b name h in
+    let number = byte_number leaf.prim b at.byte in
     enum_shows leaf names known (b ∷ []) (sym number.1)
-    (or_listed (is_null leaf (number_of Little leaf.prim (b ∷ []))) (is_listed names (number_of Little leaf.prim (b ∷ []))) (not known) (ap (is_listed names) number.0 ∙ is.1))
+    (or_listed (is_null leaf (number_of Little leaf.prim (b ∷ []))) (is_listed names (number_of Little leaf.prim (b ∷ []))) (not known)
+    (ap (is_listed names) number.0 ∙ named_listed names (pos b) name at.first))
 
 text_shows : (kind : Kind) (known : Bool) (b : ℕ) (name : List ℕ) → byte_name kind b ≡ Some name → ShowsSome Little known kind (b ∷ [])
 text_shows (Enum leaf names) known b name h = enum_named leaf names known b name h
@@ -226,6 +237,10 @@ lone : (xs : List ℕ) → length xs ≡ 1 → xs ≡ slice_index xs 0 ∷ []
 lone [] h = absurd (omega (arith, h))
 lone (x ∷ []) h = refl
 lone (x ∷ y ∷ ys) h = absurd (omega (arith, h))
+
+-- the number that one byte shows
+pub byte_shown : (p : Primitive) (bytes : List ℕ) → is_byte p ≡ true → length bytes ≡ 1 → number_of Little p bytes ≡ pos (slice_index bytes 0)
+byte_shown p bytes h one = ap (number_of Little p) (lone bytes one) ∙ (byte_number p (slice_index bytes 0) h).0
 
 -- a byte of which a text is kept is a value
 pub code_shows : (kept : Codes) (kind : Kind) (known : Bool) (bytes : List ℕ) → AreCodes kept kind → HasText kept bytes → ShowsSome Little known kind bytes

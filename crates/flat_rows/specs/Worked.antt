@@ -1,5 +1,5 @@
 -- Fields on which the definitions are computed. Own profile.
-use Rattle.std.specs.Prelude.{ℕ, Option, Some, None, List, [], ◌∷◌, ℤ, pos, negsuc, codes}
+use Rattle.std.specs.Prelude.{ℕ, Option, Some, None, List, [], ◌∷◌, map, ℤ, pos, negsuc, codes}
 use Rattle.sbe_types.specs.declared.kind.ConstValue.{ConstValue}
 use Rattle.sbe_types.specs.declared.kind.ConstValue.TheVariants as constant
 use Rattle.sbe_types.specs.declared.kind.Kind.{Kind, Leaf, Enum, Set, Const, Comp', end_of-Member, more_of-Member}
@@ -7,10 +7,11 @@ use Rattle.sbe_types.specs.declared.kind.LeafShape.{LeafShape}
 use Rattle.sbe_types.specs.declared.kind.LeafShape.TheVariants.{Number, EncodedText, Numbers}
 use Rattle.sbe_types.specs.declared.kind.Leaf.{Leaf as LeafOf}
 use Rattle.sbe_types.specs.declared.kind.Named.{Named}
-use Rattle.sbe_types.specs.declared.kind.Presence.TheVariants.{Required}
+use Rattle.sbe_types.specs.declared.kind.Presence.TheVariants.{Required, Optional}
 use Rattle.sbe_types.specs.declared.kind.Primitive.{Primitive}
 use Rattle.sbe_types.specs.declared.kind.Primitive.TheVariants.{Char, I32, U8, U16}
 use Rattle.sbe_types.specs.declared.schema.Field.{Field}
+use Rattle.flat_rows.specs.Codes.{byte_name}
 use Rattle.flat_rows.specs.Pieces.{Slot, Joined}
 
 -- a required leaf of so many primitives
@@ -78,3 +79,21 @@ mixed_joined =
 -- what a block without fields has
 abbrev pub nothing : Joined
 nothing = record { slots = []; last = codes "}" }
+
+-- an enum over this primitive whose names stand at 0, 65 twice, 200 and 255, and which may be null at 200
+abbrev pub doubled : Primitive → Kind
+doubled prim =
+    Enum (record { prim = prim; length = 1; shape = Number; presence = Optional; null = pos 200; low = pos 0; high = pos 255 })
+    (named (codes "Nought") (pos 0) ∷ named (codes "First") (pos 65) ∷ named (codes "Second") (pos 65) ∷ named (codes "Null") (pos 200) ∷ named (codes "Last") (pos 255) ∷ [])
+
+-- the names that it has for these bytes and for one more
+abbrev pub names_at : Kind → List (Option (List ℕ))
+names_at kind = map (byte_name kind) (0 ∷ 1 ∷ 65 ∷ 200 ∷ 255 ∷ [])
+
+-- of two names with one number the first, and none for the null
+abbrev pub doubled_names : List (Option (List ℕ))
+doubled_names = Some (codes "Nought") ∷ None ∷ Some (codes "First") ∷ None ∷ Some (codes "Last") ∷ []
+
+-- none at all
+abbrev pub no_names : List (Option (List ℕ))
+no_names = None ∷ None ∷ None ∷ None ∷ None ∷ []

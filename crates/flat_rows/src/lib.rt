@@ -19,4 +19,4 @@ pub use make::flat_rows_of;
 pub use places::{begin_of, end_behind, end_of, width_of};
 pub use rows::{Codes, FlatRow, FlatRows, Look, Quick};
 pub use runs::first_set;
-pub use worked::{no_fields_are_a_bracket, pieces_of_worked_fields};
+pub use worked::{names_of_worked_bytes, no_fields_are_a_bracket, pieces_of_worked_fields};

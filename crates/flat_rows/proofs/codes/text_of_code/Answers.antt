@@ -1,4 +1,4 @@
-use Rattle.std.proofs.Common.{◌<◌, ◌*◌, ap, length, get_or, arith}
+use Rattle.std.proofs.Common.{◌<◌, ap, length, get_or, arith}
 use Rattle.flat_rows.proofs.Coded.{slot_within}
 use Rattle.flat_rows.proofs.codes.text_of_code.Goals as goal
 
