@@ -1,4 +1,4 @@
-use Rattle.std.proofs.Common.{◌≡◌, ◌∷◌, ◌+◌, ◌∙◌, [], sym, ap, subst, arith, length, drop, get_or}
+use Rattle.std.proofs.Common.{◌≡◌, ◌∷◌, ◌+◌, ◌∙◌, sym, ap, subst, arith, length, drop, get_or}
 use Rattle.flat_rows.specs.Tables.{RowsFit}
 use Rattle.flat_rows.proofs.RowsJudged.{there}
 use Rattle.flat_rows.proofs.judge.fits.Goals as goal

@@ -1,4 +1,4 @@
-use Rattle.std.proofs.Common.{◌≡◌, pos, sym, ◌∙◌, rules, FitsSigned}
+use Rattle.std.proofs.Common.{◌≡◌, pos, sym, ◌∙◌, rules}
 use mir.Syntax.{w64}
 use Rattle.std.proofs.lemmas.Int.{to_z-of_z}
 use Rattle.flat_rows.proofs.LaneRuns.{runs_meet, text_ends, text_whole}

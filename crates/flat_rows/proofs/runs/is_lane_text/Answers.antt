@@ -1,4 +1,4 @@
-use Rattle.std.proofs.Common.{◌≡◌, ◌==◌, length, take, ap, ap₂, ◌∙◌, arith}
+use Rattle.std.proofs.Common.{◌==◌, ap, ap₂, ◌∙◌, arith}
 use Rattle.std.specs.List.{prefix_len}
 use Rattle.std.proofs.lemmas.List.{take_all}
 use Rattle.flat_rows.specs.Runs.{lies_between, is_set}
