@@ -8,6 +8,7 @@ mod files;
 mod groups;
 mod many;
 mod members;
+mod names;
 mod prefixes;
 mod together;
 mod versions;

@@ -190,3 +190,95 @@ fn spaces(count: usize) -> &'static [u8]
 {
     &SPACES[..count]
 }
+
+#[cfg(test)]
+mod tests {
+    use super::{codes_of, place_of};
+    use crate::rows::Codes;
+    use lists::{List, NoMem, Text};
+    use sbe_types::{Kind, Leaf, LeafShape, Named, Presence, Prim};
+    use std::alloc::Global;
+
+    /// An enum over a primitive, which may be null at 200.
+    fn enum_over(alloc: Global, prim: Prim, values: &[(i128, &[u8])]) -> Result<Kind, NoMem> {
+        let leaf = Leaf {
+            prim,
+            length: 1,
+            shape: LeafShape::Number,
+            presence: Presence::Optional,
+            null: 200,
+            low: 0,
+            high: 255,
+        };
+        let mut names = List::new(alloc);
+        for (number, name) in values {
+            let name = Text::from_slice(alloc, *name)?;
+            names.push(Named {
+                name,
+                number: *number,
+            })?;
+        }
+        Ok(Kind::Enum(leaf, names))
+    }
+
+    /// What is kept of a byte: the text, spaces behind it, and how long it is. Nothing where no text is kept.
+    fn slot_of(codes: &Codes, byte: u8) -> &[u8] {
+        let end = place_of(codes, byte).saturating_mul(16);
+        match codes.texts.as_slice().get(end.saturating_sub(16)..end) {
+            Some(slot) => slot,
+            None => b"no text there",
+        }
+    }
+
+    /// Names of 1, 6, 13 and 14 letters, two with one number, of which the first is short or long, and numbers of no byte.
+    const VALUES: [(i128, &[u8]); 11] = [
+        (321, b"Above"),
+        (-1, b"Below"),
+        (0, b"Nought"),
+        (65, b"First"),
+        (65, b"Second"),
+        (66, b"Thirteen_long"),
+        (67, b"Fourteen__long"),
+        (68, b"Fourteen__long"),
+        (68, b"Short"),
+        (200, b"Null"),
+        (255, b"B"),
+    ];
+
+    #[test]
+    fn keeps_short_names(rt: HostRuntime) -> Result<(), NoMem> {
+        let rows: [(u8, &[u8]); 9] = [
+            (0, b"\"Nought\"       \x08"),
+            (1, b""),
+            (64, b""),
+            (65, b"\"First\"        \x07"),
+            (66, b"\"Thirteen_long\"\x0f"),
+            (67, b""),
+            (68, b""),
+            (200, b""),
+            (255, b"\"B\"            \x03"),
+        ];
+        for prim in [Prim::Char, Prim::U8] {
+            let kind = enum_over(rt.alloc(), prim, &VALUES)?;
+            let codes = codes_of(rt.alloc(), &kind)?;
+            for (byte, want) in rows {
+                assert_eq!(rt; slot_of(&codes, byte), want, "at {byte}");
+            }
+        }
+        Ok(())
+    }
+
+    #[test]
+    fn keeps_no_names_of_other_kinds(rt: HostRuntime) -> Result<(), NoMem> {
+        for prim in [Prim::I8, Prim::U16] {
+            let kind = enum_over(rt.alloc(), prim, &VALUES)?;
+            let codes = codes_of(rt.alloc(), &kind)?;
+            assert!(rt; codes.index.is_empty());
+            assert!(rt; codes.texts.is_empty());
+        }
+        let set = Kind::Set(Prim::U8, List::new(rt.alloc()));
+        let codes = codes_of(rt.alloc(), &set)?;
+        assert!(rt; codes.index.is_empty());
+        Ok(())
+    }
+}

@@ -1,5 +1,6 @@
 //! Texts and numbers of many lengths: each in the field of a message, and all of them in the entries of a group.
 
+use super::expect_rows;
 use super::files::FIELDS;
 use run_trials::{Trial, cut, expect, sample};
 use sbe_base::Status;
@@ -167,6 +168,39 @@ const SIGNED: &str = "0 1 9 -1 -9 \
 const UNSIGNED: &str = "0 9 10 99 100 199 200 255 256 257 999 1000 1234 99999 12345678 123456789 \
     9223372036854775807 9223372036854775808 9999999999999999999 10000000000000000000 \
     12345678901234567890 18446744073709551614";
+
+/// Texts of eight bytes: empty and full, with any bytes behind a 00, and out of the range before it, at each end and between.
+const EIGHT: &str =
+    r#"00000016eb5008000800170000000000000000000000|{"data":{},"fields":{"t":""},"groups":{},"template":"T8","version":0}
+00000016eb50080008001700000000ffffffffffff1f|{"data":{},"fields":{"t":""},"groups":{},"template":"T8","version":0}
+00000016eb50080008001700000000414243447f0042|{"data":{},"fields":{"t":""},"groups":{},"template":"T8","version":0}
+00000016eb5008000800170000004142434445464748|{"data":{},"fields":{"t":"ABCDEFGH"},"groups":{},"template":"T8","version":0}
+00000016eb5008000800170000004142434445464700|{"data":{},"fields":{"t":"ABCDEFG"},"groups":{},"template":"T8","version":0}
+00000016eb5008000800170000004100ff1f7f800141|{"data":{},"fields":{"t":"A"},"groups":{},"template":"T8","version":0}
+00000016eb500800080017000000414243440000ff00|{"data":{},"fields":{"t":"ABCD"},"groups":{},"template":"T8","version":0}
+00000016eb500800080017000000207e207e207e207e|{"data":{},"fields":{"t":" ~ ~ ~ ~"},"groups":{},"template":"T8","version":0}
+00000016eb5008000800170000001f42434445464748|{"refused":"F09","item":0,"offset":8,"path":"t","detail":"31"}
+00000016eb500800080017000000414243444546477f|{"refused":"F09","item":0,"offset":15,"path":"t","detail":"127"}
+00000016eb50080008001700000041427f0000000000|{"refused":"F09","item":0,"offset":10,"path":"t","detail":"127"}
+00000016eb50080008001700000041421f0041424344|{"refused":"F09","item":0,"offset":10,"path":"t","detail":"31"}
+00000016eb5008000800170000008041420000000000|{"refused":"F09","item":0,"offset":8,"path":"t","detail":"128"}
+00000016eb50080008001700000041ff000000000000|{"refused":"F09","item":0,"offset":9,"path":"t","detail":"255"}
+00000016eb5008000800170000004142434445464701|{"refused":"F09","item":0,"offset":15,"path":"t","detail":"1"}"#;
+
+/// The same in a range that begins above a space, and in one that begins with 00.
+const EIGHT_RANGED: &str =
+    r#"00000016eb5008000900170000004142434445464748|{"data":{},"fields":{"t":"ABCDEFGH"},"groups":{},"template":"L8","version":0}
+00000016eb5008000900170000005a00410000000000|{"data":{},"fields":{"t":"Z"},"groups":{},"template":"L8","version":0}
+00000016eb5008000900170000000040404040404040|{"data":{},"fields":{"t":""},"groups":{},"template":"L8","version":0}
+00000016eb5008000900170000004142434445465b00|{"refused":"F09","item":0,"offset":14,"path":"t","detail":"91"}
+00000016eb5008000900170000004000000000000000|{"refused":"F09","item":0,"offset":8,"path":"t","detail":"64"}
+00000016eb500800090017000000415b414141414141|{"refused":"F09","item":0,"offset":9,"path":"t","detail":"91"}
+00000016eb50080009001700000041404100ff000000|{"refused":"F09","item":0,"offset":9,"path":"t","detail":"64"}
+00000016eb5008000a00170000004100ff0000000000|{"data":{},"fields":{"t":"A"},"groups":{},"template":"Z8","version":0}
+00000016eb5008000a00170000000000000000000000|{"data":{},"fields":{"t":""},"groups":{},"template":"Z8","version":0}
+00000016eb5008000a00170000004142434445464748|{"data":{},"fields":{"t":"ABCDEFGH"},"groups":{},"template":"Z8","version":0}
+00000016eb5008000a00170000000141420000000000|{"data":{},"fields":{"t":{"hex":"014142"}},"groups":{},"template":"Z8","version":0}
+00000016eb5008000a001700000041ff000000000000|{"refused":"F09","item":0,"offset":9,"path":"t","detail":"255"}"#;
 
 // ---- fields, and what is printed of each
 
@@ -441,6 +475,12 @@ fn prints_texts_of_each_length(rt: HostRuntime) -> Result<(), Fail> {
         expect_width(rt.alloc(), schema.as_bytes(), TEXTS, width)?;
     }
     Ok(())
+}
+
+#[test]
+fn judges_texts_of_eight_bytes(rt: HostRuntime) -> Result<(), Fail> {
+    expect_rows(rt.alloc(), &FIELDS, EIGHT)?;
+    expect_rows(rt.alloc(), &FIELDS, EIGHT_RANGED)
 }
 
 #[test]

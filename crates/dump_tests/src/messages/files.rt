@@ -59,7 +59,7 @@ pub const MANY: SchemaFile = SchemaFile {
 };
 
 /// Texts of five lengths, eight bytes with an encoding, and numbers of eight bytes: each as the field of a message, and as that of a
-/// group's entries.
+/// group's entries. Two more messages have a text of eight bytes in a range of its own.
 pub const FIELDS: SchemaFile = SchemaFile {
     before: r#"{"messageSchema":{"package":"demo","id":23,"content":[{"types":{"content":["#,
     behind: r#",
@@ -68,9 +68,13 @@ pub const FIELDS: SchemaFile = SchemaFile {
     {"type":{"name":"Text16","primitiveType":"char","length":16}},
     {"type":{"name":"Text20","primitiveType":"char","length":20}},
     {"type":{"name":"Text32","primitiveType":"char","length":32}},
-    {"type":{"name":"Text40","primitiveType":"char","length":40}}]}},
+    {"type":{"name":"Text40","primitiveType":"char","length":40}},
+    {"type":{"name":"Letters8","primitiveType":"char","length":8,"minValue":65,"maxValue":90}},
+    {"type":{"name":"Any8","primitiveType":"char","length":8,"minValue":0,"maxValue":126}}]}},
     {"message":{"name":"T7","id":7,"content":[{"field":{"name":"t","id":1,"type":"Coded8"}}]}},
     {"message":{"name":"G107","id":107,"content":[{"group":{"name":"g","id":1,"content":[{"field":{"name":"t","id":2,"type":"Coded8"}}]}}]}},
+    {"message":{"name":"L8","id":9,"content":[{"field":{"name":"t","id":1,"type":"Letters8"}}]}},
+    {"message":{"name":"Z8","id":10,"content":[{"field":{"name":"t","id":1,"type":"Any8"}}]}},
     {"message":{"name":"T8","id":8,"content":[{"field":{"name":"t","id":1,"type":"Text8"}}]}},
     {"message":{"name":"G8","id":108,"content":[{"group":{"name":"g","id":1,"content":[{"field":{"name":"t","id":2,"type":"Text8"}}]}}]}},
     {"message":{"name":"T16","id":16,"content":[{"field":{"name":"t","id":1,"type":"Text16"}}]}},
@@ -85,4 +89,17 @@ pub const FIELDS: SchemaFile = SchemaFile {
     {"message":{"name":"G64","id":164,"content":[{"group":{"name":"g","id":1,"content":[{"field":{"name":"t","id":2,"type":"int64"}}]}}]}},
     {"message":{"name":"T65","id":65,"content":[{"field":{"name":"t","id":1,"type":"uint64"}}]}},
     {"message":{"name":"G65","id":165,"content":[{"group":{"name":"g","id":1,"content":[{"field":{"name":"t","id":2,"type":"uint64"}}]}}]}}]}}"#,
+};
+
+/// Enums of one byte with short and long names, whose values are required, optional and in entries.
+pub const NAMES: SchemaFile = SchemaFile {
+    before: r#"{"messageSchema":{"package":"demo","id":24,"version":1,"content":[{"types":{"content":["#,
+    behind: r#",
+    {"enum":{"name":"Mark","encodingType":"char","content":[{"validValue":{"name":"A","text":"a"}},{"validValue":{"name":"Thirteen_long","text":"b"}},
+        {"validValue":{"name":"Fourteen__long","text":"c"}},{"validValue":{"name":"Fifteen___long_","text":"d"}},{"validValue":{"name":"A_name_of_thirty_characters_ab","text":"e"}}]}},
+    {"enum":{"name":"Code","encodingType":"uint8","content":[{"validValue":{"name":"Last","text":255}},{"validValue":{"name":"Zero","text":0}},
+        {"validValue":{"name":"Two_hundred_is","text":200}},{"validValue":{"name":"In_the_middle","text":128}},{"validValue":{"name":"B","text":1}}]}}]}},
+    {"message":{"name":"Nm","id":1,"content":[{"field":{"name":"m","id":1,"type":"Mark"}},{"field":{"name":"c","id":2,"type":"Code"}},
+        {"field":{"name":"o","id":3,"type":"Mark","presence":"optional"}},{"field":{"name":"p","id":4,"type":"Code","presence":"optional"}}]}},
+    {"message":{"name":"Gr","id":2,"content":[{"group":{"name":"g","id":1,"content":[{"field":{"name":"m","id":2,"type":"Mark"}},{"field":{"name":"c","id":3,"type":"Code"}}]}}]}}]}}"#,
 };
