@@ -17,6 +17,7 @@ pub mod ViewSteps
 pub mod Lanes
 pub mod Fronts
 pub mod Valid
+pub mod CodeTexts
 pub mod Gathered
 pub mod PiecesText
 pub mod RowsText

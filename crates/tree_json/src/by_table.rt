@@ -16,7 +16,7 @@ ghost use Rattle.tree_json.specs.Printed.{JoinedText};
 use crate::chunk::Chunk;
 use crate::kinds::{put_listed, put_shown, put_text_in};
 use crate::values::{put_null, put_small_number};
-use flat_rows::{FlatRow, FlatRows, Look, Quick, is_none, number_in};
+use flat_rows::{FlatRow, FlatRows, Look, Quick, is_none, number_in, text_of_code};
 use sbe_base::Sink;
 use sbe_types::{Kind, Order, Prim, get_num};
 
@@ -70,7 +70,7 @@ fn put_value<O: Sink>(chunk: &mut Chunk, sink: &mut O, row: &FlatRow, bytes: &[u
         Look::U16 => put_word(chunk, sink, quick, number_in(Prim::U16, bytes)),
         Look::U32 => put_word(chunk, sink, quick, number_in(Prim::U32, bytes)),
         Look::Text => put_row_text(chunk, sink, row, bytes),
-        Look::Enum => put_row_name(chunk, sink, &row.kind, bytes),
+        Look::Enum => put_row_name(chunk, sink, row, bytes),
         Look::Other => put_by_kind(chunk, sink, &row.kind, bytes),
     }
 }
@@ -94,7 +94,24 @@ fn put_row_text<O: Sink>(chunk: &mut Chunk, sink: &mut O, row: &FlatRow, bytes: 
 
 /// Writes an enum's value.
 #[inline(always)]
-fn put_row_name<O: Sink>(chunk: &mut Chunk, sink: &mut O, kind: &Kind, bytes: &[u8])
+fn put_row_name<O: Sink>(chunk: &mut Chunk, sink: &mut O, row: &FlatRow, bytes: &[u8])
+    requires row { IsRow row.now }
+    requires wide { length bytes.now ≡ width row.now.kind }
+    ensures { WritesShown Little row.now.kind bytes.now (output (O.held sink.old) (O.faults sink.old) chunk.old)
+        (output (O.held sink.new) (O.faults sink.new) chunk.new) }
+{
+    if bytes.len() == 1 {
+        if let Some((text, run)) = text_of_code(row, bytes[0]) {
+            chunk.put_front(sink, text, run, b"", b"");
+            return;
+        }
+    }
+    put_name(chunk, sink, &row.kind, bytes);
+}
+
+/// Writes an enum's value by its names.
+#[inline(always)]
+fn put_name<O: Sink>(chunk: &mut Chunk, sink: &mut O, kind: &Kind, bytes: &[u8])
     requires ready { IsKindInOrder kind.now }
     requires wide { length bytes.now ≡ width kind.now }
     ensures { WritesShown Little kind.now bytes.now (output (O.held sink.old) (O.faults sink.old) chunk.old)
