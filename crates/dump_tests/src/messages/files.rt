@@ -72,7 +72,7 @@ pub const FIELDS: SchemaFile = SchemaFile {
     {"type":{"name":"Letters8","primitiveType":"char","length":8,"minValue":65,"maxValue":90}},
     {"type":{"name":"Any8","primitiveType":"char","length":8,"minValue":0,"maxValue":126}}]}},
     {"message":{"name":"T7","id":7,"content":[{"field":{"name":"t","id":1,"type":"Coded8"}}]}},
-    {"message":{"name":"G107","id":107,"content":[{"group":{"name":"g","id":1,"content":[{"field":{"name":"t","id":2,"type":"Coded8"}}]}}]}},
+    {"message":{"name":"G7","id":107,"content":[{"group":{"name":"g","id":1,"content":[{"field":{"name":"t","id":2,"type":"Coded8"}}]}}]}},
     {"message":{"name":"L8","id":9,"content":[{"field":{"name":"t","id":1,"type":"Letters8"}}]}},
     {"message":{"name":"Z8","id":10,"content":[{"field":{"name":"t","id":1,"type":"Any8"}}]}},
     {"message":{"name":"T8","id":8,"content":[{"field":{"name":"t","id":1,"type":"Text8"}}]}},
