@@ -170,7 +170,7 @@ const UNSIGNED: &str = "0 9 10 99 100 199 200 255 256 257 999 1000 1234 99999 12
     12345678901234567890 18446744073709551614";
 
 /// Texts of eight bytes: empty and full, with any bytes behind a 00, and out of the range before it, at each end and between.
-const EIGHT: &str =
+const EIGHT_FRAMED: &str =
     r#"00000016eb5008000800170000000000000000000000|{"data":{},"fields":{"t":""},"groups":{},"template":"T8","version":0}
 00000016eb50080008001700000000ffffffffffff1f|{"data":{},"fields":{"t":""},"groups":{},"template":"T8","version":0}
 00000016eb50080008001700000000414243447f0042|{"data":{},"fields":{"t":""},"groups":{},"template":"T8","version":0}
@@ -479,7 +479,7 @@ fn prints_texts_of_each_length(rt: HostRuntime) -> Result<(), Fail> {
 
 #[test]
 fn judges_texts_of_eight_bytes(rt: HostRuntime) -> Result<(), Fail> {
-    expect_rows(rt.alloc(), &FIELDS, EIGHT)?;
+    expect_rows(rt.alloc(), &FIELDS, EIGHT_FRAMED)?;
     expect_rows(rt.alloc(), &FIELDS, EIGHT_RANGED)
 }
 
