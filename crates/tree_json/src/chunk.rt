@@ -2,7 +2,7 @@ ghost use Rattle.std.specs.Prelude.{◌≡◌, ◌+◌, ◌≤◌, ◌++◌, [],
 ghost use Rattle.std.specs.Io.KnownBytes.{Appends};
 ghost use Rattle.serde_json.specs.Written.{comma_if};
 ghost use Rattle.sbe_base.specs.Causes.{AppendsPart, HasCause};
-ghost use Rattle.tree_json.specs.declared.chunk.TheConstants.{CHUNK_BYTES, LEAD_BYTES};
+ghost use Rattle.tree_json.specs.declared.chunk.TheConstants.{CHUNK_BYTES};
 ghost use Rattle.tree_json.specs.Plain.{key_text};
 ghost use Rattle.tree_json.specs.Writes.{nothing_gathered, output, Writes, Finishes, Tried};
 
@@ -15,6 +15,9 @@ pub const CHUNK_BYTES: usize = 1_024;
 
 /// How many bytes are copied of a lead, however few it has.
 const LEAD_BYTES: usize = 32;
+
+/// How many are copied of a lead that has no more than these.
+const SHORT_LEAD_BYTES: usize = 16;
 
 /// Bytes that wait to be written, and whether a write has failed. It takes no memory but its own.
 ///
@@ -111,11 +114,16 @@ impl Chunk {
         ensures { Writes (output (O.held sink.old) (O.faults sink.old) self.old)
             (output (O.held sink.new) (O.faults sink.new) self.new) (take run bytes.now) }
     {
-        if run <= LEAD_BYTES
+        if run <= SHORT_LEAD_BYTES
+            && bytes.len() >= SHORT_LEAD_BYTES
+            && self.len() + SHORT_LEAD_BYTES <= CHUNK_BYTES
+        {
+            self.add_lead::<SHORT_LEAD_BYTES>(bytes, run);
+        } else if run <= LEAD_BYTES
             && bytes.len() >= LEAD_BYTES
             && self.len() + LEAD_BYTES <= CHUNK_BYTES
         {
-            self.add_lead(bytes, run);
+            self.add_lead::<LEAD_BYTES>(bytes, run);
         } else {
             put_apart(self, sink, &bytes[..run]);
         }
@@ -124,14 +132,14 @@ impl Chunk {
     /// Gathers the first `run` bytes of a lead. It has room for as many as are copied: so the way of the copy goes by no
     /// number, and of what was copied behind them nothing is kept.
     #[inline(always)]
-    fn add_lead(&mut self, bytes: &[u8], run: usize)
-        requires run { run ≤ LEAD_BYTES }
-        requires enough { LEAD_BYTES ≤ length bytes.now }
-        requires room { length self.old.bytes + LEAD_BYTES ≤ CHUNK_BYTES }
+    fn add_lead<const N: usize>(&mut self, bytes: &[u8], run: usize)
+        requires run { run ≤ N }
+        requires enough { N ≤ length bytes.now }
+        requires room { length self.old.bytes + N ≤ CHUNK_BYTES }
         ensures { self.new ≡ record self.old { bytes = self.old.bytes ++ take run bytes.now } }
     {
         let at = self.len;
-        place_front::<LEAD_BYTES>(&mut self.room, at, bytes);
+        place_front::<N>(&mut self.room, at, bytes);
         self.len = at + run;
     }
 
