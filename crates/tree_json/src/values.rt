@@ -47,7 +47,7 @@ pub(crate) fn put_small_number<O: Sink>(chunk: &mut Chunk, sink: &mut O, n: i64)
     } else if n >= 0 && n < 100_000_000 {
         put_middle(chunk, sink, n as u32);
     } else {
-        put_any_number(chunk, sink, &(n as i128));
+        put_any_word(chunk, sink, n);
     }
 }
 
@@ -212,6 +212,16 @@ fn put_any_number<O: Sink>(chunk: &mut Chunk, sink: &mut O, n: &i128)
 {
     let mut buffer = Buffer::new();
     chunk.put(sink, buffer.format(*n).as_bytes());
+}
+
+/// Writes an integer of at most 64 bits and any number of digits.
+#[inline(never)]
+fn put_any_word<O: Sink>(chunk: &mut Chunk, sink: &mut O, n: i64)
+    ensures { Writes (output (O.held sink.old) (O.faults sink.old) chunk.old)
+        (output (O.held sink.new) (O.faults sink.new) chunk.new) (plain_text (number_data n)) }
+{
+    let mut buffer = Buffer::new();
+    chunk.put(sink, buffer.format(n).as_bytes());
 }
 
 /// Writes a count.
