@@ -171,14 +171,14 @@ const UNSIGNED: &str = "0 9 10 99 100 199 200 255 256 257 999 1000 1234 99999 12
 
 /// Texts of eight bytes: empty and full, with any bytes behind a 00, and out of the range before it, at each end and between.
 const EIGHT_FRAMED: &str =
-    r#"00000016eb5008000800170000000000000000000000|{"data":{},"fields":{"t":""},"groups":{},"template":"T8","version":0}
-00000016eb50080008001700000000ffffffffffff1f|{"data":{},"fields":{"t":""},"groups":{},"template":"T8","version":0}
-00000016eb50080008001700000000414243447f0042|{"data":{},"fields":{"t":""},"groups":{},"template":"T8","version":0}
-00000016eb5008000800170000004142434445464748|{"data":{},"fields":{"t":"ABCDEFGH"},"groups":{},"template":"T8","version":0}
-00000016eb5008000800170000004142434445464700|{"data":{},"fields":{"t":"ABCDEFG"},"groups":{},"template":"T8","version":0}
-00000016eb5008000800170000004100ff1f7f800141|{"data":{},"fields":{"t":"A"},"groups":{},"template":"T8","version":0}
-00000016eb500800080017000000414243440000ff00|{"data":{},"fields":{"t":"ABCD"},"groups":{},"template":"T8","version":0}
-00000016eb500800080017000000207e207e207e207e|{"data":{},"fields":{"t":" ~ ~ ~ ~"},"groups":{},"template":"T8","version":0}
+    r#"00000016eb5008000800170000000000000000000000|{"data":{},"fields":{"t":""},"groups":{},"template":"Field8","version":0}
+00000016eb50080008001700000000ffffffffffff1f|{"data":{},"fields":{"t":""},"groups":{},"template":"Field8","version":0}
+00000016eb50080008001700000000414243447f0042|{"data":{},"fields":{"t":""},"groups":{},"template":"Field8","version":0}
+00000016eb5008000800170000004142434445464748|{"data":{},"fields":{"t":"ABCDEFGH"},"groups":{},"template":"Field8","version":0}
+00000016eb5008000800170000004142434445464700|{"data":{},"fields":{"t":"ABCDEFG"},"groups":{},"template":"Field8","version":0}
+00000016eb5008000800170000004100ff1f7f800141|{"data":{},"fields":{"t":"A"},"groups":{},"template":"Field8","version":0}
+00000016eb500800080017000000414243440000ff00|{"data":{},"fields":{"t":"ABCD"},"groups":{},"template":"Field8","version":0}
+00000016eb500800080017000000207e207e207e207e|{"data":{},"fields":{"t":" ~ ~ ~ ~"},"groups":{},"template":"Field8","version":0}
 00000016eb5008000800170000001f42434445464748|{"refused":"F09","item":0,"offset":8,"path":"t","detail":"31"}
 00000016eb500800080017000000414243444546477f|{"refused":"F09","item":0,"offset":15,"path":"t","detail":"127"}
 00000016eb50080008001700000041427f0000000000|{"refused":"F09","item":0,"offset":10,"path":"t","detail":"127"}
@@ -189,17 +189,17 @@ const EIGHT_FRAMED: &str =
 
 /// The same in a range that begins above a space, and in one that begins with 00.
 const EIGHT_RANGED: &str =
-    r#"00000016eb5008000900170000004142434445464748|{"data":{},"fields":{"t":"ABCDEFGH"},"groups":{},"template":"L8","version":0}
-00000016eb5008000900170000005a00410000000000|{"data":{},"fields":{"t":"Z"},"groups":{},"template":"L8","version":0}
-00000016eb5008000900170000000040404040404040|{"data":{},"fields":{"t":""},"groups":{},"template":"L8","version":0}
+    r#"00000016eb5008000900170000004142434445464748|{"data":{},"fields":{"t":"ABCDEFGH"},"groups":{},"template":"Letters","version":0}
+00000016eb5008000900170000005a00410000000000|{"data":{},"fields":{"t":"Z"},"groups":{},"template":"Letters","version":0}
+00000016eb5008000900170000000040404040404040|{"data":{},"fields":{"t":""},"groups":{},"template":"Letters","version":0}
 00000016eb5008000900170000004142434445465b00|{"refused":"F09","item":0,"offset":14,"path":"t","detail":"91"}
 00000016eb5008000900170000004000000000000000|{"refused":"F09","item":0,"offset":8,"path":"t","detail":"64"}
 00000016eb500800090017000000415b414141414141|{"refused":"F09","item":0,"offset":9,"path":"t","detail":"91"}
 00000016eb50080009001700000041404100ff000000|{"refused":"F09","item":0,"offset":9,"path":"t","detail":"64"}
-00000016eb5008000a00170000004100ff0000000000|{"data":{},"fields":{"t":"A"},"groups":{},"template":"Z8","version":0}
-00000016eb5008000a00170000000000000000000000|{"data":{},"fields":{"t":""},"groups":{},"template":"Z8","version":0}
-00000016eb5008000a00170000004142434445464748|{"data":{},"fields":{"t":"ABCDEFGH"},"groups":{},"template":"Z8","version":0}
-00000016eb5008000a00170000000141420000000000|{"data":{},"fields":{"t":{"hex":"014142"}},"groups":{},"template":"Z8","version":0}
+00000016eb5008000a00170000004100ff0000000000|{"data":{},"fields":{"t":"A"},"groups":{},"template":"Any","version":0}
+00000016eb5008000a00170000000000000000000000|{"data":{},"fields":{"t":""},"groups":{},"template":"Any","version":0}
+00000016eb5008000a00170000004142434445464748|{"data":{},"fields":{"t":"ABCDEFGH"},"groups":{},"template":"Any","version":0}
+00000016eb5008000a00170000000141420000000000|{"data":{},"fields":{"t":{"hex":"014142"}},"groups":{},"template":"Any","version":0}
 00000016eb5008000a001700000041ff000000000000|{"refused":"F09","item":0,"offset":9,"path":"t","detail":"255"}"#;
 
 // ---- fields, and what is printed of each
@@ -332,7 +332,7 @@ fn lines_of(alloc: Global, template: u16, values: &str) -> Result<String, Fail> 
     let mut lines = String::new(alloc);
     for value in values.lines() {
         let line = format!(in alloc;
-            "{{\"data\":{{}},\"fields\":{{\"t\":{value}}},\"groups\":{{}},\"template\":\"T{template}\",\"version\":0}}\n"
+            "{{\"data\":{{}},\"fields\":{{\"t\":{value}}},\"groups\":{{}},\"template\":\"Field{template}\",\"version\":0}}\n"
         )?;
         lines.push_str(line.as_str())?;
     }
@@ -369,7 +369,7 @@ fn line_of(alloc: Global, template: u16, values: &str) -> Result<String, Fail> {
         )?;
         line.push_str(entry.as_str())?;
     }
-    let end = format!(in alloc; "]}},\"template\":\"G{template}\",\"version\":0}}\n")?;
+    let end = format!(in alloc; "]}},\"template\":\"Entries{template}\",\"version\":0}}\n")?;
     line.push_str(end.as_str())?;
     Ok(line)
 }

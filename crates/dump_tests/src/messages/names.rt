@@ -63,7 +63,9 @@ fn all_schema(alloc: Global) -> Result<String, AllocError> {
 /// A message with each number in an entry.
 fn all_frame(alloc: Global) -> Result<Vec<u8>, AllocError> {
     let mut frame = Vec::new(alloc);
-    frame.extend_from_slice(b"\x00\x00\x01\x12\xeb\x50\x00\x00\x01\x00\x1a\x00\x00\x00\x01\x00\x00\x01")?;
+    frame.extend_from_slice(
+        b"\x00\x00\x01\x12\xeb\x50\x00\x00\x01\x00\x1a\x00\x00\x00\x01\x00\x00\x01",
+    )?;
     for number in 0..=255u8 {
         frame.push(number)?;
     }
