@@ -1,7 +1,7 @@
 -- Composites lie at most four deep in one another, so four names reach all that a kind has.
-use Rattle.std.proofs.Common.{◌≡◌, ℕ, zero, suc, ◌+◌, ◌≤◌, ◌<◌, max, List, ◌∷◌, Option, Some, None, refl, ap, sym, subst, ◌∙◌, arith}
-use Rattle.std.specs.Prelude.{option_map, Ok, ⊤}
-use Rattle.std.proofs.lemmas.Bool.{ltb-false}
+use Rattle.std.proofs.Common.{◌≡◌, ℕ, zero, suc, ◌+◌, ◌≤◌, ◌<◌, max, true, false, List, ◌∷◌, Option, Some, None, refl, ap, sym, subst, ◌∙◌, arith}
+use Rattle.std.specs.Prelude.{◌&&◌, nat_lt, option_map, Ok, ⊤}
+use Rattle.std.proofs.lemmas.Bool.{lt-ltb, ltb-false}
 use Rattle.sbe_types.specs.declared.tree.MemberItem.{MemberItem, Row_of-MemberItem, end_of-MemberItem, more_of-MemberItem}
 use Rattle.sbe_types.specs.declared.tree.MemberItem as part
 use Rattle.sbe_types.specs.declared.tree.CompositeEl.{CompositeEl}
@@ -13,7 +13,7 @@ use Rattle.schema_rules.specs.declared.facts.Fact.{Fact}
 use Rattle.schema_rules.specs.Names.{declared_as}
 use Rattle.schema_rules.specs.Kinds.{as_declared, member_name, member_offset, member_kind, row_members, item_kind, kind_or_plain, kind_through}
 use Rattle.schema_rules.specs.Facts.{counted, no_members, with_member, member_fact, row_fact, item_fact, declared_or_plain, fact_through, fact_named}
-use Rattle.schema_rules.specs.CompositeRules.{Inside, deeper, MembersBefore, no_member, with_one, row_judged, member_judged, last_rules}
+use Rattle.schema_rules.specs.CompositeRules.{Inside, deeper, MembersBefore, no_member, with_one, row_judged, member_judged, is_too_high, last_rules}
 use Rattle.schema_facts.proofs.KindPassed.{all_pass, inside_passed, member_passed, row_passed, row_of, composite_row_fact, composite_row_kind}
 
 -- ---- the names that members refer to
@@ -51,8 +51,20 @@ module _ (P Q : List ℕ → Type 0) (from : (name : List ℕ) → P name → Q 
 pub record IsLow (types : List TypesItem) (name : List ℕ) : Type 0 where
   pub low : (fact_named types name).height ≤ 3
 
-ref_low : (around height : ℕ) → 1 ≤ around → around + height ≤ 4 → height ≤ 3
-ref_low around height a h = omega arith
+-- a ref to a composite that isn't refused
+kept_low : (around k : ℕ) → is_too_high around (suc k) ≡ false → around + suc k ≤ 4
+kept_low around k h =
+    let some : nat_lt 0 (suc k) ≡ true = lt-ltb 0 (suc k) (omega arith) in
+    ltb-false 4 (around + suc k) (sym (ap (λ b. b && nat_lt 4 (around + suc k)) some) ∙ h)
+
+-- a ref that isn't refused, where not too many composites are around it
+pub ref_within : (around height : ℕ) → around ≤ 4 → is_too_high around height ≡ false → around + height ≤ 4
+ref_within around zero few h = omega (arith, few)
+ref_within around (suc k) few h = kept_low around k h
+
+ref_low : (around height : ℕ) → 1 ≤ around → is_too_high around height ≡ false → height ≤ 3
+ref_low around zero a h = omega arith
+ref_low around (suc k) a h = let low = kept_low around k h in omega (arith, a, low)
 
 mutual
   pub row_low : (inside : Inside) (before after : MembersBefore) (n : _) (row : Row_of-MemberItem n) → 1 ≤ inside.around →
@@ -69,7 +81,7 @@ mutual
   member_low inside before (part.Set s) a h = tt
   member_low inside before (part.Ref r) a h =
       let each = all_pass (last_rules inside (part.Ref r)) (member_passed inside before (part.Ref r) h).last in
-      record { low = ref_low inside.around (fact_named inside.types r.type_name).height a (ltb-false 4 (inside.around + (fact_named inside.types r.type_name).height) each.0) }
+      record { low = ref_low inside.around (fact_named inside.types r.type_name).height a each.0 }
   member_low inside before (part.Composite' name offset since n row) a h =
       let passed = inside_passed inside before (part.Composite' name offset since n row) h in
       row_low (deeper inside) no_member passed.after _ row (omega arith) passed.members

@@ -30,6 +30,7 @@ use Rattle.schema_facts.specs.InOrder.{AreAccepted, leaves, height, IsKindFrom, 
 use Rattle.schema_facts.proofs.KindLists.{leaves_comp, height_comp, IsFull, IsFullRow, comp_made}
 use Rattle.schema_facts.proofs.FactKinds.{Tells, composite_tells}
 use Rattle.schema_facts.proofs.FieldEnds.{with_tells, field_tells}
+use Rattle.schema_facts.proofs.KindDepth.{ref_within}
 use Rattle.schema_facts.proofs.KindPassed.{all_pass, then_ok, inside_passed, member_passed, row_passed, after_all, row_of, composite_row_fact, declared_inside, composite_passed}
 use Rattle.schema_facts.proofs.KindDeclared.{Good, declared_good, named_by}
 use Rattle.schema_facts.proofs.KindPlaces.{Fits, members_fits}
@@ -85,7 +86,7 @@ module _ (types : List TypesItem) where
     member_high around before (part.Set s) few h = let low = set_low (encoding_named types s.encoding_type) in omega arith
     member_high around before (part.Ref r) few h =
         let each = all_pass (last_rules (at around) (part.Ref r)) (member_passed (at around) before (part.Ref r) h).last in
-        let low = ltb-false 4 (around + (fact_named types r.type_name).height) each.0 in
+        let low = ref_within around (fact_named types r.type_name).height few each.0 in
         omega arith
     member_high around before (part.Composite' name offset since n row) few h =
         let passed = inside_passed (at around) before (part.Composite' name offset since n row) h in

@@ -87,9 +87,13 @@ ref_rules types r =
     ∷ ((rule.Float, names_fraction types r.type_name)
     ∷ [])
 
--- C17 Depth, of a ref: the composites around it and the height of the composite that it names are more than four.
+-- Composites around a ref to something of a height are too many. A type, an enum and a set have no height.
+abbrev pub is_too_high : ℕ → ℕ → Bool
+is_too_high around height = nat_lt 0 height && nat_lt most_composites (around + height)
+
+-- C17 Depth, of a ref: it names a composite, and the composites around it and the height of that one are more than four.
 abbrev pub names_too_high : Inside → RefEl → Bool
-names_too_high inside r = nat_lt most_composites (inside.around + (fact_named inside.types r.type_name).height)
+names_too_high inside r = is_too_high inside.around (fact_named inside.types r.type_name).height
 
 -- A type is there, and is an enum.
 abbrev pub is_enum : Option TypesItem → Bool

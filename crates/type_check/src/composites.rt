@@ -1,9 +1,9 @@
-ghost use Rattle.std.specs.Prelude.{◌≡◌, ◌+◌, ◌==◌, min, nat_lt, false, codes, OnOk};
+ghost use Rattle.std.specs.Prelude.{◌≡◌, ◌+◌, ◌==◌, min, false, codes, OnOk};
 ghost use Rattle.sbe_types.specs.declared.tree.MemberItem as part;
 ghost use Rattle.schema_rules.specs.Judging.{Gives, first_of, behind};
 ghost use Rattle.schema_rules.specs.Names.{is_among};
 ghost use Rattle.schema_rules.specs.Kinds.{member_name, member_offset};
-ghost use Rattle.schema_rules.specs.CompositeRules.{no_member, member_since, begins_early, member_rules, ref_rules, names_too_high, names_constant_enum, first_rules, last_rules, composite_rules, entered, member_judged, members_judged, composite_judged};
+ghost use Rattle.schema_rules.specs.CompositeRules.{no_member, member_since, begins_early, member_rules, ref_rules, is_too_high, names_too_high, names_constant_enum, first_rules, last_rules, composite_rules, entered, member_judged, members_judged, composite_judged};
 ghost use Rattle.type_check.specs.Seen.{made_of, inner_judged};
 
 use crate::name_table::NameTable;
@@ -212,13 +212,13 @@ fn judge_named_type(
 fn names_too_high(known: &Declarations, around: u8, r: &RefEl) -> bool
     ensures { result ≡ names_too_high (record { types = known.now; around = around }) r.now }
 {
-    is_above_four(around, known.fact_named(r.type_name.as_slice()).height)
+    is_too_high(around, known.fact_named(r.type_name.as_slice()).height)
 }
 
-fn is_above_four(around: u8, height: u64) -> bool
-    ensures { result ≡ nat_lt 4 (around + height) }
+fn is_too_high(around: u8, height: u64) -> bool
+    ensures { result ≡ is_too_high around height }
 {
-    height > 4 || around as u64 + height > 4
+    height > 0 && (height > 4 || around as u64 + height > 4)
 }
 
 fn names_constant_enum(known: &Declarations, r: &RefEl) -> bool
