@@ -8,8 +8,6 @@ pub mod laws;
 mod lines;
 mod reading;
 mod stream;
-#[cfg(test)]
-mod test_inputs;
 mod window;
 
 pub use held::Ended;
