@@ -1,5 +1,6 @@
 -- The sum of a field over the entries of a group.
-use Rattle.std.specs.Prelude.{◌≡◌, ℕ, Bool, true, false, nat_lt, if◌then◌else◌, ℤ, pos, ◌+ℤ◌, Option, Some, None, unwrap_or, List, [], ◌∷◌, length, slice_get, ⊤}
+use Rattle.std.specs.Prelude.{◌≡◌, ℕ, Bool, true, false, nat_lt, if◌then◌else◌, ℤ, pos, ◌+ℤ◌, Option, Some, None, unwrap_or, List, [], ◌∷◌, ◌++◌, length, slice_get, FitsSigned}
+use mir.Syntax.{w128}
 use Rattle.std.specs.Option.{option_and_then}
 use Rattle.sbe_types.specs.declared.kind.Kind.{Kind, Leaf, Enum, Set, Const, Comp'}
 use Rattle.sbe_types.specs.declared.kind.LeafShape.{LeafShape}
@@ -47,9 +48,20 @@ all_entries None = []
 all_entries (Some None) = []
 all_entries (Some (Some es)) = es
 
+-- the entries of group number `group` of a block
+abbrev pub group_entries : ℕ → Seen → List Seen
+group_entries group seen = all_entries (group_seen (slice_get seen.groups group) (slice_get (out-Block seen.block).groups group))
+
 -- the sum of a field over the entries of group number `group` of a block
 abbrev pub group_sum : ℕ → ℕ → Seen → ℤ
-group_sum group field seen = sum_at field (all_entries (group_seen (slice_get seen.groups group) (slice_get (out-Block seen.block).groups group)))
+group_sum group field seen = sum_at field (group_entries group seen)
+
+-- The sum of a field over some of the first entries passes 128 bits.
+pub record PassesRange (field : ℕ) (entries : List Seen) : Type 0 where
+  pub front : List Seen
+  pub back : List Seen
+  pub first : entries ≡ front ++ back
+  pub over : FitsSigned w128 (sum_at field front) → ⊥
 
 -- A message lies in the body, and this is the sum of a field over the entries of one of its groups.
 pub record IsSum (schema : WireSchema) (body : List ℕ) (group field : ℕ) (sum : ℤ) : Type 0 where
@@ -59,7 +71,15 @@ pub record IsSum (schema : WireSchema) (body : List ℕ) (group field : ℕ) (su
   pub root : slice_get schema.messages message.template ≡ Some level
   pub is : sum ≡ group_sum group field (seen_level level message.block)
 
--- the first fault of the body; of a sum that passes 128 bits nothing is said
-abbrev pub IsNoSum : WireSchema → List ℕ → SumErr → Type 0
-IsNoSum schema body (Refused r) = FirstFault schema (refused r) body
-IsNoSum schema body Over = ⊤
+-- A message lies in the body, and over some of the first entries of one of its groups the sum of a field passes 128 bits.
+pub record IsOver (schema : WireSchema) (body : List ℕ) (group field : ℕ) : Type 0 where
+  pub message : Msg
+  pub level : Level
+  pub lies : Lays schema message body
+  pub root : slice_get schema.messages message.template ≡ Some level
+  pub passes : PassesRange field (group_entries group (seen_level level message.block))
+
+-- the first fault of the body, or that a sum passes 128 bits
+abbrev pub IsNoSum : WireSchema → List ℕ → ℕ → ℕ → SumErr → Type 0
+IsNoSum schema body group field (Refused r) = FirstFault schema (refused r) body
+IsNoSum schema body group field Over = IsOver schema body group field

@@ -1,9 +1,9 @@
 // The sum of a field over the entries of a group.
-ghost use Rattle.std.specs.Prelude.{◌≡◌, ◌<◌, length, is_some, slice_get, unwrap_or, pos, IfOk, IfErr, IfSome};
+ghost use Rattle.std.specs.Prelude.{◌≡◌, ◌<◌, length, is_some, slice_get, unwrap_or, pos, IfOk, IfErr, IfSome, IfNone};
 ghost use Rattle.std.specs.Option.{option_and_then};
 ghost use Rattle.sbe_types.specs.declared.message.Block.{out-Block};
 ghost use Rattle.field_values.specs.Told.{number_in};
-ghost use Rattle.library_examples.specs.Sums.{group_sum, is_number_kind, number_at, sum_at, IsNoSum, IsSum};
+ghost use Rattle.library_examples.specs.Sums.{group_entries, group_sum, is_number_kind, number_at, sum_at, IsNoSum, IsSum, PassesRange};
 
 use flyweight_view::{BlockView, EntriesView, FieldState, Refusal, validate};
 use layout_compile::Layout;
@@ -24,10 +24,11 @@ pub enum SumErr {
 ///
 /// # Errors
 ///
-/// `Refused` exactly where no message of the schema lies in the body.
+/// `Refused` exactly where no message of the schema lies in the body. `Over` only where the numbers of some of the first
+/// entries have a sum that passes 128 bits.
 pub fn sum_entries(layout: &Layout, body: &[u8], group: usize, field: usize) -> Result<i128, SumErr>
     ensures sum { IfOk result (IsSum layout.now body.now group field) }
-    ensures refused { IfErr result (IsNoSum layout.now body.now) }
+    ensures refused { IfErr result (IsNoSum layout.now body.now group field) }
 {
     match validate(layout, body) {
         Ok(view) => match sum_group(&view.root(), group, field) {
@@ -40,7 +41,8 @@ pub fn sum_entries(layout: &Layout, body: &[u8], group: usize, field: usize) -> 
 
 /// The sum over the entries of a block's group.
 fn sum_group(root: &BlockView<'_>, group: usize, field: usize) -> Option<i128>
-    ensures { IfSome result (λ sum. sum ≡ group_sum group field root.now) }
+    ensures sum { IfSome result (λ sum. sum ≡ group_sum group field root.now) }
+    ensures over { IfNone result (PassesRange field (group_entries group root.now)) }
 {
     if group >= root.counts().1 {
         return Some(0);
@@ -53,7 +55,8 @@ fn sum_group(root: &BlockView<'_>, group: usize, field: usize) -> Option<i128>
 
 /// The sum over entries.
 fn sum_over(entries: EntriesView<'_>, field: usize) -> Option<i128>
-    ensures { IfSome result (λ sum. sum ≡ sum_at field entries.entry) }
+    ensures sum { IfSome result (λ sum. sum ≡ sum_at field entries.entry) }
+    ensures over { IfNone result (PassesRange field entries.entry) }
 {
     let mut sum: i128 = 0;
     for entry in entries {
