@@ -39,7 +39,7 @@ passes field e rest left all before n added next number over = record {
   back = rest;
   first = next_whole added.front e rest left all added.whole next;
   over = λ fits. over (subst (FitsSigned w128)
-    (grown field added.front e ∙ ap (λ k. k +ℤ number_or_zero field e) (sym added.is) ∙ ap (λ k. before +ℤ k) (sym number)) fits);
+      (grown field added.front e ∙ ap (λ k. k +ℤ number_or_zero field e) (sym added.is) ∙ ap (λ k. before +ℤ k) (sym number)) fits);
 }
 
 pub if_none : {A P : Type 0} (o : Option A) → P → IfNone o P

@@ -3,3 +3,4 @@ mod Adding
 mod Within
 mod OrderBytes
 mod OrderFits
+mod OrderRoom

@@ -5,6 +5,7 @@ use Rattle.std.specs.Option.{option_and_then}
 use Rattle.std.proofs.lemmas.List.{drop_all, length-map}
 use denote.Hole.Carrier as carrier
 use Rattle.sbe_types.specs.declared.kind.Member.{Member}
+use Rattle.sbe_types.specs.declared.kind.Order.{Order}
 use Rattle.sbe_types.specs.declared.message.Block.{Block, out-Block}
 use Rattle.sbe_types.specs.declared.message.DataVal.TheVariants as dataval
 use Rattle.sbe_types.specs.declared.message.GroupVal.{GroupVal}
@@ -46,7 +47,7 @@ one_item [] h = absurd (omega (arith, h))
 one_item (x ∷ []) h = (x, refl)
 one_item (x ∷ y ∷ ys) h = absurd (omega (arith, h))
 
-no_item : {A : Type 0} (xs : List A) → length xs ≡ 0 → xs ≡ []
+pub no_item : {A : Type 0} (xs : List A) → length xs ≡ 0 → xs ≡ []
 no_item [] h = refl
 no_item (x ∷ xs) h = absurd (omega (arith, h))
 
@@ -101,7 +102,7 @@ order_levels schema is =
 -- ---- a block of one field
 
 module _ (schema : WireSchema) (level : Level) (block : Block) (v : Value) (ready : IsReadySchema schema) (one : length (out-Level level).fields ≡ 1) (holds : (out-Block block).fields ≡ v ∷ []) where
-  one_filled : (old new : Held) → level_at schema (level_of old.frames) ≡ Some level → SetsFields schema old → SetsFields schema new → SetsField schema (level_of old.frames) 0 v old new →
+  pub one_filled : (old new : Held) → level_at schema (level_of old.frames) ≡ Some level → SetsFields schema old → SetsFields schema new → SetsField schema (level_of old.frames) 0 v old new →
       Fills (task_of schema level block) old new
   one_filled old new at state now sets =
       let task = task_of schema level block in
@@ -111,11 +112,27 @@ module _ (schema : WireSchema) (level : Level) (block : Block) (v : Value) (read
       let at_new : level_at schema (level_of new.frames) ≡ Some level = ap (λ fs. level_at schema (level_of fs)) next.same.frames ∙ at in
       all_filled schema level block old new ready now at_new (one ∙ sym (ap length holds)) (subst (λ k. FilledTo task k old new) (sym one) filled)
 
-leg_fields : (quantity : ℤ) → (out-Block (leg_block quantity)).fields ≡ value.Num quantity ∷ []
+pub leg_fields : (quantity : ℤ) → (out-Block (leg_block quantity)).fields ≡ value.Num quantity ∷ []
 unfolding carrier.out
 leg_fields quantity = refl
 
-order_fields : (number : ℤ) (legs : List ℤ) (note : List ℕ) → (out-Block (order_block number legs note)).fields ≡ value.Num number ∷ []
+pub order_groups : (number : ℤ) (legs : List ℤ) (note : List ℕ) → (out-Block (order_block number legs note)).groups ≡ groupval.Entries (map leg_block legs) ∷ []
+unfolding carrier.out
+order_groups number legs note = refl
+
+pub order_parts : (number : ℤ) (legs : List ℤ) (note : List ℕ) → (out-Block (order_block number legs note)).parts ≡ dataval.Bytes note ∷ []
+unfolding carrier.out
+order_parts number legs note = refl
+
+-- a leg has nothing behind its block
+pub no_tail : (order : Order) (level : Level) (quantity : ℤ) → (out-Level level).groups ≡ [] → (out-Level level).parts ≡ [] → tail_bytes order level (leg_block quantity) ≡ Some []
+unfolding carrier.out
+no_tail order level quantity groups parts =
+    tail_bytes_is order level (leg_block quantity)
+    ∙ ap (λ gs. both (groups_put order gs []) (parts_bytes order (out-Level level).parts [])) groups
+    ∙ ap (λ ps. both (Some []) (parts_bytes order ps [])) parts
+
+pub order_fields : (number : ℤ) (legs : List ℤ) (note : List ℕ) → (out-Block (order_block number legs note)).fields ≡ value.Num number ∷ []
 unfolding carrier.out
 order_fields number legs note = refl
 
@@ -131,13 +148,6 @@ module _ (schema : WireSchema) (ready : IsReadySchema schema) (order : IsOrderSc
   leg_put : (quantity : ℤ) → leg_bytes schema quantity ≡ entry_put schema.order legs (leg_block quantity)
   leg_put quantity = ap (option_and_then (λ (level : Level). entry_put schema.order level (leg_block quantity))) levels.legs_at
 
-  no_tail : (quantity : ℤ) → tail_bytes schema.order legs (leg_block quantity) ≡ Some []
-  unfolding carrier.out
-  no_tail quantity =
-      tail_bytes_is schema.order legs (leg_block quantity)
-      ∙ ap (λ gs. both (groups_put schema.order gs []) (parts_bytes schema.order (out-Level legs).parts [])) levels.leg_groups
-      ∙ ap (λ ps. both (Some []) (parts_bytes schema.order ps [])) levels.leg_parts
-
   -- an entry that was begun, set and closed
   pub leg_written : (quantity : ℤ) (t : Frame) (old opened filled tailed new : Held) → level_of old.frames ≡ legs_of schema → Opens schema old opened → SetsFields schema opened → SetsFields schema filled →
       SetsField schema (level_of opened.frames) 0 (value.Num quantity) opened filled → tailed ≡ goes_on_as filled t → new ≡ ends tailed → behind old.bytes (leg_bytes schema quantity) ≡ Some new.bytes
@@ -152,7 +162,7 @@ module _ (schema : WireSchema) (ready : IsReadySchema schema) (order : IsOrderSc
       ∙ ap (λ o. behind old.bytes (empty_block schema.order long (fields_in o))) at)
       ∙ opens.bytes in
       let block = fills.bytes old.bytes (sym opens.at) empty in
-      let tail : behind filled.bytes (tail_bytes schema.order legs (leg_block quantity)) ≡ Some filled.bytes = ap (behind filled.bytes) (no_tail quantity) ∙ behind_none filled.bytes in
+      let tail : behind filled.bytes (tail_bytes schema.order legs (leg_block quantity)) ≡ Some filled.bytes = ap (behind filled.bytes) (no_tail schema.order legs quantity levels.leg_groups levels.leg_parts) ∙ behind_none filled.bytes in
       ap (behind old.bytes) (leg_put quantity) ∙ behind_both old.bytes filled.bytes filled.bytes _ _ block tail ∙ ap (λ (h : Held). Some h.bytes) (sym (ended ∙ ap ends goes))
 
   -- ---- all legs

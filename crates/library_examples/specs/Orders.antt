@@ -1,22 +1,25 @@
 -- A message that is written part by part.
-use Rattle.std.specs.Prelude.{◌≡◌, ◌<◌, ℕ, ℤ, true, Option, None, List, [], ◌∷◌, length, map}
+use Rattle.std.specs.Prelude.{◌≡◌, ◌≢◌, ◌<◌, ◌-◌, ℕ, ℤ, true, Option, Some, None, List, [], ◌∷◌, length, map}
 use Rattle.std.specs.Option.{option_and_then}
 use Rattle.sbe_types.specs.declared.message.Block.{Block}
 use Rattle.sbe_types.specs.declared.message.DataVal.TheVariants as dataval
 use Rattle.sbe_types.specs.declared.message.GroupVal.TheVariants as groupval
 use Rattle.sbe_types.specs.declared.message.Msg.{Msg}
 use Rattle.sbe_types.specs.declared.message.Value.TheVariants as value
+use Rattle.sbe_types.specs.declared.schema.Group.{Group}
 use Rattle.sbe_types.specs.declared.schema.Level.{Level}
 use Rattle.sbe_types.specs.declared.schema.WireSchema.{WireSchema}
 use Rattle.sbe_types.specs.Wire.{both}
 use Rattle.sbe_wire.specs.Canonical.{all_bytes}
-use Rattle.sbe_wire.specs.Misfit.{Misfit, or_else}
+use Rattle.sbe_wire.specs.Misfit.{Misfit, misfit, or_else}
 use Rattle.schema_facts.specs.Levels.{fields_at, groups_at, level_at, parts_at, root_of}
 use Rattle.layout_compile.specs.Parts.{group_number}
 use Rattle.typed_writer.specs.Held.{Held}
-use Rattle.typed_writer.specs.States.{level_of}
+use Rattle.typed_writer.specs.declared.stack.Frame.TheVariants.{Entries, Tail}
+use Rattle.typed_writer.specs.States.{entries_left, level_of}
 use Rattle.typed_writer.specs.Steps.{admits_entries, dimension_in, misfit_at}
-use Rattle.tree_codec.specs.Puts.{entry_put}
+use Rattle.library_examples.specs.declared.orders.Order.{Order}
+use Rattle.tree_codec.specs.Puts.{HasRoom, Puts, entry_put, entry_stretch, group_stretch}
 
 -- the number of the level of an order's legs
 abbrev pub legs_of : WireSchema → ℕ
@@ -54,6 +57,10 @@ order_block number legs note = record {
 abbrev pub order_message : ℕ → ℤ → List ℤ → List ℕ → Msg
 order_message version number legs note = record { template = 0; version = version; block = order_block number legs note }
 
+-- the same of an order as code has it
+abbrev pub message_of_order : ℕ → Order → Msg
+message_of_order version order = order_message version order.number order.legs.now order.note.now
+
 -- ---- its bytes
 
 -- those of a leg
@@ -78,3 +85,33 @@ legs_misfit schema (q ∷ qs) = or_else (misfit_at schema (legs_of schema) 0 (va
 -- the group may have so many legs, and each fits
 abbrev pub LegsFit : WireSchema → List ℤ → Type 0
 LegsFit schema legs = (admits_entries schema (legs_of schema) (length legs) ≡ true) × (legs_misfit schema legs ≡ None)
+
+-- ---- what has room
+
+-- The entry of a leg has no misfit, and room behind what is held.
+pub record LegHasRoom (schema : WireSchema) (quantity : ℤ) (held : Held) : Type 0 where
+  pub level : Level
+  pub there : level_at schema (legs_of schema) ≡ Some level
+  pub room : HasRoom (entry_stretch schema.order level (leg_block quantity)) held
+
+-- The entry of a leg stands behind what was held, and the writer goes on with the next one.
+pub record PutsLeg (schema : WireSchema) (quantity : ℤ) (old new : Held) : Type 0 where
+  pub level : Level
+  pub there : level_at schema (legs_of schema) ≡ Some level
+  pub puts : Puts (entry_stretch schema.order level (leg_block quantity)) (Entries (legs_of schema) (entries_left old.frames - 1)) old new
+
+-- The group of all legs has no misfit, and room behind what is held.
+pub record LegsHaveRoom (schema : WireSchema) (legs : List ℤ) (held : Held) : Type 0 where
+  pub group : Group
+  pub one : groups_at schema (root_of schema 0) ≡ group ∷ []
+  pub room : HasRoom (group_stretch schema.order group (groupval.Entries (map leg_block legs))) held
+
+-- The group of all legs stands behind what was held, and the writer goes on behind it.
+pub record PutsLegs (schema : WireSchema) (legs : List ℤ) (old new : Held) : Type 0 where
+  pub group : Group
+  pub one : groups_at schema (root_of schema 0) ≡ group ∷ []
+  pub puts : Puts (group_stretch schema.order group (groupval.Entries (map leg_block legs))) (Tail (root_of schema 0) 1) old new
+
+-- an order that isn't written: the schema's first message is no order, or the message has a misfit within the limit
+abbrev pub IsNoOrder : WireSchema → Msg → ℕ → Type 0
+IsNoOrder schema m limit = IsOrderSchema schema → misfit schema m limit ≢ None

@@ -1,12 +1,12 @@
 // An order, written part by part.
-ghost use Rattle.std.specs.Prelude.{◌≡◌, ◌∷◌, [], ◌-◌, ◌<◌, drop, length, true, OnOk, IfOk};
+ghost use Rattle.std.specs.Prelude.{◌≡◌, ◌∷◌, [], ◌-◌, ◌<◌, drop, length, true, OnOk, OnErr, IfOk};
 ghost use Rattle.sbe_wire.specs.Canonical.{canonical};
 ghost use Rattle.sbe_wire.specs.Fits.{Fits};
 ghost use Rattle.schema_facts.specs.Levels.{root_of};
 ghost use Rattle.flyweight_view.specs.Ready.{IsReadySchema};
 ghost use Rattle.typed_writer.specs.Empty.{behind};
 ghost use Rattle.typed_writer.specs.States.{entries_left, level_of, AppendsEntries, AppendsParts};
-ghost use Rattle.library_examples.specs.Orders.{leg_bytes, legs_bytes, order_message, AtLegs, IsOrderSchema, LegFits, LegsFit};
+ghost use Rattle.library_examples.specs.Orders.{leg_bytes, legs_bytes, message_of_order, AtLegs, IsNoOrder, IsOrderSchema, LegFits, LegHasRoom, LegsFit, LegsHaveRoom, PutsLeg, PutsLegs};
 
 use layout_compile::Layout;
 use sbe_types::Value;
@@ -43,16 +43,18 @@ pub enum OrderErr {
 ///
 /// # Errors
 ///
-/// A part that doesn't fit, or another schema. No contract says which, nor what the buffer then holds.
+/// Only where the first message of the schema is no order, or the order has a misfit within the buffer's limit. No contract
+/// says which, nor what the buffer then holds.
 pub fn write_order(
     layout: &Layout,
     order: &Order<'_>,
     buffer: &mut FrameBuf,
 ) -> Result<usize, OrderErr>
-    ensures fits { OnOk result (Fits layout.now (order_message layout.now.version order.now.number order.now.legs.now order.now.note.now)) }
-    ensures body { OnOk result (canonical layout.now (order_message layout.now.version order.now.number order.now.legs.now order.now.note.now) ≡ Some buffer.new.bytes) }
+    ensures fits { OnOk result (Fits layout.now (message_of_order layout.now.version order.now)) }
+    ensures body { OnOk result (canonical layout.now (message_of_order layout.now.version order.now) ≡ Some buffer.new.bytes) }
     ensures length { IfOk result (λ n. n ≡ length buffer.new.bytes) }
     ensures whole { OnOk result (buffer.new.frames ≡ []) }
+    ensures refused { OnErr result (IsNoOrder layout.now (message_of_order layout.now.version order.now) buffer.old.limit) }
 {
     let _schema = layout.schema();
     if !is_order(layout) {
@@ -81,7 +83,8 @@ pub fn write_order(
 
 /// Whether the schema's first message has the parts of an order.
 fn is_order(layout: &Layout) -> bool
-    ensures { result ≡ true → IsOrderSchema layout.now }
+    ensures yes { result ≡ true → IsOrderSchema layout.now }
+    ensures no { IsOrderSchema layout.now → result ≡ true }
 {
     if layout.templates() == 0 {
         return false;
@@ -110,6 +113,8 @@ fn write_legs(layout: &Layout, tail: &mut TailW<'_>, legs: &[i128]) -> Result<()
     ensures fits { OnOk result (LegsFit layout.now legs.now) }
     ensures bytes { OnOk result (behind tail.old.buf.now.bytes (legs_bytes layout.now legs.now) ≡ Some tail.new.buf.now.bytes) }
     ensures behind { OnOk result (tail.new.buf.now.frames ≡ Frame.Tail (root_of layout.now 0) 1 ∷ []) }
+    ensures puts { OnOk result (LegsHaveRoom layout.now legs.now tail.old.buf.now → PutsLegs layout.now legs.now tail.old.buf.now tail.new.buf.now) }
+    ensures refused { OnErr result (LegsHaveRoom layout.now legs.now tail.old.buf.now → ⊥) }
 {
     let Ok(count) = u32::try_from(legs.len()) else {
         return Err(OrderErr::Part(TailErr::Count));
@@ -138,6 +143,8 @@ fn write_leg(layout: &Layout, entries: &mut EntriesW<'_>, quantity: i128) -> Res
     ensures fits { OnOk result (LegFits layout.now quantity) }
     ensures bytes { OnOk result (behind entries.old.buf.now.bytes (leg_bytes layout.now quantity) ≡ Some entries.new.buf.now.bytes) }
     ensures next { OnOk result (entries.new.buf.now.frames ≡ Frame.Entries (level_of entries.old.buf.now.frames) (entries_left entries.old.buf.now.frames - 1) ∷ drop 1 entries.old.buf.now.frames) }
+    ensures puts { OnOk result (LegHasRoom layout.now quantity entries.old.buf.now → PutsLeg layout.now quantity entries.old.buf.now entries.new.buf.now) }
+    ensures refused { OnErr result (LegHasRoom layout.now quantity entries.old.buf.now → ⊥) }
 {
     match entries.buf.entry(layout) {
         Ok(mut fields) => {
