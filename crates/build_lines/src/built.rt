@@ -9,12 +9,12 @@ ghost use Rattle.build_lines.specs.Build.{body_limit, built_reply, frame_reply, 
 ghost use Rattle.replies.specs.Drafts.{DeliversDraft};
 ghost use Rattle.replies.specs.Outside.{Object, object_of, sinks_of};
 
+use crate::space::LineSpace;
 use crate::target::Target;
 use crate::unbuilt::{put_misfit, put_unread};
 use dump_lines::encoding_of;
 use layout_compile::Layout;
-use line_draft::BodyDraft;
-use line_reading::{LineFault, msg_of_line};
+use line_reading::{LineFault, msg_of_line_with};
 use open_framing::{HEAD_BYTES, Head, put_head};
 use printed_lines::body_of_line;
 use replies::Verdict;
@@ -36,26 +36,34 @@ pub fn answer_built<O: Sink, N: Sink>(
     target: &Target,
     item: u64,
     line: &[u8],
-    draft: &mut BodyDraft,
-    buffer: &mut FrameBuf,
+    space: &mut LineSpace,
     output: &mut O,
     notes: &mut N,
 ) -> Result<Verdict, Status>
-    requires room { buffer.old.limit < 2 ^ 24 }
-    ensures answers { (limit : ℕ) → buffer.old.limit ≡ body_limit limit → DeliversDraft (built_reply target.now limit item line.now)
+    requires room { space.old.buffer.limit < 2 ^ 24 }
+    ensures answers { (limit : ℕ) → space.old.buffer.limit ≡ body_limit limit → DeliversDraft (built_reply target.now limit item line.now)
         (sinks_of (object_of (O.held output.old) (O.faults output.old)) (object_of (N.held notes.old) (N.faults notes.old)))
         (sinks_of (object_of (O.held output.new) (O.faults output.new)) (object_of (N.held notes.new) (N.faults notes.new)))
         result }
-    ensures limit { buffer.new.limit ≡ buffer.old.limit }
+    ensures limit { space.new.buffer.limit ≡ space.old.buffer.limit }
 {
     if line.is_empty() {
         return Ok(Verdict::Answered);
     }
-    if body_of_line(&target.layout, line, buffer.limit(), draft) {
-        return answer_body(&target.layout, draft.bytes(), output);
+    if body_of_line(&target.layout, line, space.buffer.limit(), &mut space.draft) {
+        return answer_body(&target.layout, space.draft.bytes(), output);
     }
-    match msg_of_line(alloc, &target.checked, line) {
-        Ok(message) => answer_message(&target.layout, item, &message, buffer, output, notes),
+    match msg_of_line_with(alloc, &target.checked, line, &mut space.json) {
+        Ok(message) => {
+            answer_message(
+                &target.layout,
+                item,
+                &message,
+                &mut space.buffer,
+                output,
+                notes,
+            )
+        }
         Err(LineFault::Refused(code, place)) => {
             match put_unread(notes, item, code, place.as_slice()) {
                 Ok(()) => Ok(Verdict::Refused),

@@ -3,8 +3,10 @@
 
 mod built;
 pub mod rows;
+mod space;
 mod target;
 mod unbuilt;
 
 pub use built::answer_built;
+pub use space::LineSpace;
 pub use target::Target;

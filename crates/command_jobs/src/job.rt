@@ -14,17 +14,15 @@ use crate::check::{load_check, put_checked};
 use crate::compat::{load_compat, put_compared};
 use crate::dump::{answer_dumped, load_dump};
 use crate::kept::Kept;
-use build_lines::{Target, answer_built};
+use build_lines::{LineSpace, Target, answer_built};
 use command_words::Command;
 use dump_lines::{Schemas, Workspace};
-use line_draft::BodyDraft;
 use lists::NoMem;
 use replies::{Draft, Verdict};
 use sbe_base::{Files, Limits, Sink, Status, WriteFault};
 use schema_check::Checked;
 use schema_files::JobStop;
 use std::alloc::Global;
-use typed_writer::FrameBuf;
 
 /// A command whose files are accepted, by what it takes of its input.
 #[derive(Drop)]
@@ -102,7 +100,7 @@ pub fn answer_frame<O: Sink>(
     }
 }
 
-/// Writes the answer to a line. It is put together in the draft, or else in the buffer.
+/// Writes the answer to a line. It is put together in the space.
 ///
 /// # Errors
 ///
@@ -112,24 +110,21 @@ pub fn answer_line<O: Sink, N: Sink>(
     job: &LineJob,
     kept: Kept,
     line: &[u8],
-    draft: &mut BodyDraft,
-    buffer: &mut FrameBuf,
+    space: &mut LineSpace,
     output: &mut O,
     notes: &mut N,
 ) -> Result<Verdict, Status>
     requires ready { IsReadyLine job.now }
-    requires room { buffer.old.limit < 2 ^ 24 }
-    ensures answers { (limits : Limits) → buffer.old.limit ≡ body_limit limits.frame → DeliversDraft (line_reply job.now limits kept line.now)
+    requires room { space.old.buffer.limit < 2 ^ 24 }
+    ensures answers { (limits : Limits) → space.old.buffer.limit ≡ body_limit limits.frame → DeliversDraft (line_reply job.now limits kept line.now)
         (sinks_of (object_of (O.held output.old) (O.faults output.old)) (object_of (N.held notes.old) (N.faults notes.old)))
         (sinks_of (object_of (O.held output.new) (O.faults output.new)) (object_of (N.held notes.new) (N.faults notes.new)))
         result }
-    ensures limit { buffer.new.limit ≡ buffer.old.limit }
+    ensures limit { space.new.buffer.limit ≡ space.old.buffer.limit }
 {
     match job {
         LineJob::Build { target } => {
-            answer_built(
-                alloc, target, kept.items, line, draft, buffer, output, notes,
-            )
+            answer_built(alloc, target, kept.items, line, space, output, notes)
         }
     }
 }

@@ -8,8 +8,8 @@ use Rattle.std.proofs.lemmas.Bool.{eqb-true}
 use Rattle.std.proofs.lemmas.Nat.{and_le_l, or_disjoint, one_shl}
 use Rattle.std.proofs.lemmas.Nat.Bits.{same_from_bits_below, bit_at_and, bit_at-zero, bit_at-pow_other, shr_and_one}
 use Rattle.line_reading.specs.declared.refusals.JCode.TheVariants as code
-use Rattle.serde_json.specs.View.{view, items_view}
-use Rattle.serde_json.specs.declared.value.Value.{Value as JsonValue}
+use Rattle.json_data.specs.declared.data.Json.{Json}
+use Rattle.json_data.specs.Trees.{data_of, items_of}
 use Rattle.sbe_types.specs.declared.kind.Named.{Named}
 use Rattle.line_reading.specs.Refusals.{◌>>=◌, refuse}
 use Rattle.line_reading.specs.Values.{number_named, bit_of, bit_named, with_bit, choice_in, choices_in}
@@ -24,11 +24,11 @@ pub bit_next : (names : List Named) (s : List ℕ) (i : ℕ) (v : Named) → i <
     → bit_named (drop i names) s ≡ cond (bytes_eq v.name s) (bit_of v.number) (bit_named (drop (i + 1) names) s)
 bit_next names s i v h is = ap (λ xs. bit_named xs s) (there names i v h is)
 
-pub choices_more : (names : List Named) (items : List JsonValue) (i : ℕ) (d : JsonValue) (bits more : ℕ) → i < length items → d ≡ get_or items i d → choice_in names bits (view d) ≡ Ok more
-    → choices_in names more (items_view (drop (i + 1) items)) ≡ choices_in names bits (items_view (drop i items))
+pub choices_more : (names : List Named) (items : List Json) (i : ℕ) (d : Json) (bits more : ℕ) → i < length items → d ≡ get_or items i d → choice_in names bits (data_of d) ≡ Ok more
+    → choices_in names more (items_of (drop (i + 1) items)) ≡ choices_in names bits (items_of (drop i items))
 unfolding choices_in
 choices_more names items i d bits more h is read =
-    sym (ap (choices_in names bits) (item_there items i d h is) ∙ ap (λ o. o >>= (λ b. choices_in names b (items_view (drop (i + 1) items)))) read)
+    sym (ap (choices_in names bits) (item_there items i d h is) ∙ ap (λ o. o >>= (λ b. choices_in names b (items_of (drop (i + 1) items)))) read)
 
 -- ---- one bit more
 

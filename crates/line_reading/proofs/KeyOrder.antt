@@ -13,7 +13,7 @@ use Rattle.serde_json.specs.Read.{of_json, of_items, of_members, number_of, max_
 use Rattle.line_reading.specs.Objects.{is_named, first_unknown}
 use Rattle.line_reading.specs.Ordered.{IsBefore, IsBeforeAll, HasOrder, ItemsHaveOrder, MembersHaveOrder, IsLeast}
 
-some_is : {A : Type 0} {x y : A} → Some x ≡ Some y → x ≡ y
+pub some_is : {A : Type 0} {x y : A} → Some x ≡ Some y → x ≡ y
 some_is h = cc
 
 map_some : {A B : Type 0} (f : A → B) (o : Option A) (y : B) → option_map f o ≡ Some y → (x : A) × (o ≡ Some x) × (f x ≡ y)
@@ -26,7 +26,7 @@ then_some f (Some x) y h = (x, refl, h)
 
 -- ---- a key that is put among others
 
-before_more : (key other : List ℕ) (ms : Members) → IsBefore key other → IsBeforeAll other ms → IsBeforeAll key ms
+pub before_more : (key other : List ℕ) (ms : Members) → IsBefore key other → IsBeforeAll other ms → IsBeforeAll key ms
 before_more key other no_members h all = tt
 before_more key other (member next d ms) h all = (nat_list_cmp_total.trans key other next h all.0, before_more key other ms h all.1)
 
@@ -36,7 +36,7 @@ above_by Less key new other d e ms rest h all more = (h, all)
 above_by Equal key new other d e ms rest h all more = all
 above_by Greater key new other d e ms rest h all more = (all.0, more)
 
-above_put : (key new : List ℕ) (d : Data) (ms : Members) → IsBefore key new → IsBeforeAll key ms → IsBeforeAll key (put new d ms)
+pub above_put : (key new : List ℕ) (d : Data) (ms : Members) → IsBefore key new → IsBeforeAll key ms → IsBeforeAll key (put new d ms)
 above_put key new d no_members h all = (h, tt)
 above_put key new d (member other e ms) h all = above_by (slice_cmp nat_cmp new other) key new other d e ms (put new d ms) h all (above_put key new d ms h all.1)
 

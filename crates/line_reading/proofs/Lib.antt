@@ -2,7 +2,8 @@ pub mod NameSteps
 pub mod ListSteps
 pub mod ItemSteps
 pub mod ChoiceSteps
-pub mod Counting
+pub mod Unknown
+pub mod HexKeys
 pub mod Opening
 pub mod Wholes
 pub mod KeyOrder

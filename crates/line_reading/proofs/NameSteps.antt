@@ -1,5 +1,7 @@
 -- The next name in a list of names.
-use Rattle.std.proofs.Common.{◌≡◌, ℕ, suc, ◌+◌, ◌<◌, true, cond, List, ◌∷◌, length, drop, get_or, Some, sym, ap, ◌∙◌, drop-cons, add-one}
+use Rattle.std.proofs.Common.{◌≡◌, ℕ, zero, suc, ◌+◌, ◌<◌, Bool, true, false, cond, List, [], ◌∷◌, length, drop, get_or, Some, refl, sym, ap, ◌∙◌, arith, drop-cons, add-one}
+use Rattle.std.specs.Prelude.{if◌then◌else◌}
+use Rattle.std.proofs.lemmas.Slice.Eq.{bytes_eq-Decides}
 use Rattle.std.specs.Str.{bytes_eq}
 use Rattle.sbe_types.specs.declared.kind.Member.{Member}
 use Rattle.sbe_types.specs.declared.schema.Field.{Field}
@@ -34,3 +36,22 @@ pub level_next : (s : List ℕ) (levels : List Level) (i : ℕ) (level : Level) 
     → level_named i (drop i levels) s ≡ cond (bytes_eq (out-Level level).name s) (Some (template i level)) (level_named (i + 1) (drop (i + 1) levels) s)
 level_next s levels i level h is =
     ap (λ xs. level_named i xs s) (there levels i level h is) ∙ ap (λ n. cond (bytes_eq (out-Level level).name s) (Some (template i level)) (level_named n (drop (i + 1) levels) s)) (sym (add-one i))
+
+-- ---- a name in its place
+
+here : (key name : List ℕ) (rest : Bool) → key ≡ name → (if bytes_eq key name then true else rest) ≡ true
+here key name rest same = ap (λ (b : Bool). if b then true else rest) ((bytes_eq-Decides key name).1 same)
+
+later : (b rest : Bool) → rest ≡ true → (if b then true else rest) ≡ true
+later true rest h = refl
+later false rest h = h
+
+pub field_there : (key : List ℕ) (fs : List Field) (i : ℕ) (f : Field) → i < length fs → key ≡ (get_or fs i f).name → is_named key (field_names fs) ≡ true
+field_there key [] i f h same = absurd (omega arith)
+field_there key (g ∷ fs) zero f h same = here key g.name _ same
+field_there key (g ∷ fs) (suc i) f h same = later (bytes_eq key g.name) _ (field_there key fs i f (omega arith) same)
+
+pub member_there : (key : List ℕ) (ms : List Member) (i : ℕ) (m : Member) → i < length ms → key ≡ (get_or ms i m).name → is_named key (member_list_names ms) ≡ true
+member_there key [] i m h same = absurd (omega arith)
+member_there key (n ∷ ms) zero m h same = here key n.name _ same
+member_there key (n ∷ ms) (suc i) m h same = later (bytes_eq key n.name) _ (member_there key ms i m (omega arith) same)

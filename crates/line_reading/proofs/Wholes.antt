@@ -1,18 +1,11 @@
--- A line with a JSON value, and one without; keys that are no text.
-use Rattle.std.proofs.Common.{◌≡◌, ℕ, Bool, true, false, List, [], ◌∷◌, Some, None, refl, sym, ap, ◌∙◌, subst}
+-- A line with a JSON value, and one without.
+use Rattle.std.proofs.Common.{◌≡◌, ℕ, Bool, true, false, List, Some, None, refl, ap, ◌∙◌}
 use Rattle.std.specs.Prelude.{if◌then◌else◌, Option}
 use Rattle.std.specs.Str.{IsUtf8, is_utf8}
-use Rattle.std.proofs.lemmas.Str.{IsUtf8-string_bytes, is_utf8-from_IsUtf8, IsUtf8-from_is_utf8}
+use Rattle.std.proofs.lemmas.Str.{is_utf8-from_IsUtf8, IsUtf8-from_is_utf8}
 use Rattle.serde_json.specs.Data.{Data}
-use Rattle.serde_json.specs.Find.{get_member}
 use Rattle.serde_json.specs.Read.{read}
-use Rattle.serde_json.specs.View.{members_view}
-use Rattle.serde_json.proofs.Views.{Entry, member_later}
 use Rattle.line_reading.specs.Lines.{json_value}
-
-pub not_text : (name : List ℕ) (es : List Entry) → ¬ (IsUtf8 name) → get_member name (members_view es) ≡ None
-not_text name [] h = refl
-not_text name (e ∷ es) h = member_later name e es (λ same. h (subst IsUtf8 (sym same) (IsUtf8-string_bytes e.0))) ∙ not_text name es h
 
 pub value_found : (bytes : List ℕ) (d : Data) → IsUtf8 bytes → read bytes ≡ Some d → json_value bytes ≡ Some d
 value_found bytes d utf8 is = ap (λ (b : Bool). if b then read bytes else None) (is_utf8-from_IsUtf8 bytes utf8) ∙ is

@@ -1,11 +1,11 @@
 -- What the code's values stand for, and kinds and levels by their lists.
-use Rattle.std.specs.Prelude.{ℕ, List, [], ◌∷◌, codes, Option, Some, None, Ok, String}
+use Rattle.std.specs.Prelude.{ℕ, if◌then◌else◌, List, [], ◌∷◌, codes, Option, Some, None, Ok}
 use Rattle.std.specs.Borrow.{Bor}
-use Rattle.std.specs.declared.alloc.Global.{Global}
-use Rattle.std.specs.BTreeMap.{BTreeMap}
+use Rattle.std.specs.Ordering.{is_lt, nat_cmp}
+use Rattle.std.specs.Cmp.Lexicographic.{slice_cmp}
 use Rattle.serde_json.specs.Data.{Members, no_members}
-use Rattle.serde_json.specs.View.{members_view}
-use Rattle.serde_json.specs.declared.value.Value.{Value as JsonValue}
+use Rattle.json_data.specs.declared.data.Json.{Json}
+use Rattle.json_data.specs.Trees.{members_of}
 use Rattle.sbe_types.specs.declared.kind.Member.{Member}
 use Rattle.sbe_types.specs.declared.schema.Group.{Group}
 use Rattle.sbe_types.specs.declared.schema.Level.{Level, out-Level}
@@ -20,9 +20,14 @@ use Rattle.line_reading.specs.Values.{value_in}
 use Rattle.line_reading.specs.Lines.{field_names, fields_read, data_names, parts_read, group_name, group_read, entry_names, message_names, block_with, Template}
 
 -- an object's members; none where it is missing
-abbrev pub seen : Option (Bor (BTreeMap (String Global) JsonValue)) → Members
+abbrev pub seen : Option (Bor (List (Bor (List ℕ) × Json))) → Members
 seen None = no_members
-seen (Some m) = members_view m.now.entries
+seen (Some ms) = members_of ms.now
+
+-- the least of a key and one that was found before, by bytes
+abbrev pub least_of : Option (List ℕ) → List ℕ → List ℕ
+least_of None key = key
+least_of (Some found) key = if is_lt (slice_cmp nat_cmp found key) then found else key
 
 -- the names of members
 abbrev pub member_list_names : List Member → List (List ℕ)

@@ -1,5 +1,5 @@
 ghost use Rattle.std.specs.Prelude.{◌≡◌, option_map};
-ghost use Rattle.serde_json.specs.View.{view, items_view};
+ghost use Rattle.json_data.specs.Trees.{data_of, items_of};
 ghost use Rattle.line_reading.specs.Refusals.{Gives};
 ghost use Rattle.line_reading.specs.Objects.{each, at_item as at_place};
 ghost use Rattle.line_reading.specs.Lines.{entry_of, entry_in, entries_in, group_in, block_read, group_read};
@@ -10,9 +10,9 @@ use crate::names::{Names, name_of};
 use crate::objects::{at_item, find_in, part, refuse_unknown};
 use crate::parts::read_parts;
 use crate::refusals::{JCode, LineFault, inside, refuse};
+use json_data::{Json, Pair};
 use lists::List;
 use sbe_types::{Block, BlockList, Group, GroupVal, GroupValList, Level};
-use serde_json::{Map, Value as Json};
 use std::alloc::Global;
 
 /// What stands in the object of a message's root or of an entry: fields, then groups, then data.
@@ -21,7 +21,7 @@ use std::alloc::Global;
 fn read_opened(
     alloc: Global,
     level: &Level,
-    object: Option<&Map<String, Json>>,
+    object: Option<&[Pair<'_>]>,
 ) -> Result<Block, LineFault>
     ensures { Gives result (block_opened level.now (seen object.entry)) }
 {
@@ -46,7 +46,7 @@ fn read_opened(
 pub fn read_block(
     alloc: Global,
     level: &Level,
-    object: Option<&Map<String, Json>>,
+    object: Option<&[Pair<'_>]>,
 ) -> Result<Block, LineFault>
     ensures { Gives result (block_read level.now (seen object.entry)) }
 {
@@ -59,7 +59,7 @@ pub fn read_block(
 fn read_groups(
     alloc: Global,
     groups: &[Group],
-    object: Option<&Map<String, Json>>,
+    object: Option<&[Pair<'_>]>,
 ) -> Result<GroupValList, LineFault>
     ensures { Gives result (group_list_read groups.now (seen object.entry)) }
 {
@@ -75,7 +75,7 @@ fn read_groups(
 fn read_group(
     alloc: Global,
     group: &Group,
-    object: Option<&Map<String, Json>>,
+    object: Option<&[Pair<'_>]>,
 ) -> Result<GroupVal, LineFault>
     ensures { Gives result (group_read group.now (seen object.entry)) }
 {
@@ -89,15 +89,19 @@ fn read_group(
 
 /// The entries of a group; a missing one has none.
 #[cycle(block)]
-fn read_entries(alloc: Global, level: &Level, found: Option<&Json>) -> Result<GroupVal, LineFault>
-    ensures { Gives result (group_in (block_read level.now) (option_map (λ v. view v.now) found.entry)) }
+fn read_entries(
+    alloc: Global,
+    level: &Level,
+    found: Option<&Json<'_>>,
+) -> Result<GroupVal, LineFault>
+    ensures { Gives result (group_in (block_read level.now) (option_map (λ v. data_of v.now) found.entry)) }
 {
     match found {
         None => Ok(GroupVal::Entries(List::new(alloc))),
         Some(found) => match found.as_array() {
             None => refuse(alloc, JCode::Kind, b""),
             Some(items) => {
-                let entries = read_items(alloc, level, items.as_slice())?;
+                let entries = read_items(alloc, level, items)?;
                 Ok(GroupVal::Entries(entries))
             }
         },
@@ -107,8 +111,8 @@ fn read_entries(alloc: Global, level: &Level, found: Option<&Json>) -> Result<Gr
 /// The entries of an array.
 #[cycle(block)]
 #[tactic(auto, unfolding(crate::specs::Objects::each), using(crate::proofs::ItemSteps::entries_more))]
-fn read_items(alloc: Global, level: &Level, items: &[Json]) -> Result<BlockList, LineFault>
-    ensures { Gives result (each (entry_in (block_read level.now)) 0 (items_view items.now)) }
+fn read_items(alloc: Global, level: &Level, items: &[Json<'_>]) -> Result<BlockList, LineFault>
+    ensures { Gives result (each (entry_in (block_read level.now)) 0 (items_of items.now)) }
 {
     let mut out = List::new(alloc);
     for (i, item) in items.iter().enumerate() {
@@ -119,16 +123,16 @@ fn read_items(alloc: Global, level: &Level, items: &[Json]) -> Result<BlockList,
 
 /// Entry `i` of an array.
 #[cycle(block)]
-fn read_item(alloc: Global, level: &Level, i: usize, item: &Json) -> Result<Block, LineFault>
-    ensures { Gives result (at_place i (entry_in (block_read level.now) (view item.now))) }
+fn read_item(alloc: Global, level: &Level, i: usize, item: &Json<'_>) -> Result<Block, LineFault>
+    ensures { Gives result (at_place i (entry_in (block_read level.now) (data_of item.now))) }
 {
     at_item(alloc, i, read_entry(alloc, level, item))
 }
 
 /// An entry: an object.
 #[cycle(block)]
-fn read_entry(alloc: Global, level: &Level, item: &Json) -> Result<Block, LineFault>
-    ensures { Gives result (entry_in (block_read level.now) (view item.now)) }
+fn read_entry(alloc: Global, level: &Level, item: &Json<'_>) -> Result<Block, LineFault>
+    ensures { Gives result (entry_in (block_read level.now) (data_of item.now)) }
 {
     match item.as_object() {
         None => refuse(alloc, JCode::Kind, b""),
@@ -138,11 +142,7 @@ fn read_entry(alloc: Global, level: &Level, item: &Json) -> Result<Block, LineFa
 
 /// What stands in an entry's object.
 #[cycle(block)]
-fn read_known(
-    alloc: Global,
-    level: &Level,
-    object: Option<&Map<String, Json>>,
-) -> Result<Block, LineFault>
+fn read_known(alloc: Global, level: &Level, object: Option<&[Pair<'_>]>) -> Result<Block, LineFault>
     ensures { Gives result (entry_of (block_read level.now) (seen object.entry)) }
 {
     refuse_unknown(alloc, &Names::Entry, object)?;

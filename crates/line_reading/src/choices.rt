@@ -1,13 +1,13 @@
 ghost use Rattle.std.specs.Prelude.{◌≡◌, ◌<◌, IfSome};
-ghost use Rattle.serde_json.specs.View.{view, items_view};
+ghost use Rattle.json_data.specs.Trees.{data_of, items_of};
 ghost use Rattle.line_reading.specs.Refusals.{Gives};
 ghost use Rattle.line_reading.specs.Values.{number_named, valid_in, enum_in, bit_of, bit_named, with_bit, choice_in, choices_in, set_in, fixed, is_number, is_code, fixed_text, constant_in};
 
 use crate::leaves::{integer_of, read_integer, read_null};
 use crate::refusals::{JCode, LineFault, refuse};
 use crate::texts::read_bytes;
+use json_data::Json;
 use sbe_types::{ConstValue, Leaf, Named, Value};
-use serde_json::Value as Json;
 use std::alloc::Global;
 
 /// The number of the first valid value of that name.
@@ -38,14 +38,14 @@ pub fn read_enum(
     alloc: Global,
     leaf: &Leaf,
     names: &[Named],
-    found: &Json,
+    found: &Json<'_>,
 ) -> Result<Value, LineFault>
-    ensures { Gives result (enum_in leaf.now names.now (view found.now)) }
+    ensures { Gives result (enum_in leaf.now names.now (data_of found.now)) }
 {
     match found {
         Json::Null => read_null(alloc, leaf),
         Json::Number(number) => Ok(Value::Enum(read_integer(alloc, number)?)),
-        Json::String(text) => read_valid(alloc, names, text.as_str().as_bytes()),
+        Json::String(text) => read_valid(alloc, names, text.as_bytes()),
         _ => refuse(alloc, JCode::Kind, b""),
     }
 }
@@ -88,8 +88,13 @@ fn with_bit(alloc: Global, bits: u64, place: u32) -> Result<u64, LineFault>
 }
 
 /// The bits with that of a choice by its name.
-fn read_choice(alloc: Global, names: &[Named], bits: u64, found: &Json) -> Result<u64, LineFault>
-    ensures { Gives result (choice_in names.now bits (view found.now)) }
+fn read_choice(
+    alloc: Global,
+    names: &[Named],
+    bits: u64,
+    found: &Json<'_>,
+) -> Result<u64, LineFault>
+    ensures { Gives result (choice_in names.now bits (data_of found.now)) }
 {
     match found.as_str() {
         None => refuse(alloc, JCode::Kind, b""),
@@ -102,8 +107,8 @@ fn read_choice(alloc: Global, names: &[Named], bits: u64, found: &Json) -> Resul
 
 /// The bits of choices by their names.
 #[tactic(auto, unfolding(crate::specs::Values::choices_in), using(crate::proofs::ChoiceSteps::choices_more))]
-fn read_choices(alloc: Global, names: &[Named], items: &[Json]) -> Result<u64, LineFault>
-    ensures { Gives result (choices_in names.now 0 (items_view items.now)) }
+fn read_choices(alloc: Global, names: &[Named], items: &[Json<'_>]) -> Result<u64, LineFault>
+    ensures { Gives result (choices_in names.now 0 (items_of items.now)) }
 {
     let mut bits = 0;
     for item in items {
@@ -113,11 +118,11 @@ fn read_choices(alloc: Global, names: &[Named], items: &[Json]) -> Result<u64, L
 }
 
 /// A set: its choices by their names, or its bits as a number.
-pub fn read_set(alloc: Global, names: &[Named], found: &Json) -> Result<Value, LineFault>
-    ensures { Gives result (set_in names.now (view found.now)) }
+pub fn read_set(alloc: Global, names: &[Named], found: &Json<'_>) -> Result<Value, LineFault>
+    ensures { Gives result (set_in names.now (data_of found.now)) }
 {
     match found {
-        Json::Array(items) => Ok(Value::Set(read_choices(alloc, names, items.as_slice())?)),
+        Json::Array(items) => Ok(Value::Set(read_choices(alloc, names, items)?)),
         Json::Number(number) => match number.as_u64() {
             None => refuse(alloc, JCode::Kind, b""),
             Some(bits) => Ok(Value::Set(bits)),
@@ -147,27 +152,31 @@ fn is_number(number: &i128, found: Option<i128>) -> bool
 }
 
 /// Whether it is a valid value by its name or its number.
-fn is_code(value: &Named, found: &Json) -> bool
-    ensures { result ≡ is_code value.now (view found.now) }
+fn is_code(value: &Named, found: &Json<'_>) -> bool
+    ensures { result ≡ is_code value.now (data_of found.now) }
 {
     match found {
-        Json::String(text) => text.as_str().as_bytes() == value.name.as_slice(),
+        Json::String(text) => text.as_bytes() == value.name.as_slice(),
         Json::Number(number) => is_number(&value.number, number.as_i128()),
         _ => false,
     }
 }
 
 /// A constant as the text that it is.
-fn read_fixed_text(alloc: Global, bytes: &[u8], found: &Json) -> Result<Value, LineFault>
-    ensures { Gives result (fixed_text bytes.now (view found.now)) }
+fn read_fixed_text(alloc: Global, bytes: &[u8], found: &Json<'_>) -> Result<Value, LineFault>
+    ensures { Gives result (fixed_text bytes.now (data_of found.now)) }
 {
     let told = read_bytes(alloc, found)?;
     fixed(alloc, told.as_slice() == bytes)
 }
 
 /// A constant, which may stand as the value that it has.
-pub fn read_constant(alloc: Global, constant: &ConstValue, found: &Json) -> Result<Value, LineFault>
-    ensures { Gives result (constant_in constant.now (view found.now)) }
+pub fn read_constant(
+    alloc: Global,
+    constant: &ConstValue,
+    found: &Json<'_>,
+) -> Result<Value, LineFault>
+    ensures { Gives result (constant_in constant.now (data_of found.now)) }
 {
     match constant {
         ConstValue::Num(number) => fixed(alloc, is_number(number, integer_of(found))),

@@ -5,9 +5,9 @@ ghost use Rattle.line_reading.specs.Code.{seen};
 
 use crate::kinds::read_value;
 use crate::refusals::LineFault;
+use json_data::{Json, Pair};
 use lists::List;
 use sbe_types::{Field, ValueList};
-use serde_json::{Map, Value as Json};
 use std::alloc::Global;
 
 /// The values of fields, in the schema's order.
@@ -15,7 +15,7 @@ use std::alloc::Global;
 pub fn read_fields(
     alloc: Global,
     fields: &[Field],
-    object: Option<&Map<String, Json>>,
+    object: Option<&[Pair<'_>]>,
 ) -> Result<ValueList, LineFault>
     ensures { Gives result (fields_read fields.now (seen object.entry)) }
 {

@@ -1,5 +1,5 @@
 ghost use Rattle.std.specs.Prelude.{◌≡◌, option_map};
-ghost use Rattle.serde_json.specs.View.{view};
+ghost use Rattle.json_data.specs.Trees.{data_of};
 ghost use Rattle.sbe_types.specs.declared.kind.Kind.{Comp};
 ghost use Rattle.line_reading.specs.Refusals.{Gives};
 ghost use Rattle.line_reading.specs.Objects.{there_or};
@@ -11,9 +11,9 @@ use crate::leaves::{lack_as, lack_leaf, read_leaf};
 use crate::names::Names;
 use crate::objects::{find_in, refuse_unknown};
 use crate::refusals::{JCode, LineFault, inside, refuse};
+use json_data::{Json, Pair};
 use lists::List;
 use sbe_types::{Kind, Member, MemberList, Value, ValueList};
-use serde_json::{Map, Value as Json};
 use std::alloc::Global;
 
 /// What the lack of a value gives.
@@ -31,8 +31,8 @@ fn lack(alloc: Global, kind: &Kind) -> Result<Value, LineFault>
 /// The value of a kind.
 #[cycle(kind)]
 #[tactic(auto, unfolding(crate::specs::Values::kind_in))]
-fn read_kind(alloc: Global, kind: &Kind, found: &Json) -> Result<Value, LineFault>
-    ensures { Gives result (kind_in kind.now (view found.now)) }
+fn read_kind(alloc: Global, kind: &Kind, found: &Json<'_>) -> Result<Value, LineFault>
+    ensures { Gives result (kind_in kind.now (data_of found.now)) }
 {
     match kind {
         Kind::Leaf(leaf) => read_leaf(alloc, leaf, found),
@@ -45,16 +45,16 @@ fn read_kind(alloc: Global, kind: &Kind, found: &Json) -> Result<Value, LineFaul
 
 /// A composite: an object with the names of its members.
 #[cycle(kind)]
-fn read_composite(alloc: Global, members: &MemberList, found: &Json) -> Result<Value, LineFault>
-    ensures { Gives result (kind_in (Comp members.now) (view found.now)) }
+fn read_composite(alloc: Global, members: &MemberList, found: &Json<'_>) -> Result<Value, LineFault>
+    ensures { Gives result (kind_in (Comp members.now) (data_of found.now)) }
 {
     read_object(alloc, members, found)
 }
 
 /// An object with the names of members, as a composite.
 #[cycle(kind)]
-fn read_object(alloc: Global, members: &MemberList, found: &Json) -> Result<Value, LineFault>
-    ensures { Gives result (composite_in (member_list_names members.now) (member_list_read members.now) (view found.now)) }
+fn read_object(alloc: Global, members: &MemberList, found: &Json<'_>) -> Result<Value, LineFault>
+    ensures { Gives result (composite_in (member_list_names members.now) (member_list_read members.now) (data_of found.now)) }
 {
     match found.as_object() {
         None => refuse(alloc, JCode::Kind, b""),
@@ -71,7 +71,7 @@ fn read_object(alloc: Global, members: &MemberList, found: &Json) -> Result<Valu
 fn read_inner(
     alloc: Global,
     members: &[Member],
-    object: Option<&Map<String, Json>>,
+    object: Option<&[Pair<'_>]>,
 ) -> Result<Value, LineFault>
     ensures { Gives result (composite_of (member_list_names members.now) (member_list_read members.now) (seen object.entry)) }
 {
@@ -85,7 +85,7 @@ fn read_inner(
 fn read_members(
     alloc: Global,
     members: &[Member],
-    object: Option<&Map<String, Json>>,
+    object: Option<&[Pair<'_>]>,
 ) -> Result<ValueList, LineFault>
     ensures { Gives result (member_list_read members.now (seen object.entry)) }
 {
@@ -102,7 +102,7 @@ pub fn read_value(
     alloc: Global,
     name: &[u8],
     kind: &Kind,
-    object: Option<&Map<String, Json>>,
+    object: Option<&[Pair<'_>]>,
 ) -> Result<Value, LineFault>
     ensures { Gives result (value_in name.now kind.now (seen object.entry)) }
 {
@@ -111,8 +111,8 @@ pub fn read_value(
 
 /// A value, or what its lack gives.
 #[cycle(kind)]
-fn read_there(alloc: Global, kind: &Kind, found: Option<&Json>) -> Result<Value, LineFault>
-    ensures { Gives result (there_or (lack_in kind.now) (kind_in kind.now) (option_map (λ v. view v.now) found.entry)) }
+fn read_there(alloc: Global, kind: &Kind, found: Option<&Json<'_>>) -> Result<Value, LineFault>
+    ensures { Gives result (there_or (lack_in kind.now) (kind_in kind.now) (option_map (λ v. data_of v.now) found.entry)) }
 {
     match found {
         None => lack(alloc, kind),

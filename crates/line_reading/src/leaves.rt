@@ -1,5 +1,5 @@
 ghost use Rattle.std.specs.Prelude.{◌≡◌, [], replicate, IfOk};
-ghost use Rattle.serde_json.specs.View.{view, items_view, number_view};
+ghost use Rattle.json_data.specs.Trees.{data_of, items_of, num_of};
 ghost use Rattle.serde_json.specs.Find.{as_integer};
 ghost use Rattle.sbe_types.specs.declared.message.Elem.TheVariants as elem;
 ghost use Rattle.sbe_types.specs.Shown.{is_optional as optional};
@@ -11,9 +11,9 @@ ghost use Rattle.line_reading.specs.Values.{null_in, is_character, char_in, numb
 use crate::objects::at_item;
 use crate::refusals::{JCode, LineFault, refuse};
 use crate::texts::read_bytes;
+use json_data::{Json, Number};
 use lists::{List, NoMem};
 use sbe_types::{Elem, ElemList, Leaf, LeafShape, Presence, Prim, Value};
-use serde_json::{Number, Value as Json};
 use std::alloc::Global;
 
 fn is_optional(presence: Presence) -> bool
@@ -37,7 +37,7 @@ pub fn read_null(alloc: Global, leaf: &Leaf) -> Result<Value, LineFault>
 
 /// The number of a JSON integer.
 pub fn read_integer(alloc: Global, number: &Number) -> Result<i128, LineFault>
-    ensures { Gives result (or_refuse code.Kind [] (as_integer (number_view number.now))) }
+    ensures { Gives result (or_refuse code.Kind [] (as_integer (num_of number.now))) }
 {
     match number.as_i128() {
         None => refuse(alloc, JCode::Kind, b""),
@@ -46,13 +46,10 @@ pub fn read_integer(alloc: Global, number: &Number) -> Result<i128, LineFault>
 }
 
 /// The number of a value that is a JSON integer.
-pub fn integer_of(found: &Json) -> Option<i128>
-    ensures { result ≡ integer_of (view found.now) }
+pub fn integer_of(found: &Json<'_>) -> Option<i128>
+    ensures { result ≡ integer_of (data_of found.now) }
 {
-    match found.as_number() {
-        None => None,
-        Some(number) => number.as_i128(),
-    }
+    found.as_i128()
 }
 
 fn is_character(prim: Prim) -> bool
@@ -76,20 +73,20 @@ fn read_char(alloc: Global, prim: Prim, text: &[u8]) -> Result<Value, LineFault>
 }
 
 /// A single number.
-fn read_number(alloc: Global, leaf: &Leaf, found: &Json) -> Result<Value, LineFault>
-    ensures { Gives result (number_in leaf.now (view found.now)) }
+fn read_number(alloc: Global, leaf: &Leaf, found: &Json<'_>) -> Result<Value, LineFault>
+    ensures { Gives result (number_in leaf.now (data_of found.now)) }
 {
     match found {
         Json::Null => read_null(alloc, leaf),
         Json::Number(number) => Ok(Value::Num(read_integer(alloc, number)?)),
-        Json::String(text) => read_char(alloc, leaf.prim, text.as_str().as_bytes()),
+        Json::String(text) => read_char(alloc, leaf.prim, text.as_bytes()),
         _ => refuse(alloc, JCode::Kind, b""),
     }
 }
 
 /// A text.
-fn read_text(alloc: Global, leaf: &Leaf, found: &Json) -> Result<Value, LineFault>
-    ensures { Gives result (text_in leaf.now (view found.now)) }
+fn read_text(alloc: Global, leaf: &Leaf, found: &Json<'_>) -> Result<Value, LineFault>
+    ensures { Gives result (text_in leaf.now (data_of found.now)) }
 {
     match found {
         Json::Null => read_null(alloc, leaf),
@@ -98,8 +95,8 @@ fn read_text(alloc: Global, leaf: &Leaf, found: &Json) -> Result<Value, LineFaul
 }
 
 /// An element of an array in which nulls may stand, or may not.
-fn read_element(alloc: Global, nulls: bool, found: &Json) -> Result<Elem, LineFault>
-    ensures { Gives result (element_in nulls (view found.now)) }
+fn read_element(alloc: Global, nulls: bool, found: &Json<'_>) -> Result<Elem, LineFault>
+    ensures { Gives result (element_in nulls (data_of found.now)) }
 {
     match found {
         Json::Null => {
@@ -115,8 +112,8 @@ fn read_element(alloc: Global, nulls: bool, found: &Json) -> Result<Elem, LineFa
 
 /// The elements of an array.
 #[tactic(auto, unfolding(crate::specs::Objects::each), using(crate::proofs::ItemSteps::elements_more))]
-fn read_elements(alloc: Global, nulls: bool, items: &[Json]) -> Result<ElemList, LineFault>
-    ensures { Gives result (each (element_in nulls) 0 (items_view items.now)) }
+fn read_elements(alloc: Global, nulls: bool, items: &[Json<'_>]) -> Result<ElemList, LineFault>
+    ensures { Gives result (each (element_in nulls) 0 (items_of items.now)) }
 {
     let mut out = List::new(alloc);
     for (i, item) in items.iter().enumerate() {
@@ -126,26 +123,26 @@ fn read_elements(alloc: Global, nulls: bool, items: &[Json]) -> Result<ElemList,
 }
 
 /// The elements of an array, as a value.
-fn read_numbers(alloc: Global, nulls: bool, items: &[Json]) -> Result<Value, LineFault>
-    ensures { Gives result (elements_of nulls (items_view items.now)) }
+fn read_numbers(alloc: Global, nulls: bool, items: &[Json<'_>]) -> Result<Value, LineFault>
+    ensures { Gives result (elements_of nulls (items_of items.now)) }
 {
     let elements = read_elements(alloc, nulls, items)?;
     Ok(Value::Nums(elements))
 }
 
 /// An array.
-fn read_array(alloc: Global, nulls: bool, found: &Json) -> Result<Value, LineFault>
-    ensures { Gives result (array_in nulls (view found.now)) }
+fn read_array(alloc: Global, nulls: bool, found: &Json<'_>) -> Result<Value, LineFault>
+    ensures { Gives result (array_in nulls (data_of found.now)) }
 {
     match found.as_array() {
         None => refuse(alloc, JCode::Kind, b""),
-        Some(items) => read_numbers(alloc, nulls, items.as_slice()),
+        Some(items) => read_numbers(alloc, nulls, items),
     }
 }
 
 /// A number, a text or an array.
-pub fn read_leaf(alloc: Global, leaf: &Leaf, found: &Json) -> Result<Value, LineFault>
-    ensures { Gives result (shape_in leaf.now.shape leaf.now (view found.now)) }
+pub fn read_leaf(alloc: Global, leaf: &Leaf, found: &Json<'_>) -> Result<Value, LineFault>
+    ensures { Gives result (shape_in leaf.now.shape leaf.now (data_of found.now)) }
 {
     match leaf.shape {
         LeafShape::Number => read_number(alloc, leaf, found),

@@ -15,5 +15,5 @@ mod parts;
 mod refusals;
 mod texts;
 
-pub use message::msg_of_line;
+pub use message::{msg_of_line, msg_of_line_with};
 pub use refusals::{JCode, LineFault};

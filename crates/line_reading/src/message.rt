@@ -1,5 +1,5 @@
 ghost use Rattle.std.specs.Prelude.{◌≡◌, option_map};
-ghost use Rattle.serde_json.specs.View.{view};
+ghost use Rattle.json_data.specs.Trees.{data_of};
 ghost use Rattle.line_reading.specs.Refusals.{Gives, GivesAs};
 ghost use Rattle.line_reading.specs.Lines.{level_named, named_template, template_in, is_version, version_in, message_read, message_in, tree_of};
 ghost use Rattle.line_reading.specs.Code.{seen, template};
@@ -8,9 +8,9 @@ use crate::blocks::read_block;
 use crate::names::Names;
 use crate::objects::{find_in, refuse_unknown};
 use crate::refusals::{JCode, LineFault, refuse};
+use json_data::{Json, JsonFault, JsonSpace, Pair};
 use sbe_types::{Level, Msg, WireSchema};
 use schema_check::Checked;
-use serde_json::{Map, Value as Json};
 use std::alloc::Global;
 
 /// The first level of that name, with its number.
@@ -30,9 +30,9 @@ fn level_named<'l>(levels: &'l [Level], name: &[u8]) -> Option<(usize, &'l Level
 fn read_template<'l>(
     alloc: Global,
     levels: &'l [Level],
-    found: Option<&Json>,
+    found: Option<&Json<'_>>,
 ) -> Result<(usize, &'l Level), LineFault>
-    ensures { GivesAs (λ p. template p.0 p.1.now) result (template_in levels.now (option_map (λ v. view v.now) found.entry)) }
+    ensures { GivesAs (λ p. template p.0 p.1.now) result (template_in levels.now (option_map (λ v. data_of v.now) found.entry)) }
 {
     match found {
         None => refuse(alloc, JCode::Shape, b"template"),
@@ -56,8 +56,8 @@ fn is_version(version: u32, found: Option<u64>) -> bool
 }
 
 /// Asks that the version, where it stands, is the schema's.
-fn check_version(alloc: Global, version: u32, found: Option<&Json>) -> Result<(), LineFault>
-    ensures { Gives result (version_in version (option_map (λ v. view v.now) found.entry)) }
+fn check_version(alloc: Global, version: u32, found: Option<&Json<'_>>) -> Result<(), LineFault>
+    ensures { Gives result (version_in version (option_map (λ v. data_of v.now) found.entry)) }
 {
     match found {
         None => Ok(()),
@@ -74,7 +74,7 @@ fn check_version(alloc: Global, version: u32, found: Option<&Json>) -> Result<()
 fn read_message(
     alloc: Global,
     schema: &WireSchema,
-    object: Option<&Map<String, Json>>,
+    object: Option<&[Pair<'_>]>,
 ) -> Result<Msg, LineFault>
     ensures { Gives result (message_read schema.now (seen object.entry)) }
 {
@@ -91,8 +91,8 @@ fn read_message(
 }
 
 /// The message in JSON data, which must be an object.
-fn read_tree(alloc: Global, schema: &WireSchema, found: &Json) -> Result<Msg, LineFault>
-    ensures { Gives result (message_in schema.now (view found.now)) }
+fn read_tree(alloc: Global, schema: &WireSchema, found: &Json<'_>) -> Result<Msg, LineFault>
+    ensures { Gives result (message_in schema.now (data_of found.now)) }
 {
     match found.as_object() {
         None => refuse(alloc, JCode::Shape, b""),
@@ -104,20 +104,34 @@ fn read_tree(alloc: Global, schema: &WireSchema, found: &Json) -> Result<Msg, Li
 pub fn msg_of_line(alloc: Global, checked: &Checked, line: &[u8]) -> Result<Msg, LineFault>
     ensures { Gives result (tree_of checked.now line.now) }
 {
-    read_line(alloc, checked.schema(), line)
+    let mut space = JsonSpace::new(alloc);
+    msg_of_line_with(alloc, checked, line, &mut space)
+}
+
+/// The same, with the space that reading takes, which is lent from line to line.
+pub fn msg_of_line_with(
+    alloc: Global,
+    checked: &Checked,
+    line: &[u8],
+    space: &mut JsonSpace,
+) -> Result<Msg, LineFault>
+    ensures { Gives result (tree_of checked.now line.now) }
+{
+    read_line(alloc, checked.schema(), line, space)
 }
 
 /// The message that a line holds, by the schema.
-fn read_line(alloc: Global, schema: &WireSchema, line: &[u8]) -> Result<Msg, LineFault>
+fn read_line(
+    alloc: Global,
+    schema: &WireSchema,
+    line: &[u8],
+    space: &mut JsonSpace,
+) -> Result<Msg, LineFault>
     ensures { Gives result (tree_of schema.now line.now) }
 {
-    match Json::from_slice(alloc, line) {
+    match space.read(line) {
         Ok(found) => read_tree(alloc, schema, &found),
-        Err(e) => {
-            if e.is_memory() {
-                return Err(LineFault::Memory);
-            }
-            refuse(alloc, JCode::NotJson, b"")
-        }
+        Err(JsonFault::NotJson) => refuse(alloc, JCode::NotJson, b""),
+        Err(JsonFault::Memory) => Err(LineFault::Memory),
     }
 }

@@ -1,6 +1,6 @@
 ghost use Rattle.std.specs.Prelude.{◌≡◌, option_map};
 ghost use Rattle.serde_json.specs.Find.{get_member};
-ghost use Rattle.serde_json.specs.View.{view, members_view};
+ghost use Rattle.json_data.specs.Trees.{data_of, members_of};
 ghost use Rattle.line_reading.specs.Refusals.{Reading, Gives, GivesAs};
 ghost use Rattle.line_reading.specs.Objects.{known, members_in, part, at_item};
 ghost use Rattle.line_reading.specs.Code.{seen, names_in};
@@ -8,23 +8,12 @@ ghost use Rattle.line_reading.specs.Code.{seen, names_in};
 use crate::names::{Names, unknown};
 use crate::refusals::{JCode, LineFault, inside, refuse};
 use itoa::Buffer;
-use serde_json::{Map, Value as Json};
+use json_data::{Json, Pair, find};
 use std::alloc::Global;
-use std::str;
-
-/// The value under a name.
-pub fn find<'v>(members: &'v Map<String, Json>, name: &[u8]) -> Option<&'v Json>
-    ensures { option_map (λ v. view v.now) result ≡ get_member name.now (members_view members.now.entries) }
-{
-    match str::from_utf8(name) {
-        Ok(name) => members.get(name),
-        Err(_) => None,
-    }
-}
 
 /// The value under a name in an object, which may be missing.
-pub fn find_in<'v>(members: Option<&'v Map<String, Json>>, name: &[u8]) -> Option<&'v Json>
-    ensures { option_map (λ v. view v.now) result ≡ get_member name.now (seen members.entry) }
+pub fn find_in<'v, 'a>(members: Option<&'v [Pair<'a>]>, name: &[u8]) -> Option<&'v Json<'a>>
+    ensures { option_map (λ v. data_of v.now) result ≡ get_member name.now (seen members.entry) }
 {
     match members {
         None => None,
@@ -36,7 +25,7 @@ pub fn find_in<'v>(members: Option<&'v Map<String, Json>>, name: &[u8]) -> Optio
 pub fn refuse_unknown(
     alloc: Global,
     names: &Names<'_>,
-    members: Option<&Map<String, Json>>,
+    members: Option<&[Pair<'_>]>,
 ) -> Result<(), LineFault>
     ensures { Gives result (known (names_in names.now) (seen members.entry)) }
 {
@@ -50,29 +39,29 @@ pub fn refuse_unknown(
 }
 
 /// The object under a key, where it isn't missing.
-fn members_at<'v>(
+fn members_at<'v, 'a>(
     alloc: Global,
     key: &str,
-    members: Option<&'v Map<String, Json>>,
-) -> Result<Option<&'v Map<String, Json>>, LineFault>
+    members: Option<&'v [Pair<'a>]>,
+) -> Result<Option<&'v [Pair<'a>]>, LineFault>
     ensures { GivesAs seen result (members_in key.now (get_member key.now (seen members.entry))) }
 {
-    match find_in(members, key.as_bytes()) {
-        None => Ok(None),
-        Some(found) => match found.as_object() {
-            None => refuse(alloc, JCode::Kind, key.as_bytes()),
-            Some(inner) => Ok(Some(inner)),
-        },
-    }
+    let Some(found) = find_in(members, key.as_bytes()) else {
+        return Ok(None);
+    };
+    let Some(inner) = found.as_object() else {
+        return refuse(alloc, JCode::Kind, key.as_bytes());
+    };
+    Ok(Some(inner))
 }
 
 /// The object under a key, whose own keys have these names.
-pub fn part<'v>(
+pub fn part<'v, 'a>(
     alloc: Global,
     key: &str,
     names: &Names<'_>,
-    members: Option<&'v Map<String, Json>>,
-) -> Result<Option<&'v Map<String, Json>>, LineFault>
+    members: Option<&'v [Pair<'a>]>,
+) -> Result<Option<&'v [Pair<'a>]>, LineFault>
     ensures { GivesAs seen result (part key.now (names_in names.now) (seen members.entry)) }
 {
     let found = members_at(alloc, key, members)?;

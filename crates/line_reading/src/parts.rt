@@ -1,5 +1,5 @@
 ghost use Rattle.std.specs.Prelude.{◌≡◌, option_map};
-ghost use Rattle.serde_json.specs.View.{view};
+ghost use Rattle.json_data.specs.Trees.{data_of};
 ghost use Rattle.line_reading.specs.Refusals.{Gives};
 ghost use Rattle.line_reading.specs.Lines.{data_there, data_read, parts_read};
 ghost use Rattle.line_reading.specs.Code.{seen};
@@ -7,14 +7,14 @@ ghost use Rattle.line_reading.specs.Code.{seen};
 use crate::objects::find_in;
 use crate::refusals::{LineFault, inside};
 use crate::texts::read_bytes;
+use json_data::{Json, Pair};
 use lists::List;
 use sbe_types::{DataField, DataVal, DataValList};
-use serde_json::{Map, Value as Json};
 use std::alloc::Global;
 
 /// The bytes of data; a missing one is empty.
-fn read_data(alloc: Global, found: Option<&Json>) -> Result<DataVal, LineFault>
-    ensures { Gives result (data_there (option_map (λ v. view v.now) found.entry)) }
+fn read_data(alloc: Global, found: Option<&Json<'_>>) -> Result<DataVal, LineFault>
+    ensures { Gives result (data_there (option_map (λ v. data_of v.now) found.entry)) }
 {
     match found {
         None => Ok(DataVal::Bytes(List::new(alloc))),
@@ -26,7 +26,7 @@ fn read_data(alloc: Global, found: Option<&Json>) -> Result<DataVal, LineFault>
 fn read_part(
     alloc: Global,
     part: &DataField,
-    object: Option<&Map<String, Json>>,
+    object: Option<&[Pair<'_>]>,
 ) -> Result<DataVal, LineFault>
     ensures { Gives result (data_read part.now (seen object.entry)) }
 {
@@ -39,7 +39,7 @@ fn read_part(
 pub fn read_parts(
     alloc: Global,
     parts: &[DataField],
-    object: Option<&Map<String, Json>>,
+    object: Option<&[Pair<'_>]>,
 ) -> Result<DataValList, LineFault>
     ensures { Gives result (parts_read parts.now (seen object.entry)) }
 {

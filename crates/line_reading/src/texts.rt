@@ -1,32 +1,45 @@
-ghost use Rattle.std.specs.Prelude.{◌≡◌, option_map};
-ghost use Rattle.serde_json.specs.View.{view, members_view};
-ghost use Rattle.line_reading.specs.Refusals.{Gives};
+ghost use Rattle.std.specs.Prelude.{◌≡◌, [], codes, false, option_and_then, option_map, true};
+ghost use Rattle.serde_json.specs.Find.{as_str, get_member};
+ghost use Rattle.line_reading.specs.declared.refusals.JCode.TheVariants as code;
+ghost use Rattle.json_data.specs.Trees.{data_of, members_of};
+ghost use Rattle.line_reading.specs.Refusals.{Gives, refuse};
 ghost use Rattle.line_reading.specs.Objects.{hex_digits, hex_in, bytes_in};
 
-use crate::objects::find;
 use crate::refusals::{JCode, LineFault, refuse};
 use hex::FromHexError;
+use json_data::{Json, Pair, find};
 use lists::{Bytes, List};
-use serde_json::{Map, Value as Json};
 use std::alloc::Global;
 
 /// The bytes of a text: those of a string, or as an object with their hex digits.
-pub fn read_bytes(alloc: Global, found: &Json) -> Result<Bytes, LineFault>
-    ensures { Gives result (bytes_in (view found.now)) }
+pub fn read_bytes(alloc: Global, found: &Json<'_>) -> Result<Bytes, LineFault>
+    ensures { Gives result (bytes_in (data_of found.now)) }
 {
     match found {
-        Json::String(text) => Ok(List::from_slice(alloc, text.as_str().as_bytes())?),
+        Json::String(text) => Ok(List::from_slice(alloc, text.as_bytes())?),
         Json::Object(members) => read_hex(alloc, members),
         _ => refuse(alloc, JCode::Kind, b""),
     }
 }
 
-/// The bytes of an object of the one key `hex`.
-#[tactic(auto, using(crate::proofs::Counting::counted))]
-fn read_hex(alloc: Global, members: &Map<String, Json>) -> Result<Bytes, LineFault>
-    ensures { Gives result (hex_in (members_view members.now.entries)) }
+/// Whether all members have the key `hex`.
+fn is_hex(members: &[Pair<'_>]) -> bool
+    ensures only { result ≡ true → hex_in (members_of members.now) ≡ hex_digits (option_and_then as_str (get_member (codes "hex") (members_of members.now))) }
+    ensures other { result ≡ false → hex_in (members_of members.now) ≡ refuse code.Kind [] }
 {
-    if members.len() != 1 {
+    for (key, _) in members {
+        if key.as_bytes() != "hex".as_bytes() {
+            return false;
+        }
+    }
+    true
+}
+
+/// The bytes of an object of the one key `hex`.
+fn read_hex(alloc: Global, members: &[Pair<'_>]) -> Result<Bytes, LineFault>
+    ensures { Gives result (hex_in (members_of members.now)) }
+{
+    if !is_hex(members) {
         return refuse(alloc, JCode::Kind, b"");
     }
     match find(members, b"hex") {

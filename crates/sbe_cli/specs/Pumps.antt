@@ -89,7 +89,7 @@ pub record StandsOnce (kept : Kept) : Type 0 where
 -- what holds of work at every moment
 abbrev pub IsSoundWork : Work → Type 0
 IsSoundWork (work.Frames on) = IsReadyFrame on.job × IsBounded on.limits × (on.space.chunk ≡ nothing_gathered)
-IsSoundWork (work.Lines on) = IsReadyLine on.job × IsBounded on.limits × (on.buffer.limit ≡ body_limit on.limits.frame)
+IsSoundWork (work.Lines on) = IsReadyLine on.job × IsBounded on.limits × (on.space.buffer.limit ≡ body_limit on.limits.frame)
 IsSoundWork (work.Once job) = ⊤
 
 -- what holds of work before its end

@@ -9,15 +9,14 @@ ghost use Rattle.sbe_cli.specs.Pumps.{StandsLines, HasTaken, CanCount, lines_ahe
 
 use crate::pump::{Tally, done};
 use crate::stop::{Stop, tell};
+use build_lines::LineSpace;
 use command_jobs::{Kept, LineJob, answer_line};
 use frame_stream::{LineErr, LineStream, LineTaken};
-use line_draft::BodyDraft;
 use lists::NoMem;
 use open_framing::HEAD_BYTES;
 use replies::Verdict;
 use sbe_base::{Limits, Sink, Source, Status};
 use std::alloc::Global;
-use typed_writer::FrameBuf;
 
 /// A job that answers lines, the lines that are still to come, and the buffers of its answers.
 #[derive(Drop)]
@@ -25,8 +24,7 @@ pub struct LineWork {
     pub job: LineJob,
     pub limits: Limits,
     pub stream: LineStream,
-    pub draft: BodyDraft,
-    pub buffer: FrameBuf,
+    pub space: LineSpace,
     pub alloc: Global,
 }
 
@@ -42,7 +40,7 @@ impl LineWork {
     ) -> Result<Tally, Status>
         requires ready { IsReadyLine self.old.job }
         requires bounded { IsBounded self.old.limits }
-        requires room { self.old.buffer.limit ≡ body_limit self.old.limits.frame }
+        requires room { self.old.space.buffer.limit ≡ body_limit self.old.limits.frame }
         requires stands { StandsLines self.old.limits self.old.stream kept }
         ensures answers { Answers (lines_pump self.old.job self.old.limits kept self.old.stream) (lines_ahead self.new.stream)
             (streams_of (object_of (I.left input.old) (I.faults input.old)) (object_of (O.held output.old) (O.faults output.old)) (object_of (N.held notes.old) (N.faults notes.old)))
@@ -50,7 +48,7 @@ impl LineWork {
             result }
         ensures job { self.new.job ≡ self.old.job }
         ensures limits { self.new.limits ≡ self.old.limits }
-        ensures room { self.new.buffer.limit ≡ self.old.buffer.limit }
+        ensures room { self.new.space.buffer.limit ≡ self.old.space.buffer.limit }
         ensures stands { IfOk result (λ tally. StandsLines self.old.limits self.new.stream (counted_by kept tally.bytes tally.verdict)) }
         ensures countable { IfOk result (λ tally. CanCount kept tally) }
     {
@@ -78,7 +76,7 @@ impl LineWork {
     ) -> Result<Verdict, Status>
         requires ready { IsReadyLine self.old.job }
         requires bounded { IsBounded self.old.limits }
-        requires room { self.old.buffer.limit ≡ body_limit self.old.limits.frame }
+        requires room { self.old.space.buffer.limit ≡ body_limit self.old.limits.frame }
         ensures answers { DeliversDraft (line_reply self.old.job self.old.limits kept self.old.stream.line)
             (sinks_of (object_of (O.held output.old) (O.faults output.old)) (object_of (N.held notes.old) (N.faults notes.old)))
             (sinks_of (object_of (O.held output.new) (O.faults output.new)) (object_of (N.held notes.new) (N.faults notes.new)))
@@ -86,15 +84,14 @@ impl LineWork {
         ensures job { self.new.job ≡ self.old.job }
         ensures limits { self.new.limits ≡ self.old.limits }
         ensures stream { self.new.stream ≡ self.old.stream }
-        ensures room { self.new.buffer.limit ≡ self.old.buffer.limit }
+        ensures room { self.new.space.buffer.limit ≡ self.old.space.buffer.limit }
     {
         answer_line(
             self.alloc,
             &self.job,
             kept,
             self.stream.line(),
-            &mut self.draft,
-            &mut self.buffer,
+            &mut self.space,
             output,
             notes,
         )
@@ -116,16 +113,15 @@ pub fn open_lines(alloc: Global, job: LineJob, limits: Limits) -> Result<LineWor
     ensures job { IfOk result (λ work. work.job ≡ job) }
     ensures limits { IfOk result (λ work. work.limits ≡ limits) }
     ensures stream { IfOk result (λ work. work.stream ≡ lines_opened limits.input) }
-    ensures room { IfOk result (λ work. work.buffer.limit ≡ body_limit limits.frame) }
+    ensures room { IfOk result (λ work. work.space.buffer.limit ≡ body_limit limits.frame) }
 {
     let stream = LineStream::open(alloc, limits)?;
-    let buffer = FrameBuf::new(alloc, limits.frame - HEAD_BYTES)?;
+    let space = LineSpace::new(alloc, limits.frame - HEAD_BYTES)?;
     Ok(LineWork {
         job,
         limits,
         stream,
-        draft: BodyDraft::new(),
-        buffer,
+        space,
         alloc,
     })
 }

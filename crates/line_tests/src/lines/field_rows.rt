@@ -161,7 +161,7 @@ pub const TEXTS: [Row; 8] = [
 ];
 
 /// Texts in hex.
-pub const HEX: [Row; 9] = [
+pub const HEX: [Row; 10] = [
     Row {
         put: r#""t":{"hex":"61fF"}"#,
         at: 3,
@@ -186,6 +186,11 @@ pub const HEX: [Row; 9] = [
         put: r#""t":{"hex":"61","x":1}"#,
         at: 3,
         told: "J04 t",
+    },
+    Row {
+        put: r#""t":{"hex":"61","hex":"62"}"#,
+        at: 3,
+        told: "<62>",
     },
     Row {
         put: r#""t":{"hax":"61"}"#,

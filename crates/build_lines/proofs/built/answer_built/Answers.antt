@@ -20,12 +20,12 @@ returns-then-is_empty-clause-answers g c = λ limit at. empty_answered c.args.ta
 pub returns-then-body_of_line-clause-answers : goal.returns-then-body_of_line-clause-answers
 returns-then-body_of_line-clause-answers g c = λ limit at.
     let notes : Object (List ℕ) = record { told = g.N.Sink.held c.args.notes.now; faults = g.N.Sink.faults c.args.notes.now } in
-    printed_answered c.args.target.now limit c.args.item c.args.line.now (sym c.is_empty.ensures ∙ c.if-is_empty.false) c.target.inside.layout c.args.buffer.now.limit c.body_of_line.new.draft c.bytes.result.now _ _ _
+    printed_answered c.args.target.now limit c.args.item c.args.line.now (sym c.is_empty.ensures ∙ c.if-is_empty.false) c.target.inside.layout c.args.space.now.buffer.limit c.body_of_line.new.draft c.bytes.result.now _ _ _
     (c.target.invariant ∙ c.target.view_is) at (subst (λ n. IsBodyOf c.target.inside.layout c.args.line.now n c.body_of_line.new.draft) c.limit.ensures.same (c.if-body_of_line.ensures.body refl)) c.bytes.ensures (c.answer_body.ensures notes)
 
 pub returns-in-Ok-clause-answers : goal.returns-in-Ok-clause-answers
 returns-in-Ok-clause-answers g c = λ limit at.
-    message_answered c.args.target.now limit c.args.item c.args.line.now (sym c.is_empty.ensures ∙ c.if-is_empty.false) c.target.inside.layout c.args.buffer.now.limit c.in-Ok.message _ _ _
+    message_answered c.args.target.now limit c.args.item c.args.line.now (sym c.is_empty.ensures ∙ c.if-is_empty.false) c.target.inside.layout c.args.space.now.buffer.limit c.in-Ok.message _ _ _
     (c.target.invariant ∙ c.target.view_is) at
     (subst (λ (s : WireSchema). tree_of s c.args.line.now ≡ Ok c.in-Ok.message) c.target.view_is c.in-Ok.ensures)
     c.answer_message.ensures.answers

@@ -1,5 +1,5 @@
 use Rattle.std.proofs.Common.{◌≡◌, drop}
-use Rattle.serde_json.specs.View.{items_view}
+use Rattle.json_data.specs.Trees.{items_of}
 use Rattle.line_reading.specs.Objects.{each}
 use Rattle.line_reading.specs.Lines.{entry_in, block_read}
 use Rattle.line_reading.specs.Code.{seen, group_list_read}
@@ -10,4 +10,4 @@ abbrev pub invariant-read_groups-loop-group : goal.invariant-read_groups-loop-gr
 invariant-read_groups-loop-group l = with_front l.out (group_list_read (drop l.group-index l.groups) (seen l.object)) ≡ group_list_read l.groups (seen l.object)
 
 abbrev pub invariant-read_items-loop-i : goal.invariant-read_items-loop-i
-invariant-read_items-loop-i l = with_front l.out (each (entry_in (block_read l.level)) l.i (items_view (drop l.i l.items))) ≡ each (entry_in (block_read l.level)) 0 (items_view l.items)
+invariant-read_items-loop-i l = with_front l.out (each (entry_in (block_read l.level)) l.i (items_of (drop l.i l.items))) ≡ each (entry_in (block_read l.level)) 0 (items_of l.items)

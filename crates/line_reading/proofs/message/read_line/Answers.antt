@@ -1,6 +1,5 @@
-use Rattle.std.proofs.Common.{sym, subst, ap, ◌∙◌, true≢false}
-use Rattle.serde_json.specs.Errors.{IsMemory}
-use Rattle.serde_json.specs.View.{view}
+use Rattle.std.proofs.Common.{Err, sym, subst, ap}
+use Rattle.json_data.specs.Trees.{data_of}
 use Rattle.line_reading.specs.Refusals.{Gives}
 use Rattle.line_reading.specs.Lines.{found_in}
 use Rattle.line_reading.proofs.Wholes.{value_found, no_value}
@@ -8,10 +7,8 @@ use Rattle.line_reading.proofs.message.read_line.Goals as goal
 
 pub returns-in-Ok : goal.returns-in-Ok
 returns-in-Ok c =
-    let found = value_found c.args.line.now (view c.in-Ok.found) c.in-Ok.ensures.ok.0 c.in-Ok.ensures.ok.1 in
+    let found = value_found c.args.line.now (data_of c.in-Ok.found) c.in-Ok.ensures.ok.0 c.in-Ok.ensures.ok.1 in
     subst (Gives c.read_tree.result) (sym (ap (found_in c.args.schema.now) found)) c.read_tree.ensures
 
-pub returns-else-is_memory : goal.returns-else-is_memory
-returns-else-is_memory c =
-    let other : IsMemory c.in-Err.e → ⊥ = λ memory. true≢false (sym (c.is_memory.ensures.1 memory) ∙ c.if-is_memory.false) in
-    subst (Gives c.refuse.result) (sym (ap (found_in c.args.schema.now) (no_value c.args.line.now (c.in-Err.ensures.err other)))) c.refuse.ensures
+pub returns-in-Err-NotJson : goal.returns-in-Err-NotJson
+returns-in-Err-NotJson c = subst (Gives c.refuse.result) (sym (ap (found_in c.args.schema.now) (no_value c.args.line.now (c.in-Err-NotJson.ensures.err (ap Err c.in-Err-NotJson.field-0-is))))) c.refuse.ensures

@@ -1,0 +1,4 @@
+pub mod Growing
+pub mod Levels
+pub mod Turns
+pub mod Digits

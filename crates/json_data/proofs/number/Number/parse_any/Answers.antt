@@ -1,0 +1,21 @@
+use Rattle.std.proofs.Common.{◌≡◌, ◌==◌, true, false, drop, get_or, sym, ap, ◌∙◌, arith, take_all, length-drop}
+use Rattle.fast_float.specs.Text.{scan}
+use Rattle.serde_json.specs.Read.{number_of, number_from}
+use Rattle.json_data.proofs.number.Number.parse_any.Goals as goal
+
+pub returns-then-has_minus : goal.returns-then-has_minus
+unfolding number_of
+returns-then-has_minus c =
+    let text = c.args.bytes.now in
+    let signed : (get_or text 0 0 == 45) ≡ true = sym c.if-has_minus.ensures.value in
+    let behind : c.scan.result ≡ scan (drop 1 text) = c.scan.ensures.parts ∙ ap scan (take_all _ (drop 1 text) (omega (arith, length-drop 1 text))) in
+    let whole : number_from true (scan (drop 1 text)) ≡ number_of text = rw signed in
+    c.below.ensures ∙ ap (number_from true) behind ∙ whole
+
+pub returns-else-has_minus : goal.returns-else-has_minus
+unfolding number_of
+returns-else-has_minus c =
+    let text = c.args.bytes.now in
+    let unsigned : (get_or text 0 0 == 45) ≡ false = sym c.if-has_minus.ensures.value in
+    let whole : number_from false (scan text) ≡ number_of text = rw unsigned in
+    c.from_digits.ensures ∙ ap (number_from false) c.scan-else-has_minus.ensures.parts ∙ whole
