@@ -5,6 +5,9 @@ use crate::kinds::{begin_of, end_of, past, value_in};
 use crate::parts::{parts_in, past_parts};
 use sbe_types::{Field, Group, Kind, Level, Member, Order};
 
+/// What the object of a root or of an entry begins with.
+pub(crate) const FRONT: &[u8] = b"{\"data\":{";
+
 /// The object of a message's root or of an entry, without the closing bracket.
 #[cycle(level)]
 pub(crate) fn block_in(
@@ -13,7 +16,7 @@ pub(crate) fn block_in(
     level: &Level,
     draft: &mut BodyDraft,
 ) -> bool {
-    if !cursor.passes_text(b"{\"data\":{") {
+    if !cursor.passes_text(FRONT) {
         return false;
     }
     let mut data = cursor.again();

@@ -1,4 +1,4 @@
-use crate::blocks::block_in;
+use crate::blocks::{FRONT, block_in};
 use crate::cursor::Cursor;
 use crate::draft::BodyDraft;
 use crate::kinds::{begin_of, end_of, past};
@@ -9,6 +9,9 @@ use sbe_types::{Kind, Level, WireSchema};
 /// been, and for want of room; neither answer promises anything.
 pub fn draft_body(schema: &WireSchema, line: &[u8], draft: &mut BodyDraft) -> bool {
     draft.clear();
+    if !line.starts_with(FRONT) {
+        return false;
+    }
     let levels = schema.messages.as_slice();
     match template_in(levels, line) {
         Some(template) => message_in(schema, &levels[template], line, draft),
