@@ -1,3 +1,0 @@
-mod ends;
-mod lines;
-mod messages;
