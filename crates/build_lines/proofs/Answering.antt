@@ -16,9 +16,9 @@ use Rattle.sbe_wire.specs.Canonical.{canonical}
 use Rattle.sbe_wire.specs.declared.codes.NCode.{NCode}
 use Rattle.sbe_wire.specs.declared.codes.NCode.TheVariants as unfit
 use Rattle.schema_facts.specs.IsChecked.{IsChecked}
-use Rattle.layout_compile.specs.Writes.{Writes, outlet_of}
-use Rattle.line_reading.specs.Refusals.{refusal}
-use Rattle.line_reading.specs.declared.refusals.JCode.{JCode}
+use Rattle.layout_tables.specs.Writes.{Writes, outlet_of}
+use Rattle.line_values.specs.Refusals.{refusal}
+use Rattle.line_values.specs.declared.refusals.JCode.{JCode}
 use Rattle.line_reading.specs.Lines.{tree_of}
 use Rattle.dump_lines.specs.Dumped.{encoding_of}
 use Rattle.dump_lines.specs.Refused.{refused_line}

@@ -6,7 +6,7 @@ use Rattle.sbe_types.specs.declared.message.Msg.{Msg}
 use Rattle.sbe_wire.specs.Misfit.{Misfit, misfit}
 use Rattle.sbe_wire.specs.Canonical.{canonical}
 use Rattle.schema_facts.specs.IsChecked.{IsChecked}
-use Rattle.line_reading.specs.Refusals.{Refusal}
+use Rattle.line_values.specs.Refusals.{Refusal}
 use Rattle.line_reading.specs.Lines.{tree_of}
 use Rattle.dump_lines.specs.Refused.{refused_line}
 use Rattle.build_lines.specs.Build.{IsBuilt, no_bytes, no_message, no_room, a_frame, body_limit, built_reply, read_reply, message_reply, frame_reply, refused_reply, of_misfit, unread_line}

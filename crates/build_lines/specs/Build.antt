@@ -9,13 +9,13 @@ use Rattle.sbe_wire.specs.declared.codes.NCode.{NCode}
 use Rattle.sbe_wire.specs.declared.codes.NCode.TheVariants as unfit
 use Rattle.open_framing.specs.declared.head.TheConstants.{HEAD_BYTES}
 use Rattle.open_framing.specs.Frames.{frame}
-use Rattle.layout_compile.specs.Paths.{path_text}
-use Rattle.tree_json.specs.Values.{text_data}
-use Rattle.tree_json.specs.Plain.{plain_text}
-use Rattle.line_reading.specs.Refusals.{Refusal}
+use Rattle.layout_tables.specs.Paths.{path_text}
+use Rattle.json_values.specs.Values.{text_data}
+use Rattle.json_values.specs.Plain.{plain_text}
+use Rattle.line_values.specs.Refusals.{Refusal}
 use Rattle.line_reading.specs.Lines.{tree_of}
-use Rattle.line_reading.specs.declared.refusals.JCode.{JCode}
-use Rattle.line_reading.specs.declared.refusals.JCode.TheVariants as unread
+use Rattle.line_values.specs.declared.refusals.JCode.{JCode}
+use Rattle.line_values.specs.declared.refusals.JCode.TheVariants as unread
 use Rattle.dump_lines.specs.Dumped.{encoding_of}
 use Rattle.dump_lines.specs.Refused.{Refused as RefusedItem, refused_line, offset_text}
 use Rattle.replies.specs.Reply.{Reply}

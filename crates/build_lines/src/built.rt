@@ -2,7 +2,7 @@
 
 ghost use Rattle.std.specs.Prelude.{◌≡◌, ◌<◌, ◌^◌, ℕ, List, length, slice_get};
 ghost use Rattle.std.specs.Option.{IsSome};
-ghost use Rattle.layout_compile.specs.Writes.{Writes, outlet_of};
+ghost use Rattle.layout_tables.specs.Writes.{Writes, outlet_of};
 ghost use Rattle.open_framing.specs.Frames.{frame};
 ghost use Rattle.sbe_wire.specs.Misfit.{misfit};
 ghost use Rattle.build_lines.specs.Build.{body_limit, built_reply, frame_reply, message_reply};
@@ -13,8 +13,10 @@ use crate::space::LineSpace;
 use crate::target::Target;
 use crate::unbuilt::{put_misfit, put_unread};
 use dump_lines::encoding_of;
-use layout_compile::Layout;
-use line_reading::{LineFault, msg_of_line_with};
+use json_values::Chunk;
+use layout_tables::Layout;
+use line_reading::msg_of_line_with;
+use line_values::LineFault;
 use open_framing::{HEAD_BYTES, Head, put_head};
 use printed_lines::body_of_line;
 use replies::Verdict;
@@ -22,7 +24,6 @@ use sbe_base::{Sink, Status, WriteFault};
 use sbe_types::Msg;
 use std::alloc::Global;
 use tree_codec::encode;
-use tree_json::Chunk;
 use typed_writer::FrameBuf;
 
 /// Writes the answer to a line: the frame of its message to the output, or the line of a refused item to the notes. A line in

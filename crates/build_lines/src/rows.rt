@@ -3,8 +3,8 @@
 ghost use Rattle.std.specs.Prelude.{◌≡◌, [], pos, codes};
 ghost use Rattle.sbe_wire.specs.Rows.Schemas.{schema7};
 ghost use Rattle.sbe_wire.specs.declared.codes.NCode.TheVariants as unfit;
-ghost use Rattle.line_reading.specs.Refusals.{refusal};
-ghost use Rattle.line_reading.specs.declared.refusals.JCode.TheVariants as unread;
+ghost use Rattle.line_values.specs.Refusals.{refusal};
+ghost use Rattle.line_values.specs.declared.refusals.JCode.TheVariants as unread;
 ghost use Rattle.dump_lines.specs.Refused.{refused_line};
 ghost use Rattle.build_lines.specs.Build.{of_misfit, unread_line};
 ghost use Rattle.build_lines.specs.Rows.{unknown_template, one_byte_more};

@@ -2,22 +2,22 @@
 
 ghost use Rattle.std.specs.Prelude.{◌≡◌, None};
 ghost use Rattle.std.specs.Fmt.{signed_decimal};
-ghost use Rattle.layout_compile.specs.Paths.{IsPathOf, path_text};
-ghost use Rattle.layout_compile.specs.Writes.{Writes, outlet_of};
-ghost use Rattle.tree_json.specs.Writes.{output, Writes as Puts};
-ghost use Rattle.line_reading.specs.Refusals.{refusal};
+ghost use Rattle.layout_tables.specs.Paths.{IsPathOf, path_text};
+ghost use Rattle.layout_tables.specs.Writes.{Writes, outlet_of};
+ghost use Rattle.json_values.specs.Writes.{output, Writes as Puts};
+ghost use Rattle.line_values.specs.Refusals.{refusal};
 ghost use Rattle.dump_lines.specs.Refused.{back_text, front_text, refused_line};
 ghost use Rattle.tree_codec.specs.Sized.{sized_err};
 ghost use Rattle.build_lines.specs.Build.{LeavesRoom, line_code, misfit_code, misfit_detail, of_misfit, unread_line};
 
-use layout_compile::Layout;
-use line_reading::JCode;
+use json_values::{Chunk, put_count, put_number, put_text};
+use layout_tables::Layout;
+use line_values::JCode;
 use open_framing::HEAD_BYTES;
 use sbe_base::{Sink, WriteFault};
 use sbe_types::Path;
 use sbe_wire::NCode;
 use tree_codec::EncodeErr;
-use tree_json::{Chunk, put_count, put_number, put_text};
 
 /// Writes the line of an item whose line is no message. It takes no memory.
 ///

@@ -2,7 +2,7 @@
 use Rattle.std.proofs.Common.{◌≡◌, ℕ, Bool, List, Ok, Err, refl, sym, ap, ◌∙◌}
 use Rattle.sbe_base.specs.declared.stream.WriteFault.{WriteFault}
 use Rattle.open_framing.specs.Frames.{Item}
-use Rattle.layout_compile.specs.Writes.{Outlet}
+use Rattle.layout_tables.specs.Writes.{Outlet}
 use Rattle.dump_lines.specs.declared.schemas.Schemas.{Schemas}
 use Rattle.dump_lines.specs.Dumped.{Answers, dumped, AreInOrder}
 use Rattle.dump_lines.proofs.Answered.{is_answered, answered_once}

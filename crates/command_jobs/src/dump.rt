@@ -1,7 +1,7 @@
 ghost use Rattle.std.specs.Prelude.{◌≡◌};
 ghost use Rattle.replies.specs.Drafts.{Delivers};
 ghost use Rattle.schema_files.specs.Files.{JobCause};
-ghost use Rattle.tree_json.specs.Writes.{nothing_gathered};
+ghost use Rattle.json_values.specs.Writes.{nothing_gathered};
 ghost use Rattle.command_jobs.specs.Jobs.{LoadsJob, IsBounded};
 ghost use Rattle.replies.specs.Outside.{object_of};
 ghost use Rattle.command_jobs.specs.Replies.{reply_of};

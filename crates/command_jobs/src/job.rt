@@ -3,7 +3,7 @@ ghost use Rattle.sbe_base.specs.declared.status.Limits.{Limits};
 ghost use Rattle.command_words.specs.Words.{HasLimits};
 ghost use Rattle.command_jobs.specs.Jobs.{LoadsJob, IsReadyLine};
 ghost use Rattle.schema_files.specs.Files.{JobCause};
-ghost use Rattle.tree_json.specs.Writes.{nothing_gathered};
+ghost use Rattle.json_values.specs.Writes.{nothing_gathered};
 ghost use Rattle.replies.specs.Drafts.{Delivers, DeliversDraft, Drafts};
 ghost use Rattle.replies.specs.Outside.{object_of, sinks_of};
 ghost use Rattle.build_lines.specs.Build.{body_limit};

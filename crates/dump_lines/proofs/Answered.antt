@@ -16,8 +16,8 @@ use Rattle.sbe_wire.proofs.Messages.{message_judges, one_message, not_both}
 use Rattle.schema_facts.specs.IsChecked.{IsChecked}
 use Rattle.open_framing.specs.Frames.{Item}
 use Rattle.sbe_base.specs.declared.stream.WriteFault.{WriteFault}
-use Rattle.layout_compile.specs.Heads.{header_number}
-use Rattle.layout_compile.specs.Writes.{Outlet, Writes}
+use Rattle.layout_tables.specs.Heads.{header_number}
+use Rattle.layout_tables.specs.Writes.{Outlet, Writes}
 use Rattle.tree_json.specs.Lines.{message_at, line_of}
 use Rattle.dump_lines.specs.Chosen.{has_id, schema_with, schema_for}
 use Rattle.dump_lines.specs.Refused.{refused_line, of_encoding, of_fault, of_fault_in, message_meant, IsWay}

@@ -5,7 +5,7 @@ use Rattle.std.specs.List.{list_any}
 use Rattle.std.specs.Option.{option_map_or}
 use Rattle.std.proofs.lemmas.Bool.Decides.{nat_tests}
 use Rattle.sbe_types.specs.declared.schema.WireSchema.{WireSchema}
-use Rattle.layout_compile.proofs.Items.{drop_is, all_dropped}
+use Rattle.layout_tables.proofs.Items.{drop_is, all_dropped}
 use Rattle.dump_lines.specs.Chosen.{has_id, schema_with}
 use Rattle.dump_lines.specs.declared.schemas.Schemas.{Schemas}
 

@@ -28,9 +28,9 @@ use Rattle.sbe_wire.specs.Lays.{DataLays, GroupsLay}
 use Rattle.sbe_types.specs.Places.{end_past}
 use Rattle.sbe_wire.specs.Versions.{acting, is_known}
 use Rattle.sbe_wire.proofs.Messages.{named_is}
-use Rattle.layout_compile.specs.Heads.{header_width}
-use Rattle.layout_compile.specs.Paths.{Inside, in_level, in_group, in_kind, in_nothing, NamedPart, field_part, group_part, data_part, member_part, level_parts, parts_inside, to_part, path_from, IsPathOf}
-use Rattle.layout_compile.proofs.Items.{long_map, get_behind}
+use Rattle.layout_tables.specs.Heads.{header_width}
+use Rattle.layout_tables.specs.Paths.{Inside, in_level, in_group, in_kind, in_nothing, NamedPart, field_part, group_part, data_part, member_part, level_parts, parts_inside, to_part, path_from, IsPathOf}
+use Rattle.layout_tables.proofs.Items.{long_map, get_behind}
 use Rattle.flyweight_view.specs.Heads.{head_number, found_told, named_told}
 use Rattle.dump_lines.specs.Refused.{message_meant, IsWay}
 use Rattle.dump_lines.specs.Dumped.{FaultsHaveWays}

@@ -4,10 +4,10 @@ use Rattle.std.specs.Prelude.{OnOk, OnErr}
 use Rattle.std.specs.Io.KnownBytes.{Appends}
 use Rattle.sbe_base.specs.Causes.{AppendsPart, HasCause}
 use Rattle.sbe_base.specs.declared.stream.WriteFault.{WriteFault}
-use Rattle.layout_compile.specs.Writes.{Writes, outlet_of}
-use Rattle.tree_json.specs.Writes.{Gathered, output, Origin, Finishes}
-use Rattle.tree_json.specs.Writes.{Writes as Puts}
-use Rattle.tree_json.proofs.Written.{starts, ended}
+use Rattle.layout_tables.specs.Writes.{Writes, outlet_of}
+use Rattle.json_values.specs.Writes.{Gathered, output, Origin, Finishes}
+use Rattle.json_values.specs.Writes.{Writes as Puts}
+use Rattle.json_values.proofs.Written.{starts, ended}
 
 -- all that went through a chunk was written to its sink
 pub chunk_written : (a b c : Option (List ℕ)) (m k n : ℕ) (g h : Gathered) (text : List ℕ) (r : Result Unit WriteFault) → g ≡ record { bytes = []; failed = false } →

@@ -2,7 +2,7 @@
 use Rattle.std.specs.Prelude.{ℕ, ◌==◌, Bool, List, ◌∷◌, find, codes, unwrap_or}
 use Rattle.std.specs.Option.{option_map_or}
 use Rattle.sbe_types.specs.declared.schema.WireSchema.{WireSchema}
-use Rattle.layout_compile.specs.Heads.{header_number}
+use Rattle.layout_tables.specs.Heads.{header_number}
 use Rattle.dump_lines.specs.declared.schemas.Schemas.{Schemas}
 
 -- the schema has this id

@@ -12,7 +12,7 @@ use Rattle.sbe_wire.specs.Reading.{message_of}
 use Rattle.open_framing.specs.Frames.{Item}
 use Rattle.open_framing.specs.declared.head.TheConstants.{SBE_LITTLE, SBE_BIG}
 use Rattle.schema_facts.specs.IsChecked.{IsChecked}
-use Rattle.layout_compile.specs.Writes.{Outlet, Writes}
+use Rattle.layout_tables.specs.Writes.{Outlet, Writes}
 use Rattle.serde_json.specs.Written.{compact_text}
 use Rattle.flyweight_view.specs.Seen.{SeenMessage}
 use Rattle.tree_json.specs.Lines.{line_of, message_at}

@@ -8,7 +8,7 @@ use Rattle.sbe_types.specs.declared.schema.WireSchema.{WireSchema}
 use Rattle.sbe_wire.specs.declared.codes.FCode.{FCode}
 use Rattle.sbe_wire.specs.declared.codes.FCode.TheVariants.{ShortHeader, SchemaId, Template, BlockShort, Truncated, Range, EnumUnknown, SetUnknown, TextByte, Count, Length, Trailing}
 use Rattle.sbe_wire.specs.Faults.{Fault}
-use Rattle.layout_compile.specs.Paths.{IsPathOf, path_text}
+use Rattle.layout_tables.specs.Paths.{IsPathOf, path_text}
 use Rattle.flyweight_view.specs.Heads.{template_told}
 
 -- why an item is refused: a code, the byte of the body where there is one, the way to the part, and a number

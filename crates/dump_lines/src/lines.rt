@@ -1,12 +1,13 @@
 ghost use Rattle.std.specs.Prelude.{◌≡◌, ◌++◌, codes};
-ghost use Rattle.layout_compile.specs.Writes.{Writes, outlet_of};
-ghost use Rattle.tree_json.specs.Writes.{nothing_gathered, output, Writes as Puts};
+ghost use Rattle.layout_tables.specs.Writes.{Writes, outlet_of};
+ghost use Rattle.json_values.specs.Writes.{nothing_gathered, output, Writes as Puts};
 ghost use Rattle.dump_lines.specs.Dumped.{before_message, behind_message, seen_line};
 
 use crate::schemas::Schemas;
 use flyweight_view::MsgView;
+use json_values::{Chunk, put_count};
 use sbe_base::{Sink, WriteFault};
-use tree_json::{Chunk, put_count, put_open_line};
+use tree_json::put_open_line;
 
 /// Writes the line of a message of a schema with that id, by way of a chunk that holds nothing.
 ///

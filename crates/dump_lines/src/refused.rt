@@ -1,16 +1,16 @@
 ghost use Rattle.std.specs.Prelude.{◌≡◌, ◌<◌, slice_index};
 ghost use Rattle.std.specs.Fmt.{signed_decimal};
 ghost use Rattle.hex.specs.Hex.{lower_digits};
-ghost use Rattle.layout_compile.specs.Writes.{Writes, outlet_of};
-ghost use Rattle.tree_json.specs.Writes.{output, Writes as Puts};
+ghost use Rattle.layout_tables.specs.Writes.{Writes, outlet_of};
+ghost use Rattle.json_values.specs.Writes.{output, Writes as Puts};
 ghost use Rattle.flyweight_view.specs.Viewed.{refused};
 ghost use Rattle.dump_lines.specs.Refused.{IsWay, back_text, front_text, of_encoding, of_fault_in, offset_text, refused_line, type_text, way_text};
 
 use crate::codes::fault_code;
 use flyweight_view::{LastRefusal, Refusal};
-use layout_compile::Layout;
+use json_values::{Chunk, put_count, put_null, put_number};
+use layout_tables::Layout;
 use sbe_base::{Sink, WriteFault};
-use tree_json::{Chunk, put_count, put_null, put_number};
 
 const HEX_DIGITS: &[u8; 16] = b"0123456789abcdef";
 

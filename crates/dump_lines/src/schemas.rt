@@ -3,7 +3,7 @@ ghost use Rattle.std.specs.List.{list_any};
 ghost use Rattle.dump_lines.specs.Chosen.{has_id, schema_for, schema_with};
 ghost use Rattle.dump_lines.specs.Dumped.{AreInOrder};
 
-use layout_compile::Layout;
+use layout_tables::Layout;
 use lists::{List, NoMem};
 use std::alloc::Global;
 

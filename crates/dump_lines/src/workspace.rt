@@ -1,8 +1,8 @@
 ghost use Rattle.std.specs.Prelude.{◌≡◌};
-ghost use Rattle.tree_json.specs.Writes.{nothing_gathered};
+ghost use Rattle.json_values.specs.Writes.{nothing_gathered};
 
 use flyweight_view::LastRefusal;
-use tree_json::Chunk;
+use json_values::Chunk;
 
 /// What all answers of a run are made with: the chunk that their lines go by, and the place of a body's refusal.
 #[derive(Drop)]

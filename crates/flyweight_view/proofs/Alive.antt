@@ -3,7 +3,7 @@ use Rattle.std.proofs.Common.{◌≡◌, ◌≤◌, ℕ, max, true, List, [], �
 use Rattle.std.proofs.lemmas.Bool.Decides.{nat_tests}
 use Rattle.sbe_types.specs.declared.schema.Field.{Field}
 use Rattle.sbe_wire.specs.Versions.{is_alive}
-use Rattle.layout_compile.specs.Rowed.{newest_from, newest_of}
+use Rattle.layout_tables.specs.Rowed.{newest_from, newest_of}
 use Rattle.flat_rows.specs.Judged.{AllAlive}
 
 alive_at : (version since : ℕ) → since ≤ version → is_alive version since ≡ true

@@ -14,10 +14,10 @@ use Rattle.flat_rows.specs.Pieces.{joined, pieces_between}
 use Rattle.flat_rows.specs.Tables.{stands_for, IsTable, RowsFit}
 use Rattle.flat_rows.proofs.PiecesFit.{table_fits}
 use Rattle.flat_rows.proofs.PiecesShow.{joined_block}
-use Rattle.layout_compile.specs.declared.rows.FieldRow.{FieldRow}
-use Rattle.layout_compile.specs.declared.rows.LevelRow.{LevelRow}
-use Rattle.layout_compile.specs.Flats.{text_before, text_behind, IsFlat}
-use Rattle.layout_compile.specs.Rowed.{RowFor, FieldsAre, newest_of}
+use Rattle.layout_tables.specs.declared.rows.FieldRow.{FieldRow}
+use Rattle.layout_tables.specs.declared.rows.LevelRow.{LevelRow}
+use Rattle.layout_tables.specs.Flats.{text_before, text_behind, IsFlat}
+use Rattle.layout_tables.specs.Rowed.{RowFor, FieldsAre, newest_of}
 use Rattle.flyweight_view.specs.declared.by_table.TableBlock.{TableBlock}
 use Rattle.flyweight_view.specs.declared.mode.Mode.{Mode}
 use Rattle.flyweight_view.specs.declared.plan.Plan.{Plan}

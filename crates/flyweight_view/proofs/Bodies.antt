@@ -14,9 +14,9 @@ use Rattle.sbe_wire.specs.Faults.{Fault, fault_at, shifted, message_named, Headi
 use Rattle.sbe_wire.specs.Reading.{◌>>=◌, later, and_then, and_judged, heading_of, root_read, headed, rest_judged, message_of, message_judged, floor_judged}
 use Rattle.sbe_wire.specs.Versions.{acting, floor}
 use Rattle.schema_facts.specs.Levels.{Node, nodes, nodes_from, node, root_of, level_at}
-use Rattle.layout_compile.specs.Heads.{header_width}
-use Rattle.layout_compile.proofs.Items.{get_behind}
-use Rattle.layout_compile.proofs.Nodes.{nodes_open}
+use Rattle.layout_tables.specs.Heads.{header_width}
+use Rattle.layout_tables.proofs.Items.{get_behind}
+use Rattle.layout_tables.proofs.Nodes.{nodes_open}
 use Rattle.flyweight_view.specs.Read.{read_message}
 use Rattle.sbe_wire.proofs.Combine.{err_is}
 use Rattle.flyweight_view.specs.declared.header.Start.{Start}

@@ -13,9 +13,9 @@ use Rattle.sbe_wire.specs.Placed.{ArePlaced}
 use Rattle.sbe_wire.specs.Reading.{◌>>=◌, later, inside, value_read, field_read, fields_read}
 use Rattle.sbe_wire.specs.Versions.{is_alive, floor_from}
 use Rattle.sbe_wire.proofs.Blocks.{reach, reach_within, floor_reaches}
-use Rattle.layout_compile.specs.declared.rows.FieldRow.{FieldRow}
-use Rattle.layout_compile.specs.Rowed.{FieldIs, FieldsAre}
-use Rattle.layout_compile.proofs.Items.{drop_is}
+use Rattle.layout_tables.specs.declared.rows.FieldRow.{FieldRow}
+use Rattle.layout_tables.specs.Rowed.{FieldIs, FieldsAre}
+use Rattle.layout_tables.proofs.Items.{drop_is}
 use Rattle.flyweight_view.specs.declared.mode.Mode.{Mode}
 use Rattle.flyweight_view.specs.Told.{Piece, piece, settled}
 use Rattle.flyweight_view.specs.Kinds.{part_told, IsReady}

@@ -9,11 +9,11 @@ use Rattle.sbe_types.specs.declared.schema.Level.{Level, out-Level}
 use Rattle.sbe_wire.specs.Faults.{Fault}
 use Rattle.sbe_wire.specs.Reading.{each_read}
 use Rattle.schema_facts.specs.Levels.{groups_in, groups_at as groups_here}
-use Rattle.layout_compile.specs.declared.rows.LevelRow.{LevelRow}
-use Rattle.layout_compile.specs.Parts.{group_number}
-use Rattle.layout_compile.specs.Rowed.{RowFor}
-use Rattle.layout_compile.proofs.GroupWalk.{GroupsFrom, group_is}
-use Rattle.layout_compile.proofs.Items.{drop_at, all_dropped}
+use Rattle.layout_tables.specs.declared.rows.LevelRow.{LevelRow}
+use Rattle.layout_tables.specs.Parts.{group_number}
+use Rattle.layout_tables.specs.Rowed.{RowFor}
+use Rattle.layout_tables.proofs.GroupWalk.{GroupsFrom, group_is}
+use Rattle.layout_tables.proofs.Items.{drop_at, all_dropped}
 use Rattle.group_codec.specs.declared.dim.Dim.{Dim}
 use Rattle.flyweight_view.specs.declared.groups.Spot.{Spot}
 use Rattle.flyweight_view.specs.declared.layer.Layer.{Layer}

@@ -22,9 +22,9 @@ use Rattle.sbe_wire.specs.Reading.{Reader, ◌>>=◌, later, and_then, and_judge
 use Rattle.sbe_wire.specs.Versions.{is_alive, floor}
 use Rattle.sbe_wire.proofs.Combine.{ok_is}
 use Rattle.schema_facts.specs.Levels.{nodes, nodes_below, nodes_of, all_nodes, groups_at}
-use Rattle.layout_compile.specs.Parts.{group_number}
-use Rattle.layout_compile.proofs.Grows.{flat_more}
-use Rattle.layout_compile.proofs.GroupWalk.{GroupsFrom, groups_begin, group_is, here}
+use Rattle.layout_tables.specs.Parts.{group_number}
+use Rattle.layout_tables.proofs.Nodes.{flat_more}
+use Rattle.layout_tables.proofs.GroupWalk.{GroupsFrom, groups_begin, group_is, here}
 use Rattle.group_codec.specs.declared.dim.Dim.{Dim}
 use Rattle.flyweight_view.specs.declared.layer.Layer.{Layer}
 use Rattle.flyweight_view.specs.declared.mode.Mode.{Mode}

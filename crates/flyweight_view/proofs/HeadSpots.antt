@@ -8,10 +8,10 @@ use Rattle.sbe_types.specs.declared.schema.WireSchema.{WireSchema}
 use Rattle.sbe_types.specs.Numbers.{number_of, natural, prim_width}
 use Rattle.sbe_types.specs.Places.{members_end}
 use Rattle.sbe_wire.specs.Named.{Spot, number_named}
-use Rattle.layout_compile.specs.declared.rows.HeaderRow.{HeaderRow}
-use Rattle.layout_compile.specs.declared.rows.SpotRow.{SpotRow}
-use Rattle.layout_compile.specs.Heads.{number_at}
-use Rattle.layout_compile.specs.Rowed.{as_spot, HeaderIs, IsTwoBytes, IsUsual, SpotIs}
+use Rattle.layout_tables.specs.declared.rows.HeaderRow.{HeaderRow}
+use Rattle.layout_tables.specs.declared.rows.SpotRow.{SpotRow}
+use Rattle.layout_tables.specs.Heads.{number_at}
+use Rattle.layout_tables.specs.Rowed.{as_spot, HeaderIs, IsTwoBytes, IsUsual, SpotIs}
 use Rattle.flyweight_view.specs.declared.head_numbers.HeadNumbers.{HeadNumbers}
 use Rattle.flyweight_view.specs.HeadNumbers.{two_bytes, AreNumbersIn, AreTwoBytes}
 

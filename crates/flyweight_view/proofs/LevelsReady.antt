@@ -18,9 +18,9 @@ use Rattle.schema_facts.specs.CheckedLevels.{HasKinds, HasLengths, HasFewParts, 
 use Rattle.schema_facts.specs.InOrder.{IsKindInOrder}
 use Rattle.schema_facts.specs.Levels.{Node, nodes, nodes_below, nodes_of, nodes_from, all_nodes, level_at}
 use Rattle.schema_facts.specs.Measured.{IsSmall}
-use Rattle.layout_compile.specs.declared.rows.PartRow.{PartRow}
-use Rattle.layout_compile.specs.declared.rows.LevelRow.{LevelRow}
-use Rattle.layout_compile.specs.Rowed.{RowFor, FieldsAre, part_row}
+use Rattle.layout_tables.specs.declared.rows.PartRow.{PartRow}
+use Rattle.layout_tables.specs.declared.rows.LevelRow.{LevelRow}
+use Rattle.layout_tables.specs.Rowed.{RowFor, FieldsAre, part_row}
 use Rattle.var_data.proofs.DataRows.{at_each}
 use Rattle.flyweight_view.specs.Kinds.{HasFewMembers, IsReady}
 use Rattle.flyweight_view.specs.Ready.{IsReadySchema}

@@ -2,7 +2,7 @@
 use Rattle.std.proofs.Common.{◌≡◌, ◌≤◌, ◌<◌, ◌+◌, ◌-◌, ◌*◌, ℕ, zero, suc, List, ◌∷◌, length, drop, Result, Ok, Err, refl, sym, ap, ◌∙◌, subst, arith, length-drop}
 use Rattle.std.specs.Prelude.{IsOk, map, true, ◌&&◌, ◌==◌}
 use Rattle.std.proofs.lemmas.Bool.Decides.{nat_tests}
-use Rattle.layout_compile.proofs.Items.{long_map}
+use Rattle.layout_tables.proofs.Items.{long_map}
 use Rattle.sbe_types.specs.declared.message.Block.{Block}
 use Rattle.sbe_types.specs.declared.schema.Level.{Level, out-Level}
 use Rattle.sbe_wire.specs.Faults.{Fault}

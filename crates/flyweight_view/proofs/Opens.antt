@@ -19,14 +19,14 @@ use Rattle.sbe_wire.specs.Faults.{Fault, fault_at, under}
 use Rattle.sbe_wire.specs.Reading.{◌>>=◌, inside, fields_read, tail_read, group_read}
 use Rattle.sbe_wire.specs.Versions.{is_alive, floor}
 use Rattle.schema_facts.specs.Levels.{Node, all_nodes, level_at, groups_at, groups_in}
-use Rattle.layout_compile.specs.declared.rows.FieldRow.{FieldRow}
-use Rattle.layout_compile.specs.declared.rows.LevelRow.{LevelRow}
-use Rattle.layout_compile.specs.declared.rows.DimRow.{DimRow}
-use Rattle.layout_compile.specs.declared.rows.PartRow.{PartRow}
-use Rattle.layout_compile.specs.Parts.{dim_at}
-use Rattle.layout_compile.specs.Rowed.{RowFor, DimIs, part_row}
-use Rattle.layout_compile.proofs.Items.{drop_is}
-use Rattle.layout_compile.proofs.GroupWalk.{GroupsFrom, groups_go, here}
+use Rattle.layout_tables.specs.declared.rows.FieldRow.{FieldRow}
+use Rattle.layout_tables.specs.declared.rows.LevelRow.{LevelRow}
+use Rattle.layout_tables.specs.declared.rows.DimRow.{DimRow}
+use Rattle.layout_tables.specs.declared.rows.PartRow.{PartRow}
+use Rattle.layout_tables.specs.Parts.{dim_at}
+use Rattle.layout_tables.specs.Rowed.{RowFor, DimIs, part_row}
+use Rattle.layout_tables.proofs.Items.{drop_is}
+use Rattle.layout_tables.proofs.GroupWalk.{GroupsFrom, groups_go, here}
 use Rattle.group_codec.proofs.DimRows.{row_dim}
 use Rattle.flyweight_view.specs.declared.mode.Mode.{Mode}
 use Rattle.flyweight_view.specs.Cursor.{skim, entries_read, groups_told, steps_told, parts_told, data_told, dim_told}

@@ -20,7 +20,7 @@ use Rattle.sbe_wire.proofs.Combine.{ok_is}
 use Rattle.var_data.specs.declared.data.DataErr.{DataErr}
 use Rattle.var_data.specs.declared.data.DataErr.TheVariants as bad
 use Rattle.var_data.specs.Ranges.{data_range}
-use Rattle.layout_compile.proofs.Items.{drop_at, all_dropped, long_map}
+use Rattle.layout_tables.proofs.Items.{drop_at, all_dropped, long_map}
 use Rattle.flyweight_view.specs.declared.layer.Layer.{Layer}
 use Rattle.flyweight_view.specs.declared.mode.Mode.{Mode}
 use Rattle.flyweight_view.specs.Cursor.{placed, range_answer}

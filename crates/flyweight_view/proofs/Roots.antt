@@ -11,7 +11,7 @@ use Rattle.sbe_wire.specs.Faults.{Fault, message_named, Heading, floor_in}
 use Rattle.sbe_wire.specs.Reading.{◌>>=◌, and_then, and_judged, heading_of, message_judged, root_read, message_of, headed}
 use Rattle.sbe_wire.specs.Versions.{acting, floor}
 use Rattle.sbe_wire.proofs.Combine.{ok_is, bind_ok, later_ok}
-use Rattle.layout_compile.specs.Heads.{header_width}
+use Rattle.layout_tables.specs.Heads.{header_width}
 use Rattle.flyweight_view.specs.declared.mode.Mode.{Mode}
 use Rattle.flyweight_view.specs.Cursor.{entries_read}
 use Rattle.flyweight_view.specs.Heads.{head_number, mode_of}

@@ -24,7 +24,7 @@ use Rattle.schema_facts.specs.InOrder.{IsKindInOrder}
 use Rattle.schema_facts.proofs.KindLists.{PlacedList, placed_members, width_comp}
 use Rattle.schema_facts.proofs.KindMembers.{members_kinds}
 use Rattle.var_data.proofs.DataRows.{at_each}
-use Rattle.layout_compile.specs.declared.rows.FieldRow.{FieldRow}
+use Rattle.layout_tables.specs.declared.rows.FieldRow.{FieldRow}
 use Rattle.field_values.specs.Told.{all_elements, elements_in}
 use Rattle.flyweight_view.specs.declared.plan.Plan.{Plan}
 use Rattle.flyweight_view.specs.declared.plan.Slot.{Slot}

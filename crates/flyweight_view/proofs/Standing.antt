@@ -9,9 +9,9 @@ use Rattle.sbe_types.specs.Places.{members_end}
 use Rattle.sbe_wire.specs.Faults.{Fault}
 use Rattle.sbe_wire.specs.Named.{number_named}
 use Rattle.sbe_wire.specs.Reading.{later, dimension_of}
-use Rattle.layout_compile.specs.declared.rows.DimRow.{DimRow}
-use Rattle.layout_compile.specs.Heads.{number_at}
-use Rattle.layout_compile.specs.Rowed.{as_spot, DimIs}
+use Rattle.layout_tables.specs.declared.rows.DimRow.{DimRow}
+use Rattle.layout_tables.specs.Heads.{number_at}
+use Rattle.layout_tables.specs.Rowed.{as_spot, DimIs}
 use Rattle.group_codec.proofs.DimRows.{named_is}
 use Rattle.flyweight_view.specs.Cursor.{dim_told}
 

@@ -22,7 +22,7 @@ use Rattle.sbe_wire.specs.declared.codes.FCode.TheVariants as code
 use Rattle.sbe_wire.specs.Versions.{is_alive, floor}
 use Rattle.sbe_wire.specs.Faults.{Fault, fault_at, count_of}
 use Rattle.sbe_wire.specs.Reading.{Reader, ◌>>=◌, later, inside, and_then, then_read, nothing, read_judged, and_judged, bytes_read, read_in, times_read, each_read, fields_read, block_read, data_bytes, data_whole, data_read, dimension_read, dimension_of, Tail, block_of, tail_read, groups_read, group_read}
-use Rattle.layout_compile.specs.Rowed.{part_row}
+use Rattle.layout_tables.specs.Rowed.{part_row}
 use Rattle.var_data.specs.declared.data.DataErr.TheVariants as bad
 use Rattle.var_data.specs.Ranges.{data_range, range_behind}
 use Rattle.flyweight_view.specs.declared.mode.Mode.{Mode}

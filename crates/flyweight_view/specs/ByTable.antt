@@ -10,9 +10,9 @@ use Rattle.sbe_wire.specs.Versions.{floor}
 use Rattle.flat_rows.specs.Judged.{AllAlive, SlotsShow}
 use Rattle.flat_rows.specs.Pieces.{joined, pieces_between}
 use Rattle.flat_rows.specs.Tables.{stands_for, IsTable, RowsFit}
-use Rattle.layout_compile.specs.declared.rows.LevelRow.{LevelRow}
-use Rattle.layout_compile.specs.Flats.{text_before, text_behind, IsFlat}
-use Rattle.layout_compile.specs.Rowed.{FieldsAre, newest_of}
+use Rattle.layout_tables.specs.declared.rows.LevelRow.{LevelRow}
+use Rattle.layout_tables.specs.Flats.{text_before, text_behind, IsFlat}
+use Rattle.layout_tables.specs.Rowed.{FieldsAre, newest_of}
 use Rattle.flyweight_view.specs.declared.by_table.TableBlock.{TableBlock}
 use Rattle.flyweight_view.specs.declared.mode.Mode.{Mode}
 use Rattle.flyweight_view.specs.declared.plan.Span.{Span}

@@ -11,7 +11,7 @@ use Rattle.sbe_wire.specs.Faults.{Fault, shifted, fault_at}
 use Rattle.sbe_wire.specs.Reading.{Reader, ◌>>=◌, inside, later, entry_read, tail_read, group_read, dimension_of}
 use Rattle.sbe_wire.specs.Versions.{is_alive}
 use Rattle.sbe_types.specs.declared.message.Block.{Block}
-use Rattle.layout_compile.specs.declared.rows.PartRow.{PartRow}
+use Rattle.layout_tables.specs.declared.rows.PartRow.{PartRow}
 use Rattle.group_codec.specs.declared.dim.Dim.{Dim}
 use Rattle.var_data.specs.declared.data.DataErr.{DataErr}
 use Rattle.var_data.specs.declared.data.DataErr.TheVariants as bad

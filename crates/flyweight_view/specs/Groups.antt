@@ -6,7 +6,7 @@ use Rattle.sbe_types.specs.declared.schema.Group.{Group}
 use Rattle.sbe_types.specs.declared.schema.Level.{out-Level}
 use Rattle.sbe_wire.specs.Faults.{Fault}
 use Rattle.sbe_wire.specs.Reading.{Reader, then_read, nothing, each_read, group_read}
-use Rattle.layout_compile.specs.Parts.{group_number}
+use Rattle.layout_tables.specs.Parts.{group_number}
 use Rattle.group_codec.specs.declared.dim.Dim.{Dim}
 use Rattle.flyweight_view.specs.declared.groups.GroupsView.TheInside.{Inside}
 use Rattle.flyweight_view.specs.declared.groups.Spot.{Spot}

@@ -7,7 +7,7 @@ use Rattle.sbe_wire.specs.Faults.{Fault, fault_at, message_named}
 use Rattle.sbe_wire.specs.Named.{number_named, place_named}
 use Rattle.sbe_wire.specs.Reading.{◌>>=◌}
 use Rattle.sbe_wire.specs.Versions.{acting, is_known, floor}
-use Rattle.layout_compile.specs.Heads.{header_width}
+use Rattle.layout_tables.specs.Heads.{header_width}
 use Rattle.flyweight_view.specs.declared.found.Found.{Found}
 use Rattle.flyweight_view.specs.declared.header.Start.{Start}
 use Rattle.flyweight_view.specs.declared.mode.Mode.{Mode}

@@ -12,7 +12,7 @@ use crate::found::Found;
 use crate::mode::Mode;
 use crate::plan::{Plan, Span};
 use flat_rows::{FlatRows, shows_all};
-use layout_compile::LevelRow;
+use layout_tables::LevelRow;
 use sbe_types::{Level, Order};
 
 /// The bytes of a block, and the table of its values. Numbers have the lowest byte first.

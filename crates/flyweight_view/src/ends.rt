@@ -3,9 +3,9 @@ ghost use Rattle.std.specs.Prelude.{◌≡◌, ◌≤◌, ◌<◌, ◌+◌, ◌�
 ghost use Rattle.std.specs.Option.{option_map};
 ghost use Rattle.sbe_types.specs.declared.schema.Group.{out-Group};
 ghost use Rattle.sbe_types.specs.declared.schema.Level.{out-Level};
-ghost use Rattle.layout_compile.specs.Heads.{number_at};
-ghost use Rattle.layout_compile.specs.Parts.{dim_at};
-ghost use Rattle.layout_compile.specs.Rowed.{as_spot};
+ghost use Rattle.layout_tables.specs.Heads.{number_at};
+ghost use Rattle.layout_tables.specs.Parts.{dim_at};
+ghost use Rattle.layout_tables.specs.Rowed.{as_spot};
 ghost use Rattle.group_codec.specs.Dims.{IsDimRow};
 ghost use Rattle.flyweight_view.specs.Cursor.{entries_read};
 ghost use Rattle.flyweight_view.specs.Groups.{group_entered, groups_at, groups_by, groups_left, StandThere};
@@ -19,7 +19,7 @@ use crate::layer::Layer;
 use crate::parts::parts_end;
 use crate::walk::first_child;
 use group_codec::Dim;
-use layout_compile::{DimRow, number_at};
+use layout_tables::{DimRow, number_at};
 use sbe_types::{Group, Level, Order};
 
 /// A group of a level: the level of its entries, their dimension, and where the next group begins.

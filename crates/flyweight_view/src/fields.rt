@@ -8,7 +8,7 @@ use crate::found::Found;
 use crate::kinds::judge_part;
 use crate::looks::shows_at_once;
 use crate::mode::Mode;
-use layout_compile::FieldRow;
+use layout_tables::FieldRow;
 use sbe_types::Field;
 
 /// Judges the fields of a block that begins at a place of the body. Where one shows no value, `out` tells the

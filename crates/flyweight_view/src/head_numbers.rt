@@ -1,9 +1,9 @@
 // The four numbers of a header.
 ghost use Rattle.std.specs.Prelude.{◌≡◌, ◌≤◌, length};
-ghost use Rattle.layout_compile.specs.Heads.{header_width};
+ghost use Rattle.layout_tables.specs.Heads.{header_width};
 ghost use Rattle.flyweight_view.specs.HeadNumbers.{AreNumbersIn, AreTwoBytes};
 
-use layout_compile::{Layout, number_at, small_number};
+use layout_tables::{Layout, number_at, small_number};
 use sbe_types::{Order, Prim};
 
 /// The four numbers of a header.

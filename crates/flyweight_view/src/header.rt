@@ -3,7 +3,7 @@ ghost use Rattle.std.specs.Prelude.{◌≡◌, ◌≤◌, ◌<◌, ◌^◌, Some
 ghost use Rattle.sbe_types.specs.declared.schema.Level.{Level, out-Level};
 ghost use Rattle.sbe_wire.specs.Versions.{acting, floor};
 ghost use Rattle.schema_facts.specs.Levels.{level_at, root_of};
-ghost use Rattle.layout_compile.specs.Heads.{header_width};
+ghost use Rattle.layout_tables.specs.Heads.{header_width};
 ghost use Rattle.std.specs.Option.{option_map};
 ghost use Rattle.flyweight_view.specs.Heads.{message_from, mode_of, rest_told, start_in, start_told, start_went, template_told};
 ghost use Rattle.flyweight_view.specs.Read.{message_in, IsRead};
@@ -17,7 +17,7 @@ use crate::head_numbers::numbers_in;
 use crate::mode::Mode;
 use crate::plan::{Plan, Span};
 use crate::walk::walk_root;
-use layout_compile::Layout;
+use layout_tables::Layout;
 use sbe_types::Level;
 use sbe_wire::FCode;
 

@@ -14,7 +14,7 @@ use crate::found::Found;
 use crate::looks::{shows_at_once, shows_leaf};
 use crate::mode::Mode;
 use crate::numbers::{set_number, shows_enum, shows_set};
-use layout_compile::{begin_of, end_behind};
+use flat_rows::{begin_of, end_behind};
 use sbe_types::{
     Kind, Leaf, LeafCause, LeafFault, LeafShape, List, Member, NamedList, Order, Prim, Step,
     get_num, leaf_judge,

@@ -1,6 +1,6 @@
 // The levels whose blocks lie in a body.
 use crate::mode::Mode;
-use layout_compile::Layout;
+use layout_tables::Layout;
 use sbe_types::Level;
 
 /// A level whose blocks lie in a body, with its number, and how their values are read.

@@ -12,7 +12,8 @@ ghost use Rattle.flyweight_view.specs.Seen.{member_field};
 ghost use Rattle.flyweight_view.specs.Slots.{SlotIs};
 
 use crate::mode::Mode;
-use layout_compile::{FieldRow, Layout, member_place, width_of};
+use flat_rows::width_of;
+use layout_tables::{FieldRow, Layout, member_place};
 use sbe_types::{Field, Kind, Level, List, Member};
 
 /// Where a block lies in a body, and how its values are read.

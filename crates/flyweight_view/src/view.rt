@@ -12,7 +12,7 @@ use crate::block::BlockView;
 use crate::header::{Start, find_template, mode_of, root_of, walk_message};
 use crate::last_refusal::LastRefusal;
 use crate::mode::Mode;
-use layout_compile::Layout;
+use layout_tables::Layout;
 use sbe_types::{Level, Path};
 use sbe_wire::FCode;
 use std::marker::Model;

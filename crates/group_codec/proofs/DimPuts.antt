@@ -26,10 +26,10 @@ use Rattle.schema_facts.specs.InOrder.{IsKindFrom, IsLeafFrom}
 use Rattle.schema_facts.proofs.KindDeclared.{all_at}
 use Rattle.schema_facts.proofs.KindLists.{KindsList, made_members}
 use Rattle.schema_facts.proofs.LevelEntries.{either}
-use Rattle.layout_compile.specs.declared.rows.DimRow.{DimRow}
-use Rattle.layout_compile.specs.declared.rows.LevelRow.{LevelRow}
-use Rattle.layout_compile.specs.Parts.{dim_at}
-use Rattle.layout_compile.specs.Rowed.{as_spot, DimIs, RowFor}
+use Rattle.layout_tables.specs.declared.rows.DimRow.{DimRow}
+use Rattle.layout_tables.specs.declared.rows.LevelRow.{LevelRow}
+use Rattle.layout_tables.specs.Parts.{dim_at}
+use Rattle.layout_tables.specs.Rowed.{as_spot, DimIs, RowFor}
 use Rattle.field_bytes.specs.Laid.{laid_at, IsPut}
 use Rattle.group_codec.specs.Dims.{IsDimRow}
 use Rattle.group_codec.specs.Puts.{CanSay, IsWholeDim}

@@ -13,12 +13,12 @@ use Rattle.sbe_types.specs.Shown.{admits}
 use Rattle.sbe_wire.specs.Named.{Spot, number_named, is_admitted}
 use Rattle.schema_facts.specs.Levels.{Node}
 use Rattle.schema_facts.specs.Measured.{IsCounter}
-use Rattle.layout_compile.specs.declared.rows.DimRow.{DimRow}
-use Rattle.layout_compile.specs.declared.rows.SpotRow.{SpotRow}
-use Rattle.layout_compile.specs.declared.rows.LevelRow.{LevelRow}
-use Rattle.layout_compile.specs.Heads.{number_at}
-use Rattle.layout_compile.specs.Parts.{dim_at}
-use Rattle.layout_compile.specs.Rowed.{as_spot, DimIs, DimOf, RowFor, SpotIs}
+use Rattle.layout_tables.specs.declared.rows.DimRow.{DimRow}
+use Rattle.layout_tables.specs.declared.rows.SpotRow.{SpotRow}
+use Rattle.layout_tables.specs.declared.rows.LevelRow.{LevelRow}
+use Rattle.layout_tables.specs.Heads.{number_at}
+use Rattle.layout_tables.specs.Parts.{dim_at}
+use Rattle.layout_tables.specs.Rowed.{as_spot, DimIs, DimOf, RowFor, SpotIs}
 use Rattle.group_codec.specs.declared.dim.Dim.{Dim}
 use Rattle.group_codec.specs.declared.dim.DimErr.{DimErr}
 use Rattle.group_codec.specs.declared.dim.DimErr.TheVariants.{Truncated, Count}

@@ -5,8 +5,8 @@ use Rattle.sbe_types.specs.declared.kind.Member.{Member}
 use Rattle.sbe_types.specs.Places.{members_end}
 use Rattle.sbe_wire.specs.Named.{number_named, is_admitted}
 use Rattle.schema_facts.specs.Measured.{IsCounter}
-use Rattle.layout_compile.specs.declared.rows.DimRow.{DimRow}
-use Rattle.layout_compile.specs.Rowed.{as_spot}
+use Rattle.layout_tables.specs.declared.rows.DimRow.{DimRow}
+use Rattle.layout_tables.specs.Rowed.{as_spot}
 use Rattle.group_codec.specs.declared.dim.Dim.{Dim}
 use Rattle.group_codec.specs.declared.dim.DimErr.{DimErr}
 use Rattle.group_codec.specs.declared.dim.DimErr.TheVariants.{Truncated, Count}

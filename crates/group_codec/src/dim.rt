@@ -1,11 +1,11 @@
 ghost use Rattle.std.specs.Prelude.{◌≡◌, ◌≤◌, ◌+◌, List, Some, IfOk, length};
 ghost use Rattle.std.specs.Option.{option_map, IsSome};
 ghost use Rattle.sbe_types.specs.declared.kind.Member.{Member};
-ghost use Rattle.layout_compile.specs.Parts.{dim_at};
-ghost use Rattle.layout_compile.specs.Rowed.{DimIs};
+ghost use Rattle.layout_tables.specs.Parts.{dim_at};
+ghost use Rattle.layout_tables.specs.Rowed.{DimIs};
 ghost use Rattle.group_codec.specs.Dims.{dim_read, IsDimRow};
 
-use layout_compile::{DimRow, Layout, number_at};
+use layout_tables::{DimRow, Layout, number_at};
 use sbe_types::Order;
 use thiserror::Error;
 
@@ -38,7 +38,7 @@ pub enum DimErr {
 ///
 /// `Truncated` exactly where the dimension passes the end of the bytes, and then `Count` exactly where the
 /// count isn't admitted as a required number of its type.
-#[tactic(auto, using(layout_compile::proofs::GroupWalk::dim_within, crate::proofs::DimRows::row_there, crate::proofs::DimRows::level_told, crate::proofs::DimRows::never_none))]
+#[tactic(auto, using(layout_tables::proofs::GroupWalk::dim_within, crate::proofs::DimRows::row_there, crate::proofs::DimRows::level_told, crate::proofs::DimRows::never_none))]
 pub fn read_dim(layout: &Layout, group: usize, bytes: &[u8], at: usize) -> Result<Dim, DimErr>
     requires group { IsSome (dim_at layout.now group) }
     requires at { at ≤ length bytes.now }
@@ -75,88 +75,4 @@ pub fn read_dim_row(order: Order, row: &DimRow, bytes: &[u8], at: usize) -> Resu
         count,
         after,
     })
-}
-
-#[cfg(test)]
-mod tests {
-    use super::*;
-    use layout_compile::SpotRow;
-    use sbe_types::{Leaf, LeafShape, Presence, Prim};
-
-    fn spot(place: u32, prim: Prim, high: i128) -> SpotRow
-        ensures place { result.place ≡ place }
-        ensures prim { result.leaf.prim ≡ prim }
-    {
-        let leaf = Leaf {
-            prim,
-            length: 1,
-            shape: LeafShape::Number,
-            presence: Presence::Required,
-            null: high.saturating_add(1),
-            low: 0,
-            high,
-        };
-        SpotRow { place, leaf }
-    }
-
-    /// Two numbers of two bytes.
-    fn plain() -> DimRow
-        ensures { IsDimRow result }
-    {
-        DimRow {
-            width: 4,
-            block: spot(0, Prim::U16, 65534),
-            count: spot(2, Prim::U16, 65534),
-        }
-    }
-
-    /// A block length of two bytes, five bytes of padding, and a count of one byte.
-    fn padded() -> DimRow
-        ensures { IsDimRow result }
-    {
-        DimRow {
-            width: 8,
-            block: spot(0, Prim::U16, 65534),
-            count: spot(7, Prim::U8, 254),
-        }
-    }
-
-    #[test]
-    fn reads_dimensions(rt: HostRuntime) {
-        let body = b"\x00\x00\x06\x00\x07\x00\x00\x00\x04\x00\xfe\xff\x00";
-        let dim = Dim {
-            block: 4,
-            count: 65534,
-            after: 12,
-        };
-        assert_eq!(rt; read_dim_row(Order::Little, &plain(), body, 8), Ok(dim));
-        let null = b"\x04\x00\xff\xff";
-        assert_eq!(rt;
-            read_dim_row(Order::Little, &plain(), null, 0),
-            Err(DimErr::Count(65535))
-        );
-        let cut = b"\x04\x00\xfe";
-        assert_eq!(rt;
-            read_dim_row(Order::Little, &plain(), cut, 0),
-            Err(DimErr::Truncated)
-        );
-        assert_eq!(rt;
-            read_dim_row(Order::Little, &plain(), cut, 3),
-            Err(DimErr::Truncated)
-        );
-        let big = b"\x00\x04\x01\x02";
-        let dim = Dim {
-            block: 4,
-            count: 258,
-            after: 4,
-        };
-        assert_eq!(rt; read_dim_row(Order::Big, &plain(), big, 0), Ok(dim));
-        let grp = b"\x00\x00\x04\x00\x07\x00\x00\x00\x01\x00\xaa\xbb\xcc\xdd\xee\x01\x05";
-        let dim = Dim {
-            block: 1,
-            count: 1,
-            after: 16,
-        };
-        assert_eq!(rt; read_dim_row(Order::Little, &padded(), grp, 8), Ok(dim));
-    }
 }

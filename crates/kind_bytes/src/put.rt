@@ -12,7 +12,7 @@ ghost use Rattle.kind_bytes.specs.Members.{behind, member_bytes};
 
 use crate::judge::values_in;
 use field_bytes::put_value;
-use layout_compile::{begin_of, width_of};
+use flat_rows::{begin_of, width_of};
 use sbe_types::{Kind, List, Member, Order, Value, ValueList};
 
 /// Writes a value that fits its kind, with zeros where a composite has no member. It needs as many bytes as the kind is

@@ -4,9 +4,9 @@ use Rattle.std.specs.Option.{option_map}
 use Rattle.sbe_types.specs.declared.kind.Member.{Member}
 use Rattle.sbe_types.specs.Places.{members_end}
 use Rattle.sbe_wire.specs.Named.{Spot, spot_named}
-use Rattle.layout_compile.specs.declared.rows.SpotRow.{SpotRow}
+use Rattle.layout_tables.specs.declared.rows.SpotRow.{SpotRow}
 use Rattle.schema_facts.specs.Measured.{HasCounter, IsCounter}
-use Rattle.layout_compile.specs.Rowed.{SpotIs, as_spot}
+use Rattle.layout_tables.specs.Rowed.{SpotIs, as_spot}
 
 -- what is found is the number that there is
 pub counter_is : (members : List Member) (name : List ℕ) (row : SpotRow) → option_map as_spot (Some row) ≡ spot_named 0 name members → HasCounter members name → SpotIs members name row

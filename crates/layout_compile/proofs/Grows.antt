@@ -1,25 +1,26 @@
 -- Tables grow at their end.
-use Rattle.std.proofs.Common.{◌≡◌, ◌≤◌, ◌<◌, ℕ, zero, suc, ◌+◌, Bool, List, [], ◌∷◌, ◌++◌, length, take, drop, get_or, Option, Some, None, refl, sym, ap, ◌∙◌, subst, arith, append_assoc, length-append, cond}
+use Rattle.std.proofs.Common.{◌≡◌, ◌≤◌, ◌<◌, ℕ, zero, suc, ◌+◌, List, [], ◌∷◌, ◌++◌, length, take, drop, get_or, Option, Some, None, refl, sym, ap, ◌∙◌, subst, arith, append_assoc, length-append}
 use Rattle.std.proofs.lemmas.List.{append-nil}
-use Rattle.std.specs.Prelude.{slice_get, flat_map, map, not, ◌&&◌}
+use Rattle.std.specs.Prelude.{slice_get, flat_map}
 use Rattle.std.specs.List.{AllByRecursion}
 use Rattle.sbe_types.specs.declared.schema.Field.{Field}
 use Rattle.sbe_types.specs.declared.schema.WireSchema.{WireSchema}
 use Rattle.sbe_types.specs.declared.schema.Group.{Group, out-Group}
 use Rattle.sbe_types.specs.declared.schema.Level.{Level, out-Level}
 use Rattle.sbe_types.specs.declared.kind.Member.{Member}
-use Rattle.sbe_types.specs.Places.{is_const, end_past, fields_end}
-use Rattle.sbe_wire.specs.Versions.{is_alive, floor, floor_from}
-use Rattle.layout_compile.specs.declared.rows.FieldRow.{FieldRow}
-use Rattle.layout_compile.specs.declared.rows.LevelRow.{LevelRow}
+use Rattle.sbe_types.specs.Places.{end_past, fields_end}
+use Rattle.sbe_wire.specs.Versions.{floor}
+use Rattle.layout_tables.specs.declared.rows.FieldRow.{FieldRow}
+use Rattle.layout_tables.specs.declared.rows.LevelRow.{LevelRow}
 use Rattle.layout_compile.specs.declared.tables.Around.{Around}
 use Rattle.schema_facts.specs.Levels.{Node, nodes, nodes_of, nodes_from, all_nodes, node}
-use Rattle.schema_facts.specs.Measured.{IsMeasuredLevel, AreMeasured, AreNarrowFields, IsNarrow, EndsWithin}
+use Rattle.schema_facts.specs.Measured.{AreMeasured, AreNarrowFields, IsNarrow, EndsWithin}
 use Rattle.schema_facts.specs.CheckedLevels.{HasKinds}
 use Rattle.schema_facts.specs.IsChecked.{IsChecked}
-use Rattle.layout_compile.specs.Rowed.{RowIs, FieldIs, FieldsAre, DimOf, AreRows, rows_floor, roots_from}
+use Rattle.layout_tables.specs.Rowed.{RowIs, FieldIs, FieldsAre, DimOf, AreRows, rows_floor, roots_from}
 use Rattle.layout_compile.specs.Grown.{RowsAre, Grown, Pushed, IsOrdered, AreOrdered}
-use Rattle.layout_compile.proofs.Nodes.{nodes_open, open_group}
+use Rattle.layout_tables.proofs.Nodes.{nodes_open, open_group, flat_more}
+use Rattle.layout_tables.proofs.Told.{floor_rows}
 
 -- ---- fields
 
@@ -43,27 +44,9 @@ field_narrow e (g ∷ fs) (suc i) f h is all =
     let next : suc i + 1 ≡ suc (i + 1) = omega arith in
     rw next (field_narrow e fs i f (omega arith) is all)
 
--- the floor by the rows is the floor
-pub floor_rows : (version e reached : ℕ) (fs : List Field) (rs : List FieldRow) → FieldsAre e fs rs → rows_floor version reached rs ≡ floor_from version e reached fs
-floor_rows version e reached [] [] h = refl
-floor_rows version e reached [] (r ∷ rs) h = absurd h
-floor_rows version e reached (f ∷ fs) [] h = absurd h
-floor_rows version e reached (f ∷ fs) (r ∷ rs) h =
-    ap (λ (t : ℕ). rows_floor version (cond (is_alive version t && not r.is_constant) r.end reached) rs) h.0.since
-    ∙ ap (λ (t : Bool). rows_floor version (cond (is_alive version f.since && not t) r.end reached) rs) h.0.constant
-    ∙ ap (λ (t : ℕ). rows_floor version (cond (is_alive version f.since && not (is_const f.kind)) t reached) rs) h.0.end
-    ∙ floor_rows version (end_past e f.offset f.kind) _ fs rs h.1
-
 -- the same from a block's first byte
 pub floor_row : (version n : ℕ) (fs : List Field) (rs : List FieldRow) → FieldsAre 0 fs rs → n ≡ rows_floor version 0 rs → n ≡ floor version fs
 floor_row version n fs rs h is = is ∙ floor_rows version 0 0 fs rs h
-
-pub map_more : {X Y : Type 0} (f : X → Y) (xs : List X) (i : ℕ) (x : X) → i < length xs → x ≡ get_or xs i x → map f (take (i + 1) xs) ≡ map f (take i xs) ++ f x ∷ []
-map_more f [] i x h is = absurd (omega arith)
-map_more f (y ∷ xs) zero x h is = ap (λ z. f z ∷ []) (sym is)
-map_more f (y ∷ xs) (suc i) x h is =
-    let next : suc i + 1 ≡ suc (i + 1) = omega arith in
-    ap (λ m. map f (take m (y ∷ xs))) next ∙ ap (λ l. f y ∷ l) (map_more f xs i x (omega arith) is)
 
 -- ---- levels
 
@@ -111,13 +94,6 @@ long_level t level = omega (arith, long_nodes t None level)
 
 long_group : (t : ℕ) (g : Group) → length (nodes_of t g) ≡ length (nodes t None (out-Group g).level)
 long_group t g = ap length (open_group t g) ∙ omega (arith, long_nodes t (Some (out-Group g).dim) (out-Group g).level, long_nodes t None (out-Group g).level)
-
-pub flat_more : (t : ℕ) (gs : List Group) (i : ℕ) (g : Group) → i < length gs → g ≡ get_or gs i g → flat_map (nodes_of t) (take (i + 1) gs) ≡ flat_map (nodes_of t) (take i gs) ++ nodes_of t g
-flat_more t [] i g h is = absurd (omega arith)
-flat_more t (f ∷ gs) zero g h is = append-nil (nodes_of t f) ∙ ap (nodes_of t) (sym is)
-flat_more t (f ∷ gs) (suc i) g h is =
-    let next : suc i + 1 ≡ suc (i + 1) = omega arith in
-    ap (λ m. flat_map (nodes_of t) (take m (f ∷ gs))) next ∙ ap (λ l. nodes_of t f ++ l) (flat_more t gs i g (omega arith) is) ∙ sym (append_assoc (nodes_of t f) (flat_map (nodes_of t) (take i gs)) (nodes_of t g))
 
 pub many_more : (t : ℕ) (gs : List Group) (i n : ℕ) (g : Group) → i < length gs → g ≡ get_or gs i g → n ≡ length (flat_map (nodes_of t) (take i gs)) → n + length (nodes t None (out-Group g).level) ≡ length (flat_map (nodes_of t) (take (i + 1) gs))
 many_more t gs i n g h is many =
@@ -271,20 +247,6 @@ pub roots_go : (k : ℕ) (ls : List Level) (i n : ℕ) (l : Level) (so more : Li
     more ≡ so ++ n ∷ [] → more ≡ roots_from k 0 (take (i + 1) ls)
 roots_go k ls i n l so more h is before first grown =
     grown ∙ ap (λ r. r ++ n ∷ []) before ∙ ap (λ m. roots_from k 0 (take i ls) ++ m ∷ []) first ∙ sym (roots_snoc k 0 ls i l h is)
-
-pub root_at : (k t : ℕ) (ls : List Level) (i n : ℕ) → slice_get (roots_from k t ls) i ≡ Some n → n ≡ k + length (nodes_from t (take i ls))
-root_at k t [] i n h = cc
-root_at k t (f ∷ ls) zero n h =
-    let here : k ≡ n = cc in
-    let first : n ≡ k + 0 = omega (arith, here) in
-    first
-root_at k t (f ∷ ls) (suc i) n h =
-    let all : length (nodes_from t (take (suc i) (f ∷ ls))) ≡ length (nodes t None f) + length (nodes_from (suc t) (take i ls)) = length-append (nodes t None f) (nodes_from (suc t) (take i ls)) in
-    omega (arith, root_at (k + length (nodes t None f)) (suc t) ls i n h, all)
-
-pub roots_many : (k t : ℕ) (ls : List Level) → length (roots_from k t ls) ≡ length ls
-roots_many k t [] = refl
-roots_many k t (f ∷ ls) = ap suc (roots_many (k + length (nodes t None f)) (suc t) ls)
 
 -- the same of all messages
 pub message_first : (ls : List Level) (i : ℕ) (l : Level) → i < length ls → l ≡ get_or ls i l → AreOrdered (nodes_from i (drop i ls)) →

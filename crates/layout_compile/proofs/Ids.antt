@@ -5,7 +5,7 @@ use Rattle.std.specs.Option.{option_map, option_or}
 use Rattle.std.proofs.lemmas.List.{length-take-le}
 use Rattle.sbe_types.specs.declared.schema.Level.{Level, out-Level}
 use Rattle.sbe_wire.specs.Faults.{message_named}
-use Rattle.layout_compile.proofs.Items.{take_one}
+use Rattle.layout_tables.proofs.Items.{take_one}
 
 -- the number of the first message of an id
 abbrev number_of_id : ℕ → ℕ → List Level → Option ℕ

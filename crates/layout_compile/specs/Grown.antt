@@ -4,14 +4,14 @@ use Rattle.std.specs.List.{AllByRecursion}
 use Rattle.sbe_types.specs.declared.schema.Field.{Field}
 use Rattle.sbe_types.specs.declared.schema.Level.{Level, out-Level}
 use Rattle.sbe_wire.specs.Versions.{floor}
-use Rattle.layout_compile.specs.declared.rows.LevelRow.{LevelRow}
+use Rattle.layout_tables.specs.declared.rows.LevelRow.{LevelRow}
 use Rattle.layout_compile.specs.declared.tables.Around.{Around}
 use Rattle.schema_facts.specs.InOrder.{IsKindInOrder}
 use Rattle.schema_facts.specs.Levels.{Node, nodes, nodes_of}
 use Rattle.schema_facts.specs.Measured.{IsMeasuredLevel}
-use Rattle.layout_compile.specs.Flats.{IsFlat}
-use Rattle.layout_compile.specs.Keys.{names_of, KeysAre}
-use Rattle.layout_compile.specs.Rowed.{RowIs, FieldsAre, newest_of, part_row}
+use Rattle.layout_tables.specs.Flats.{IsFlat}
+use Rattle.layout_tables.specs.Keys.{names_of, KeysAre}
+use Rattle.layout_tables.specs.Rowed.{RowIs, FieldsAre, newest_of, part_row}
 
 -- the kinds of fields are in order
 abbrev pub AreInOrder : List Field → Type 0

@@ -2,7 +2,7 @@
 ghost use Rattle.std.specs.Prelude.{◌≡◌, IfOk};
 ghost use Rattle.sbe_types.specs.declared.schema.Level.{out-Level};
 ghost use Rattle.schema_facts.specs.Measured.{AreNarrowFields};
-ghost use Rattle.layout_compile.specs.Flats.{text_before, text_behind, IsFlat};
+ghost use Rattle.layout_tables.specs.Flats.{text_before, text_behind, IsFlat};
 ghost use Rattle.layout_compile.specs.Grown.{AreInOrder};
 
 use flat_rows::{FlatRows, flat_rows_of};

@@ -1,9 +1,9 @@
 // The keys of a level's parts in a line of JSON.
 ghost use Rattle.std.specs.Prelude.{◌≡◌, ◌≤◌, ◌^◌, ◌++◌, length, IfOk, IfSome, IfNone, OnOk};
-ghost use Rattle.layout_compile.specs.Keys.{key_text, names_of, KeysAre};
+ghost use Rattle.layout_tables.specs.Keys.{key_text, names_of, KeysAre};
 
-use crate::paths::level_name;
-use crate::rows::{KeyRow, KeyTable, narrowed};
+use crate::numbers::narrowed;
+use layout_tables::{KeyRow, KeyTable, level_name};
 use sbe_types::{Level, NoMem};
 use std::alloc::Global;
 

@@ -1,8 +1,8 @@
 // Data parts by their numbers.
-ghost use Rattle.std.specs.Prelude.{◌≡◌, ◌++◌, length, map, IfOk, OnOk};
-ghost use Rattle.layout_compile.specs.Parts.{firsts_from, places_from, places_in};
+ghost use Rattle.std.specs.Prelude.{◌≡◌, ◌≤◌, ◌^◌, ◌++◌, length, map, IfSome, IfNone, IfOk, OnOk};
+ghost use Rattle.layout_tables.specs.Parts.{firsts_from, places_from, places_in};
 
-use crate::rows::{LevelRow, PartPlace, narrowed};
+use layout_tables::{LevelRow, PartPlace};
 use sbe_types::NoMem;
 use std::alloc::Global;
 
@@ -47,4 +47,15 @@ fn push_places(places: &mut Vec<PartPlace>, level: u32, many: u32) -> Result<(),
         places.push(PartPlace { level, part })?;
     }
     Ok(())
+}
+
+/// The number in 32 bits, or none where it needs more.
+pub(crate) fn narrowed(n: usize) -> Option<u32>
+    ensures same { IfSome result (λ m. m ≡ n) }
+    ensures none { IfNone result (2 ^ 32 ≤ n) }
+{
+    if n > u32::MAX as usize {
+        return None;
+    }
+    Some(n as u32)
 }

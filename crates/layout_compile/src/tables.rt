@@ -8,17 +8,18 @@ ghost use Rattle.sbe_types.specs.declared.kind.Kind.{Comp};
 ghost use Rattle.sbe_types.specs.Places.{is_const};
 ghost use Rattle.schema_facts.specs.IsChecked.{IsChecked};
 ghost use Rattle.schema_facts.specs.Measured.{AreNarrowFields, IsNarrow, EndsWithin, HasCounter, IsDimension, IsHeader};
-ghost use Rattle.layout_compile.specs.Rowed.{as_spot, DimIs, FieldIs, FieldsAre, HeaderIs, IsTwoBytes, SpotIs, newest_of, part_row, roots_from, rows_floor};
+ghost use Rattle.layout_tables.specs.Rowed.{as_spot, DimIs, FieldIs, FieldsAre, HeaderIs, IsTwoBytes, SpotIs, newest_of, part_row, roots_from};
 ghost use Rattle.layout_compile.specs.Grown.{Grown, LevelIs, Pushed, AreInOrder, AreOrdered};
-ghost use Rattle.layout_compile.specs.Tables.{AreTables};
+ghost use Rattle.layout_tables.specs.Tables.{AreTables};
 
 use crate::flats::level_flat;
 use crate::keys::keys_of;
-use crate::layout::{Layout, of_tables};
 use crate::numbers::{firsts_of, places_of};
-use crate::rows::{DimRow, FieldRow, HeaderRow, LevelRow, PartRow, SpotRow, Tables};
 use crate::templates::ids_of;
 use flat_rows::{begin_of, end_behind, end_of};
+use layout_tables::{
+    DimRow, FieldRow, HeaderRow, Layout, LevelRow, PartRow, SpotRow, Tables, floor_of, of_tables,
+};
 use sbe_types::{DataField, Field, Group, Kind, Level, List, Member, NoMem, Prim, WireSchema};
 use schema_check::Checked;
 use std::alloc::Global;
@@ -182,7 +183,7 @@ fn field_row(end: u32, field: &Field) -> FieldRow
 }
 
 /// Whether the kind is a constant, which takes no bytes.
-pub(crate) fn is_constant(kind: &Kind) -> bool
+fn is_constant(kind: &Kind) -> bool
     ensures { result ≡ is_const kind.now }
 {
     match kind {
@@ -200,19 +201,6 @@ fn newest_of(fields: &[Field]) -> u32
         newest = newest.max(field.since);
     }
     newest
-}
-
-/// The floor by the rows: the end of the last field that is alive and no constant.
-pub(crate) fn floor_of(version: u32, fields: &[FieldRow]) -> u32
-    ensures { result ≡ rows_floor version 0 fields.now }
-{
-    let mut floor = 0;
-    for row in fields {
-        if row.since <= version && !row.is_constant {
-            floor = row.end;
-        }
-    }
-    floor
 }
 
 /// The rows of a level's data parts.

@@ -3,7 +3,7 @@ ghost use Rattle.std.specs.Prelude.{◌≡◌, ℕ, ◌==◌, if◌then◌else�
 ghost use Rattle.std.specs.BTreeMap.{get};
 ghost use Rattle.std.specs.Option.{option_or};
 ghost use Rattle.std.specs.Ordering.{nat_cmp};
-ghost use Rattle.layout_compile.specs.Tables.{AreIds};
+ghost use Rattle.layout_tables.specs.Tables.{AreIds};
 
 use sbe_types::{Level, NoMem};
 use std::alloc::Global;

@@ -19,8 +19,8 @@ use Rattle.sbe_wire.specs.declared.codes.FCode.TheVariants as code
 use Rattle.sbe_wire.specs.Versions.{is_alive, floor}
 use Rattle.sbe_wire.specs.Faults.{Fault, fault_at}
 use Rattle.sbe_wire.specs.Reading.{Reader, ◌>>=◌, later, inside, then_read, nothing, bytes_read, times_read, each_read, data_read, dimension_read, dimension_of}
-use Rattle.layout_compile.specs.declared.rows.PartRow.{PartRow}
-use Rattle.layout_compile.specs.Rowed.{part_row}
+use Rattle.layout_tables.specs.declared.rows.PartRow.{PartRow}
+use Rattle.layout_tables.specs.Rowed.{part_row}
 use Rattle.var_data.specs.declared.data.DataErr.{DataErr}
 use Rattle.var_data.specs.declared.data.DataErr.TheVariants as bad
 use Rattle.var_data.specs.Ranges.{data_range}

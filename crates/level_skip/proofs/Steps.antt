@@ -19,9 +19,9 @@ use Rattle.schema_facts.specs.CheckedLevels.{HasLengths, IsLength}
 use Rattle.schema_facts.specs.IsChecked.{IsChecked}
 use Rattle.schema_facts.specs.Levels.{Node, all_nodes, level_at, fields_at, fields_in}
 use Rattle.schema_facts.specs.Measured.{IsSmall}
-use Rattle.layout_compile.specs.declared.rows.PartRow.{PartRow}
-use Rattle.layout_compile.specs.Rowed.{part_row}
-use Rattle.layout_compile.proofs.Items.{drop_is, item_there}
+use Rattle.layout_tables.specs.declared.rows.PartRow.{PartRow}
+use Rattle.layout_tables.specs.Rowed.{part_row}
+use Rattle.layout_tables.proofs.Items.{drop_is, item_there}
 use Rattle.var_data.proofs.DataRows.{at_each}
 use Rattle.flyweight_view.specs.Cursor.{placed, dim_told}
 use Rattle.flyweight_view.proofs.LevelsReady.{node_at}

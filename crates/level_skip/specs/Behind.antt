@@ -6,7 +6,7 @@ use Rattle.sbe_types.specs.declared.kind.Order.{Order}
 use Rattle.sbe_types.specs.declared.schema.Group.{Group}
 use Rattle.sbe_wire.specs.Reading.{Reader}
 use Rattle.sbe_wire.specs.Versions.{is_alive}
-use Rattle.layout_compile.specs.declared.rows.PartRow.{PartRow}
+use Rattle.layout_tables.specs.declared.rows.PartRow.{PartRow}
 use Rattle.var_data.specs.Ranges.{data_range}
 use Rattle.flyweight_view.specs.Cursor.{skim}
 use Rattle.level_skip.specs.Passing.{group_passed}

@@ -8,15 +8,15 @@ ghost use Rattle.sbe_types.specs.declared.schema.Level.{out-Level};
 ghost use Rattle.schema_facts.specs.IsChecked.{IsChecked};
 ghost use Rattle.schema_facts.specs.Levels.{all_nodes, level_at};
 ghost use Rattle.schema_facts.specs.Measured.{IsSmall};
-ghost use Rattle.layout_compile.specs.Parts.{dim_at};
-ghost use Rattle.layout_compile.specs.Rowed.{DimIs};
+ghost use Rattle.layout_tables.specs.Parts.{dim_at};
+ghost use Rattle.layout_tables.specs.Rowed.{DimIs};
 ghost use Rattle.group_codec.specs.Dims.{IsDimRow};
 ghost use Rattle.flyweight_view.specs.Cursor.{dim_told};
 ghost use Rattle.level_skip.specs.Passing.{entry_in, group_passed, level_passed};
 ghost use Rattle.level_skip.specs.Behind.{behind, bytes_behind, groups_behind, part_behind, parts_behind, steps_behind};
 
 use group_codec::{Dim, DimErr, read_dim_row};
-use layout_compile::{DimRow, Layout, PartRow};
+use layout_tables::{DimRow, Layout, PartRow};
 use sbe_types::{Group, Level, Order};
 use var_data::read_data_of;
 

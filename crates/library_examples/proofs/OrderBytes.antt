@@ -19,9 +19,9 @@ use Rattle.sbe_types.specs.declared.schema.WireSchema.{WireSchema}
 use Rattle.sbe_types.specs.Wire.{both}
 use Rattle.sbe_wire.specs.Canonical.{all_bytes, block_bytes, canonical, dimension_numbers, entries_bytes, group_bytes, header_numbers, named_bytes, part_bytes, parts_bytes, root_bytes, tail_bytes}
 use Rattle.schema_facts.specs.Levels.{fields_at, fields_in, groups_in, level_at, parts_in, root_of}
-use Rattle.layout_compile.specs.Parts.{dim_at}
-use Rattle.layout_compile.proofs.GroupWalk.{group_is, groups_begin}
-use Rattle.layout_compile.proofs.Items.{item_there}
+use Rattle.layout_tables.specs.Parts.{dim_at}
+use Rattle.layout_tables.proofs.GroupWalk.{group_is, groups_begin}
+use Rattle.layout_tables.proofs.Items.{item_there}
 use Rattle.flyweight_view.specs.Ready.{IsReadySchema}
 use Rattle.flyweight_view.proofs.Bodies.{root_level}
 use Rattle.flyweight_view.proofs.Opens.{child_here, item_at, level_within}

@@ -14,7 +14,7 @@ use Rattle.sbe_types.specs.declared.schema.Group.{Group, out-Group}
 use Rattle.sbe_types.specs.declared.message.GroupVal.{GroupVal}
 use Rattle.sbe_types.specs.declared.message.GroupVal.TheVariants as groupval
 use Rattle.sbe_wire.specs.Canonical.{entries_in}
-use Rattle.layout_compile.specs.Parts.{dim_at}
+use Rattle.layout_tables.specs.Parts.{dim_at}
 use Rattle.flyweight_view.proofs.Opens.{item_at}
 use Rattle.std.specs.Option.{option_map}
 use Rattle.std.proofs.lemmas.List.{length-map}

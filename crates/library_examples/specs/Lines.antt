@@ -4,9 +4,9 @@ use Rattle.std.specs.Option.{option_map}
 use Rattle.sbe_types.specs.declared.schema.Level.{out-Level}
 use Rattle.sbe_types.specs.declared.schema.WireSchema.{WireSchema}
 use Rattle.sbe_types.specs.declared.message.Msg.{Msg}
-use Rattle.line_reading.specs.declared.refusals.LineFault.{LineFault}
-use Rattle.line_reading.specs.declared.refusals.LineFault.TheVariants.{Refused, Memory}
-use Rattle.line_reading.specs.Refusals.{refusal}
+use Rattle.line_values.specs.declared.refusals.LineFault.{LineFault}
+use Rattle.line_values.specs.declared.refusals.LineFault.TheVariants.{Refused, Memory}
+use Rattle.line_values.specs.Refusals.{refusal}
 use Rattle.line_reading.specs.Lines.{tree_of}
 
 -- The line holds a message, and this is the name of its template.

@@ -13,7 +13,7 @@ use Rattle.sbe_types.specs.Wire.{both}
 use Rattle.sbe_wire.specs.Canonical.{all_bytes}
 use Rattle.sbe_wire.specs.Misfit.{Misfit, misfit, or_else}
 use Rattle.schema_facts.specs.Levels.{fields_at, groups_at, level_at, parts_at, root_of}
-use Rattle.layout_compile.specs.Parts.{group_number}
+use Rattle.layout_tables.specs.Parts.{group_number}
 use Rattle.typed_writer.specs.Held.{Held}
 use Rattle.typed_writer.specs.declared.stack.Frame.TheVariants.{Entries, Tail}
 use Rattle.typed_writer.specs.States.{entries_left, level_of}

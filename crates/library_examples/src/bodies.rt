@@ -2,8 +2,9 @@
 ghost use Rattle.std.specs.Prelude.{◌≡◌, length, IfOk, IfErr, OnOk};
 ghost use Rattle.library_examples.specs.Bodies.{IsBodyOf, IsNoBody};
 
-use layout_compile::Layout;
-use line_reading::{LineFault, msg_of_line};
+use layout_tables::Layout;
+use line_reading::msg_of_line;
+use line_values::LineFault;
 use schema_check::Checked;
 use std::alloc::Global;
 use tree_codec::{EncodeErr, encode};

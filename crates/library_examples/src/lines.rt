@@ -2,7 +2,8 @@
 ghost use Rattle.std.specs.Prelude.{◌≡◌, IfOk, IfErr};
 ghost use Rattle.library_examples.specs.Lines.{IsRefused, NamesTemplate};
 
-use line_reading::{LineFault, msg_of_line};
+use line_reading::msg_of_line;
+use line_values::LineFault;
 use schema_check::Checked;
 use std::alloc::Global;
 

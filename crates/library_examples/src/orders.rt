@@ -8,7 +8,7 @@ ghost use Rattle.typed_writer.specs.Empty.{behind};
 ghost use Rattle.typed_writer.specs.States.{entries_left, level_of, AppendsEntries, AppendsParts};
 ghost use Rattle.library_examples.specs.Orders.{leg_bytes, legs_bytes, message_of_order, AtLegs, IsNoOrder, IsOrderSchema, LegFits, LegHasRoom, LegsFit, LegsHaveRoom, PutsLeg, PutsLegs};
 
-use layout_compile::Layout;
+use layout_tables::Layout;
 use sbe_types::Value;
 use typed_writer::{EntriesW, FieldErr, Frame, FrameBuf, Full, StartErr, TailErr, TailW, start};
 

@@ -2,7 +2,8 @@
 ghost use Rattle.std.specs.Prelude.{IfOk, IfErr};
 ghost use Rattle.library_examples.specs.Schemas.{IsLoaded, IsNotLoaded};
 
-use layout_compile::{Layout, compile};
+use layout_compile::compile;
+use layout_tables::Layout;
 use lists::NoMem;
 use sbe_schema::{SchemaErr, read_schema};
 use schema_check::{CheckErr, check};

@@ -6,7 +6,7 @@ ghost use Rattle.field_values.specs.Told.{number_in};
 ghost use Rattle.library_examples.specs.Sums.{group_entries, group_sum, is_number_kind, number_at, sum_at, IsNoSum, IsSum, PassesRange};
 
 use flyweight_view::{BlockView, EntriesView, FieldState, Refusal, validate};
-use layout_compile::Layout;
+use layout_tables::Layout;
 use sbe_types::{Kind, LeafShape};
 
 /// Why there is no sum.

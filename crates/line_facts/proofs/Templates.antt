@@ -9,11 +9,12 @@ use Rattle.sbe_types.specs.declared.schema.Level.{Level, out-Level}
 use Rattle.sbe_types.specs.declared.schema.WireSchema.{WireSchema}
 use Rattle.sbe_types.specs.declared.message.Block.{Block}
 use Rattle.sbe_types.specs.declared.message.Msg.{Msg}
-use Rattle.line_reading.specs.declared.refusals.JCode.{JCode}
-use Rattle.line_reading.specs.declared.refusals.JCode.TheVariants.{Shape, UnknownName, Kind}
-use Rattle.line_reading.specs.Refusals.{Reading, ◌>>=◌, or_refuse}
-use Rattle.line_reading.specs.Objects.{known}
-use Rattle.line_reading.specs.Lines.{Template, level_named, named_template, template_in, version_in, message_names, message_with, message_read, found_in, block_read, json_value, tree_of}
+use Rattle.line_values.specs.declared.refusals.JCode.{JCode}
+use Rattle.line_values.specs.declared.refusals.JCode.TheVariants.{Shape, UnknownName, Kind}
+use Rattle.line_values.specs.Refusals.{Reading, ◌>>=◌, or_refuse}
+use Rattle.line_values.specs.Objects.{known}
+use Rattle.line_values.specs.Keys.{message_names}
+use Rattle.line_reading.specs.Lines.{Template, level_named, named_template, template_in, version_in, message_with, message_read, found_in, block_read, json_value, tree_of}
 use Rattle.line_facts.specs.Templates.{IsOfSchema}
 
 -- ---- answers

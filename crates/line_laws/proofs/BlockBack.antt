@@ -20,11 +20,12 @@ use Rattle.sbe_wire.specs.Fits.{EachFits, BlockFits, GroupsFit, GroupFits}
 use Rattle.schema_facts.specs.Levels.{Node, nodes, nodes_below, nodes_of}
 use Rattle.schema_facts.specs.CheckedLevels.{HasNames, HasKinds, part_names, groups_deep, row_deep, group_deep}
 use Rattle.schema_facts.proofs.LevelForms.{all_apart}
-use Rattle.tree_json.specs.Values.{Entry, listed, zipped}
+use Rattle.json_values.specs.Values.{Entry, listed, zipped}
 use Rattle.tree_json.specs.Lines.{field_entry, part_entry, entries_in, group_name, items_by, block_entries, groups_entries, group_data}
-use Rattle.line_reading.specs.Refusals.{Reading, ◌>>=◌, inside}
-use Rattle.line_reading.specs.Objects.{each}
-use Rattle.line_reading.specs.Lines.{field_names, data_names, group_names, entry_names, entry_in, group_in, block_read, groups_read, group_read}
+use Rattle.line_values.specs.Refusals.{Reading, ◌>>=◌, inside}
+use Rattle.line_values.specs.Objects.{each}
+use Rattle.line_values.specs.Keys.{field_names, data_names, entry_names}
+use Rattle.line_reading.specs.Lines.{group_names, entry_in, group_in, block_read, groups_read, group_read}
 use Rattle.line_laws.specs.AsRead.{as_read, items_as_read, put_all, ItemsHaveIntegers, ItemsHaveTexts}
 use Rattle.line_laws.specs.Listed.{IsNew, AreDistinct, Finds, AreKnown}
 use Rattle.line_laws.specs.LinesBack.{EachThere, BlockHasBytes, GroupsHaveBytes, GroupHasBytes}

@@ -16,11 +16,12 @@ use Rattle.sbe_types.specs.declared.message.DataVal.TheVariants as dataval
 use Rattle.sbe_types.specs.InForm.{IsName}
 use Rattle.sbe_wire.specs.Fits.{FieldsFit, PartsFit}
 use Rattle.schema_facts.specs.InOrder.{IsKindInOrder}
-use Rattle.tree_json.specs.Values.{Entry, listed, zipped, value_data}
+use Rattle.json_values.specs.Values.{Entry, listed, zipped, value_data}
 use Rattle.tree_json.specs.Lines.{field_entry, part_entry}
-use Rattle.line_reading.specs.Refusals.{Reading, ◌>>=◌, inside}
-use Rattle.line_reading.specs.Objects.{part}
-use Rattle.line_reading.specs.Lines.{field_names, fields_read, data_names, data_there, parts_read}
+use Rattle.line_values.specs.Refusals.{Reading, ◌>>=◌, inside}
+use Rattle.line_values.specs.Objects.{part}
+use Rattle.line_values.specs.Keys.{field_names, data_names}
+use Rattle.line_reading.specs.Lines.{fields_read, data_there, parts_read}
 use Rattle.line_laws.specs.AsRead.{put_all}
 use Rattle.line_laws.specs.Listed.{IsNew, AreDistinct, Finds, AreKnown}
 use Rattle.line_laws.specs.ValuesBack.{read_under}

@@ -7,8 +7,8 @@ use Rattle.serde_json.specs.Data.{Data, Members, no_members, member, put}
 use Rattle.serde_json.specs.Find.{get_member}
 use Rattle.serde_json.proofs.Views.{get_member-put, get_member-put_other}
 use Rattle.line_laws.specs.AsRead.{as_read, put_all}
-use Rattle.tree_json.specs.Values.{Entry, listed}
-use Rattle.line_reading.specs.Objects.{is_named, first_unknown}
+use Rattle.json_values.specs.Values.{Entry, listed}
+use Rattle.line_values.specs.Objects.{is_named, first_unknown}
 use Rattle.line_laws.specs.Listed.{IsNew, AreDistinct, Finds, ListedIsFound, AreKnown, ListedIsKnown}
 
 kept : (q : List ℕ) (es : List Entry) (found : Members) → IsNew q es → get_member q (put_all (listed es) found) ≡ get_member q found

@@ -15,10 +15,10 @@ use Rattle.sbe_types.specs.Places.{width, is_const, begin_of}
 use Rattle.sbe_types.specs.Shows.{Shows, MembersShow}
 use Rattle.sbe_types.specs.Wire.{both, wire_bytes, row_bytes, member_values}
 use Rattle.schema_facts.specs.InOrder.{IsKindFrom, AreKindsFrom, names_in, height, height_of}
-use Rattle.tree_json.specs.Values.{Entry, listed, value_data, row_entries}
-use Rattle.line_reading.specs.Refusals.{Reading, ◌>>=◌, inside}
-use Rattle.line_reading.specs.Objects.{is_named, known}
-use Rattle.line_reading.specs.Values.{kind_in, row_in, row_names}
+use Rattle.json_values.specs.Values.{Entry, listed, value_data, row_entries}
+use Rattle.line_values.specs.Refusals.{Reading, ◌>>=◌, inside}
+use Rattle.line_values.specs.Objects.{is_named, known}
+use Rattle.line_values.specs.Values.{kind_in, row_in, row_names}
 use Rattle.line_laws.specs.AsRead.{put_all}
 use Rattle.line_laws.specs.Listed.{IsNew, AreDistinct, Finds, AreKnown}
 use Rattle.line_laws.specs.ValuesBack.{HasBytes, RowHasBytes, read_under}

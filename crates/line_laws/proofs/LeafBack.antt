@@ -34,13 +34,13 @@ use Rattle.sbe_types.specs.Shows.{is_empty, text_value, ShowsText, ShowsElements
 use Rattle.sbe_types.specs.Wire.{set_bytes}
 use Rattle.schema_rules.specs.Ranges.{is_number_of}
 use Rattle.schema_facts.specs.InOrder.{IsLeafFrom, IsNumberOf, IsEnumInOrder, IsSetInOrder, IsConstantInOrder}
-use Rattle.tree_json.specs.Values as tree
-use Rattle.tree_json.specs.Values.{text_data, hex, is_printable, single_data, number_data, elements_data, enum_data, name_of, set_data, chosen, has_bit, constant_data, shown_data, no_entries}
-use Rattle.line_reading.specs.declared.refusals.JCode.TheVariants as code
-use Rattle.line_reading.specs.Refusals.{Reading, ◌>>=◌, refuse}
-use Rattle.line_reading.specs.Objects.{there_or, each, at_item, integer_of}
-use Rattle.line_reading.specs.Values as line
-use Rattle.line_reading.specs.Values.{null_in, number_in, text_in, text_of, element_of, element_in, array_in, shape_in, leaf_lack, lack_as, enum_in, set_in, constant_in, fixed, is_number}
+use Rattle.json_values.specs.Values as tree
+use Rattle.json_values.specs.Values.{text_data, hex, is_printable, single_data, number_data, elements_data, enum_data, name_of, set_data, chosen, has_bit, constant_data, shown_data, no_entries}
+use Rattle.line_values.specs.declared.refusals.JCode.TheVariants as code
+use Rattle.line_values.specs.Refusals.{Reading, ◌>>=◌, refuse}
+use Rattle.line_values.specs.Objects.{there_or, each, at_item, integer_of}
+use Rattle.line_values.specs.Values as line
+use Rattle.line_values.specs.Values.{null_in, number_in, text_in, text_of, element_of, element_in, array_in, shape_in, leaf_lack, lack_as, enum_in, set_in, constant_in, fixed, is_number}
 use Rattle.line_laws.specs.AsRead.{as_read, items_as_read, ItemsHaveIntegers, ItemsHaveTexts}
 use Rattle.line_laws.specs.ValuesBack.{TextHasBytes, ConstantHasBytes}
 use Rattle.line_laws.proofs.Differ.{do_differ}

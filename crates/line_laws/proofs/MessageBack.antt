@@ -23,12 +23,13 @@ use Rattle.schema_facts.specs.Levels.{Node, nodes}
 use Rattle.schema_facts.specs.CheckedLevels.{HasNames, HasKinds, groups_deep}
 use Rattle.schema_facts.proofs.LevelForms.{all_of_message}
 use Rattle.schema_facts.proofs.KindDeclared.{all_at}
-use Rattle.tree_json.specs.Values.{Entry, listed}
+use Rattle.json_values.specs.Values.{Entry, listed}
 use Rattle.tree_json.specs.Lines.{block_entries, message_entries, message_at}
-use Rattle.line_reading.specs.Refusals.{Reading, refuse, or_refuse}
-use Rattle.line_reading.specs.declared.refusals.JCode.TheVariants.{UnknownName, Kind}
-use Rattle.line_reading.specs.Objects.{known, none_unknown, first_unknown}
-use Rattle.line_reading.specs.Lines.{block_read, message_names, Template, level_named, template_in, version_in, message_read, found_in, json_value, tree_of}
+use Rattle.line_values.specs.Refusals.{Reading, refuse, or_refuse}
+use Rattle.line_values.specs.declared.refusals.JCode.TheVariants.{UnknownName, Kind}
+use Rattle.line_values.specs.Objects.{known, none_unknown, first_unknown}
+use Rattle.line_values.specs.Keys.{message_names}
+use Rattle.line_reading.specs.Lines.{block_read, Template, level_named, template_in, version_in, message_read, found_in, json_value, tree_of}
 use Rattle.line_laws.specs.AsRead.{put_all, HasIntegers, HasTexts}
 use Rattle.line_laws.specs.Listed.{AreDistinct, Finds, AreKnown}
 use Rattle.line_laws.specs.LinesBack.{LinesReadBack, LinesDiffer}

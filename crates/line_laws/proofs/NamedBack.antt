@@ -23,10 +23,10 @@ use Rattle.sbe_types.specs.declared.kind.Primitive.TheVariants.{Char, I8, I16, I
 use Rattle.sbe_types.specs.Numbers.{prim_width}
 use Rattle.sbe_types.specs.Shown.{is_listed, has_listed_bits}
 use Rattle.schema_facts.specs.InOrder.{IsBitOf}
-use Rattle.tree_json.specs.Values.{name_of, enum_data, number_data, has_bit, chosen, set_data}
-use Rattle.line_reading.specs.Refusals.{◌>>=◌, or_refuse}
-use Rattle.line_reading.specs.declared.refusals.JCode.TheVariants as code
-use Rattle.line_reading.specs.Values.{number_named, enum_in, integer_in, bit_of, bit_named, with_bit, choices_in, set_in}
+use Rattle.json_values.specs.Values.{name_of, enum_data, number_data, has_bit, chosen, set_data}
+use Rattle.line_values.specs.Refusals.{◌>>=◌, or_refuse}
+use Rattle.line_values.specs.declared.refusals.JCode.TheVariants as code
+use Rattle.line_values.specs.Values.{number_named, enum_in, integer_in, bit_of, bit_named, with_bit, choices_in, set_in}
 use Rattle.line_laws.specs.AsRead.{as_read, items_as_read}
 use Rattle.line_laws.proofs.Differ.{IsOther, DoDiffer, not_same}
 

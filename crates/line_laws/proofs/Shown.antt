@@ -4,8 +4,8 @@ use Rattle.std.specs.Prelude.{⊤}
 use Rattle.std.specs.Option.{option_map}
 use Rattle.std.specs.Str.{IsUtf8}
 use Rattle.serde_json.specs.Data.{Data, depth, members_depth}
-use Rattle.tree_json.specs.Values.{Entry, listed}
-use Rattle.line_reading.specs.Refusals.{Reading}
+use Rattle.json_values.specs.Values.{Entry, listed}
+use Rattle.line_values.specs.Refusals.{Reading}
 use Rattle.line_laws.specs.AsRead.{as_read, HasIntegers, MembersHaveIntegers, HasTexts, MembersHaveTexts}
 
 -- what holds of data, where it isn't left out

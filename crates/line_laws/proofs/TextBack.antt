@@ -21,8 +21,8 @@ use Rattle.sbe_types.specs.declared.kind.Leaf.{Leaf as LeafOf}
 use Rattle.sbe_types.specs.InForm.{IsName, is_letter, is_name_byte}
 use Rattle.sbe_types.specs.Shown.{admits}
 use Rattle.schema_rules.specs.Ranges.{is_number_of}
-use Rattle.tree_json.specs.Values.{text_data, hex, is_printable}
-use Rattle.line_reading.specs.Objects.{bytes_in, decoded}
+use Rattle.json_values.specs.Values.{text_data, hex, is_printable}
+use Rattle.line_values.specs.Objects.{bytes_in, decoded}
 use Rattle.line_laws.specs.AsRead.{as_read, IsInteger}
 use Rattle.line_laws.proofs.Shown.{IsPrinted}
 

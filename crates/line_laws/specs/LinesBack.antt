@@ -19,7 +19,7 @@ use Rattle.sbe_wire.specs.Fits.{EachFits, BlockFits, Fits}
 use Rattle.schema_facts.specs.CheckedLevels.{HasNames, HasKinds}
 use Rattle.schema_facts.specs.IsChecked.{IsChecked}
 use Rattle.schema_facts.specs.Levels.{nodes}
-use Rattle.tree_json.specs.Values.{listed}
+use Rattle.json_values.specs.Values.{listed}
 use Rattle.tree_json.specs.Lines.{block_entries, entries_in, line_of}
 use Rattle.line_reading.specs.Lines.{block_read, tree_of}
 use Rattle.line_laws.specs.AsRead.{put_all}

@@ -3,8 +3,8 @@ use Rattle.std.specs.Prelude.{◌≡◌, ◌≢◌, ℕ, List, [], ◌∷◌, No
 use Rattle.std.specs.Option.{option_map}
 use Rattle.serde_json.specs.Data.{Members, no_members}
 use Rattle.serde_json.specs.Find.{get_member}
-use Rattle.tree_json.specs.Values.{Entry, listed}
-use Rattle.line_reading.specs.Objects.{is_named, first_unknown}
+use Rattle.json_values.specs.Values.{Entry, listed}
+use Rattle.line_values.specs.Objects.{is_named, first_unknown}
 use Rattle.line_laws.specs.AsRead.{as_read, put_all}
 
 -- no entry has the name

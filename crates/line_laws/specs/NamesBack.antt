@@ -6,8 +6,8 @@ use Rattle.sbe_types.specs.declared.kind.Named.{Named}
 use Rattle.sbe_types.specs.declared.message.Value.TheVariants as value
 use Rattle.sbe_types.specs.Numbers.{prim_width}
 use Rattle.schema_facts.specs.InOrder.{AreListed, IsNumberOf, IsBitOf}
-use Rattle.tree_json.specs.Values.{enum_data, set_data}
-use Rattle.line_reading.specs.Values.{enum_in, set_in}
+use Rattle.json_values.specs.Values.{enum_data, set_data}
+use Rattle.line_values.specs.Values.{enum_in, set_in}
 use Rattle.line_laws.specs.AsRead.{as_read}
 
 -- The law: the number of an enum reads back, whether a valid value has it or not.

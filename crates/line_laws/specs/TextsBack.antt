@@ -1,8 +1,8 @@
 -- The bytes of a text read back.
 use Rattle.std.specs.Prelude.{◌≡◌, ℕ, List, Ok}
 use Rattle.byte_digits.specs.Digits.{IsBytes}
-use Rattle.tree_json.specs.Values.{text_data}
-use Rattle.line_reading.specs.Objects.{bytes_in}
+use Rattle.json_values.specs.Values.{text_data}
+use Rattle.line_values.specs.Objects.{bytes_in}
 use Rattle.line_laws.specs.AsRead.{as_read}
 
 -- The law: the bytes of a text read back, whether they stand as a string or by their digits.

@@ -11,10 +11,10 @@ use Rattle.sbe_types.specs.declared.message.Value.{Value}
 use Rattle.sbe_types.specs.declared.message.Value.TheVariants as value
 use Rattle.sbe_types.specs.Wire.{FitsKind, member_values}
 use Rattle.schema_facts.specs.InOrder.{IsKindInOrder}
-use Rattle.tree_json.specs.Values.{value_data}
-use Rattle.line_reading.specs.Refusals.{Reading}
-use Rattle.line_reading.specs.Objects.{there_or}
-use Rattle.line_reading.specs.Values.{lack, kind_in}
+use Rattle.json_values.specs.Values.{value_data}
+use Rattle.line_values.specs.Refusals.{Reading}
+use Rattle.line_values.specs.Objects.{there_or}
+use Rattle.line_values.specs.Values.{lack, kind_in}
 use Rattle.line_laws.specs.AsRead.{as_read}
 
 -- ---- bytes

@@ -1,9 +1,5 @@
-pub mod NameSteps
+pub mod LevelSteps
 pub mod ListSteps
 pub mod ItemSteps
-pub mod ChoiceSteps
-pub mod Unknown
-pub mod HexKeys
 pub mod Opening
 pub mod Wholes
-pub mod KeyOrder

@@ -1,54 +1,23 @@
--- Composites and levels by their lists.
-use Rattle.std.proofs.Common.{◌≡◌, ℕ, List, ◌∷◌, Ok, refl, sym, ap, ◌∙◌}
-use Rattle.std.specs.Prelude.{codes}
+-- Levels by their lists.
+use Rattle.std.proofs.Common.{◌≡◌, List, ◌∷◌, Ok, refl, sym, ap, ◌∙◌}
+use Rattle.std.specs.Prelude.{ℕ, codes}
 use denote.Hole.Carrier as carrier
-use mathlib.Core.Former.{Count}
 use Rattle.sbe_types.specs.declared.schema.Group as groups
 use Rattle.sbe_types.specs.declared.schema.Level as levels
-use Rattle.serde_json.specs.Data.{Data, Members}
+use Rattle.serde_json.specs.Data.{Members}
 use Rattle.serde_json.specs.Find.{get_member}
-use Rattle.sbe_types.specs.declared.kind.Kind.{Kind, Comp, Comp', Row_of-Member, end_of-Member, more_of-Member, items-the_row-Member, items_hidden-the_row-Member-0}
-use Rattle.sbe_types.specs.declared.kind.Member.{Member}
 use Rattle.sbe_types.specs.declared.schema.Field.{Field}
 use Rattle.sbe_types.specs.declared.schema.DataField.{DataField}
 use Rattle.sbe_types.specs.declared.schema.Group.{Group, Group', out-Group}
 use Rattle.sbe_types.specs.declared.schema.Level.{Level, Level', out-Level, Row_of-Group, end_of-Group, more_of-Group, items-the_row-Group, items_shown-the_row-Group-0}
-use Rattle.sbe_types.specs.declared.message.Value.{Value}
 use Rattle.sbe_types.specs.declared.message.GroupVal.{GroupVal}
 use Rattle.sbe_types.specs.declared.message.Block.{Block}
-use Rattle.line_reading.specs.Refusals.{Reading, ◌>>=◌, inside}
-use Rattle.line_reading.specs.Objects.{part}
-use Rattle.line_reading.specs.Values.{row_names, composite_in, kind_in, row_in, value_in}
-use Rattle.line_reading.specs.Lines.{field_names, fields_read, data_names, parts_read, group_name, group_names, group_in, block_with, block_read, groups_read, group_read}
-use Rattle.line_reading.specs.Code.{member_list_names, member_list_read, group_list_names, group_list_read, block_opened}
-
--- ---- composites
-
-member_names_end : {n : _} (ms : Row_of-Member n) → row_names ms ≡ member_list_names (items-the_row-Member _ ms)
-member_names_end end_of-Member = refl
-member_names_end (more_of-Member name offset kind rest) = ap (λ ns. name ∷ ns) (member_names_end rest)
-
-members_end : {n : _} (ms : Row_of-Member n) (found : Members) → row_in ms found ≡ member_list_read (items-the_row-Member _ ms) found
-unfolding kind_in member_list_read
-members_end end_of-Member found = refl
-members_end (more_of-Member name offset kind rest) found = ap (λ r. value_in name kind found >>= (λ v. r >>= (λ vs. Ok (v ∷ vs)))) (members_end rest found)
-
-same_composite : (a b : List (List ℕ)) (f g : Members → Reading (List Value)) (d : Data) → a ≡ b → ((x : Members) → f x ≡ g x) → composite_in a f d ≡ composite_in b g d
-same_composite a b f g d h k = λ i. composite_in (h i) (λ x. k x i) d
-
--- the row of a composite
-abbrev row_of : Kind → (n : Count) × Row_of-Member n
-row_of (Comp' _ row) = (_, row)
-row_of _ = (_, end_of-Member)
-
-pub composite_opens : (ms : List Member) (d : Data) → kind_in (Comp ms) d ≡ composite_in (member_list_names ms) (member_list_read ms) d
-unfolding kind_in
-composite_opens ms d =
-    let row = row_of (Comp ms) in
-    let shown = items_hidden-the_row-Member-0 ms in
-    same_composite _ _ _ _ d (member_names_end row.1 ∙ ap member_list_names shown) (λ found. members_end row.1 found ∙ ap (λ l. member_list_read l found) shown)
-
--- ---- levels
+use Rattle.line_values.specs.Refusals.{Reading, ◌>>=◌, inside}
+use Rattle.line_values.specs.Objects.{part}
+use Rattle.line_values.specs.Keys.{field_names, data_names, group_name}
+use Rattle.line_values.specs.Code.{group_list_names}
+use Rattle.line_reading.specs.Lines.{fields_read, parts_read, group_names, group_in, block_with, block_read, groups_read, group_read}
+use Rattle.line_reading.specs.Code.{group_list_read, block_opened}
 
 group_names_end : {n : _} (gs : Row_of-Group n) → group_names gs ≡ group_list_names (items-the_row-Group _ gs)
 group_names_end end_of-Group = refl

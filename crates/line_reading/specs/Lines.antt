@@ -6,7 +6,7 @@ use Rattle.serde_json.specs.Find.{get_member, as_object, as_array, as_number, as
 use Rattle.serde_json.specs.Read.{read}
 use Rattle.sbe_types.specs.declared.schema.Field.{Field}
 use Rattle.sbe_types.specs.declared.schema.DataField.{DataField}
-use Rattle.sbe_types.specs.declared.schema.Group.{Group, Group', out-Group}
+use Rattle.sbe_types.specs.declared.schema.Group.{Group, Group'}
 use Rattle.sbe_types.specs.declared.schema.Level.{Level, Level', out-Level, Row_of-Group, end_of-Group, more_of-Group}
 use Rattle.sbe_types.specs.declared.schema.WireSchema.{WireSchema}
 use Rattle.sbe_types.specs.declared.message.Value.{Value}
@@ -16,17 +16,13 @@ use Rattle.sbe_types.specs.declared.message.Block.{Block}
 use Rattle.sbe_types.specs.declared.message.GroupVal.{GroupVal}
 use Rattle.sbe_types.specs.declared.message.GroupVal.TheVariants as groupval
 use Rattle.sbe_types.specs.declared.message.Msg.{Msg}
-use Rattle.line_reading.specs.declared.refusals.JCode.TheVariants.{NotJson, Shape, UnknownName, Kind}
-use Rattle.line_reading.specs.Refusals.{Reading, ◌>>=◌, refuse, or_refuse, inside}
-use Rattle.line_reading.specs.Objects.{known, there_or, part, each, bytes_in}
-use Rattle.line_reading.specs.Values.{value_in}
+use Rattle.line_values.specs.declared.refusals.JCode.TheVariants.{NotJson, Shape, UnknownName, Kind}
+use Rattle.line_values.specs.Refusals.{Reading, ◌>>=◌, refuse, or_refuse, inside}
+use Rattle.line_values.specs.Objects.{known, there_or, part, each, bytes_in}
+use Rattle.line_values.specs.Values.{value_in}
+use Rattle.line_values.specs.Keys.{field_names, data_names, group_name, entry_names, message_names}
 
 -- ---- fields and data
-
--- the names of fields
-abbrev pub field_names : List Field → List (List ℕ)
-field_names [] = []
-field_names (f ∷ fs) = f.name ∷ field_names fs
 
 -- the value of a field
 abbrev pub field_read : Field → Members → Reading Value
@@ -39,11 +35,6 @@ fields_read (f ∷ fs) ms = do
   v ← field_read f ms
   vs ← fields_read fs ms
   Ok (v ∷ vs)
-
--- the names of data parts
-abbrev pub data_names : List DataField → List (List ℕ)
-data_names [] = []
-data_names (p ∷ ps) = p.name ∷ data_names ps
 
 -- the bytes of a data part
 abbrev pub data_in : Data → Reading DataVal
@@ -67,18 +58,10 @@ parts_read (p ∷ ps) ms = do
 
 -- ---- blocks and groups
 
--- a group's name, which is that of its level
-abbrev pub group_name : Group → List ℕ
-group_name g = (out-Level (out-Group g).level).name
-
 -- the names of groups
 abbrev pub group_names : {n : _} → Row_of-Group n → List (List ℕ)
 group_names end_of-Group = []
 group_names (more_of-Group g rest) = group_name g ∷ group_names rest
-
--- the keys of an entry
-abbrev pub entry_names : List (List ℕ)
-entry_names = codes "data" ∷ codes "fields" ∷ codes "groups" ∷ []
 
 -- what stands in an entry's object
 abbrev pub entry_of : (Members → Reading Block) → Members → Reading Block
@@ -131,10 +114,6 @@ unfoldable mutual
   group_read (Group' dim level) ms = inside (out-Level level).name (group_in (λ found. block_read level found) (get_member (out-Level level).name ms))
 
 -- ---- messages
-
--- the keys of a message
-abbrev pub message_names : List (List ℕ)
-message_names = codes "data" ∷ codes "fields" ∷ codes "groups" ∷ codes "template" ∷ codes "version" ∷ []
 
 -- a message's level, with its number in the schema
 pub record Template : Type 0 where

@@ -1,16 +1,17 @@
 ghost use Rattle.std.specs.Prelude.{◌≡◌, option_map};
 ghost use Rattle.json_data.specs.Trees.{data_of, items_of};
-ghost use Rattle.line_reading.specs.Refusals.{Gives};
-ghost use Rattle.line_reading.specs.Objects.{each, at_item as at_place};
+ghost use Rattle.line_values.specs.Refusals.{Gives};
+ghost use Rattle.line_values.specs.Objects.{each, at_item as at_place};
 ghost use Rattle.line_reading.specs.Lines.{entry_of, entry_in, entries_in, group_in, block_read, group_read};
-ghost use Rattle.line_reading.specs.Code.{seen, group_list_read, block_opened};
+ghost use Rattle.line_values.specs.Code.{seen};
+ghost use Rattle.line_reading.specs.Code.{group_list_read, block_opened};
 
 use crate::fields::read_fields;
-use crate::names::{Names, name_of};
-use crate::objects::{at_item, find_in, part, refuse_unknown};
 use crate::parts::read_parts;
-use crate::refusals::{JCode, LineFault, inside, refuse};
 use json_data::{Json, Pair};
+use line_values::{
+    JCode, LineFault, Names, at_item, find_in, inside, name_of, part, refuse, refuse_unknown,
+};
 use lists::List;
 use sbe_types::{Block, BlockList, Group, GroupVal, GroupValList, Level};
 use std::alloc::Global;
@@ -110,7 +111,7 @@ fn read_entries(
 
 /// The entries of an array.
 #[cycle(block)]
-#[tactic(auto, unfolding(crate::specs::Objects::each), using(crate::proofs::ItemSteps::entries_more))]
+#[tactic(auto, unfolding(line_values::specs::Objects::each), using(crate::proofs::ItemSteps::entries_more))]
 fn read_items(alloc: Global, level: &Level, items: &[Json<'_>]) -> Result<BlockList, LineFault>
     ensures { Gives result (each (entry_in (block_read level.now)) 0 (items_of items.now)) }
 {

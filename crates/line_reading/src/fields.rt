@@ -1,11 +1,10 @@
 ghost use Rattle.std.specs.Prelude.{◌≡◌};
-ghost use Rattle.line_reading.specs.Refusals.{Gives};
+ghost use Rattle.line_values.specs.Refusals.{Gives};
 ghost use Rattle.line_reading.specs.Lines.{fields_read};
-ghost use Rattle.line_reading.specs.Code.{seen};
+ghost use Rattle.line_values.specs.Code.{seen};
 
-use crate::kinds::read_value;
-use crate::refusals::LineFault;
 use json_data::{Json, Pair};
+use line_values::{LineFault, read_value};
 use lists::List;
 use sbe_types::{Field, ValueList};
 use std::alloc::Global;

@@ -3,17 +3,8 @@
 #![tactic(auto)]
 
 mod blocks;
-mod choices;
 mod fields;
-mod kinds;
-pub mod laws;
-mod leaves;
 mod message;
-mod names;
-mod objects;
 mod parts;
-mod refusals;
-mod texts;
 
 pub use message::{msg_of_line, msg_of_line_with};
-pub use refusals::{JCode, LineFault};

@@ -1,20 +1,19 @@
 ghost use Rattle.std.specs.Prelude.{◌≡◌, option_map};
 ghost use Rattle.json_data.specs.Trees.{data_of};
-ghost use Rattle.line_reading.specs.Refusals.{Gives, GivesAs};
+ghost use Rattle.line_values.specs.Refusals.{Gives, GivesAs};
 ghost use Rattle.line_reading.specs.Lines.{level_named, named_template, template_in, is_version, version_in, message_read, message_in, tree_of};
-ghost use Rattle.line_reading.specs.Code.{seen, template};
+ghost use Rattle.line_values.specs.Code.{seen};
+ghost use Rattle.line_reading.specs.Code.{template};
 
 use crate::blocks::read_block;
-use crate::names::Names;
-use crate::objects::{find_in, refuse_unknown};
-use crate::refusals::{JCode, LineFault, refuse};
 use json_data::{Json, JsonFault, JsonSpace, Pair};
+use line_values::{JCode, LineFault, Names, find_in, refuse, refuse_unknown};
 use sbe_types::{Level, Msg, WireSchema};
 use schema_check::Checked;
 use std::alloc::Global;
 
 /// The first level of that name, with its number.
-#[tactic(auto, using(crate::proofs::NameSteps::level_next))]
+#[tactic(auto, using(crate::proofs::LevelSteps::level_next))]
 fn level_named<'l>(levels: &'l [Level], name: &[u8]) -> Option<(usize, &'l Level)>
     ensures { option_map (λ p. template p.0 p.1.now) result ≡ level_named 0 levels.now name.now }
 {

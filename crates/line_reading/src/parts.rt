@@ -1,13 +1,11 @@
 ghost use Rattle.std.specs.Prelude.{◌≡◌, option_map};
 ghost use Rattle.json_data.specs.Trees.{data_of};
-ghost use Rattle.line_reading.specs.Refusals.{Gives};
+ghost use Rattle.line_values.specs.Refusals.{Gives};
 ghost use Rattle.line_reading.specs.Lines.{data_there, data_read, parts_read};
-ghost use Rattle.line_reading.specs.Code.{seen};
+ghost use Rattle.line_values.specs.Code.{seen};
 
-use crate::objects::find_in;
-use crate::refusals::{LineFault, inside};
-use crate::texts::read_bytes;
 use json_data::{Json, Pair};
+use line_values::{LineFault, find_in, inside, read_bytes};
 use lists::List;
 use sbe_types::{DataField, DataVal, DataValList};
 use std::alloc::Global;

@@ -6,8 +6,8 @@ use Rattle.std.specs.Fmt.{digits}
 use Rattle.std.specs.Str.{is_utf8, chars}
 use Rattle.hex.specs.Hex.{decode_pairs}
 use Rattle.serde_json.proofs.OnLiterals.{serde_json_on_literals}
-use Rattle.line_reading.specs.Objects.{each}
-use Rattle.line_reading.specs.Values.{choices_in, kind_in}
+use Rattle.line_values.specs.Objects.{each}
+use Rattle.line_values.specs.Values.{choices_in, kind_in}
 use Rattle.line_reading.specs.Lines.{fields_read, parts_read, block_read}
 
 unfoldable pub computing : Unit {0}

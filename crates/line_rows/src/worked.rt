@@ -1,8 +1,8 @@
 //! The definition of what a line holds, computed on small lines.
 
 ghost use Rattle.std.specs.Prelude.{◌≡◌, codes, Ok, Err};
-ghost use Rattle.line_reading.specs.declared.refusals.JCode.TheVariants as code;
-ghost use Rattle.line_reading.specs.Refusals.{refusal};
+ghost use Rattle.line_values.specs.declared.refusals.JCode.TheVariants as code;
+ghost use Rattle.line_values.specs.Refusals.{refusal};
 ghost use Rattle.line_reading.specs.Lines.{tree_of};
 ghost use Rattle.line_rows.specs.Rows.{demo, kinds, word_line, lone_line, pong_line, ping_line, ping_message, letter_line, twice_line, twice_message, nest_line, nest_message, kinds_line, kinds_message, other_line, other_message, list_line, untold_line, number_line, version_line, key_line, keys_line, entry_line, groups_line, missing_line, null_line, octets_line, choice_line, choices_line, odd_line, constant_line, inner_line, place_line};
 

@@ -114,35 +114,3 @@ impl<T: Copy> List<T> {
         Ok(())
     }
 }
-
-#[cfg(test)]
-mod tests {
-    use super::*;
-    use std::test::Fail;
-
-    #[test]
-    fn grows_at_its_end(rt: HostRuntime) -> Result<(), Fail> {
-        let mut list = List::new(rt.alloc());
-        assert!(rt; list.is_empty());
-        list.push(7u32)?;
-        list.push(9)?;
-        list.extend(&[11, 13])?;
-        assert_eq!(rt; list.len(), 4);
-        assert_eq!(rt; *list.at(1), 9);
-        assert_eq!(rt; list.as_slice(), [7, 9, 11, 13].as_slice());
-        assert!(rt; !list.is_empty());
-        Ok(())
-    }
-
-    #[test]
-    fn copies_a_slice(rt: HostRuntime) -> Result<(), Fail> {
-        let list = List::from_slice(rt.alloc(), b"abc")?;
-        assert_eq!(rt; list.as_slice(), b"abc".as_slice());
-        let error = NoMem;
-        assert_eq!(rt;
-            format!(in rt.alloc(); "{error}")?.as_str(),
-            "out of memory"
-        );
-        Ok(())
-    }
-}

@@ -7,8 +7,8 @@ use Rattle.sbe_types.specs.declared.kind.Kind.{Leaf}
 use Rattle.sbe_types.specs.declared.path.Step.{Step}
 use Rattle.sbe_types.specs.declared.path.Step.TheVariants.{Part, Entry, Elem}
 use Rattle.sbe_types.specs.declared.schema.Level.{Level, out-Level}
-use Rattle.layout_compile.specs.Paths.{Inside, in_level, in_group, in_kind, in_nothing, NamedPart, field_part, group_part, data_part, level_parts, parts_inside, to_part, path_from}
-use Rattle.layout_compile.proofs.Items.{long_map, get_behind}
+use Rattle.layout_tables.specs.Paths.{Inside, in_level, in_group, in_kind, in_nothing, NamedPart, field_part, group_part, data_part, level_parts, parts_inside, to_part, path_from}
+use Rattle.layout_tables.proofs.Items.{long_map, get_behind}
 
 -- ---- steps
 

@@ -16,7 +16,7 @@ use Rattle.sbe_types.specs.declared.message.GroupVal.{GroupVal}
 use Rattle.sbe_wire.specs.declared.codes.NCode.TheVariants as code
 use Rattle.sbe_wire.specs.Canonical.{entries_in}
 use Rattle.sbe_wire.specs.Misfit.{Misfit, misfit_in, or_else, bad_shape, parts_shape, each_misfit, entries_shape, block_shape, groups_shape, group_shape}
-use Rattle.layout_compile.specs.Paths.{Inside, in_level, in_group, in_nothing, group_part, data_part, level_parts, parts_inside}
+use Rattle.layout_tables.specs.Paths.{Inside, in_level, in_group, in_nothing, group_part, data_part, level_parts, parts_inside}
 use Rattle.writing_laws.proofs.Refusals.{some_none}
 use Rattle.misfit_laws.proofs.Leading.{part_leads, entry_leads, Behind, first_is, next_are, groups_stand, data_stand}
 use Rattle.misfit_laws.proofs.ValueWays.{Told, told_here, told_or, told_step}

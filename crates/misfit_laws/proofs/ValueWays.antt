@@ -20,7 +20,7 @@ use Rattle.sbe_types.specs.Wire.{member_values}
 use Rattle.sbe_wire.specs.declared.codes.NCode.{NCode}
 use Rattle.sbe_wire.specs.declared.codes.NCode.TheVariants as code
 use Rattle.sbe_wire.specs.Misfit.{Misfit, misfit_here, misfit_in, or_else, unless, is_full, other_kind, number_misfit, byte_misfit, text_misfit, element_misfit, elements_misfit, array_misfit, leaf_misfit, enum_misfit, set_misfit, const_misfit, same_length, value_misfit, row_misfit, fields_misfit}
-use Rattle.layout_compile.specs.Paths.{Inside, in_kind, in_nothing, NamedPart, field_part, member_part, parts_inside}
+use Rattle.layout_tables.specs.Paths.{Inside, in_kind, in_nothing, NamedPart, field_part, member_part, parts_inside}
 use Rattle.misfit_laws.proofs.Leading.{Leads, LeadsBy, here, part_leads, element_leads, Behind, first_is, next_are, all_are}
 
 -- no misfit, or one that is no want of room and whose path leads on from the place

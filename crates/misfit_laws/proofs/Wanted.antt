@@ -40,7 +40,7 @@ use Rattle.schema_facts.specs.Levels.{Node, node, nodes, nodes_below, nodes_of, 
 use Rattle.schema_facts.specs.Measured.{IsSmall}
 use Rattle.schema_facts.proofs.KindLists.{width_comp}
 use Rattle.schema_facts.proofs.LevelForms.{all_apart, all_of_message, holds_below}
-use Rattle.layout_compile.specs.Paths.{Inside, in_level}
+use Rattle.layout_tables.specs.Paths.{Inside, in_level}
 use Rattle.misfit_laws.specs.Misfits.{part_bound, IsWanted}
 use Rattle.misfit_laws.proofs.Leading.{fields_stand}
 use Rattle.misfit_laws.proofs.ValueWays.{Told, fields_told}

@@ -27,7 +27,7 @@ use Rattle.sbe_wire.specs.Canonical.{entries_in}
 use Rattle.sbe_wire.specs.Named.{is_admitted}
 use Rattle.sbe_wire.specs.Misfit.{Misfit, misfit_in, inside_step, or_else, unless, is_full, fields_misfit, bad_shape, parts_shape, each_misfit, entries_shape, block_shape, groups_shape, group_shape, Taken, ◌then◌, taken_in, refused, take_bytes, passed, block_taken, part_taken, parts_taken, each_taken, entries_taken, tail_taken, groups_taken, group_taken, refusal_of, root_taken, root_misfit, misfit}
 use Rattle.schema_facts.specs.IsChecked.{IsChecked}
-use Rattle.layout_compile.specs.Paths.{Inside, in_level, in_group, in_nothing, group_part, data_part, level_parts, parts_inside, path_from, IsPathOf}
+use Rattle.layout_tables.specs.Paths.{Inside, in_level, in_group, in_nothing, group_part, data_part, level_parts, parts_inside, path_from, IsPathOf}
 use Rattle.writing_laws.specs.Writable.{IsWritableDimension, IsWritableLevel, AreWritableGroups, IsWritableGroup, IsWritable}
 use Rattle.writing_laws.proofs.Refusals.{or_none, in_none}
 use Rattle.writable_schemas.proofs.CheckedSchemas.{schema_writable}

@@ -6,7 +6,7 @@ use Rattle.sbe_types.specs.declared.message.Msg.{Msg}
 use Rattle.sbe_wire.specs.declared.codes.NCode.TheVariants.{Full}
 use Rattle.sbe_wire.specs.Misfit.{Misfit, misfit}
 use Rattle.schema_facts.specs.IsChecked.{IsChecked}
-use Rattle.layout_compile.specs.Paths.{IsPathOf}
+use Rattle.layout_tables.specs.Paths.{IsPathOf}
 
 -- ---- the path
 

@@ -4,7 +4,7 @@ ghost use Rattle.printed_lines.specs.Bodies.{IsBodyOf, IsOwnBody};
 use crate::constants::{are_bytes, level_has_bytes};
 use clean_walk::is_clean_body;
 use flyweight_view::validate;
-use layout_compile::Layout;
+use layout_tables::Layout;
 use line_draft::{BodyDraft, draft_body};
 use line_match::is_line_of;
 

@@ -47,29 +47,3 @@ pub struct Limits {
     /// The most bytes of the whole input.
     pub input: u64,
 }
-
-#[cfg(test)]
-mod tests {
-    use super::*;
-
-    #[test]
-    fn gives_each_status_its_code(rt: HostRuntime) {
-        let rows = [
-            (Status::Done, 0),
-            (Status::SomeRefused, 1),
-            (Status::Usage, 2),
-            (Status::SchemaRefused, 3),
-            (Status::MapRefused, 4),
-            (Status::FramingRefused, 5),
-            (Status::FileFault, 6),
-            (Status::ReadFault, 7),
-            (Status::WriteFault, 8),
-            (Status::NoMemory, 9),
-            (Status::InputLimit, 10),
-            (Status::NoFile, 11),
-        ];
-        for (status, code) in rows {
-            assert_eq!(rt; status.code(), code, "{status:?}");
-        }
-    }
-}

@@ -11,7 +11,7 @@ use Rattle.frame_stream.specs.declared.lines.LineEnded.TheVariants as line_ended
 use Rattle.command_jobs.specs.Replies.{counted_by}
 use Rattle.replies.specs.Outside.{Streams}
 use Rattle.sbe_cli.specs.Ahead.{Ahead, none_ahead}
-use Rattle.tree_json.specs.Writes.{nothing_gathered}
+use Rattle.json_values.specs.Writes.{nothing_gathered}
 use Rattle.build_lines.specs.Build.{body_limit}
 use Rattle.command_jobs.specs.Jobs.{IsBounded, IsReadyFrame, IsReadyLine}
 use Rattle.sbe_cli.specs.Steps.{PumpState, Goes, Closes, running, opened}

@@ -5,7 +5,7 @@ ghost use Rattle.replies.specs.Outside.{Told, object_of, streams_of};
 ghost use Rattle.command_jobs.specs.Replies.{counted_by, reply_of};
 ghost use Rattle.command_jobs.specs.Jobs.{IsReadyFrame, IsBounded};
 ghost use Rattle.replies.specs.Drafts.{Delivers};
-ghost use Rattle.tree_json.specs.Writes.{nothing_gathered};
+ghost use Rattle.json_values.specs.Writes.{nothing_gathered};
 ghost use Rattle.sbe_cli.specs.Pumps.{Stands, CanCount, frames_pump, Answers};
 ghost use Rattle.sbe_cli.specs.Stops.{stop_status, stop_line};
 ghost use Rattle.sbe_cli.specs.declared.stop.Stop.TheVariants as stop;

@@ -1,13 +1,13 @@
 ghost use Rattle.std.specs.Prelude.{◌≡◌};
-ghost use Rattle.tree_json.specs.Writes.{output, Writes};
+ghost use Rattle.json_values.specs.Writes.{output, Writes};
 ghost use Rattle.replies.specs.Outside.{Told, object_of};
 ghost use Rattle.sbe_cli.specs.Stops.{stop_status, stop_line, at_line, head_line, fault_line};
 ghost use Rattle.sbe_cli.specs.declared.stop.Stop.TheVariants as stop;
 
+use json_values::{Chunk, put_count};
 use open_framing::{HeadErr, LONGEST_LINE};
 use sbe_base::{Sink, Status, WriteFault};
 use schema_files::{FileRole, RefusedFile, put_refusal, put_role, refusal_status};
-use tree_json::{Chunk, put_count};
 
 /// What is noted where a run stops before its end.
 #[derive(Debug, Drop)]

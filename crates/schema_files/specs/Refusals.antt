@@ -2,8 +2,8 @@
 use Rattle.std.specs.Prelude.{ℕ, List, [], ◌++◌, codes, decimal}
 use Rattle.json_elements.specs.declared.refusal.Cause.{Cause}
 use Rattle.json_elements.specs.declared.refusal.Cause.TheVariants as cause
-use Rattle.tree_json.specs.Values.{text_data}
-use Rattle.tree_json.specs.Plain.{plain_text}
+use Rattle.json_values.specs.Values.{text_data}
+use Rattle.json_values.specs.Plain.{plain_text}
 use Rattle.schema_rules.specs.declared.codes.CCode.{CCode}
 use Rattle.schema_rules.specs.declared.codes.CCode.TheVariants as rule
 use Rattle.sbe_base.specs.declared.status.Status.{Status}

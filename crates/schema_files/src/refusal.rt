@@ -1,15 +1,15 @@
 //! How a refused file is noted.
 
 ghost use Rattle.std.specs.Prelude.{◌≡◌};
-ghost use Rattle.tree_json.specs.Writes.{output, Writes};
+ghost use Rattle.json_values.specs.Writes.{output, Writes};
 ghost use Rattle.schema_files.specs.Refusals.{cause_code, rule_code, refused_file, refusal_line, refusal_status, role_name, why_line};
 ghost use Rattle.schema_files.specs.declared.files.FileRefusal.TheVariants as file;
 
 use crate::files::{FileRefusal, FileRole, RefusedFile};
 use json_elements::Cause;
+use json_values::{Chunk, put_count, put_text};
 use sbe_base::{Sink, Status};
 use schema_check::CCode;
-use tree_json::{Chunk, put_count, put_text};
 
 /// The status of a run that ends at a refused file.
 pub fn refusal_status(refusal: &FileRefusal) -> Status

@@ -21,9 +21,9 @@ use Rattle.schema_facts.specs.IsChecked.{IsChecked}
 use Rattle.schema_facts.specs.Levels.{Node, all_nodes}
 use Rattle.schema_facts.specs.Measured.{IsSmall}
 use Rattle.schema_facts.proofs.KindLists.{made_members}
-use Rattle.layout_compile.specs.Parts.{dim_at}
-use Rattle.layout_compile.specs.declared.rows.DimRow.{DimRow}
-use Rattle.layout_compile.specs.Rowed.{DimIs}
+use Rattle.layout_tables.specs.Parts.{dim_at}
+use Rattle.layout_tables.specs.declared.rows.DimRow.{DimRow}
+use Rattle.layout_tables.specs.Rowed.{DimIs}
 use Rattle.var_data.proofs.DataRows.{at_each}
 
 some_is : {A : Type 0} {x y : A} → ◌≡◌ {A = Option A} (Some x) (Some y) → x ≡ y

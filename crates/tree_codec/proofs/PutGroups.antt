@@ -16,7 +16,7 @@ use Rattle.sbe_wire.specs.Misfit.{Taken, refusal_of, bad_shape, block_shape, ent
 use Rattle.sbe_wire.specs.Named.{is_admitted}
 use Rattle.schema_facts.specs.IsChecked.{IsChecked}
 use Rattle.schema_facts.specs.Levels.{level_at, fields_at, fields_in, groups_at, groups_in}
-use Rattle.layout_compile.specs.Parts.{dim_at, group_number}
+use Rattle.layout_tables.specs.Parts.{dim_at, group_number}
 use Rattle.flyweight_view.proofs.GroupsTold.{from_number}
 use Rattle.flyweight_view.proofs.Opens.{Child, child_here, level_within}
 use Rattle.typed_writer.specs.declared.stack.Frame.TheVariants.{Fields, Tail, Entries}

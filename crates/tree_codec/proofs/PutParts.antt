@@ -12,7 +12,7 @@ use Rattle.sbe_types.specs.Numbers.{prim_width}
 use Rattle.sbe_wire.specs.Canonical.{part_bytes, parts_bytes}
 use Rattle.sbe_wire.specs.Misfit.{Taken, refusal_of, block_shape, part_taken, parts_taken, tail_taken}
 use Rattle.schema_facts.specs.Levels.{all_nodes, level_at, groups_at, groups_in, parts_at, parts_in}
-use Rattle.layout_compile.specs.Parts.{dim_at}
+use Rattle.layout_tables.specs.Parts.{dim_at}
 use Rattle.typed_writer.specs.declared.stack.Frame.TheVariants.{Tail, Entries}
 use Rattle.typed_writer.specs.declared.states.TailErr.{TailErr}
 use Rattle.typed_writer.specs.declared.states.TailErr.TheVariants as tail_err

@@ -21,10 +21,10 @@ use Rattle.sbe_wire.specs.Named.{Spot, is_admitted}
 use Rattle.sbe_types.specs.Places.{members_end}
 use Rattle.sbe_types.specs.Shown.{admits}
 use Rattle.sbe_types.specs.declared.schema.WireSchema.{WireSchema}
-use Rattle.layout_compile.specs.declared.rows.DimRow.{DimRow}
-use Rattle.layout_compile.specs.declared.rows.LevelRow.{LevelRow}
-use Rattle.layout_compile.specs.Parts.{dim_at}
-use Rattle.layout_compile.specs.Rowed.{DimIs, RowFor}
+use Rattle.layout_tables.specs.declared.rows.DimRow.{DimRow}
+use Rattle.layout_tables.specs.declared.rows.LevelRow.{LevelRow}
+use Rattle.layout_tables.specs.Parts.{dim_at}
+use Rattle.layout_tables.specs.Rowed.{DimIs, RowFor}
 use Rattle.group_codec.proofs.DimRows.{row_dim, never_none}
 use Rattle.tree_codec.specs.declared.unfit.Unfit.{Unfit}
 use Rattle.tree_codec.specs.Rooms.{dim_room, groups_room, entry_room}

@@ -6,7 +6,7 @@ ghost use Rattle.tree_codec.specs.Trees.{IsWholeSeen};
 
 use crate::blocks::block_tree;
 use flyweight_view::{MsgView, Refusal, validate};
-use layout_compile::Layout;
+use layout_tables::Layout;
 use lists::NoMem;
 use sbe_types::Msg;
 use std::alloc::Global;

@@ -7,7 +7,7 @@ ghost use Rattle.tree_codec.specs.Sized.{sized};
 use crate::fills::fill_block;
 use crate::puts::put_tail;
 use crate::sizing::{EncodeErr, body_size};
-use layout_compile::Layout;
+use layout_tables::Layout;
 use sbe_types::Msg;
 use typed_writer::FrameBuf;
 

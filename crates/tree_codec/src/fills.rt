@@ -8,7 +8,7 @@ ghost use Rattle.flyweight_view.specs.Ready.{IsReadySchema};
 ghost use Rattle.typed_writer.specs.States.{SetsFields, level_of};
 ghost use Rattle.tree_codec.specs.Puts.{Fills, HoldsNext, task_of};
 
-use layout_compile::Layout;
+use layout_tables::Layout;
 use sbe_types::{Block, Kind, Level};
 use typed_writer::FrameBuf;
 

@@ -4,7 +4,7 @@ ghost use Rattle.sbe_types.specs.declared.schema.Group.{out-Group};
 ghost use Rattle.sbe_types.specs.declared.schema.Level.{out-Level};
 ghost use Rattle.sbe_wire.specs.Misfit.{block_shape, each_misfit, group_shape};
 ghost use Rattle.schema_facts.specs.Levels.{groups_at, level_at};
-ghost use Rattle.layout_compile.specs.Parts.{dim_at};
+ghost use Rattle.layout_tables.specs.Parts.{dim_at};
 ghost use Rattle.flyweight_view.specs.Ready.{IsReadySchema};
 ghost use Rattle.typed_writer.specs.declared.stack.Frame.TheVariants.{Entries as EntriesFrame, Tail as TailFrame};
 ghost use Rattle.typed_writer.specs.States.{AppendsEntries, AppendsParts, entries_left, level_of, parts_done, parts_in_tail};
@@ -13,7 +13,7 @@ ghost use Rattle.tree_codec.specs.Puts.{HasRoom, Puts, behind_all, entries_stret
 ghost use Rattle.tree_codec.specs.Shapes.{is_gone};
 
 use crate::fills::fill_block;
-use layout_compile::Layout;
+use layout_tables::Layout;
 use sbe_types::{Block, DataField, DataVal, Group, GroupVal, Level, List};
 use typed_writer::FrameBuf;
 

@@ -12,14 +12,14 @@ ghost use Rattle.sbe_wire.specs.Named.{is_admitted};
 ghost use Rattle.schema_rules.specs.PartRules.{most_groups};
 ghost use Rattle.schema_facts.specs.CheckedLevels.{groups_deep, HasFewParts};
 ghost use Rattle.schema_facts.specs.Levels.{all_nodes, level_at};
-ghost use Rattle.layout_compile.specs.Parts.{dim_at};
+ghost use Rattle.layout_tables.specs.Parts.{dim_at};
 ghost use Rattle.flyweight_view.specs.Ready.{IsReadySchema};
 ghost use Rattle.tree_codec.specs.Fitting.{AreReady};
 ghost use Rattle.tree_codec.specs.Rooms.{dim_room, entry_room, groups_room, went};
 
 use crate::fit::fit_fields;
 use crate::unfit::Unfit;
-use layout_compile::Layout;
+use layout_tables::Layout;
 use sbe_types::{
     Block, DataField, DataVal, FieldList, Group, GroupVal, Level, List, Step, ValueList,
 };

@@ -9,7 +9,7 @@ ghost use Rattle.tree_codec.specs.Shapes.{misfit_of};
 use crate::rooms::{Walk, take_block, take_tail};
 use crate::shape::shape_block;
 use crate::unfit::Unfit;
-use layout_compile::Layout;
+use layout_tables::Layout;
 use sbe_types::{Block, Level, Msg, Path};
 use sbe_wire::NCode;
 

@@ -11,7 +11,7 @@ ghost use Rattle.field_values.specs.Told.{before_zero};
 ghost use Rattle.tree_codec.specs.TheValues.{number_value, enum_value, element_value, elements_from, IsLeafValue, IsTheValue};
 
 use field_values::before_zero;
-use layout_compile::{begin_of, end_behind};
+use flat_rows::{begin_of, end_behind};
 use lists::{List, NoMem};
 use sbe_types::{
     Elem, ElemList, Kind, Leaf, LeafShape, Member, Order, Presence, Prim, Value, ValueList, get_num,

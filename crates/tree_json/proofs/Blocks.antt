@@ -10,9 +10,9 @@ use Rattle.sbe_types.specs.declared.message.Msg.{Msg}
 use Rattle.json.specs.Print.{quoted}
 use Rattle.flyweight_view.specs.Seen.{Seen, seen_level}
 use Rattle.serde_json.specs.Data.{object}
-use Rattle.tree_json.specs.Values.{listed, zipped}
+use Rattle.json_values.specs.Values.{listed, zipped}
 use Rattle.tree_json.specs.Lines.{field_entry, part_entry, group_entry, three_entries, block_data, block_entries, groups_entries, message_at}
-use Rattle.tree_json.specs.Plain.{plain_text, entries_text}
+use Rattle.json_values.specs.Plain.{plain_text, entries_text}
 use Rattle.tree_json.specs.Views.{seen_data, seen_front}
 
 groups_are : {n : _} (row : Row_of-Group n) (vs : List GroupVal) → groups_entries row vs ≡ zipped group_entry (items-the_row-Group _ row) vs

@@ -19,8 +19,8 @@ use Rattle.std.specs.Prelude.{◌≡◌, slice_get}
 use Rattle.sbe_types.specs.declared.schema.WireSchema.{WireSchema}
 use Rattle.schema_facts.specs.IsChecked.{IsChecked}
 use Rattle.schema_facts.proofs.LevelForms.{all_of_message}
-use Rattle.tree_json.specs.Plain.{IsPlainName}
-use Rattle.tree_json.proofs.Plainly.{names_stand}
+use Rattle.json_values.specs.Plain.{IsPlainName}
+use Rattle.json_values.proofs.Plainly.{names_stand}
 
 all_front : {A : Type 0} (P : A → Type 0) (xs ys : List A) → AllByRecursion P (xs ++ ys) → AllByRecursion P xs
 all_front P [] ys h = tt

@@ -5,7 +5,7 @@ use Rattle.sbe_types.specs.declared.schema.Level as level
 use Rattle.std.specs.Fmt.{digits}
 use Rattle.hex.specs.Hex.{encode_with}
 use Rattle.json.specs.Print.{escape_byte}
-use Rattle.tree_json.specs.Values.{value_data}
+use Rattle.json_values.specs.Values.{value_data}
 use Rattle.tree_json.specs.Lines.{block_entries}
 
 unfoldable pub computing : Unit {0}

@@ -9,14 +9,14 @@ use Rattle.sbe_types.specs.declared.message.GroupVal.{GroupVal}
 use Rattle.sbe_types.specs.declared.schema.DataField.{DataField}
 use Rattle.sbe_types.specs.declared.schema.Group.{Group}
 use Rattle.flat_rows.specs.Tables.{stands_for}
-use Rattle.layout_compile.specs.Flats.{text_before, text_behind}
+use Rattle.layout_tables.specs.Flats.{text_before, text_behind}
 use Rattle.flyweight_view.specs.declared.by_table.TableBlock.{TableBlock}
 use Rattle.flyweight_view.specs.ByTable.{IsTableBlock}
 use Rattle.flyweight_view.specs.Seen.{Seen}
-use Rattle.tree_json.specs.Values.{zipped}
+use Rattle.json_values.specs.Values.{zipped}
 use Rattle.tree_json.specs.Lines.{field_entry, part_entry, group_entry}
-use Rattle.tree_json.specs.Plain.{entries_text}
-use Rattle.tree_json.specs.Printed.{JoinedText}
+use Rattle.json_values.specs.Plain.{entries_text}
+use Rattle.json_fields.specs.Printed.{JoinedText}
 use Rattle.tree_json.specs.Views.{data_front, own_data, own_groups, seen_head, seen_front}
 use Rattle.tree_json.proofs.PiecesText.{fields_text, between_text}
 

@@ -26,9 +26,9 @@ use Rattle.sbe_types.specs.declared.message.Block.{Block, out-Block}
 use Rattle.sbe_types.specs.declared.message.GroupVal.{GroupVal}
 use Rattle.sbe_types.specs.declared.message.Msg.{Msg}
 use Rattle.sbe_types.specs.Shown.{has_listed_bits}
-use Rattle.tree_json.specs.Values.{Entry, listed, zipped, is_printable, hex, text_data, char_data, number_data, single_data, is_char, element_data, elements_data, name_of, has_bit, chosen, set_data, constant_data, constant_of, named_in, shown_data, no_entries, value_data, row_entries}
+use Rattle.json_values.specs.Values.{Entry, listed, zipped, is_printable, hex, text_data, char_data, number_data, single_data, is_char, element_data, elements_data, name_of, has_bit, chosen, set_data, constant_data, constant_of, named_in, shown_data, no_entries, value_data, row_entries}
 use Rattle.tree_json.specs.Lines.{field_entry, part_data, part_entry, entries_in, items_by, three_entries, block_entries, groups_entries, message_entries, message_at, message_data}
-use Rattle.tree_json.specs.Plain.{key_text, plain_text, plain_items, plain_members, IsPlainName, HasPlainKeys, ItemsHavePlainKeys, MembersHavePlainKeys}
+use Rattle.json_values.specs.Plain.{key_text, plain_text, plain_items, plain_members, IsPlainName, HasPlainKeys, ItemsHavePlainKeys, MembersHavePlainKeys}
 use Rattle.tree_json.specs.Names.{HasPlainMembers, ArePlainMembers, IsPlainField, IsPlainPart, IsPlainLevel, ArePlainGroups, PrintedIsLine}
 
 -- ---- the text

@@ -18,16 +18,16 @@ use Rattle.sbe_types.specs.Shows.{Shows, MembersShow}
 use Rattle.sbe_wire.specs.Lays.{FieldsLay}
 use Rattle.sbe_wire.specs.Placed.{IsPlacedKind, IsPlacedRow, ArePlaced}
 use Rattle.sbe_wire.proofs.Values.{row_grows}
-use Rattle.tree_json.specs.Values.{Entry, zipped, hex, constant_data, value_data, row_entries}
+use Rattle.json_values.specs.Values.{Entry, zipped, hex, constant_data, value_data, row_entries}
 use Rattle.tree_json.specs.Lines.{field_entry}
-use Rattle.tree_json.specs.Plain.{plain_text, shown_text, entries_text}
-use Rattle.tree_json.proofs.MembersShown.{entry_goes}
-use Rattle.tree_json.proofs.FromBytes.{is_shown}
+use Rattle.json_values.specs.Plain.{plain_text, shown_text, entries_text}
+use Rattle.json_fields.proofs.MembersShown.{entry_goes}
+use Rattle.json_fields.proofs.FromBytes.{is_shown}
 use Rattle.flat_rows.specs.Texts.{key_of, is_seen, hex_text, constant_text}
 use Rattle.flat_rows.specs.Pieces.{Piece, literal, shown, kind_pieces, member_pieces, field_pieces, pieces_of, pieces_between, Slot, Joined, nothing_joined, with_piece, with_pieces, joined}
 use Rattle.flat_rows.specs.Judged.{AllAlive, bytes_there}
 use Rattle.flat_rows.proofs.Inside.{kind_inside}
-use Rattle.tree_json.specs.Printed.{PiecesText, SlotsText, JoinedText}
+use Rattle.json_fields.specs.Printed.{PiecesText, SlotsText, JoinedText}
 
 -- ---- constants
 

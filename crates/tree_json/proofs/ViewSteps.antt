@@ -12,15 +12,15 @@ use Rattle.sbe_types.specs.Shows.{Shows}
 use Rattle.serde_json.specs.Written.{comma_if}
 use Rattle.flyweight_view.specs.declared.values.FieldBytes.{FieldBytes}
 use Rattle.flyweight_view.specs.ShownIn.{IsShownIn}
-use Rattle.tree_json.specs.Values.{Entry, zipped, value_data}
+use Rattle.json_values.specs.Values.{Entry, zipped, value_data}
 use Rattle.tree_json.specs.Lines.{field_entry}
-use Rattle.tree_json.specs.Plain.{key_text, entry_text, entries_text, later_behind}
-use Rattle.tree_json.specs.Shown.{WritesShown}
-use Rattle.tree_json.specs.Writes.{Output, Writes}
-use Rattle.tree_json.proofs.Entries.{entry_next}
-use Rattle.tree_json.proofs.FromBytes.{is_shown}
-use Rattle.tree_json.proofs.MembersShown.{entry_is, later_is}
-use Rattle.tree_json.proofs.Written.{then_writes, retold, writes_nothing}
+use Rattle.json_values.specs.Plain.{key_text, entry_text, entries_text, later_behind}
+use Rattle.json_fields.specs.Shown.{WritesShown}
+use Rattle.json_values.specs.Writes.{Output, Writes}
+use Rattle.json_values.proofs.Entries.{entry_next}
+use Rattle.json_fields.proofs.FromBytes.{is_shown}
+use Rattle.json_fields.proofs.MembersShown.{entry_is, later_is}
+use Rattle.json_values.proofs.Written.{then_writes, retold, writes_nothing}
 
 some_is : {A : Type 0} {x y : A} → ◌≡◌ {A = Option A} (Some x) (Some y) → x ≡ y
 some_is h = cc

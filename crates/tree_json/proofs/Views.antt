@@ -14,9 +14,9 @@ use Rattle.sbe_types.specs.declared.message.GroupVal.{GroupVal, items-the_row-Bl
 use Rattle.sbe_types.specs.declared.message.GroupVal as groupval
 use Rattle.flyweight_view.specs.Seen.{Seen, seen_level, bytes_in, entries_in}
 use Rattle.flyweight_view.specs.Lefts.{groups_seen}
-use Rattle.tree_json.specs.Values.{Entry, zipped}
+use Rattle.json_values.specs.Values.{Entry, zipped}
 use Rattle.tree_json.specs.Lines.{part_entry, group_entry, group_name, items_by, block_data, block_entries, message_at}
-use Rattle.tree_json.specs.Plain.{plain_text, plain_items}
+use Rattle.json_values.specs.Plain.{plain_text, plain_items}
 use Rattle.tree_json.specs.Views.{seen_data, bytes_entry, entries_entry}
 use Rattle.sbe_types.specs.declared.message.Msg.{Msg}
 use Rattle.sbe_types.specs.declared.schema.WireSchema.{WireSchema}

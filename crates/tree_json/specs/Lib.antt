@@ -1,10 +1,5 @@
-pub mod Writes
-pub mod Values
-pub mod Shown
 pub mod Lines
-pub mod Plain
 pub mod Names
 pub mod Rows
 pub mod Deep
 pub mod Views
-pub mod Printed

@@ -15,7 +15,7 @@ use Rattle.sbe_types.specs.declared.message.Block.{Block, out-Block}
 use Rattle.sbe_types.specs.declared.message.GroupVal.{GroupVal, items-the_row-Block}
 use Rattle.sbe_types.specs.declared.message.GroupVal.TheVariants as groupval
 use Rattle.sbe_types.specs.declared.message.Msg.{Msg}
-use Rattle.tree_json.specs.Values.{Entry, listed, zipped, text_data, value_data}
+use Rattle.json_values.specs.Values.{Entry, listed, zipped, text_data, value_data}
 
 -- a field with its value
 abbrev pub field_entry : Field → Value → Entry

@@ -1,18 +1,16 @@
 -- Schemas whose names stand for themselves in a line. Own profile.
-use Rattle.std.specs.Prelude.{◌≡◌, ℕ, List, ⊤}
+use Rattle.std.specs.Prelude.{◌≡◌, ⊤}
 use Rattle.std.specs.List.{AllByRecursion}
 use Rattle.sbe_types.specs.declared.kind.Kind.{Kind, Leaf, Enum, Set, Const, Comp', Row_of-Member, end_of-Member, more_of-Member}
-use Rattle.sbe_types.specs.declared.kind.Named.{Named}
 use Rattle.sbe_types.specs.declared.schema.Field.{Field}
 use Rattle.sbe_types.specs.declared.schema.DataField.{DataField}
 use Rattle.sbe_types.specs.declared.schema.Group.{Group, Group'}
 use Rattle.sbe_types.specs.declared.schema.Level.{Level, Level', out-Level, Row_of-Group, end_of-Group, more_of-Group}
 use Rattle.sbe_types.specs.declared.schema.WireSchema.{WireSchema}
 use Rattle.sbe_types.specs.declared.message.Msg.{Msg}
-use Rattle.sbe_types.specs.InForm.{IsName}
 use Rattle.schema_facts.specs.IsChecked.{IsChecked}
 use Rattle.tree_json.specs.Lines.{message_data, line_of}
-use Rattle.tree_json.specs.Plain.{IsPlainName, plain_text}
+use Rattle.json_values.specs.Plain.{IsPlainName, plain_text}
 
 abbrev mutual
   -- the names of a composite's members, at all depths, are plain
@@ -54,14 +52,6 @@ abbrev mutual
 -- all names of a schema's messages are plain
 abbrev pub HasPlainNames : WireSchema → Type 0
 HasPlainNames schema = AllByRecursion IsPlainLevel schema.messages
-
--- valid values or choices whose names have their form
-abbrev pub AreNamed : List Named → Type 0
-AreNamed values = AllByRecursion (λ (v : Named). IsName v.name) values
-
--- The law: a name of a schema stands for itself.
-abbrev pub NamesStand : Type 0
-NamesStand = (name : List ℕ) → IsName name → IsPlainName name
 
 -- The law: the names of a checked schema are plain.
 abbrev pub CheckedIsPlain : Type 0

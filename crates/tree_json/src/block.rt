@@ -6,22 +6,19 @@ ghost use Rattle.sbe_types.specs.declared.message.Block.{out-Block};
 ghost use Rattle.sbe_types.specs.declared.message.Value.{Value};
 ghost use Rattle.sbe_types.specs.declared.schema.Field.{Field};
 ghost use Rattle.flat_rows.specs.Tables.{IsTable, RowsFit};
-ghost use Rattle.layout_compile.specs.Flats.{text_behind};
+ghost use Rattle.layout_tables.specs.Flats.{text_behind};
 ghost use Rattle.flyweight_view.specs.ByTable.{IsTableBlock};
 ghost use Rattle.flyweight_view.specs.Seen.{Seen};
 ghost use Rattle.tree_json.specs.Deep.{deepest_in};
-ghost use Rattle.tree_json.specs.Values.{zipped, text_data};
+ghost use Rattle.json_values.specs.Values.{zipped, text_data};
 ghost use Rattle.tree_json.specs.Lines.{field_entry, group_entry, items_by};
-ghost use Rattle.tree_json.specs.Plain.{plain_text, plain_items, entry_text, entries_text, later_behind};
+ghost use Rattle.json_values.specs.Plain.{plain_text, plain_items, entry_text, entries_text, later_behind};
 ghost use Rattle.tree_json.specs.Views.{data_front, own_data, seen_data, seen_head, seen_front, entries_data, WritesFront};
-ghost use Rattle.tree_json.specs.Writes.{output, Writes};
+ghost use Rattle.json_values.specs.Writes.{output, Writes};
 
-use crate::by_table::put_rows;
-use crate::chunk::Chunk;
-use crate::kinds::put_shown;
-use crate::texts::put_text;
-use crate::values::put_comma;
 use flyweight_view::{BlockView, EntriesView, TableBlock};
+use json_fields::{put_rows, put_shown};
+use json_values::{Chunk, put_comma, put_text};
 use sbe_base::Sink;
 
 /// Writes the object of a message's root or of an entry, without the closing bracket.

@@ -3,15 +3,14 @@ ghost use Rattle.std.specs.Io.KnownBytes.{Appends};
 ghost use Rattle.sbe_base.specs.Causes.{AppendsPart, HasCause};
 ghost use Rattle.serde_json.specs.Written.{compact_text};
 ghost use Rattle.tree_json.specs.Lines.{message_at};
-ghost use Rattle.tree_json.specs.Plain.{plain_text, IsPlainName};
+ghost use Rattle.json_values.specs.Plain.{plain_text, IsPlainName};
 ghost use Rattle.sbe_types.specs.declared.schema.Level.{out-Level};
 ghost use Rattle.tree_json.specs.Views.{WritesOpen};
-ghost use Rattle.tree_json.specs.Writes.{output, Writes};
+ghost use Rattle.json_values.specs.Writes.{output, Writes};
 
 use crate::block::put_front;
-use crate::chunk::Chunk;
-use crate::values::put_count;
 use flyweight_view::MsgView;
+use json_values::{Chunk, put_count};
 use sbe_base::{Sink, WriteFault};
 
 /// Writes the line of a message, without its line end.

@@ -21,7 +21,7 @@ use Rattle.schema_facts.specs.IsChecked.{IsChecked}
 use Rattle.schema_facts.specs.Levels.{Node, nodes, nodes_below, nodes_of, nodes_from, all_nodes, level_at, fields_in, fields_at, groups_in, groups_at, parts_in, parts_at}
 use Rattle.schema_facts.specs.Measured.{IsMeasuredLevel, AreMeasured, AreNarrowFields}
 use Rattle.schema_facts.proofs.KindDeclared.{all_at}
-use Rattle.layout_compile.proofs.Items.{item_there}
+use Rattle.layout_tables.proofs.Items.{item_there}
 use Rattle.typed_writer.specs.Ready.{FieldsStand}
 use Rattle.typed_writer.specs.States.{block_at, deep_at, parts_in_tail}
 

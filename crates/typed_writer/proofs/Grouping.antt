@@ -28,11 +28,11 @@ use Rattle.schema_facts.proofs.KindCounters.{small_primitive}
 use Rattle.schema_facts.proofs.KindDeclared.{all_at}
 use Rattle.schema_facts.proofs.KindLists.{placed_members}
 use Rattle.schema_facts.proofs.KindNumbers.{both_true}
-use Rattle.layout_compile.specs.declared.rows.DimRow.{DimRow}
-use Rattle.layout_compile.specs.declared.rows.LevelRow.{LevelRow}
-use Rattle.layout_compile.specs.Parts.{dim_at}
-use Rattle.layout_compile.specs.Rowed.{RowFor}
-use Rattle.layout_compile.proofs.Widths.{narrow_comp, row_in}
+use Rattle.layout_tables.specs.declared.rows.DimRow.{DimRow}
+use Rattle.layout_tables.specs.declared.rows.LevelRow.{LevelRow}
+use Rattle.layout_tables.specs.Parts.{dim_at}
+use Rattle.layout_tables.specs.Rowed.{RowFor}
+use Rattle.layout_tables.proofs.Widths.{narrow_comp, row_in}
 use Rattle.group_codec.proofs.DimRows.{row_dim, admitted_is}
 use Rattle.typed_writer.specs.Counted.{HaveRoomFor, number_of_name}
 use Rattle.typed_writer.specs.declared.counters.Counters.TheVariants.{Dimension}

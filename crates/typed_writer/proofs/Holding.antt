@@ -18,9 +18,9 @@ use Rattle.schema_facts.proofs.KindDeclared.{all_at}
 use Rattle.schema_facts.proofs.KindLists.{PlacedList, placed_members}
 use Rattle.schema_facts.proofs.KindNumbers.{both_true}
 use Rattle.schema_facts.proofs.LevelForms.{all_of_message, holds_below}
-use Rattle.layout_compile.proofs.Items.{item_there}
-use Rattle.layout_compile.proofs.Nodes.{nodes_open}
-use Rattle.layout_compile.proofs.Widths.{AreNarrow, narrow_comp}
+use Rattle.layout_tables.proofs.Items.{item_there}
+use Rattle.layout_tables.proofs.Nodes.{nodes_open}
+use Rattle.layout_tables.proofs.Widths.{AreNarrow, narrow_comp}
 use Rattle.typed_writer.specs.Counted.{HaveRoomFor, number_of_name}
 use Rattle.typed_writer.specs.declared.counters.Counters.TheVariants.{Header, Dimension}
 use Rattle.sbe_types.specs.Wire.{both}

@@ -21,7 +21,7 @@ use Rattle.schema_facts.specs.Levels.{Node, all_nodes, parts_at, parts_in}
 use Rattle.schema_facts.specs.Measured.{IsSmall}
 use Rattle.schema_facts.proofs.KindDeclared.{all_at}
 use Rattle.schema_facts.proofs.KindNumbers.{both_true}
-use Rattle.layout_compile.proofs.Items.{item_there}
+use Rattle.layout_tables.proofs.Items.{item_there}
 use Rattle.typed_writer.specs.declared.stack.Frame.{Frame}
 use Rattle.typed_writer.specs.Empty.{behind}
 use Rattle.typed_writer.specs.Steps.{next_data, data_in, admits_data}

@@ -14,8 +14,8 @@ use Rattle.schema_facts.specs.InOrder.{IsKindInOrder}
 use Rattle.schema_facts.specs.IsChecked.{IsChecked}
 use Rattle.schema_facts.specs.Levels.{all_nodes, fields_at}
 use Rattle.schema_facts.proofs.KindDeclared.{all_at}
-use Rattle.layout_compile.proofs.Items.{item_there}
-use Rattle.layout_compile.proofs.Told.{place_there}
+use Rattle.layout_tables.proofs.Items.{item_there}
+use Rattle.layout_tables.proofs.Told.{place_there}
 use Rattle.kind_bytes.specs.Misfits.{field_misfit}
 use Rattle.typed_writer.specs.Held.{Held}
 use Rattle.typed_writer.specs.Ready.{FieldsStand}

@@ -5,7 +5,7 @@ use Rattle.sbe_types.specs.declared.schema.Level.{Level, out-Level}
 use Rattle.sbe_types.specs.declared.schema.WireSchema.{WireSchema}
 use Rattle.schema_facts.specs.CheckedLevels.{groups_deep}
 use Rattle.schema_facts.specs.Levels.{all_nodes, level_at, fields_at, groups_at, parts_at}
-use Rattle.layout_compile.specs.Parts.{dim_at}
+use Rattle.layout_tables.specs.Parts.{dim_at}
 use Rattle.typed_writer.specs.declared.stack.TheConstants.{OPEN_LIMIT}
 use Rattle.typed_writer.specs.declared.stack.Frame.{Frame}
 use Rattle.typed_writer.specs.declared.stack.Frame.TheVariants.{Fields, Tail, Entries}

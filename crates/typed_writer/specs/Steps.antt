@@ -19,7 +19,7 @@ use Rattle.sbe_wire.specs.Canonical.{named_bytes, header_numbers, dimension_numb
 use Rattle.sbe_wire.specs.Misfit.{Misfit, misfit_in}
 use Rattle.sbe_wire.specs.Named.{is_admitted}
 use Rattle.schema_facts.specs.Levels.{fields_at, groups_at, parts_at, root_of}
-use Rattle.layout_compile.specs.Parts.{dim_at, group_number}
+use Rattle.layout_tables.specs.Parts.{dim_at, group_number}
 use Rattle.kind_bytes.specs.Misfits.{field_misfit}
 use Rattle.typed_writer.specs.declared.room.Full.{Full}
 use Rattle.typed_writer.specs.declared.stack.Frame.{Frame}

@@ -13,7 +13,7 @@ use crate::marks::Marks;
 use crate::room::{Full, Room};
 use crate::stack::{Frame, Stack};
 use crate::states::{FieldsW, NextPart, StartErr, TailW};
-use layout_compile::Layout;
+use layout_tables::Layout;
 use lists::NoMem;
 use std::alloc::Global;
 use std::marker::Model;

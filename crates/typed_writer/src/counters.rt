@@ -8,7 +8,7 @@ ghost use Rattle.typed_writer.specs.Empty.{behind};
 ghost use Rattle.typed_writer.specs.Ready.{MembersStand, member_bytes};
 
 use crate::room::Room;
-use layout_compile::begin_of;
+use flat_rows::begin_of;
 use sbe_types::{Kind, Member, MemberList, Order};
 
 /// The numbers of a header or of a dimension (SBE 1.0, "Message structure" and "Repeating group encoding").

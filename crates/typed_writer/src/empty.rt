@@ -11,7 +11,7 @@ ghost use Rattle.typed_writer.specs.Ready.{CanStand, FieldsStand};
 ghost use Rattle.std.specs.Prelude.{replicate};
 
 use crate::room::Room;
-use layout_compile::{begin_of, end_behind, width_of};
+use flat_rows::{begin_of, end_behind, width_of};
 use sbe_types::{Field, Kind, Leaf, LeafShape, Order, Presence};
 
 impl Room {

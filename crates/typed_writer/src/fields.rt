@@ -11,7 +11,7 @@ ghost use Rattle.typed_writer.specs.Steps.{SetsField, misfit_at};
 use crate::buffer::FrameBuf;
 use crate::stack::Frame;
 use kind_bytes::{FieldErr, judge_field};
-use layout_compile::Layout;
+use layout_tables::Layout;
 use sbe_types::{Field, Value};
 
 impl FrameBuf {

@@ -8,8 +8,8 @@ ghost use Rattle.typed_writer.specs.Empty.{behind};
 ghost use Rattle.typed_writer.specs.Steps.{IsWritten};
 
 use field_bytes::put_num;
+use flat_rows::width_of;
 use kind_bytes::put_kind;
-use layout_compile::width_of;
 use lists::NoMem;
 use sbe_types::{Kind, Order, Prim, Value};
 use std::alloc::Global;

@@ -12,7 +12,7 @@ use crate::buffer::FrameBuf;
 use crate::room::Full;
 use crate::stack::Frame;
 use kind_bytes::FieldErr;
-use layout_compile::Layout;
+use layout_tables::Layout;
 use sbe_types::Value;
 use thiserror::Error;
 

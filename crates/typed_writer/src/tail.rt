@@ -8,7 +8,7 @@ ghost use Rattle.sbe_wire.specs.Canonical.{part_bytes};
 ghost use Rattle.schema_facts.specs.InOrder.{IsLeafInOrder};
 ghost use Rattle.schema_facts.specs.Measured.{IsSmall};
 ghost use Rattle.schema_facts.specs.Levels.{all_nodes, groups_at, parts_at};
-ghost use Rattle.layout_compile.specs.Parts.{dim_at};
+ghost use Rattle.layout_tables.specs.Parts.{dim_at};
 ghost use Rattle.typed_writer.specs.Empty.{behind};
 ghost use Rattle.typed_writer.specs.Lending.{EntriesRest};
 ghost use Rattle.typed_writer.specs.States.{AppendsEntries, AppendsParts, level_of, parts_done, parts_in_tail};
@@ -18,7 +18,7 @@ use crate::buffer::FrameBuf;
 use crate::counters::Counters;
 use crate::stack::Frame;
 use crate::states::{EntriesW, TailErr};
-use layout_compile::Layout;
+use layout_tables::Layout;
 use sbe_types::{DataField, Order};
 
 impl FrameBuf {
@@ -58,7 +58,7 @@ impl FrameBuf {
     }
 
     /// Appends the dimension of a group, by the number of its level.
-    #[tactic(auto, using(crate::proofs::Grouping::dim_room, crate::proofs::Grouping::dim_stands, crate::proofs::Grouping::dim_told, crate::proofs::Grouping::size_is, crate::proofs::Checked::block_told, layout_compile::proofs::GroupWalk::dim_within))]
+    #[tactic(auto, using(crate::proofs::Grouping::dim_room, crate::proofs::Grouping::dim_stands, crate::proofs::Grouping::dim_told, crate::proofs::Grouping::size_is, crate::proofs::Checked::block_told, layout_tables::proofs::GroupWalk::dim_within))]
     fn lay_dimension(&mut self, layout: &Layout, group: usize, count: u32) -> Result<(), TailErr>
         requires { IsSome (dim_at layout.now group) }
         ensures admitted { OnOk result (admits_entries layout.now group count ≡ true) }
@@ -195,7 +195,7 @@ fn part_at(layout: &Layout, level: usize, i: usize) -> &DataField
 }
 
 /// Whether a group may have so many entries.
-#[tactic(auto, using(crate::proofs::Grouping::admits_told, group_codec::proofs::DimRows::never_none, layout_compile::proofs::GroupWalk::dim_within))]
+#[tactic(auto, using(crate::proofs::Grouping::admits_told, group_codec::proofs::DimRows::never_none, layout_tables::proofs::GroupWalk::dim_within))]
 fn admits(layout: &Layout, group: usize, count: u32) -> bool
     requires { IsSome (dim_at layout.now group) }
     ensures { result ≡ admits_entries layout.now group count }
@@ -207,7 +207,7 @@ fn admits(layout: &Layout, group: usize, count: u32) -> bool
 }
 
 /// How many bytes the dimension of a group has.
-#[tactic(auto, using(crate::proofs::Grouping::size_told, group_codec::proofs::DimRows::never_none, layout_compile::proofs::GroupWalk::dim_within))]
+#[tactic(auto, using(crate::proofs::Grouping::size_told, group_codec::proofs::DimRows::never_none, layout_tables::proofs::GroupWalk::dim_within))]
 fn width(layout: &Layout, group: usize) -> u32
     requires { IsSome (dim_at layout.now group) }
     ensures { result ≡ dimension_size layout.now group }

@@ -4,7 +4,7 @@ use Rattle.std.specs.Prelude.{IsOk, nat_le, pos, slice_get, map}
 use Rattle.std.specs.List.{AllByRecursion}
 use Rattle.std.specs.Option.{option_map}
 use Rattle.std.proofs.lemmas.Option.{slice_get_read}
-use Rattle.layout_compile.proofs.Told.{parts_there}
+use Rattle.layout_tables.proofs.Told.{parts_there}
 use Rattle.sbe_types.specs.declared.kind.Order.{Order}
 use Rattle.std.proofs.lemmas.Bool.{leb-true, le-leb}
 use Rattle.sbe_types.specs.declared.kind.Leaf.{Leaf as LeafOf}
@@ -17,11 +17,11 @@ use Rattle.schema_facts.specs.CheckedLevels.{HasLengths, IsLength}
 use Rattle.schema_facts.specs.IsChecked.{IsChecked}
 use Rattle.schema_facts.specs.Levels.{Node, all_nodes, parts_at, parts_in}
 use Rattle.schema_facts.specs.Measured.{IsSmall}
-use Rattle.layout_compile.specs.declared.rows.LevelRow.{LevelRow}
-use Rattle.layout_compile.specs.declared.rows.PartPlace.{PartPlace}
-use Rattle.layout_compile.specs.declared.rows.PartRow.{PartRow}
-use Rattle.layout_compile.specs.Parts.{all_parts, PartStands}
-use Rattle.layout_compile.specs.Rowed.{RowFor, part_row}
+use Rattle.layout_tables.specs.declared.rows.LevelRow.{LevelRow}
+use Rattle.layout_tables.specs.declared.rows.PartPlace.{PartPlace}
+use Rattle.layout_tables.specs.declared.rows.PartRow.{PartRow}
+use Rattle.layout_tables.specs.Parts.{all_parts, PartStands}
+use Rattle.layout_tables.specs.Rowed.{RowFor, part_row}
 use Rattle.var_data.specs.declared.data.DataErr.{DataErr}
 use Rattle.var_data.specs.declared.data.DataErr.TheVariants.{Truncated}
 use Rattle.var_data.specs.Ranges.{data_range, range_behind}

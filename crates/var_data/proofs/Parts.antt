@@ -15,11 +15,11 @@ use Rattle.schema_facts.specs.CheckedLevels.{HasKinds}
 use Rattle.schema_facts.specs.InOrder.{IsLeafInOrder}
 use Rattle.schema_facts.specs.IsChecked.{IsChecked}
 use Rattle.schema_facts.specs.Levels.{all_nodes}
-use Rattle.layout_compile.specs.declared.rows.LevelRow.{LevelRow}
-use Rattle.layout_compile.specs.declared.rows.PartPlace.{PartPlace}
-use Rattle.layout_compile.specs.declared.rows.PartRow.{PartRow}
-use Rattle.layout_compile.specs.Parts.{all_parts, PartStands}
-use Rattle.layout_compile.specs.Rowed.{RowFor}
+use Rattle.layout_tables.specs.declared.rows.LevelRow.{LevelRow}
+use Rattle.layout_tables.specs.declared.rows.PartPlace.{PartPlace}
+use Rattle.layout_tables.specs.declared.rows.PartRow.{PartRow}
+use Rattle.layout_tables.specs.Parts.{all_parts, PartStands}
+use Rattle.layout_tables.specs.Rowed.{RowFor}
 use Rattle.var_data.specs.declared.put.PutDataErr.{PutDataErr}
 use Rattle.field_bytes.specs.Laid.{laid_at, IsPut}
 use Rattle.var_data.specs.Laid.{counted_bytes, data_end}

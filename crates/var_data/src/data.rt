@@ -3,10 +3,10 @@ ghost use Rattle.std.specs.Option.{option_map};
 ghost use Rattle.sbe_types.specs.declared.kind.Primitive.TheVariants.{U16};
 ghost use Rattle.schema_facts.specs.IsChecked.{IsChecked};
 ghost use Rattle.schema_facts.specs.Measured.{IsSmall};
-ghost use Rattle.layout_compile.specs.Parts.{all_parts};
+ghost use Rattle.layout_tables.specs.Parts.{all_parts};
 ghost use Rattle.var_data.specs.Ranges.{data_range, range_behind};
 
-use layout_compile::{Layout, small_number};
+use layout_tables::{Layout, small_number};
 use sbe_types::{Leaf, Order};
 use thiserror::Error;
 
@@ -110,47 +110,4 @@ fn range_behind(
         });
     }
     Ok((start, start + size as usize))
-}
-
-#[cfg(test)]
-mod tests {
-    use super::*;
-    use sbe_types::{LeafShape, Presence, Prim};
-
-    /// A length of two bytes.
-    fn length16() -> Leaf
-        ensures { result.prim ≡ U16 }
-    {
-        Leaf {
-            prim: Prim::U16,
-            length: 1,
-            shape: LeafShape::Number,
-            presence: Presence::Required,
-            null: 65535,
-            low: 0,
-            high: 65534,
-        }
-    }
-
-    #[test]
-    fn reads_data(rt: HostRuntime) {
-        let leaf = length16();
-        let body = b"\x01\x00\x01\x00\x01\x00\x00\x00\x00\x02\x00\x68\x69";
-        assert_eq!(rt; read_data_of(Order::Little, &leaf, body, 9), Ok((11, 13)));
-        let short = b"\x03\x00\x68\x69";
-        let wanting = Err(DataErr::Truncated { needed: 5 });
-        assert_eq!(rt; read_data_of(Order::Little, &leaf, short, 0), wanting);
-        let cut = b"\x03";
-        let wanting = Err(DataErr::Truncated { needed: 2 });
-        assert_eq!(rt; read_data_of(Order::Little, &leaf, cut, 0), wanting);
-        let null = b"\xff\xff\x00";
-        assert_eq!(rt;
-            read_data_of(Order::Little, &leaf, null, 0),
-            Err(DataErr::Length(65535))
-        );
-        let empty = b"\x00\x00";
-        assert_eq!(rt; read_data_of(Order::Big, &leaf, empty, 0), Ok((2, 2)));
-        let big = b"\x00\x01\xff";
-        assert_eq!(rt; read_data_of(Order::Big, &leaf, big, 0), Ok((2, 3)));
-    }
 }

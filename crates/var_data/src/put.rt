@@ -7,12 +7,12 @@ ghost use Rattle.sbe_wire.specs.Canonical.{part_bytes};
 ghost use Rattle.schema_rules.specs.Ranges.{is_number_of};
 ghost use Rattle.schema_facts.specs.InOrder.{IsLeafInOrder};
 ghost use Rattle.schema_facts.specs.IsChecked.{IsChecked};
-ghost use Rattle.layout_compile.specs.Parts.{all_parts};
+ghost use Rattle.layout_tables.specs.Parts.{all_parts};
 ghost use Rattle.field_bytes.specs.Laid.{IsPut};
 ghost use Rattle.var_data.specs.Laid.{counted_bytes, data_end};
 
 use field_bytes::put_num;
-use layout_compile::Layout;
+use layout_tables::Layout;
 use sbe_types::{Leaf, Order, Prim};
 use thiserror::Error;
 
@@ -96,93 +96,4 @@ fn put_counted(order: Order, prim: Prim, bytes: &[u8], out: &mut [u8], at: usize
     put_num(order, prim, bytes.len() as i128, &mut out[at..start]);
     let end = start + bytes.len();
     out[start..end].copy_from_slice(bytes);
-}
-
-#[cfg(test)]
-mod tests {
-    use super::*;
-    use sbe_types::{LeafShape, Presence};
-
-    /// A length of two bytes.
-    fn length16() -> Leaf
-        ensures { IsLeafInOrder result }
-    {
-        Leaf {
-            prim: Prim::U16,
-            length: 1,
-            shape: LeafShape::Number,
-            presence: Presence::Required,
-            null: 65535,
-            low: 0,
-            high: 65534,
-        }
-    }
-
-    /// A length of one byte, of one or two bytes of data.
-    fn few() -> Leaf
-        ensures { IsLeafInOrder result }
-    {
-        Leaf {
-            prim: Prim::U8,
-            length: 1,
-            shape: LeafShape::Number,
-            presence: Presence::Required,
-            null: 255,
-            low: 1,
-            high: 2,
-        }
-    }
-
-    #[test]
-    fn puts_data(rt: HostRuntime) {
-        let mut bytes = [170; 6];
-        assert_eq!(rt;
-            put_data_of(Order::Little, &length16(), b"hi", &mut bytes, 1),
-            Ok(5)
-        );
-        assert_eq!(rt; bytes, *b"\xaa\x02\x00\x68\x69\xaa");
-        assert_eq!(rt;
-            put_data_of(Order::Big, &length16(), b"abcd", &mut bytes, 0),
-            Ok(6)
-        );
-        assert_eq!(rt; bytes, *b"\x00\x04abcd");
-        assert_eq!(rt;
-            put_data_of(Order::Little, &length16(), b"", &mut bytes, 4),
-            Ok(6)
-        );
-        assert_eq!(rt; bytes, *b"\x00\x04ab\x00\x00");
-    }
-
-    #[test]
-    fn refuses_data(rt: HostRuntime) {
-        let mut bytes = [170; 4];
-        let full = Err(PutDataErr::Full);
-        assert_eq!(rt;
-            put_data_of(Order::Little, &length16(), b"abc", &mut bytes, 0),
-            full
-        );
-        assert_eq!(rt;
-            put_data_of(Order::Little, &length16(), b"", &mut bytes, 3),
-            full
-        );
-        assert_eq!(rt;
-            put_data_of(Order::Little, &few(), b"ab", &mut bytes, 2),
-            full
-        );
-        let long = Err(PutDataErr::Length);
-        assert_eq!(rt;
-            put_data_of(Order::Little, &few(), b"abcdef", &mut bytes, 0),
-            long
-        );
-        assert_eq!(rt;
-            put_data_of(Order::Little, &few(), b"", &mut bytes, 0),
-            long
-        );
-        assert_eq!(rt; bytes, *b"\xaa\xaa\xaa\xaa");
-        assert_eq!(rt;
-            put_data_of(Order::Little, &few(), b"ab", &mut bytes, 1),
-            Ok(4)
-        );
-        assert_eq!(rt; bytes, *b"\xaa\x02ab");
-    }
 }

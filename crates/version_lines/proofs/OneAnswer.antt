@@ -7,7 +7,7 @@ use Rattle.sbe_wire.specs.Lays.{Lays}
 use Rattle.sbe_wire.specs.Placed.{IsPlaced}
 use Rattle.sbe_wire.proofs.Messages.{one_message, not_both}
 use Rattle.open_framing.specs.Frames.{Item}
-use Rattle.layout_compile.specs.Heads.{header_number}
+use Rattle.layout_tables.specs.Heads.{header_number}
 use Rattle.dump_lines.specs.Chosen.{schema_for}
 use Rattle.dump_lines.specs.Dumped.{encoding_of, message_line, other_encoding, a_message, a_fault}
 use Rattle.dump_lines.specs.declared.schemas.Schemas.{Schemas}

@@ -3,7 +3,7 @@ use Rattle.std.specs.Prelude.{slice_get}
 use Rattle.std.specs.Option.{IsSome}
 use Rattle.sbe_types.specs.declared.schema.WireSchema.{WireSchema}
 use Rattle.line_reading.specs.Lines.{tree_of}
-use Rattle.line_reading.specs.Refusals.{refusal}
+use Rattle.line_values.specs.Refusals.{refusal}
 use Rattle.replies.specs.Outside.{Object}
 use Rattle.build_lines.proofs.Answering.{note_whole, note_part, empty_answered, unread_is, message_answered, printed_answered}
 use Rattle.line_facts.proofs.Templates.{template_there}

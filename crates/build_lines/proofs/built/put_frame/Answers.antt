@@ -1,4 +1,4 @@
-use Rattle.tree_json.proofs.Written.{then_writes, retold}
+use Rattle.json_values.proofs.Written.{then_writes, retold}
 use Rattle.dump_lines.proofs.Written.{chunk_written}
 use Rattle.build_lines.proofs.Answering.{head_is}
 use Rattle.build_lines.proofs.built.put_frame.Goals as goal

@@ -1,4 +1,4 @@
-use Rattle.tree_json.proofs.Written.{then_writes}
+use Rattle.json_values.proofs.Written.{then_writes}
 use Rattle.dump_lines.proofs.Written.{chunk_written}
 use Rattle.build_lines.proofs.unbuilt.put_front.Goals as goal
 

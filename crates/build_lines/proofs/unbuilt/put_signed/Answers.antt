@@ -1,6 +1,6 @@
 use Rattle.std.proofs.Common.{sym}
-use Rattle.tree_json.proofs.Numbers.{number_is}
-use Rattle.tree_json.proofs.Written.{retold}
+use Rattle.json_values.proofs.Numbers.{number_is}
+use Rattle.json_values.proofs.Written.{retold}
 use Rattle.build_lines.proofs.unbuilt.put_signed.Goals as goal
 
 pub returns : goal.returns

@@ -1,5 +1,5 @@
 use Rattle.std.proofs.Common.{sym, ◌∙◌}
-use Rattle.tree_json.proofs.Written.{then_writes, retold}
+use Rattle.json_values.proofs.Written.{then_writes, retold}
 use Rattle.dump_lines.proofs.Answered.{before_several}
 use Rattle.dump_lines.proofs.lines.put_before.Goals as goal
 

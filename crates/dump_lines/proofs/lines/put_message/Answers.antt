@@ -1,7 +1,7 @@
 use Rattle.std.proofs.Common.{◌≡◌, ap, sym, ◌++◌, ◌∙◌, append_assoc}
 use Rattle.std.specs.Prelude.{codes}
 use Rattle.dump_lines.specs.Dumped.{behind_message, seen_line}
-use Rattle.tree_json.proofs.Written.{then_writes, retold}
+use Rattle.json_values.proofs.Written.{then_writes, retold}
 use Rattle.dump_lines.proofs.Written.{chunk_written}
 use Rattle.dump_lines.proofs.lines.put_message.Goals as goal
 

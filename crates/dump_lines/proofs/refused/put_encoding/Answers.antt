@@ -1,6 +1,6 @@
 use Rattle.std.proofs.Common.{subst}
-use Rattle.layout_compile.specs.Writes.{Writes, outlet_of}
-use Rattle.layout_compile.proofs.WriteSteps.{writes_more, writes_part}
+use Rattle.layout_tables.specs.Writes.{Writes, outlet_of}
+use Rattle.layout_tables.proofs.WriteSteps.{writes_more, writes_part}
 use Rattle.dump_lines.specs.Refused.{back_text}
 use Rattle.dump_lines.proofs.refused.put_encoding.Goals as goal
 

@@ -1,5 +1,5 @@
 use Rattle.std.proofs.Common.{sym, ap, ap₂, subst}
-use Rattle.layout_compile.specs.Writes.{Writes, outlet_of}
+use Rattle.layout_tables.specs.Writes.{Writes, outlet_of}
 use Rattle.dump_lines.specs.Refused.{IsWay, of_fault_in, refused_line}
 use Rattle.dump_lines.proofs.refused.put_fault.Goals as goal
 

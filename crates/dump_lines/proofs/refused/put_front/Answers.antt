@@ -1,4 +1,4 @@
-use Rattle.tree_json.proofs.Written.{then_writes}
+use Rattle.json_values.proofs.Written.{then_writes}
 use Rattle.dump_lines.proofs.Written.{chunk_written}
 use Rattle.dump_lines.proofs.refused.put_front.Goals as goal
 

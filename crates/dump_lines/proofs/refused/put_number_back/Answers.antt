@@ -1,6 +1,6 @@
 use Rattle.std.proofs.Common.{sym}
-use Rattle.tree_json.proofs.Numbers.{number_is}
-use Rattle.tree_json.proofs.Written.{then_writes, retold}
+use Rattle.json_values.proofs.Numbers.{number_is}
+use Rattle.json_values.proofs.Written.{then_writes, retold}
 use Rattle.dump_lines.proofs.Written.{chunk_written}
 use Rattle.dump_lines.proofs.refused.put_number_back.Goals as goal
 

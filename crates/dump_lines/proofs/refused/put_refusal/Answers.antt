@@ -1,4 +1,4 @@
-use Rattle.layout_compile.proofs.WriteSteps.{writes_more, writes_part}
+use Rattle.layout_tables.proofs.WriteSteps.{writes_more, writes_part}
 use Rattle.dump_lines.proofs.refused.put_refusal.Goals as goal
 
 pub returns-in_err-put_front : goal.returns-in_err-put_front

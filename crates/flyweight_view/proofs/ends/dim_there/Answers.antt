@@ -7,10 +7,10 @@ use Rattle.sbe_types.specs.declared.schema.Level.{Level, out-Level}
 use Rattle.sbe_wire.specs.Faults.{Fault}
 use Rattle.sbe_wire.specs.Reading.{then_read, nothing, times_read}
 use Rattle.sbe_wire.specs.Versions.{floor}
-use Rattle.layout_compile.specs.declared.rows.DimRow.{DimRow}
-use Rattle.layout_compile.specs.declared.rows.LevelRow.{LevelRow}
-use Rattle.layout_compile.specs.Heads.{number_at}
-use Rattle.layout_compile.specs.Rowed.{as_spot, DimIs}
+use Rattle.layout_tables.specs.declared.rows.DimRow.{DimRow}
+use Rattle.layout_tables.specs.declared.rows.LevelRow.{LevelRow}
+use Rattle.layout_tables.specs.Heads.{number_at}
+use Rattle.layout_tables.specs.Rowed.{as_spot, DimIs}
 use Rattle.group_codec.specs.declared.dim.Dim.{Dim}
 use Rattle.sbe_types.specs.declared.schema.Group.{Group}
 use Rattle.flyweight_view.specs.declared.layer.Layer.{Layer}

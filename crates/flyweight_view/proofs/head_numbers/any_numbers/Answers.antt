@@ -1,6 +1,6 @@
 use Rattle.std.proofs.Common.{ap, ◌∙◌}
-use Rattle.layout_compile.specs.Heads.{number_at}
-use Rattle.layout_compile.specs.Rowed.{as_spot}
+use Rattle.layout_tables.specs.Heads.{number_at}
+use Rattle.layout_tables.specs.Rowed.{as_spot}
 use Rattle.flyweight_view.proofs.HeadSpots.{at_spot}
 use Rattle.flyweight_view.proofs.head_numbers.any_numbers.Goals as goal
 

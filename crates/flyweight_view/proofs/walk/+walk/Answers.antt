@@ -6,7 +6,7 @@ use Rattle.sbe_types.specs.declared.schema.Level.{out-Level}
 use Rattle.sbe_wire.specs.Reading.{◌>>=◌, inside}
 use Rattle.sbe_wire.specs.Versions.{floor}
 use Rattle.schema_facts.specs.Levels.{fields_in}
-use Rattle.layout_compile.proofs.GroupWalk.{GroupsFrom, groups_begin}
+use Rattle.layout_tables.proofs.GroupWalk.{GroupsFrom, groups_begin}
 use Rattle.flyweight_view.specs.Cursor.{skim, entries_read, groups_told, steps_told}
 use Rattle.flyweight_view.specs.Told.{fault_of}
 use Rattle.flyweight_view.specs.ByTable.{IsBlockRow}

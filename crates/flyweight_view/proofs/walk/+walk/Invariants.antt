@@ -1,7 +1,7 @@
 use Rattle.std.proofs.Common.{◌≡◌, ◌≤◌, ◌+◌, ◌-◌, ◌*◌, length, drop}
 use Rattle.schema_facts.specs.Levels.{all_nodes}
 use Rattle.sbe_types.specs.declared.schema.Level.{out-Level}
-use Rattle.layout_compile.proofs.GroupWalk.{GroupsFrom}
+use Rattle.layout_tables.proofs.GroupWalk.{GroupsFrom}
 use Rattle.flyweight_view.specs.Cursor.{skim, entries_read, groups_told, steps_told}
 use Rattle.flyweight_view.proofs.walk.+walk.Given as goal
 

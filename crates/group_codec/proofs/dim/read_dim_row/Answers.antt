@@ -2,8 +2,8 @@ use Rattle.std.proofs.Common.{◌≡◌, ◌+◌, ◌-◌, false, true, take, dr
 use mir.Syntax.{w128}
 use Rattle.std.proofs.lemmas.Int.{to_z-of_z}
 use Rattle.sbe_types.specs.Shown.{admits}
-use Rattle.layout_compile.specs.Heads.{number_at}
-use Rattle.layout_compile.specs.Rowed.{as_spot}
+use Rattle.layout_tables.specs.Heads.{number_at}
+use Rattle.layout_tables.specs.Rowed.{as_spot}
 use Rattle.group_codec.proofs.DimRows.{refused, admitted}
 use Rattle.group_codec.proofs.dim.read_dim_row.Goals as goal
 

@@ -2,7 +2,7 @@ use Rattle.std.proofs.Common.{ap, sym, subst, ◌∙◌}
 use Rattle.sbe_types.specs.declared.schema.Level.{out-Level}
 use Rattle.schema_facts.specs.Measured.{AreNarrowFields}
 use Rattle.flat_rows.specs.Pieces.{joined, pieces_between}
-use Rattle.layout_compile.specs.Flats.{text_before}
+use Rattle.layout_tables.specs.Flats.{text_before}
 use Rattle.layout_compile.specs.Grown.{AreInOrder}
 use Rattle.layout_compile.proofs.flats.level_flat.Goals as goal
 

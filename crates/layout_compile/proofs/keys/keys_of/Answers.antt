@@ -1,5 +1,5 @@
 use Rattle.std.proofs.Common.{arith}
-use Rattle.layout_compile.specs.Keys.{names_of}
+use Rattle.layout_tables.specs.Keys.{names_of}
 use Rattle.layout_compile.proofs.KeyRows.{keys_more, name_at}
 use Rattle.layout_compile.proofs.keys.keys_of.Goals as goal
 

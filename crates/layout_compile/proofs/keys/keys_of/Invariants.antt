@@ -1,4 +1,4 @@
-use Rattle.layout_compile.specs.Keys.{names_of}
+use Rattle.layout_tables.specs.Keys.{names_of}
 use Rattle.layout_compile.proofs.KeyRows.{KeysSo}
 use Rattle.layout_compile.proofs.keys.keys_of.Given as goal
 

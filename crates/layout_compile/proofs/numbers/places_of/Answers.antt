@@ -1,5 +1,5 @@
 use Rattle.std.proofs.Common.{◌≡◌, ◌++◌, ap, ◌∙◌, arith, length}
-use Rattle.layout_compile.specs.Parts.{places_in}
+use Rattle.layout_tables.specs.Parts.{places_in}
 use Rattle.layout_compile.proofs.DataParts.{places_more}
 use Rattle.layout_compile.proofs.numbers.places_of.Goals as goal
 

@@ -1,5 +1,5 @@
 use Rattle.std.proofs.Common.{◌≡◌, take}
-use Rattle.layout_compile.specs.Parts.{places_from}
+use Rattle.layout_tables.specs.Parts.{places_from}
 use Rattle.layout_compile.proofs.DataParts.{counts_of}
 use Rattle.layout_compile.proofs.numbers.places_of.Given as goal
 

@@ -1,5 +1,5 @@
 use Rattle.std.proofs.Common.{◌≡◌, ◌++◌}
-use Rattle.layout_compile.specs.Parts.{places_in}
+use Rattle.layout_tables.specs.Parts.{places_in}
 use Rattle.layout_compile.proofs.numbers.push_places.Given as goal
 
 abbrev pub invariant-loop-part : goal.invariant-loop-part

@@ -1,9 +1,9 @@
 use Rattle.std.proofs.Common.{◌++◌, ◌∷◌, [], ◌+◌, take, drop, subst, sym, ap, ◌∙◌, arith}
 use Rattle.sbe_types.specs.Places.{fields_end}
 use Rattle.schema_facts.specs.Measured.{AreNarrowFields}
-use Rattle.layout_compile.specs.Rowed.{FieldsAre, FieldIs}
+use Rattle.layout_tables.specs.Rowed.{FieldsAre, FieldIs}
 use Rattle.layout_compile.proofs.Grows.{fields_snoc, end_snoc, field_narrow}
-use Rattle.layout_compile.proofs.Items.{take_one}
+use Rattle.layout_tables.proofs.Items.{take_one}
 use Rattle.layout_compile.proofs.tables.field_rows.Goals as goal
 
 pub loop-field-preserved : goal.loop-field-preserved

@@ -1,5 +1,5 @@
 use Rattle.std.proofs.Common.{◌≡◌, drop}
-use Rattle.layout_compile.specs.Rowed.{newest_from}
+use Rattle.layout_tables.specs.Rowed.{newest_from}
 use Rattle.layout_compile.proofs.tables.newest_of.Given as goal
 
 abbrev pub invariant-loop-field : goal.invariant-loop-field

@@ -1,6 +1,6 @@
 use Rattle.std.proofs.Common.{◌++◌, ◌∷◌, [], sym, ap, ◌∙◌, arith}
-use Rattle.layout_compile.specs.Rowed.{part_row}
-use Rattle.layout_compile.proofs.Grows.{map_more}
+use Rattle.layout_tables.specs.Rowed.{part_row}
+use Rattle.layout_tables.proofs.Items.{map_more}
 use Rattle.layout_compile.proofs.tables.part_rows.Goals as goal
 
 pub loop-part-preserved : goal.loop-part-preserved

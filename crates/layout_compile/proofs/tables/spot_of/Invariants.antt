@@ -1,6 +1,6 @@
 use Rattle.std.proofs.Common.{◌≡◌, drop}
 use Rattle.sbe_wire.specs.Named.{spot_named}
-use Rattle.layout_compile.proofs.Widths.{AreNarrow}
+use Rattle.layout_tables.proofs.Widths.{AreNarrow}
 use Rattle.layout_compile.proofs.tables.spot_of.Given as goal
 
 abbrev pub invariant-loop-member : goal.invariant-loop-member

@@ -2,11 +2,11 @@ use Rattle.std.proofs.Common.{◌≡◌, length, sym, subst, ap, ◌∙◌}
 use Rattle.std.specs.BTreeMap.{get}
 use Rattle.std.specs.Ordering.{nat_cmp}
 use Rattle.schema_facts.specs.Levels.{nodes_from, all_nodes}
-use Rattle.layout_compile.specs.Parts.{part_counts, firsts_from, places_from}
+use Rattle.layout_tables.specs.Parts.{part_counts, firsts_from, places_from}
 use Rattle.layout_compile.proofs.DataParts.{counts_of, grown_counts}
-use Rattle.layout_compile.specs.Rowed.{roots_from}
+use Rattle.layout_tables.specs.Rowed.{roots_from}
 use Rattle.layout_compile.specs.Grown.{Grown, AreOrdered}
-use Rattle.layout_compile.specs.Tables.{AreIds}
+use Rattle.layout_tables.specs.Tables.{AreIds}
 use Rattle.layout_compile.proofs.Grows.{are_rows, levels_ordered}
 use Rattle.layout_compile.proofs.tables.tables_of.Goals as goal
 

@@ -1,7 +1,7 @@
 use Rattle.std.proofs.Common.{take}
 use Rattle.std.specs.BTreeMap.{get}
 use Rattle.std.specs.Ordering.{nat_cmp}
-use Rattle.layout_compile.specs.Tables.{AreIds}
+use Rattle.layout_tables.specs.Tables.{AreIds}
 use Rattle.layout_compile.proofs.templates.ids_of.Given as goal
 
 abbrev pub invariant-loop-i : goal.invariant-loop-i

@@ -5,7 +5,7 @@ use Rattle.sbe_types.specs.declared.schema.Group.{out-Group}
 use Rattle.sbe_types.specs.declared.schema.Level.{out-Level}
 use Rattle.sbe_wire.specs.Versions.{floor}
 use Rattle.schema_facts.specs.Levels.{fields_in}
-use Rattle.layout_compile.proofs.GroupWalk.{GroupsFrom, groups_begin}
+use Rattle.layout_tables.proofs.GroupWalk.{GroupsFrom, groups_begin}
 use Rattle.flyweight_view.specs.Cursor.{dim_told}
 use Rattle.flyweight_view.proofs.LevelsReady.{row_parts, row_since}
 use Rattle.flyweight_view.proofs.Opens.{group_dim, child_here, child_next, level_within}

@@ -1,7 +1,7 @@
 use Rattle.std.proofs.Common.{◌≡◌, ◌≤◌, ◌+◌, ◌-◌, ◌*◌, length, drop}
 use Rattle.schema_facts.specs.Levels.{all_nodes}
 use Rattle.sbe_types.specs.declared.schema.Level.{out-Level}
-use Rattle.layout_compile.proofs.GroupWalk.{GroupsFrom}
+use Rattle.layout_tables.proofs.GroupWalk.{GroupsFrom}
 use Rattle.level_skip.specs.Passing.{entry_in}
 use Rattle.level_skip.specs.Behind.{behind, steps_behind, groups_behind}
 use Rattle.level_skip.proofs.skip.+skip.Given as goal

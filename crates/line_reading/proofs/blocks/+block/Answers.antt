@@ -1,9 +1,10 @@
 use Rattle.std.proofs.Common.{sym, subst, ap, ◌∙◌}
 use Rattle.serde_json.specs.Find.{get_member}
 use Rattle.sbe_types.specs.declared.schema.Group.{out-Group}
-use Rattle.line_reading.specs.Refusals.{Gives, inside}
-use Rattle.line_reading.specs.Lines.{group_name, group_in, block_read}
-use Rattle.line_reading.specs.Code.{seen}
+use Rattle.line_values.specs.Refusals.{Gives, inside}
+use Rattle.line_values.specs.Keys.{group_name}
+use Rattle.line_reading.specs.Lines.{group_in, block_read}
+use Rattle.line_values.specs.Code.{seen}
 use Rattle.line_reading.proofs.Opening.{block_opens, group_opens}
 use Rattle.line_reading.proofs.blocks.+block.Goals as goal
 

@@ -1,9 +1,10 @@
 use Rattle.std.proofs.Common.{◌≡◌, drop}
 use Rattle.json_data.specs.Trees.{items_of}
-use Rattle.line_reading.specs.Objects.{each}
+use Rattle.line_values.specs.Objects.{each}
 use Rattle.line_reading.specs.Lines.{entry_in, block_read}
-use Rattle.line_reading.specs.Code.{seen, group_list_read}
-use Rattle.line_reading.proofs.ListSteps.{with_front}
+use Rattle.line_values.specs.Code.{seen}
+use Rattle.line_reading.specs.Code.{group_list_read}
+use Rattle.line_values.proofs.ListSteps.{with_front}
 use Rattle.line_reading.proofs.blocks.+block.Given as goal
 
 abbrev pub invariant-read_groups-loop-group : goal.invariant-read_groups-loop-group

@@ -1,7 +1,7 @@
 use Rattle.std.proofs.Common.{◌≡◌, drop}
 use Rattle.line_reading.specs.Lines.{fields_read}
-use Rattle.line_reading.specs.Code.{seen}
-use Rattle.line_reading.proofs.ListSteps.{with_front}
+use Rattle.line_values.specs.Code.{seen}
+use Rattle.line_values.proofs.ListSteps.{with_front}
 use Rattle.line_reading.proofs.fields.read_fields.Given as goal
 
 abbrev pub invariant-loop-field : goal.invariant-loop-field

@@ -1,6 +1,6 @@
 use Rattle.std.proofs.Common.{Err, sym, subst, ap}
 use Rattle.json_data.specs.Trees.{data_of}
-use Rattle.line_reading.specs.Refusals.{Gives}
+use Rattle.line_values.specs.Refusals.{Gives}
 use Rattle.line_reading.specs.Lines.{found_in}
 use Rattle.line_reading.proofs.Wholes.{value_found, no_value}
 use Rattle.line_reading.proofs.message.read_line.Goals as goal

@@ -1,7 +1,7 @@
 use Rattle.std.proofs.Common.{◌≡◌, drop}
 use Rattle.line_reading.specs.Lines.{parts_read}
-use Rattle.line_reading.specs.Code.{seen}
-use Rattle.line_reading.proofs.ListSteps.{with_front}
+use Rattle.line_values.specs.Code.{seen}
+use Rattle.line_values.proofs.ListSteps.{with_front}
 use Rattle.line_reading.proofs.parts.read_parts.Given as goal
 
 abbrev pub invariant-loop-part : goal.invariant-loop-part

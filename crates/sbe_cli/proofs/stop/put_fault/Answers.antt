@@ -1,4 +1,4 @@
-use Rattle.tree_json.proofs.Written.{then_writes}
+use Rattle.json_values.proofs.Written.{then_writes}
 use Rattle.sbe_cli.proofs.stop.put_fault.Goals as goal
 
 pub returns : goal.returns

@@ -1,4 +1,4 @@
-use Rattle.tree_json.proofs.Written.{then_writes}
+use Rattle.json_values.proofs.Written.{then_writes}
 use Rattle.schema_files.proofs.refusal.put_role.Goals as goal
 
 pub returns-in-Also : goal.returns-in-Also

@@ -1,5 +1,5 @@
 use Rattle.std.proofs.Common.{Ok, Err, ◌+◌, ◌∙◌, sym, ap, subst, arith}
-use Rattle.layout_compile.proofs.Items.{drop_is, all_dropped}
+use Rattle.layout_tables.proofs.Items.{drop_is, all_dropped}
 use Rattle.dump_lines.specs.declared.schemas.Schemas.{Schemas}
 use Rattle.schema_files.specs.Files.{LoadsJoining}
 use Rattle.schema_files.proofs.Loading.{Onward, onward_more, onward_ends, onward_stops}

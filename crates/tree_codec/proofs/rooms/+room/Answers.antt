@@ -6,7 +6,7 @@ use Rattle.sbe_wire.specs.Canonical.{entries_in}
 use Rattle.std.specs.Prelude.{codes}
 use Rattle.sbe_wire.specs.Misfit.{block_shape}
 use Rattle.sbe_wire.specs.Named.{is_admitted}
-use Rattle.layout_compile.proofs.GroupWalk.{GroupsFrom, groups_begin}
+use Rattle.layout_tables.proofs.GroupWalk.{GroupsFrom, groups_begin}
 use Rattle.flyweight_view.proofs.LevelsReady.{level_ready, group_shallow}
 use Rattle.flyweight_view.proofs.Opens.{child_here, child_next, level_within}
 use Rattle.tree_codec.specs.Rooms.{dim_room, groups_room}

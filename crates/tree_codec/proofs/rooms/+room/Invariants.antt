@@ -4,7 +4,7 @@ use Rattle.sbe_types.specs.declared.schema.Group.{out-Group}
 use Rattle.sbe_types.specs.declared.schema.Level.{out-Level}
 use Rattle.sbe_wire.specs.Misfit.{each_taken}
 use Rattle.schema_facts.specs.CheckedLevels.{groups_deep}
-use Rattle.layout_compile.proofs.GroupWalk.{GroupsFrom}
+use Rattle.layout_tables.proofs.GroupWalk.{GroupsFrom}
 use Rattle.tree_codec.specs.Rooms.{groups_room, entry_room}
 use Rattle.tree_codec.proofs.rooms.+room.Given as goal
 

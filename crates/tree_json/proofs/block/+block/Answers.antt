@@ -5,12 +5,12 @@ use Rattle.serde_json.specs.Written.{comma_if}
 use Rattle.sbe_types.specs.declared.message.Block.{out-Block}
 use Rattle.flyweight_view.specs.Seen.{Seen}
 use Rattle.tree_json.specs.Deep.{deepest, deepest_in}
-use Rattle.tree_json.specs.Values.{zipped}
+use Rattle.json_values.specs.Values.{zipped}
 use Rattle.tree_json.specs.Lines.{group_name, group_entry, items_by}
-use Rattle.tree_json.specs.Plain.{entry_text, entries_text, plain_items}
+use Rattle.json_values.specs.Plain.{entry_text, entries_text, plain_items}
 use Rattle.tree_json.specs.Views.{entries_entry, entries_data, seen_data}
-use Rattle.tree_json.proofs.Written.{then_writes, retold, writes_nothing}
-use Rattle.tree_json.proofs.Entries.{goes_on, ends_so, item_next}
+use Rattle.json_values.proofs.Written.{then_writes, retold, writes_nothing}
+use Rattle.json_values.proofs.Entries.{goes_on, ends_so, item_next}
 use Rattle.tree_json.proofs.Depth.{AreWithin, seen_within, first_within, some_deep}
 use Rattle.tree_json.proofs.Blocks.{front_closed}
 use Rattle.tree_json.proofs.HeadText.{front_is, no_groups, some_groups}

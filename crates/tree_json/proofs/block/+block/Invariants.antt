@@ -1,10 +1,10 @@
 use Rattle.std.proofs.Common.{◌≡◌, ◌≤◌, ◌+◌, ◌*◌, ℕ, List, ◌++◌, length, drop, false}
 use Rattle.tree_json.specs.Deep.{deepest, deepest_in}
-use Rattle.tree_json.specs.Values.{zipped}
+use Rattle.json_values.specs.Values.{zipped}
 use Rattle.tree_json.specs.Lines.{items_by}
-use Rattle.tree_json.specs.Plain.{entries_text, plain_items}
+use Rattle.json_values.specs.Plain.{entries_text, plain_items}
 use Rattle.tree_json.specs.Views.{seen_data, entries_entry}
-use Rattle.tree_json.specs.Writes.{output, Writes}
+use Rattle.json_values.specs.Writes.{output, Writes}
 use Rattle.tree_json.proofs.Depth.{deepest_of, AreWithin}
 use Rattle.tree_json.proofs.block.+block.Given as goal
 

@@ -1,4 +1,4 @@
-use Rattle.tree_json.proofs.Written.{then_writes}
+use Rattle.json_values.proofs.Written.{then_writes}
 use Rattle.tree_json.proofs.block.put_by_kinds.Goals as goal
 
 pub returns : goal.returns

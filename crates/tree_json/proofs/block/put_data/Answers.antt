@@ -4,11 +4,11 @@ use Rattle.std.specs.Prelude.{false, slice_get}
 use Rattle.std.specs.Option.{option_map}
 use Rattle.sbe_types.specs.declared.message.Block.{out-Block}
 use Rattle.sbe_types.specs.declared.schema.DataField.{DataField}
-use Rattle.tree_json.specs.Values.{text_data, zipped}
-use Rattle.tree_json.specs.Plain.{entry_text, entries_text}
+use Rattle.json_values.specs.Values.{text_data, zipped}
+use Rattle.json_values.specs.Plain.{entry_text, entries_text}
 use Rattle.tree_json.specs.Views.{bytes_entry}
-use Rattle.tree_json.proofs.Written.{then_writes, retold, writes_nothing}
-use Rattle.tree_json.proofs.Entries.{goes_on, ends_so}
+use Rattle.json_values.proofs.Written.{then_writes, retold, writes_nothing}
+use Rattle.json_values.proofs.Entries.{goes_on, ends_so}
 use Rattle.tree_json.proofs.Views.{parts_are}
 use Rattle.tree_json.proofs.ViewSteps.{part_of, view_next, view_over}
 use Rattle.tree_json.proofs.block.put_data.Goals as goal

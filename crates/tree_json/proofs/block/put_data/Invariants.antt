@@ -1,8 +1,8 @@
 use Rattle.std.proofs.Common.{◌≡◌, ◌+◌, ℕ, List, ◌++◌, length, drop, false}
-use Rattle.tree_json.specs.Values.{zipped}
-use Rattle.tree_json.specs.Plain.{entries_text}
+use Rattle.json_values.specs.Values.{zipped}
+use Rattle.json_values.specs.Plain.{entries_text}
 use Rattle.tree_json.specs.Views.{bytes_entry}
-use Rattle.tree_json.specs.Writes.{output, Writes}
+use Rattle.json_values.specs.Writes.{output, Writes}
 use Rattle.tree_json.proofs.block.put_data.Given as goal
 
 abbrev pub invariant-loop-i : goal.invariant-loop-i

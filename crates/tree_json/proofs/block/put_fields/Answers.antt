@@ -1,8 +1,8 @@
 use Rattle.std.proofs.Common.{[], refl, ap, arith, drop}
 use Rattle.sbe_types.specs.declared.message.Block.{out-Block}
 use Rattle.tree_json.specs.Lines.{field_entry}
-use Rattle.tree_json.proofs.Written.{then_writes, retold, writes_nothing}
-use Rattle.tree_json.proofs.Entries.{goes_on, ends_so}
+use Rattle.json_values.proofs.Written.{then_writes, retold, writes_nothing}
+use Rattle.json_values.proofs.Entries.{goes_on, ends_so}
 use Rattle.tree_json.proofs.ViewSteps.{part_at, there_at, value_next, view_over}
 use Rattle.tree_json.proofs.block.put_fields.Goals as goal
 

@@ -1,9 +1,9 @@
 use Rattle.std.proofs.Common.{◌≡◌, ℕ, List, ◌++◌, drop, false}
 use Rattle.sbe_types.specs.declared.message.Block.{out-Block}
-use Rattle.tree_json.specs.Values.{zipped}
+use Rattle.json_values.specs.Values.{zipped}
 use Rattle.tree_json.specs.Lines.{field_entry}
-use Rattle.tree_json.specs.Plain.{entries_text}
-use Rattle.tree_json.specs.Writes.{output, Writes}
+use Rattle.json_values.specs.Plain.{entries_text}
+use Rattle.json_values.specs.Writes.{output, Writes}
 use Rattle.tree_json.proofs.block.put_fields.Given as goal
 
 abbrev pub invariant-loop-i : goal.invariant-loop-i

@@ -1,10 +1,10 @@
 use Rattle.std.proofs.Common.{[], refl, ap, sym, ◌∙◌, arith}
 use Rattle.tree_json.specs.Deep.{deepest_in}
 use Rattle.tree_json.specs.Lines.{items_by}
-use Rattle.tree_json.specs.Plain.{plain_items}
+use Rattle.json_values.specs.Plain.{plain_items}
 use Rattle.tree_json.specs.Views.{seen_data}
-use Rattle.tree_json.proofs.Entries.{goes_on, item_next}
-use Rattle.tree_json.proofs.Written.{then_writes, writes_nothing}
+use Rattle.json_values.proofs.Entries.{goes_on, item_next}
+use Rattle.json_values.proofs.Written.{then_writes, writes_nothing}
 use Rattle.tree_json.proofs.block.put_flat_entries.Goals as goal
 
 pub entries-init : goal.entries-init

@@ -1,7 +1,7 @@
 use Rattle.std.proofs.Common.{◌≤◌, length}
 use Rattle.tree_json.specs.Deep.{deepest_in}
 use Rattle.tree_json.specs.Views.{WritesFront}
-use Rattle.tree_json.specs.Writes.{output}
+use Rattle.json_values.specs.Writes.{output}
 use Rattle.tree_json.proofs.block.put_flat_entries.Given as goal
 
 abbrev pub invariant-entries : goal.invariant-entries

@@ -3,7 +3,7 @@ use Rattle.serde_json.specs.Written.{comma_if}
 use Rattle.sbe_types.specs.declared.message.Block.{out-Block}
 use Rattle.tree_json.proofs.Blocks.{front_closed}
 use Rattle.tree_json.proofs.HeadText.{table_text, head_by_table, no_data, no_groups, front_is}
-use Rattle.tree_json.proofs.Written.{then_writes, retold, writes_nothing}
+use Rattle.json_values.proofs.Written.{then_writes, retold, writes_nothing}
 use Rattle.tree_json.proofs.block.put_flat_entry.Goals as goal
 
 pub returns : goal.returns

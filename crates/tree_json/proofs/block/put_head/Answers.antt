@@ -1,7 +1,7 @@
 use Rattle.std.proofs.Common.{ap}
 use Rattle.tree_json.specs.Views.{seen_head}
 use Rattle.tree_json.proofs.HeadText.{table_text, head_by_table}
-use Rattle.tree_json.proofs.Written.{then_writes, retold}
+use Rattle.json_values.proofs.Written.{then_writes, retold}
 use Rattle.tree_json.proofs.block.put_head.Goals as goal
 
 pub put_rows-requires-clause-table : goal.put_rows-requires-clause-table

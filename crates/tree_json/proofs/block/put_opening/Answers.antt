@@ -1,6 +1,6 @@
 use Rattle.std.proofs.Common.{ap, arith}
 use Rattle.tree_json.proofs.HeadText.{none_opened, some_opened}
-use Rattle.tree_json.proofs.Written.{retold}
+use Rattle.json_values.proofs.Written.{retold}
 use Rattle.tree_json.proofs.block.put_opening.Goals as goal
 
 pub returns-then-count-eq0 : goal.returns-then-count-eq0

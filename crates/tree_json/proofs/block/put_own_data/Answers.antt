@@ -3,7 +3,7 @@ use Rattle.sbe_types.specs.declared.message.Block.{out-Block}
 use Rattle.flyweight_view.specs.Seen.{Seen}
 use Rattle.tree_json.specs.Views.{data_front}
 use Rattle.tree_json.proofs.HeadText.{no_data, some_data}
-use Rattle.tree_json.proofs.Written.{retold, writes_nothing}
+use Rattle.json_values.proofs.Written.{retold, writes_nothing}
 use Rattle.tree_json.proofs.block.put_own_data.Goals as goal
 
 pub returns-then-parts-eq0 : goal.returns-then-parts-eq0

@@ -1,6 +1,6 @@
 use Rattle.std.proofs.Common.{[]}
-use Rattle.tree_json.specs.Writes.{Origin}
-use Rattle.tree_json.proofs.Written.{starts, ended}
+use Rattle.json_values.specs.Writes.{Origin}
+use Rattle.json_values.proofs.Written.{starts, ended}
 use Rattle.tree_json.proofs.line.line_of.Goals as goal
 
 pub returns : goal.returns

@@ -1,4 +1,4 @@
-use Rattle.tree_json.proofs.Written.{then_writes, retold}
+use Rattle.json_values.proofs.Written.{then_writes, retold}
 use Rattle.tree_json.proofs.line.put_line.Goals as goal
 
 pub returns : goal.returns

@@ -3,9 +3,9 @@ use Rattle.std.specs.Prelude.{Some, codes, decimal}
 use Rattle.json.specs.Print.{escape}
 use Rattle.sbe_types.specs.declared.schema.Level.{out-Level}
 use Rattle.tree_json.specs.Lines.{message_at}
-use Rattle.tree_json.specs.Plain.{plain_text}
+use Rattle.json_values.specs.Plain.{plain_text}
 use Rattle.tree_json.specs.Views.{seen_front}
-use Rattle.tree_json.proofs.Written.{then_writes, retold}
+use Rattle.json_values.proofs.Written.{then_writes, retold}
 use Rattle.tree_json.proofs.Blocks.{message_is, name_between}
 use Rattle.tree_json.proofs.line.put_message.Goals as goal
 

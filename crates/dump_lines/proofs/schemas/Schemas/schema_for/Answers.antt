@@ -1,7 +1,7 @@
 use Rattle.std.proofs.Common.{arith}
 use Rattle.std.proofs.lemmas.Bool.Decides.{nat_tests}
 use Rattle.std.specs.Prelude.{codes}
-use Rattle.layout_compile.specs.Heads.{header_number}
+use Rattle.layout_tables.specs.Heads.{header_number}
 use Rattle.dump_lines.proofs.Finding.{lone_schema, no_items}
 use Rattle.dump_lines.proofs.schemas.Schemas.schema_for.Goals as goal
 

@@ -1,0 +1,9 @@
+pub mod Shown
+pub mod FromBytes
+pub mod MembersFit
+pub mod MembersShown
+pub mod Fronts
+pub mod Valid
+pub mod CodeTexts
+pub mod RowsText
+pub mod SetNumber

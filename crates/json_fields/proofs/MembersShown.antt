@@ -1,0 +1,108 @@
+-- The members of a composite, written one after another.
+use Rattle.std.proofs.Common.{◌≡◌, ℕ, Bool, true, false, List, [], ◌∷◌, ◌++◌, take, drop, Option, Some, refl, sym, ap, ap₂, ◌∙◌, subst, append_assoc}
+use Rattle.std.specs.Prelude.{⊤, codes}
+use mathlib.Core.Former.{Count}
+use Rattle.serde_json.specs.Data.{Data}
+use Rattle.serde_json.specs.Written.{comma_if}
+use Rattle.sbe_types.specs.declared.kind.Kind.{Kind, Comp, Comp', Row_of-Member, end_of-Member, more_of-Member, items-the_row-Member, items_hidden-the_row-Member-0}
+use Rattle.sbe_types.specs.declared.kind.Member.{Member}
+use Rattle.sbe_types.specs.declared.kind.Order.{Order}
+use Rattle.sbe_types.specs.declared.message.Value.{Value}
+use Rattle.sbe_types.specs.declared.message.Value.TheVariants as value
+use Rattle.sbe_types.specs.Places.{width, begin_of, end_past}
+use Rattle.sbe_types.specs.Shows.{Shows, MembersShow}
+use Rattle.json_values.specs.Values.{Entry, zipped, value_data, member_entry}
+use Rattle.json_values.specs.Plain.{key_text, plain_text, shown_text, entry_text, entries_text, later_behind}
+use Rattle.json_fields.specs.Shown.{WritesShown}
+use Rattle.json_values.specs.Writes.{Output, Writes}
+use Rattle.json_fields.proofs.Shown.{shows_members}
+use Rattle.json_values.proofs.Written.{then_writes, retold, writes_nothing}
+use Rattle.json_values.proofs.Entries.{entry_next, goes_on}
+use Rattle.json_fields.proofs.FromBytes.{is_shown}
+
+-- each member's value is shown by the bytes at its place
+abbrev pub ListShows : Order → Bool → ℕ → List Member → List Value → List ℕ → Type 0
+ListShows order known e [] [] b = ⊤
+ListShows order known e [] (v ∷ vs) b = ⊥
+ListShows order known e (m ∷ ms) [] b = ⊥
+ListShows order known e (m ∷ ms) (v ∷ vs) b =
+    Shows order known m.kind v (take (width m.kind) (drop (begin_of e m.offset) b)) × ListShows order known (end_past e m.offset m.kind) ms vs b
+
+row_shows : (order : Order) (known : Bool) (e : ℕ) (n : _) (row : Row_of-Member n) (vs : List Value) (b : List ℕ) → MembersShow order known e row vs b → ListShows order known e (items-the_row-Member n row) vs b
+row_shows order known e n end_of-Member [] b h = tt
+row_shows order known e n end_of-Member (v ∷ vs) b h = absurd h
+row_shows order known e n (more_of-Member name offset kind rest) [] b h = absurd h
+row_shows order known e n (more_of-Member name offset kind rest) (v ∷ vs) b h = (h.0, row_shows order known (end_past e offset kind) _ rest vs b h.1)
+
+abbrev row_in : Kind → (n : Count) × Row_of-Member n
+row_in (Comp' _ row) = (_, row)
+row_in _ = (_, end_of-Member)
+
+-- the values of a composite's members
+members_in : (order : Order) (known : Bool) (ms : List Member) (v : Value) (b : List ℕ) → Shows order known (Comp ms) v b → (vs : List Value) × (v ≡ value.Comp vs) × ListShows order known 0 ms vs b
+members_in order known ms v b h =
+    let row = row_in (Comp ms) in
+    (h.1.0, h.1.1, subst (λ l. ListShows order known 0 l h.1.0 b) (items_hidden-the_row-Member-0 ms) (row_shows order known 0 row.0 row.1 h.1.0 b h.1.2))
+
+-- ---- the loop
+
+-- Of all members those before the rest were written, whichever values their bytes show.
+pub record Goes (order : Order) (all : List Member) (b : List ℕ) (start now : Output) (later : Bool) (e : ℕ) (rest : List Member) : Type 0 where
+  pub goes : (known : Bool) (vs : List Value) → ListShows order known 0 all vs b →
+      (ws : List Value) × (done : List ℕ) × ListShows order known e rest ws b × Writes start now done
+      × (done ++ entries_text later (zipped member_entry rest ws) ≡ entries_text false (zipped member_entry all vs))
+
+pub goes_first : {order : Order} {all : List Member} {b : List ℕ} {a : Output} → Goes order all b a a false 0 all
+goes_first = record { goes = λ known vs h. (vs, [], h, writes_nothing, refl) }
+
+-- the text of a member that is there: a comma, its key, and the text of its value
+pub entry_is : (later : Bool) (name : List ℕ) (o : Option Data) (d : Data) → o ≡ Some d → (comma_if later ++ key_text name) ++ shown_text o ≡ entry_text later (name, o)
+entry_is later name o d is = rw is (append_assoc (comma_if later) (key_text name) (plain_text d))
+
+pub later_is : (later : Bool) (o : Option Data) (d : Data) → o ≡ Some d → later_behind later o ≡ true
+later_is later o d is = rw is refl
+
+-- a member that is there, and those behind it
+pub entry_goes : (later : Bool) (name : List ℕ) (o : Option Data) (d : Data) (es : List Entry) → o ≡ Some d
+    → ((comma_if later ++ key_text name) ++ shown_text o) ++ entries_text true es ≡ entries_text later ((name, o) ∷ es)
+entry_goes later name o d es is =
+    ap₂ (λ x l. x ++ entries_text l es) (entry_is later name o d is) (sym (later_is later o d is)) ∙ sym (entry_next later name o es)
+
+module _ (order : Order) (all : List Member) (b : List ℕ) where
+  step : (known : Bool) (vs : List Value) (later : Bool) (e : ℕ) (m : Member) (rest : List Member) (ws : List Value) (done : List ℕ) {start now key next : Output} →
+      ListShows order known e (m ∷ rest) ws b → Writes start now done → done ++ entries_text later (zipped member_entry (m ∷ rest) ws) ≡ entries_text false (zipped member_entry all vs) →
+      Writes now key (comma_if later ++ key_text m.name) → WritesShown order m.kind (take (width m.kind) (drop (begin_of e m.offset) b)) key next →
+      (us : List Value) × (more : List ℕ) × ListShows order known (end_past e m.offset m.kind) rest us b × Writes start next more
+      × (more ++ entries_text true (zipped member_entry rest us) ≡ entries_text false (zipped member_entry all vs))
+  step known vs later e m rest [] done shows written text k w = absurd shows
+  step known vs later e m rest (v ∷ ws) done shows written text k w =
+      let there = is_shown order known m.kind v _ shows.0 in
+      let on = entry_goes later m.name (value_data m.kind v) there.0 (zipped member_entry rest ws) there.1 in
+      (ws, _, shows.1, then_writes written (then_writes k (w.text known v shows.0)), goes_on done _ _ _ _ on text)
+
+  over : (known : Bool) (vs : List Value) (later : Bool) (e : ℕ) (ws : List Value) (done : List ℕ) →
+      ListShows order known e [] ws b → done ++ entries_text later (zipped member_entry [] ws) ≡ entries_text false (zipped member_entry all vs) →
+      done ++ codes "}" ≡ entries_text false (zipped member_entry all vs)
+  over known vs later e [] done shows text = text
+  over known vs later e (v ∷ ws) done shows text = absurd shows
+
+  pub goes_next : {start now key next : Output} (later : Bool) (e : ℕ) (m : Member) (rest : List Member) (p : List ℕ) → Goes order all b start now later e (m ∷ rest) →
+      Writes now key (comma_if later ++ key_text m.name) → p ≡ take (width m.kind) (drop (begin_of e m.offset) b) → WritesShown order m.kind p key next →
+      Goes order all b start next true (end_past e m.offset m.kind) rest
+  goes_next {start} {now} {key} {next} later e m rest p g k is w =
+      record {
+        goes = λ known vs h. let so_far = g.goes known vs h in
+            step known vs later e m rest so_far.0 so_far.1 so_far.2 so_far.3 so_far.4 k (subst (λ q. WritesShown order m.kind q key next) is w);
+      }
+
+  -- the whole composite, with the bracket before its members and the one behind them
+  pub goes_over : {before start now next : Output} (later : Bool) (e : ℕ) → Writes before start (codes "{") → Goes order all b start now later e [] → Writes now next (codes "}") →
+      WritesShown order (Comp all) b before next
+  goes_over later e first g last =
+      record {
+        text = λ known v h. let members = members_in order known all v b h in
+            let so_far = g.goes known members.0 members.2 in
+            let text = over known members.0 later e so_far.0 so_far.1 so_far.2 so_far.4 in
+            retold (ap (λ w. shown_text (value_data (Comp all) w)) (sym members.1))
+            (shows_members all members.0 (retold (ap (λ t. codes "{" ++ t) text) (then_writes first (then_writes so_far.3 last))));
+      }

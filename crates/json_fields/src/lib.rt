@@ -1,0 +1,8 @@
+//! The values that the bytes of fields show, as JSON.
+#![tactic(auto)]
+
+mod by_table;
+mod kinds;
+
+pub use by_table::put_rows;
+pub use kinds::put_shown;

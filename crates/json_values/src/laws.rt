@@ -1,0 +1,8 @@
+//! The law of names.
+
+ghost use Rattle.json_values.specs.Names.{NamesStand};
+
+/// The name of a schema's part stands for itself in a line.
+pub fn names_stand_for_themselves()
+    ensures { NamesStand }
+{}

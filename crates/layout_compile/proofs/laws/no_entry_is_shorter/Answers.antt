@@ -1,5 +1,0 @@
-use Rattle.layout_compile.proofs.Least.{entry_long}
-use Rattle.layout_compile.proofs.laws.no_entry_is_shorter.Goals as goal
-
-pub returns : goal.returns
-returns c = entry_long

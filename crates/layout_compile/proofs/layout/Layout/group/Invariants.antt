@@ -1,5 +1,0 @@
-use Rattle.layout_compile.proofs.GroupWalk.{GroupsFrom}
-use Rattle.layout_compile.proofs.layout.Layout.group.Given as goal
-
-abbrev pub invariant-loop : goal.invariant-loop
-invariant-loop l = GroupsFrom l.self l.level l.counter l.child

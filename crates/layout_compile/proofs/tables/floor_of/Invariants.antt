@@ -1,6 +1,0 @@
-use Rattle.std.proofs.Common.{◌≡◌, drop}
-use Rattle.layout_compile.specs.Rowed.{rows_floor}
-use Rattle.layout_compile.proofs.tables.floor_of.Given as goal
-
-abbrev pub invariant-loop-row : goal.invariant-loop-row
-invariant-loop-row l = rows_floor l.version l.floor (drop l.row-index l.fields) ≡ rows_floor l.version 0 l.fields

@@ -1,0 +1,16 @@
+pub mod Items
+pub mod Widths
+pub mod Nodes
+pub mod Told
+pub mod Finds
+pub mod Least
+pub mod Counts
+pub mod DataParts
+pub mod GroupWalk
+pub mod LeastRows
+pub mod WriteSteps
+pub mod PathParts
+pub mod PathSteps
+pub mod KeyRows
+pub mod Computing
+pub mod Small

@@ -1,0 +1,11 @@
+use Rattle.std.proofs.Common.{drop}
+use Rattle.layout_tables.specs.Paths.{path_found, path_from}
+use Rattle.layout_tables.specs.Walks.{inside_of}
+use Rattle.layout_tables.specs.Writes.{outlet_of}
+use Rattle.layout_tables.proofs.PathSteps.{PathSo}
+use Rattle.layout_tables.proofs.layout.Layout.write_path.Given as goal
+
+abbrev pub invariant-loop-i : goal.invariant-loop-i
+invariant-loop-i g l =
+    PathSo (path_found l.self l.template l.path) (path_from l.first (inside_of l.place) (drop l.i l.path))
+    (outlet_of (g.O.Sink.held l.fn.sink) (g.O.Sink.faults l.fn.sink)) (outlet_of (g.O.Sink.held l.sink) (g.O.Sink.faults l.sink))

@@ -1,0 +1,11 @@
+pub mod Paths
+pub mod Keys
+pub mod Rowed
+pub mod Flats
+pub mod Parts
+pub mod Heads
+pub mod Least
+pub mod Tables
+pub mod Writes
+pub mod Walks
+pub mod Rows

@@ -1,0 +1,134 @@
+ghost use Rattle.std.specs.Prelude.{◌≡◌};
+ghost use Rattle.layout_tables.specs.Rowed.{rows_floor};
+
+use flat_rows::FlatRows;
+use sbe_types::Leaf;
+use std::collections::BTreeMap;
+
+/// A number of a header or a dimension: its place, counted from the composite's first byte, and
+/// its type.
+#[derive(Clone, Copy)]
+pub struct SpotRow {
+    pub place: u32,
+    pub leaf: Leaf,
+}
+
+/// A dimension: how many bytes it has, and its two numbers (SBE 1.0, "Repeating group encoding").
+#[derive(Clone, Copy)]
+pub struct DimRow {
+    pub width: u32,
+    /// The number blockLength.
+    pub block: SpotRow,
+    /// The number numInGroup.
+    pub count: SpotRow,
+}
+
+/// The message header: how many bytes it has, and its four numbers (SBE 1.0, "Message structure").
+#[derive(Clone, Copy)]
+pub struct HeaderRow {
+    pub width: u32,
+    /// The number blockLength.
+    pub block: SpotRow,
+    /// The number templateId.
+    pub template: SpotRow,
+    /// The number schemaId.
+    pub schema: SpotRow,
+    /// The number version.
+    pub version: SpotRow,
+    /// These four have two bytes each, and stand one behind another from the first byte on, as in the standard's own header.
+    pub is_usual: bool,
+}
+
+/// A field: from which version on it stands, and where in the block.
+#[derive(Clone, Copy)]
+pub struct FieldRow {
+    pub since: u32,
+    /// Where it begins. Of a constant this says nothing.
+    pub place: u32,
+    /// Where the fields up to this one end.
+    pub end: u32,
+    /// A constant takes no bytes.
+    pub is_constant: bool,
+}
+
+/// A data part: from which version on it stands, and the type of its length.
+#[derive(Clone, Copy)]
+pub struct PartRow {
+    pub since: u32,
+    pub length: Leaf,
+}
+
+/// Where a data part stands: the number of its level, and its number among the level's data.
+#[derive(Clone, Copy)]
+pub struct PartPlace {
+    pub level: u32,
+    pub part: u32,
+}
+
+/// Where a key stands in the bytes of its table: from `start` on, up to `end`.
+#[derive(Clone, Copy)]
+pub struct KeyRow {
+    pub start: u32,
+    pub end: u32,
+}
+
+/// The keys of a level's parts, one behind another in one run of bytes.
+#[derive(Drop)]
+pub struct KeyTable {
+    pub bytes: Vec<u8>,
+    pub rows: Vec<KeyRow>,
+}
+
+/// A level. The levels of its groups come right behind it, each with those of its own groups.
+#[derive(Drop)]
+pub struct LevelRow {
+    /// The number of its message.
+    pub template: usize,
+    pub since: u32,
+    /// The block length that is written, in bytes.
+    pub block: u32,
+    /// The greatest version from which on a field stands.
+    pub newest: u32,
+    /// The floor from that version on.
+    pub floor: u32,
+    /// How many groups it has.
+    pub groups: usize,
+    /// The number of the level behind it and all levels of its groups.
+    pub end: usize,
+    /// The dimension before its entries. A root has none.
+    pub dim: Option<DimRow>,
+    pub fields: Vec<FieldRow>,
+    pub parts: Vec<PartRow>,
+    /// The keys of its fields, groups and data.
+    pub keys: KeyTable,
+    /// Its fields as values, with what stands between and around them in each line of JSON.
+    pub flat: FlatRows,
+}
+
+/// The tables that a layout keeps beside the schema.
+#[derive(Drop)]
+pub struct Tables {
+    pub header: HeaderRow,
+    pub levels: Vec<LevelRow>,
+    /// The levels of the messages' roots.
+    pub roots: Vec<usize>,
+    /// The messages by their ids.
+    pub ids: BTreeMap<u32, usize>,
+    /// The number of each level's first data part.
+    pub firsts: Vec<usize>,
+    /// Where each data part of the schema stands.
+    pub places: Vec<PartPlace>,
+}
+
+/// The floor by the rows: the end of the last field that is alive and no constant.
+pub fn floor_of(version: u32, fields: &[FieldRow]) -> u32
+    ensures { result ≡ rows_floor version 0 fields.now }
+{
+    let mut floor = 0;
+    for row in fields {
+        if row.since <= version && !row.is_constant {
+            floor = row.end;
+        }
+    }
+    floor
+}

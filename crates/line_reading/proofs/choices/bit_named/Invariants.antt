@@ -1,6 +1,0 @@
-use Rattle.std.proofs.Common.{◌≡◌, drop}
-use Rattle.line_reading.specs.Values.{bit_named}
-use Rattle.line_reading.proofs.choices.bit_named.Given as goal
-
-abbrev pub invariant-loop-choice : goal.invariant-loop-choice
-invariant-loop-choice l = bit_named (drop l.choice-index l.names) l.name ≡ bit_named l.names l.name

@@ -1,7 +1,0 @@
-use Rattle.std.proofs.Common.{◌≡◌, drop}
-use Rattle.line_reading.specs.Code.{seen, member_list_read}
-use Rattle.line_reading.proofs.ListSteps.{with_front}
-use Rattle.line_reading.proofs.kinds.+kind.Given as goal
-
-abbrev pub invariant-read_members-loop-member : goal.invariant-read_members-loop-member
-invariant-read_members-loop-member l = with_front l.out (member_list_read (drop l.member-index l.members) (seen l.object)) ≡ member_list_read l.members (seen l.object)

@@ -1,5 +1,0 @@
-use Rattle.line_reading.proofs.KeyOrder.{read_order}
-use Rattle.line_reading.proofs.laws.keys_are_read_in_order.Goals as goal
-
-pub returns : goal.returns
-returns c = read_order

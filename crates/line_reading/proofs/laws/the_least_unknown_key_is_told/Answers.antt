@@ -1,5 +1,0 @@
-use Rattle.line_reading.proofs.KeyOrder.{least_told}
-use Rattle.line_reading.proofs.laws.the_least_unknown_key_is_told.Goals as goal
-
-pub returns : goal.returns
-returns c = least_told

@@ -1,7 +1,0 @@
-use Rattle.std.proofs.Common.{◌≡◌, drop}
-use Rattle.line_reading.specs.Objects.{is_named}
-use Rattle.line_reading.specs.Code.{group_list_names}
-use Rattle.line_reading.proofs.names.has_group.Given as goal
-
-abbrev pub invariant-loop-group : goal.invariant-loop-group
-invariant-loop-group l = is_named l.key (group_list_names (drop l.group-index l.groups)) ≡ is_named l.key (group_list_names l.groups)

@@ -1,0 +1,80 @@
+ghost use Rattle.std.specs.Prelude.{◌≡◌, ◌++◌, Result, IfOk};
+ghost use Rattle.line_values.specs.Refusals.{Reading, Gives, refuse, inside};
+
+use lists::{List, NoMem, Text};
+use std::alloc::Global;
+use thiserror::Error;
+
+/// Why a line is no message, as `J01` to `J04`.
+#[derive(Clone, Copy, Debug, PartialEq, Eq, Error)]
+pub enum JCode {
+    /// `J01`: it is no JSON text (RFC 8259).
+    #[error("J01")]
+    NotJson,
+    /// `J02`: it is no object, or what must stand in it is missing.
+    #[error("J02")]
+    Shape,
+    /// `J03`: a key, a template, a valid value or a choice that isn't known.
+    #[error("J03")]
+    UnknownName,
+    /// `J04`: a value of another kind.
+    #[error("J04")]
+    Kind,
+}
+
+/// Why nothing was read: a refusal with its place, or want of memory. A place is the path of a field,
+/// group or data part, as `legs[0].q`, or a bare key; empty for the line itself.
+#[derive(Debug, Drop, Error)]
+pub enum LineFault {
+    #[error("{0}")]
+    Refused(JCode, Text),
+    #[error("out of memory")]
+    Memory,
+}
+
+impl From<NoMem> for LineFault {
+    ghost use Rattle.line_values.specs.declared.refusals.LineFault.TheVariants.{Memory};
+
+    ghost from_gives = { λ _ e. e ≡ Memory };
+
+    fn from(_: NoMem) -> LineFault {
+        LineFault::Memory
+    }
+}
+
+/// A refusal at a place, as what was read.
+pub fn refuse<T: Drop>(alloc: Global, code: JCode, place: &[u8]) -> Result<T, LineFault>
+    ensures { Gives result (refuse code place.now) }
+{
+    match List::from_slice(alloc, place) {
+        Ok(place) => Err(LineFault::Refused(code, place)),
+        Err(_) => Err(LineFault::Memory),
+    }
+}
+
+/// A step, and a place behind it.
+fn place_of(alloc: Global, step: &[u8], place: &[u8]) -> Result<Text, NoMem>
+    ensures { IfOk result (λ text. text ≡ step.now ++ place.now) }
+{
+    let mut text = List::from_slice(alloc, step)?;
+    text.extend(place)?;
+    Ok(text)
+}
+
+/// What was read one step below, seen from here.
+pub fn inside<T: Drop>(
+    alloc: Global,
+    step: &[u8],
+    read: Result<T, LineFault>,
+) -> Result<T, LineFault>
+    ensures { (told : Reading T) → Gives read told → Gives result (inside step.now told) }
+{
+    match read {
+        Ok(found) => Ok(found),
+        Err(LineFault::Memory) => Err(LineFault::Memory),
+        Err(LineFault::Refused(code, place)) => match place_of(alloc, step, place.as_slice()) {
+            Ok(place) => Err(LineFault::Refused(code, place)),
+            Err(_) => Err(LineFault::Memory),
+        },
+    }
+}

@@ -1,5 +1,0 @@
-//! Tests of what an older schema knows of a newer one's messages.
-#![tactic(auto)]
-
-#[cfg(test)]
-mod decoded;

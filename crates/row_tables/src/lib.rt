@@ -1,0 +1,11 @@
+//! Tables of rows that are tests: a row names a call, what it is given, and what must be told of it.
+#![tactic(auto)]
+
+mod content;
+mod row;
+mod tables;
+mod values;
+
+pub use row::Row;
+pub use tables::{Calls, judge_tables};
+pub use values::{spelled, value_of};

@@ -1,0 +1,56 @@
+//! Tables that are gone through row by row.
+
+use crate::row::Row;
+use anyhow::Result;
+use std::fs;
+
+/// The calls that rows name.
+pub trait Calls {
+    /// What is told of a row's call; an error where the row names no call, or gives it what it can't take.
+    fn told(&self, rt: &HostRuntime, row: &Row) -> Result<String>;
+}
+
+/// Goes through the tables that the standard input names, one a line, and prints a line for each row: its name and `same`, or what
+/// was wanted and what was told. An empty line of a table, and one that begins with `#`, is a comment.
+pub fn judge_tables<C: Calls>(rt: &HostRuntime, calls: &C) -> Result<()> {
+    for table in rt.lines(rt.alloc()) {
+        judge_table(rt, calls, table?.as_str())?;
+    }
+    Ok(())
+}
+
+fn judge_table<C: Calls>(rt: &HostRuntime, calls: &C, table: &str) -> Result<()> {
+    let text = fs::read_to_string(rt, table)?;
+    for line in text.as_str().lines() {
+        if !line.is_empty() && !line.starts_with('#') {
+            judge_line(rt, calls, table, line)?;
+        }
+    }
+    Ok(())
+}
+
+fn judge_line<C: Calls>(rt: &HostRuntime, calls: &C, table: &str, line: &str) -> Result<()> {
+    match Row::read(rt.alloc(), line) {
+        Ok(row) => judge_row(rt, calls, table, &row),
+        Err(e) => {
+            println!(rt; "{table} unreadable: {e}: {line}")?;
+            Ok(())
+        }
+    }
+}
+
+fn judge_row<C: Calls>(rt: &HostRuntime, calls: &C, table: &str, row: &Row) -> Result<()> {
+    let name = row.name();
+    match calls.told(rt, row) {
+        Ok(told) => {
+            if told.as_str() == row.wanted() {
+                println!(rt; "{table} {name} same")?;
+            } else {
+                let wanted = row.wanted();
+                println!(rt; "{table} {name} differs: wanted {wanted}, told {told}")?;
+            }
+        }
+        Err(e) => println!(rt; "{table} {name} fails: {e}")?,
+    }
+    Ok(())
+}

@@ -1,0 +1,39 @@
+//! Rows of the outside: sources, sinks and files in memory and over std, and the writer that several hands share. And lists.
+#![tactic(auto)]
+
+mod fakes;
+mod files;
+mod kept;
+mod shared;
+mod sinks;
+mod sources;
+
+use anyhow::{Result, bail};
+use row_tables::{Calls, Row, judge_tables};
+
+/// The calls of all tables.
+struct AllCalls;
+
+impl Calls for AllCalls {
+    fn told(&self, rt: &HostRuntime, row: &Row) -> Result<String> {
+        let alloc = rt.alloc();
+        match row.call() {
+            "list" => kept::list_told(alloc, row),
+            "codes" => kept::codes_told(alloc),
+            "mem_source" => sources::mem_told(alloc, row),
+            "std_source" => sources::std_told(alloc, row),
+            "buffered_source" => sources::buffered_told(alloc, row),
+            "mem_sink" => sinks::mem_told(alloc, row),
+            "std_sink" => sinks::std_told(alloc, row),
+            "retried" => sinks::retried_told(alloc, row),
+            "shared" => shared::shared_told(alloc, row),
+            "mem_files" => files::mem_told(alloc, row),
+            "dir_files" => files::dir_told(rt, row),
+            _ => bail!("there is no such call"),
+        }
+    }
+}
+
+fn main(rt: HostRuntime) -> Result<()> {
+    judge_tables(&rt, &AllCalls)
+}

@@ -1,0 +1,8 @@
+//! A test of reading schema files: the tree of a file with each attribute, which the rules of schemas refuse, so that no run
+//! shows it. The forms of attributes are rows of `test_steps`; what is refused, and what meets a limit, are rows of `run_rows`.
+#![tactic(auto)]
+
+#[cfg(test)]
+mod outline;
+#[cfg(test)]
+mod tree_rows;

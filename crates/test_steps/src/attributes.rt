@@ -1,0 +1,43 @@
+//! Attributes that must be there, may be, or have a default.
+
+use crate::elements::id_text;
+use crate::refused::refused_text;
+use anyhow::{Result, bail};
+use json_elements::{IdNumber, needed, optional, with_default};
+use row_tables::Row;
+use serde_json::Value;
+use std::alloc::Global;
+
+/// What is told of a row; nothing where it names another call.
+pub fn told(alloc: Global, row: &Row) -> Result<Option<String>> {
+    if row.call() != "attribute" {
+        return Ok(None);
+    }
+    let element = Value::from_str(alloc, row.text(0)?)?;
+    Ok(Some(attribute_text(alloc, &element, name_of(row.text(1)?)?)?))
+}
+
+fn name_of(text: &str) -> Result<&'static str> {
+    match text {
+        "id" => Ok("id"),
+        "offset" => Ok("offset"),
+        "version" => Ok("version"),
+        _ => bail!("no attribute: {text}"),
+    }
+}
+
+fn optional_text(alloc: Global, element: &Value, name: &'static str) -> Result<String> {
+    match optional::<IdNumber>(alloc, element, name) {
+        Ok(Some(n)) => Ok(format!(in alloc; "{n}")?),
+        Ok(None) => Ok(format!(in alloc; "none")?),
+        Err(e) => refused_text(alloc, e),
+    }
+}
+
+/// What an attribute is read as where it is needed, where it is optional, and where 5 stands for it.
+fn attribute_text(alloc: Global, element: &Value, name: &'static str) -> Result<String> {
+    let must = id_text(alloc, needed::<IdNumber>(alloc, element, name))?;
+    let may = optional_text(alloc, element, name)?;
+    let else5 = id_text(alloc, with_default::<IdNumber>(alloc, element, name, 5))?;
+    Ok(format!(in alloc; "{}; {}; {}", must.as_str(), may.as_str(), else5.as_str())?)
+}

@@ -1,0 +1,141 @@
+//! Elements of files, their children and the values of their attributes.
+
+use crate::refused::{done_text, number_text, refused_text};
+use anyhow::Result;
+use json_elements::{
+    Cause, ElementErr, Form, IdNumber, JsonText, TextOrNumber, WholeNumber, at_child, content_of,
+    inside, limit_children, lone_of, read_limited, read_value, refuse, refuse_children, str_of,
+};
+use row_tables::{Row, spelled};
+use schema_lines::put_json_text;
+use serde_json::Value;
+use std::alloc::Global;
+
+/// What is told of a row; nothing where it names another call.
+pub fn told(alloc: Global, row: &Row) -> Result<Option<String>> {
+    let text = match row.call() {
+        "lone_of" => lone_text(alloc, &value_in(alloc, row)?)?,
+        "content_of" => children_text(alloc, &value_in(alloc, row)?)?,
+        "limit_children" => limited_text(alloc, &value_in(alloc, row)?, row.size(1)?)?,
+        "refuse_children" => none_text(alloc, &value_in(alloc, row)?)?,
+        "WholeNumber" => number_text(alloc, WholeNumber::read(alloc, &value_in(alloc, row)?))?,
+        "IdNumber" => id_text(alloc, IdNumber::read(alloc, &value_in(alloc, row)?))?,
+        "read_limited" => {
+            let most = row.text(1)?.parse::<u32>()?;
+            id_text(alloc, read_limited(alloc, &value_in(alloc, row)?, most))?
+        }
+        "texts" => texts_read(alloc, &value_in(alloc, row)?)?,
+        "read_value" => file_text(alloc, row.bytes(alloc, 0)?.as_slice())?,
+        "places" => places_text(alloc)?,
+        "put_json_text" => escaped_text(alloc, row.bytes(alloc, 0)?.as_slice())?,
+        _ => return Ok(None),
+    };
+    Ok(Some(text))
+}
+
+/// The JSON value that a row spells first.
+fn value_in(alloc: Global, row: &Row) -> Result<Value> {
+    Ok(Value::from_str(alloc, row.text(0)?)?)
+}
+
+/// The name of an element, and its value.
+fn lone_text(alloc: Global, value: &Value) -> Result<String> {
+    match lone_of(value) {
+        Some((name, inner)) => {
+            let inner = inner.to_string(alloc)?;
+            Ok(format!(in alloc; "{name}: {}", inner.as_str())?)
+        }
+        None => Ok(format!(in alloc; "no element")?),
+    }
+}
+
+/// How many children there are.
+fn children_text(alloc: Global, value: &Value) -> Result<String> {
+    match content_of(alloc, value) {
+        Ok(children) => Ok(format!(in alloc; "{}", children.len())?),
+        Err(e) => refused_text(alloc, e),
+    }
+}
+
+fn limited_text(alloc: Global, value: &Value, most: usize) -> Result<String> {
+    match content_of(alloc, value) {
+        Ok(children) => done_text(alloc, limit_children(alloc, children, most)),
+        Err(e) => refused_text(alloc, e),
+    }
+}
+
+fn none_text(alloc: Global, value: &Value) -> Result<String> {
+    match content_of(alloc, value) {
+        Ok(children) => done_text(alloc, refuse_children(alloc, children)),
+        Err(e) => refused_text(alloc, e),
+    }
+}
+
+/// A number that was read, or the refusal.
+pub fn id_text(alloc: Global, read: std::result::Result<u32, ElementErr>) -> Result<String> {
+    match read {
+        Ok(n) => Ok(format!(in alloc; "{n}")?),
+        Err(e) => refused_text(alloc, e),
+    }
+}
+
+fn str_text(alloc: Global, value: &Value) -> Result<String> {
+    match str_of(alloc, value) {
+        Ok(text) => spelled(alloc, text.as_bytes()),
+        Err(e) => refused_text(alloc, e),
+    }
+}
+
+fn json_text(alloc: Global, value: &Value) -> Result<String> {
+    match JsonText::read(alloc, value) {
+        Ok(text) => spelled(alloc, text.as_slice()),
+        Err(e) => refused_text(alloc, e),
+    }
+}
+
+fn either_text(alloc: Global, value: &Value) -> Result<String> {
+    match TextOrNumber::read(alloc, value) {
+        Ok(text) => spelled(alloc, text.as_slice()),
+        Err(e) => refused_text(alloc, e),
+    }
+}
+
+/// What a text is read as by `str_of`, `JsonText` and `TextOrNumber`.
+fn texts_read(alloc: Global, value: &Value) -> Result<String> {
+    let lent = str_text(alloc, value)?;
+    let text = json_text(alloc, value)?;
+    let either = either_text(alloc, value)?;
+    Ok(format!(in alloc; "{}; {}; {}", lent.as_str(), text.as_str(), either.as_str())?)
+}
+
+/// The value of a file.
+fn file_text(alloc: Global, bytes: &[u8]) -> Result<String> {
+    match read_value(alloc, bytes) {
+        Ok(value) => Ok(value.to_string(alloc)?),
+        Err(e) => refused_text(alloc, e),
+    }
+}
+
+/// A refusal inside a member, a child and a member, one without a place, and a number through the same.
+fn places_text(alloc: Global) -> Result<String> {
+    let deep = inside(
+        "a",
+        at_child(10, inside("b", refuse::<u32>(alloc, Cause::Shape))),
+    );
+    let deep = id_text(alloc, deep)?;
+    let bare = id_text(alloc, refuse::<u32>(alloc, Cause::Xml))?;
+    let through = id_text(alloc, inside("a", at_child(1, Ok(7))))?;
+    Ok(format!(in alloc;
+        "{}; {}; {}",
+        deep.as_str(),
+        bare.as_str(),
+        through.as_str()
+    )?)
+}
+
+/// A text as notes and the lines of `check` print it.
+fn escaped_text(alloc: Global, text: &[u8]) -> Result<String> {
+    let mut out = Vec::new(alloc);
+    put_json_text(&mut out, text)?;
+    spelled(alloc, out.as_slice())
+}

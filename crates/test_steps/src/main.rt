@@ -1,0 +1,36 @@
+//! Rows of what `run` is made of and no run shows: words that become commands, the steps of a pump, and the elements of files.
+#![tactic(auto)]
+
+mod attributes;
+mod elements;
+mod refused;
+mod steps;
+mod words;
+
+use anyhow::{Result, bail};
+use row_tables::{Calls, Row, judge_tables};
+
+/// The calls of all tables.
+struct AllCalls;
+
+impl Calls for AllCalls {
+    fn told(&self, rt: &HostRuntime, row: &Row) -> Result<String> {
+        let alloc = rt.alloc();
+        if let Some(told) = elements::told(alloc, row)? {
+            return Ok(told);
+        }
+        if let Some(told) = attributes::told(alloc, row)? {
+            return Ok(told);
+        }
+        match row.call() {
+            "read_words" => words::command_told(alloc, row),
+            "forms" => words::forms_told(alloc),
+            "step" => steps::steps_told(rt, row),
+            _ => bail!("there is no such call"),
+        }
+    }
+}
+
+fn main(rt: HostRuntime) -> Result<()> {
+    judge_tables(&rt, &AllCalls)
+}

@@ -1,0 +1,75 @@
+//! Lines that are taken out of a stream.
+
+use crate::sources::{range_of, source_of};
+use anyhow::Result;
+use frame_stream::{LineStream, LineTaken};
+use open_framing::HEAD_BYTES;
+use row_tables::{Row, spelled};
+use sbe_base::{Limits, MemSource};
+use std::alloc::Global;
+
+/// A longer line than this is told by its length, where its bytes are all the same.
+const TOLD_WHOLE: usize = 64;
+
+/// A line as it is told.
+fn line_told(alloc: Global, line: &[u8]) -> Result<String> {
+    if line.len() > TOLD_WHOLE {
+        let first = line[0];
+        if line.iter().all(|byte| *byte == first) {
+            let many = line.len();
+            return Ok(format!(in alloc; "{many} times {first:02x}")?);
+        }
+    }
+    spelled(alloc, line)
+}
+
+/// Takes once: the answer and the line.
+fn take_told(alloc: Global, stream: &mut LineStream, source: &mut MemSource) -> Result<String> {
+    let answer = stream.take(source);
+    let line = line_told(alloc, stream.line())?;
+    let line = line.as_str();
+    match answer {
+        Ok(LineTaken::Line) => Ok(format!(in alloc; "line {line}; ")?),
+        Ok(LineTaken::End) => Ok(format!(in alloc; "end {line}; ")?),
+        Err(e) => Ok(format!(in alloc; "{e:?} {line}; ")?),
+    }
+}
+
+/// Takes so often: what is told of each, and how many bytes were taken.
+fn all_told(
+    alloc: Global,
+    stream: &mut LineStream,
+    source: &mut MemSource,
+    takes: usize,
+) -> Result<String> {
+    let mut text = String::new(alloc);
+    for _ in 0..takes {
+        text.push_str(take_told(alloc, stream, source)?.as_str())?;
+    }
+    let taken = stream.taken();
+    text.push_str(format!(in alloc; "taken {taken}")?.as_str())?;
+    Ok(text)
+}
+
+/// The row over pieces of one size: a source, the sizes, the reads that fail, the most bytes of the input, and how many takes.
+fn in_piece(alloc: Global, row: &Row, piece: usize) -> Result<String> {
+    let limits = Limits {
+        frame: HEAD_BYTES,
+        input: row.text(3)?.parse::<u64>()?,
+    };
+    let mut source = source_of(alloc, row, piece)?;
+    let mut stream = LineStream::open(alloc, limits)?;
+    all_told(alloc, &mut stream, &mut source, row.size(4)?)
+}
+
+/// The row over pieces of each size: what is told of all, or of the first that differs from what is wanted.
+pub fn in_pieces(alloc: Global, row: &Row) -> Result<String> {
+    let (low, high) = range_of(row.text(1)?)?;
+    for piece in low..high {
+        let told = in_piece(alloc, row, piece)?;
+        if told.as_str() != row.wanted() {
+            return Ok(format!(in alloc; "{piece} bytes a read: {}", told.as_str())?);
+        }
+    }
+    in_piece(alloc, row, high)
+}

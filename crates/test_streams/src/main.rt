@@ -1,0 +1,28 @@
+//! Rows of streams: frames and lines that are taken of a source piece by piece.
+#![tactic(auto)]
+
+mod frames;
+mod lines;
+mod sources;
+
+use anyhow::{Result, bail};
+use row_tables::{Calls, Row, judge_tables};
+
+/// The calls of all tables.
+struct AllCalls;
+
+impl Calls for AllCalls {
+    fn told(&self, rt: &HostRuntime, row: &Row) -> Result<String> {
+        match row.call() {
+            "frames" => frames::in_pieces(rt.alloc(), row),
+            "retried" => frames::retried(rt.alloc(), row),
+            "ahead" => frames::read_ahead(rt.alloc(), row),
+            "lines" => lines::in_pieces(rt.alloc(), row),
+            _ => bail!("there is no such call"),
+        }
+    }
+}
+
+fn main(rt: HostRuntime) -> Result<()> {
+    judge_tables(&rt, &AllCalls)
+}

@@ -1,0 +1,117 @@
+//! The uses of the library that its page shows.
+
+use crate::bench::{layout_of, refused_text, with_bytes};
+use anyhow::{Result, bail};
+use layout_compile::compile;
+use layout_tables::Layout;
+use library_examples::{
+    BodyErr, Order, OrderErr, SumErr, body_of_line, sum_entries, template_of, write_order,
+};
+use line_values::LineFault;
+use row_tables::{Row, spelled};
+use schema_check::Checked;
+use std::alloc::Global;
+use typed_writer::FrameBuf;
+
+fn fault_text(alloc: Global, fault: &LineFault) -> Result<String> {
+    match fault {
+        LineFault::Memory => bail!("out of memory"),
+        LineFault::Refused(code, _) => Ok(format!(in alloc; "{code}")?),
+    }
+}
+
+fn body_text(alloc: Global, checked: &Checked, row: &Row) -> Result<String> {
+    let layout = compile(alloc, checked)?;
+    let mut buf = FrameBuf::new(alloc, row.size(1)?)?;
+    match body_of_line(alloc, checked, &layout, row.text(2)?.as_bytes(), &mut buf) {
+        Ok(n) => {
+            let digits = hex::encode(alloc, buf.bytes())?;
+            Ok(format!(in alloc; "{n} {}", digits.as_str())?)
+        }
+        Err(BodyErr::Line(fault)) => fault_text(alloc, &fault),
+        Err(BodyErr::Misfit(e)) => refused_text(alloc, &e),
+    }
+}
+
+/// A row: the schema, the limit, and a line, of which the template and the body are told.
+pub fn body_told(alloc: Global, checked: &Checked, row: &Row) -> Result<String> {
+    let body = body_text(alloc, checked, row)?;
+    match template_of(alloc, checked, row.text(2)?.as_bytes()) {
+        Ok(name) => {
+            let name = spelled(alloc, name)?;
+            Ok(format!(in alloc; "{}: {}", name.as_str(), body.as_str())?)
+        }
+        Err(_) => Ok(format!(in alloc; "no template: {}", body.as_str())?),
+    }
+}
+
+fn legs_of(alloc: Global, words: &str) -> Result<Vec<i128>> {
+    let mut legs = Vec::new(alloc);
+    for word in words.split(' ') {
+        if !word.is_empty() {
+            legs.push(word.parse::<i128>()?)?;
+        }
+    }
+    Ok(legs)
+}
+
+fn order_answer(alloc: Global, answer: std::result::Result<usize, OrderErr>) -> Result<String> {
+    match answer {
+        Ok(n) => Ok(format!(in alloc; "{n} bytes")?),
+        Err(OrderErr::Schema) => Ok(format!(in alloc; "no order")?),
+        Err(OrderErr::Start(e)) => Ok(format!(in alloc; "start: {e}")?),
+        Err(OrderErr::Field(e)) => Ok(format!(in alloc; "{:?} {}", e.cause, e.detail)?),
+        Err(OrderErr::Unset(i)) => Ok(format!(in alloc; "unset {i}")?),
+        Err(OrderErr::Part(e)) => Ok(format!(in alloc; "part: {e}")?),
+        Err(OrderErr::Full(full)) => Ok(format!(in alloc; "leg: {full}")?),
+    }
+}
+
+fn order_in(
+    alloc: Global,
+    layout: &Layout,
+    order: &Order<'_>,
+    buf: &mut FrameBuf,
+) -> Result<String> {
+    let answer = order_answer(alloc, write_order(layout, order, buf))?;
+    with_bytes(alloc, answer.as_str(), buf.bytes())
+}
+
+/// A row: the schema, the limit, and an order: its number, its legs with blanks between, and its note. What is answered, and the
+/// bytes that stand then.
+pub fn order_told(alloc: Global, checked: &Checked, row: &Row) -> Result<String> {
+    let number = row.number(2)?;
+    let note = row.text(4)?;
+    let legs = legs_of(alloc, row.text(3)?)?;
+    let mut buf = FrameBuf::new(alloc, row.size(1)?)?;
+    let layout = layout_of(alloc, checked)?;
+    let order = Order {
+        number,
+        legs: legs.as_slice(),
+        note: note.as_bytes(),
+    };
+    order_in(alloc, &layout, &order, &mut buf)
+}
+
+fn sum_text(
+    alloc: Global,
+    layout: &Layout,
+    body: &[u8],
+    group: usize,
+    field: usize,
+) -> Result<String> {
+    match sum_entries(layout, body, group, field) {
+        Ok(sum) => Ok(format!(in alloc; "{sum}")?),
+        Err(SumErr::Refused(refusal)) => Ok(format!(in alloc; "refused at {}", refusal.offset)?),
+        Err(SumErr::Over) => Ok(format!(in alloc; "over")?),
+    }
+}
+
+/// A row: the schema, a body, the number of a group, and of a field of its entries, whose sum is told.
+pub fn sum_told(alloc: Global, checked: &Checked, row: &Row) -> Result<String> {
+    let group = row.size(2)?;
+    let field = row.size(3)?;
+    let body = row.bytes(alloc, 1)?;
+    let layout = layout_of(alloc, checked)?;
+    sum_text(alloc, &layout, body.as_slice(), group, field)
+}

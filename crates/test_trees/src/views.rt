@@ -1,0 +1,90 @@
+//! Views of bodies, and lines in the form in which messages are printed.
+
+use crate::bench::layout_of;
+use anyhow::Result;
+use flyweight_view::{MsgView, validate};
+use layout_tables::Layout;
+use line_draft::BodyDraft;
+use line_reading::msg_of_line;
+use printed_lines::body_of_line;
+use row_tables::{Row, spelled};
+use schema_check::Checked;
+use std::alloc::Global;
+use tree_codec::encode;
+use typed_writer::FrameBuf;
+
+fn shown_text(alloc: Global, view: &MsgView<'_>, version: u32) -> Result<String> {
+    let name = spelled(alloc, view.name())?;
+    let counts = view.root().counts();
+    let id = view.schema().id();
+    Ok(format!(in alloc;
+        "{} {} of version {}, {counts:?}, schema {id} of version {version}",
+        view.template(),
+        name.as_str(),
+        view.version()
+    )?)
+}
+
+fn view_text(alloc: Global, layout: &Layout, version: u32, body: &[u8]) -> Result<String> {
+    match validate(layout, body) {
+        Ok(view) => shown_text(alloc, &view, version),
+        Err(refusal) => Ok(format!(in alloc; "refused, {:?}", refusal.template)?),
+    }
+}
+
+/// A row: the schema, and a body. What its view tells of the message, or the template as far as a refusal tells it.
+pub fn view_told(alloc: Global, checked: &Checked, row: &Row) -> Result<String> {
+    let body = row.bytes(alloc, 1)?;
+    let layout = layout_of(alloc, checked)?;
+    view_text(alloc, &layout, checked.version(), body.as_slice())
+}
+
+/// The body that the printed form of a line has.
+fn printed_text(alloc: Global, layout: &Layout, line: &str, limit: usize) -> Result<String> {
+    let mut draft = BodyDraft::new();
+    if body_of_line(layout, line.as_bytes(), limit, &mut draft) {
+        return Ok(hex::encode(alloc, draft.bytes())?);
+    }
+    Ok(format!(in alloc; "no printed line")?)
+}
+
+/// The body that a line of any form has.
+fn general_text(
+    alloc: Global,
+    checked: &Checked,
+    layout: &Layout,
+    line: &str,
+    limit: usize,
+) -> Result<String> {
+    let Ok(msg) = msg_of_line(alloc, checked, line.as_bytes()) else {
+        return Ok(format!(in alloc; "none")?);
+    };
+    let mut buf = FrameBuf::new(alloc, limit)?;
+    match encode(layout, &msg, &mut buf) {
+        Ok(_) => Ok(hex::encode(alloc, buf.bytes())?),
+        Err(_) => Ok(format!(in alloc; "none")?),
+    }
+}
+
+fn both_text(
+    alloc: Global,
+    checked: &Checked,
+    layout: &Layout,
+    line: &str,
+    limit: usize,
+) -> Result<String> {
+    let short = printed_text(alloc, layout, line, limit)?;
+    let general = general_text(alloc, checked, layout, line, limit)?;
+    if short.as_str() == general.as_str() {
+        return Ok(format!(in alloc; "both {}", short.as_str())?);
+    }
+    Ok(format!(in alloc; "{}, {}", short.as_str(), general.as_str())?)
+}
+
+/// A row: the schema, the limit, and a line, of which the body is told by both ways: `both` where they give the same.
+pub fn printed_told(alloc: Global, checked: &Checked, row: &Row) -> Result<String> {
+    let limit = row.size(1)?;
+    let line = row.text(2)?;
+    let layout = layout_of(alloc, checked)?;
+    both_text(alloc, checked, &layout, line, limit)
+}

@@ -1,0 +1,171 @@
+//! Values as JSON texts, and the chunk that they are gathered in.
+
+use crate::leaves::{names_of, prim_of};
+use anyhow::{Result, bail};
+use json_values::{
+    Chunk, put_char, put_constant, put_count, put_enum, put_number, put_set, put_string, put_text,
+};
+use row_tables::{Row, spelled};
+use sbe_base::MemSink;
+use sbe_types::{Bytes, ConstValue, Named};
+use std::alloc::Global;
+
+/// How many bytes the sink of a row takes.
+const ROOM: usize = 8192;
+
+/// What is told of a row; nothing where it names another call.
+pub fn told(alloc: Global, row: &Row) -> Result<Option<String>> {
+    let text = match row.call() {
+        "digits" => all_digits(alloc, row.text(0)?)?,
+        "put_text"
+        | "put_string"
+        | "put_char"
+        | "put_number"
+        | "put_count"
+        | "put_enum"
+        | "put_set"
+        | "put_constant" => one_put(alloc, row)?,
+        "behind" => numbers_behind(alloc, row.text(0)?, row.text(1)?)?,
+        "pieces" => pieces_put(alloc, row)?,
+        "failing" => failing_put(alloc, row)?,
+        _ => return Ok(None),
+    };
+    Ok(Some(text))
+}
+
+fn put(alloc: Global, row: &Row, chunk: &mut Chunk, out: &mut MemSink) -> Result<()> {
+    match row.call() {
+        "put_text" => put_text(chunk, out, row.bytes(alloc, 0)?.as_slice()),
+        "put_string" => put_string(chunk, out, row.bytes(alloc, 0)?.as_slice()),
+        "put_char" => put_char(chunk, out, &row.number(0)?),
+        "put_number" => put_number(chunk, out, &row.number(0)?),
+        "put_count" => put_count(chunk, out, row.text(0)?.parse::<u64>()?),
+        "put_constant" => put_constant(chunk, out, &constant_of(alloc, row)?),
+        _ => put_listed(alloc, row, chunk, out)?,
+    }
+    Ok(())
+}
+
+fn put_listed(alloc: Global, row: &Row, chunk: &mut Chunk, out: &mut MemSink) -> Result<()> {
+    let names = names_of(alloc, row.text(0)?)?;
+    if row.call() == "put_enum" {
+        put_enum(chunk, out, names.as_slice(), &row.number(1)?);
+    } else {
+        put_set(chunk, out, names.as_slice(), row.text(1)?.parse::<u64>()?);
+    }
+    Ok(())
+}
+
+/// A constant: its kind, and what it is.
+fn constant_of(alloc: Global, row: &Row) -> Result<ConstValue> {
+    match row.text(0)? {
+        "number" => Ok(ConstValue::Num(row.number(1)?)),
+        "text" => {
+            let bytes = row.bytes(alloc, 1)?;
+            Ok(ConstValue::Text(Bytes::from_slice(alloc, bytes.as_slice())?))
+        }
+        "code" => {
+            let name = Bytes::from_slice(alloc, row.text(2)?.as_bytes())?;
+            let number = row.number(3)?;
+            Ok(ConstValue::Code(prim_of(row.text(1)?)?, Named { name, number }))
+        }
+        _ => bail!("no constant"),
+    }
+}
+
+fn one_put(alloc: Global, row: &Row) -> Result<String> {
+    let mut out = MemSink::new(alloc, ROOM, &[])?;
+    let mut chunk = Chunk::new();
+    put(alloc, row, &mut chunk, &mut out)?;
+    chunk.finish(&mut out)?;
+    spelled(alloc, out.bytes())
+}
+
+/// A number put behind so many bytes, of which the chunk gathers what it can.
+fn digits_behind(alloc: Global, many: usize, number: &str) -> Result<String> {
+    let before = vec![in alloc; b'x'; many]?;
+    let mut out = MemSink::new(alloc, ROOM, &[])?;
+    let mut chunk = Chunk::new();
+    chunk.put(&mut out, before.as_slice());
+    put_number(&mut chunk, &mut out, &number.parse::<i128>()?);
+    chunk.finish(&mut out)?;
+    match out.bytes().strip_prefix(before.as_slice()) {
+        Some(digits) => spelled(alloc, digits),
+        None => bail!("what was before is gone"),
+    }
+}
+
+/// Each of these numbers behind so many bytes, with a blank behind each.
+fn numbers_behind(alloc: Global, many: &str, numbers: &str) -> Result<String> {
+    let many = many.parse::<usize>()?;
+    let mut text = String::new(alloc);
+    for number in numbers.split(' ') {
+        text.push_str(digits_behind(alloc, many, number)?.as_str())?;
+        text.push_str(" ")?;
+    }
+    Ok(text)
+}
+
+/// The digits of a number, and those of it as a count, where it is none below zero.
+fn digits_of(alloc: Global, number: &str) -> Result<String> {
+    let mut out = MemSink::new(alloc, ROOM, &[])?;
+    let mut chunk = Chunk::new();
+    put_number(&mut chunk, &mut out, &number.parse::<i128>()?);
+    if let Ok(count) = number.parse::<u64>() {
+        chunk.put(&mut out, b"=");
+        put_count(&mut chunk, &mut out, count);
+    }
+    chunk.finish(&mut out)?;
+    spelled(alloc, out.bytes())
+}
+
+/// The digits of each of these numbers, with a blank behind each.
+fn all_digits(alloc: Global, numbers: &str) -> Result<String> {
+    let mut text = String::new(alloc);
+    for number in numbers.split(' ') {
+        text.push_str(digits_of(alloc, number)?.as_str())?;
+        text.push_str(" ")?;
+    }
+    Ok(text)
+}
+
+/// Two pieces of so many bytes and a bar between.
+fn pieces_put(alloc: Global, row: &Row) -> Result<String> {
+    let first = vec![in alloc; b'x'; row.size(0)?]?;
+    let second = vec![in alloc; b'y'; row.size(1)?]?;
+    let mut out = MemSink::new(alloc, ROOM, &[])?;
+    let mut chunk = Chunk::new();
+    chunk.put(&mut out, first.as_slice());
+    chunk.put(&mut out, b"|");
+    chunk.put(&mut out, second.as_slice());
+    chunk.finish(&mut out)?;
+    let wanted = [first.as_slice(), b"|", second.as_slice()].concat(alloc)?;
+    if out.bytes() == wanted.as_slice() {
+        return Ok(format!(in alloc; "whole")?);
+    }
+    bail!("the pieces differ")
+}
+
+/// Whether so many pieces of ten bytes were written.
+fn tens_put(out: &mut MemSink, many: usize) -> bool {
+    let mut chunk = Chunk::new();
+    for _ in 0..many {
+        chunk.put(out, b"0123456789");
+    }
+    chunk.finish(out).is_ok()
+}
+
+/// So many pieces of ten bytes over a sink of which one call fails: whether they were written, and whether what stands
+/// then is a front of what is written where none fails, and shorter.
+fn failing_put(alloc: Global, row: &Row) -> Result<String> {
+    let mut whole = MemSink::new(alloc, ROOM, &[])?;
+    let mut out = MemSink::new(alloc, ROOM, &[row.text(1)?.parse::<u64>()?])?;
+    let many = row.size(0)?;
+    if !tens_put(&mut whole, many) {
+        bail!("nothing may fail here");
+    }
+    let written = tens_put(&mut out, many);
+    let front = whole.bytes().starts_with(out.bytes());
+    let short = out.bytes().len() < whole.bytes().len();
+    Ok(format!(in alloc; "written {written}, front {front}, short {short}")?)
+}

@@ -1,6 +1,0 @@
-use Rattle.tree_json.proofs.RowsText.{text_kept}
-use Rattle.tree_json.proofs.by_table.put_row_text.Goals as goal
-
-pub returns-in-Leaf : goal.returns-in-Leaf
-returns-in-Leaf g c =
-    text_kept c.args.row.now.kind c.args.row.now.quick c.in-Leaf.leaf c.args.bytes.now c.requires.text c.in-Leaf.is c.put_text_in.ensures

@@ -1,7 +1,0 @@
-use Rattle.std.proofs.Common.{ap, ◌∙◌, length, eqb}
-use Rattle.tree_json.specs.Plain.{is_plain_byte}
-use Rattle.tree_json.proofs.Lanes.{whole_run}
-use Rattle.tree_json.proofs.texts.is_plain.Goals as goal
-
-pub returns : goal.returns
-returns c = ap (λ n. eqb n (length c.args.bytes.now)) c.plain_run.ensures ∙ whole_run is_plain_byte c.args.bytes.now

@@ -1,9 +1,0 @@
-use Rattle.std.proofs.Common.{rules, ℕ, ◌<◌, slice_index}
-use Rattle.tree_json.proofs.Written.{then_writes, retold}
-use Rattle.tree_json.proofs.Plainly.{hex_is}
-use Rattle.tree_json.proofs.texts.put_hex.Goals as goal
-
-pub returns : goal.returns
-returns g c =
-    let bytes : (i : ℕ) → slice_index c.args.bytes.now i < 256 = search rules in
-    retold (hex_is c.args.bytes.now bytes) (then_writes c.put.ensures (then_writes c.put_digits.ensures c.put-2.ensures))

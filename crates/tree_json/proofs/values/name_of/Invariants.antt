@@ -1,6 +1,0 @@
-use Rattle.std.proofs.Common.{◌≡◌, drop}
-use Rattle.tree_json.specs.Values.{name_of}
-use Rattle.tree_json.proofs.values.name_of.Given as goal
-
-abbrev pub invariant-loop-named : goal.invariant-loop-named
-invariant-loop-named l = name_of (drop l.named-index l.names) l.n ≡ name_of l.names l.n
