@@ -52,3 +52,24 @@ impl Calls {
         self.faults = self.faults.saturating_add(1);
     }
 }
+
+#[cfg(test)]
+mod tests {
+    use super::*;
+    use std::test::Fail;
+
+    #[test]
+    fn the_last_number_stays(rt: HostRuntime) -> Result<(), Fail> {
+        let mut calls = Calls {
+            failing: Vec::from_slice(rt.alloc(), &[u64::MAX])?,
+            made: u64::MAX - 2,
+            faults: u64::MAX,
+        };
+        for listed in [false, true, true] {
+            assert_eq!(rt; calls.count(), listed);
+        }
+        calls.fault();
+        assert_eq!(rt; calls.faults, u64::MAX);
+        Ok(())
+    }
+}

@@ -90,3 +90,31 @@ fn read_whole<R: Read>(reader: &mut R, limit: usize, into: &mut Vec<u8>) -> Resu
     }
     Err(LoadErr::TooLong)
 }
+
+#[cfg(test)]
+mod tests {
+    use super::*;
+    use std::io;
+
+    /// Gives one byte a read, and fails where none are left.
+    #[derive(Drop)]
+    struct Torn(u8);
+
+    impl Read for Torn {
+        fn read(&mut self, buf: &mut [u8]) -> io::Result<usize> {
+            if self.0 == 0 {
+                return Err(io::Error::from(io::ErrorKind::UnexpectedEof));
+            }
+            self.0 -= 1;
+            Ok(buf.len().min(1))
+        }
+    }
+
+    #[test]
+    fn a_read_that_fails_in_mid_stream_is_a_failure(rt: HostRuntime) {
+        for (limit, answer) in [(9, LoadErr::Failed), (2, LoadErr::TooLong)] {
+            let mut into = Vec::new(rt.alloc());
+            assert_eq!(rt; read_whole(&mut Torn(3), limit, &mut into), Err(answer));
+        }
+    }
+}
