@@ -1,0 +1,12 @@
+pub mod Finding
+pub mod Lists
+pub mod Placing
+pub mod Filling
+pub mod Judging
+pub mod Told
+pub mod Drafting
+pub mod Written
+pub mod Marks
+pub mod Roles
+pub mod Walking
+pub mod Whole

@@ -1,0 +1,8 @@
+use Rattle.std.proofs.Common.{refl}
+use Rattle.std.specs.Fmt.{digits}
+use Rattle.tagvalue_codec.specs.Reading.{walk, text_read}
+use Rattle.tagvalue_codec.proofs.worked.has_no_number.Goals as goal
+
+pub returns : goal.returns
+unfolding walk text_read digits
+returns c = refl

@@ -1,0 +1,32 @@
+//! What holds of all texts. Each law is the clause of a function without a body; no code runs here.
+ghost use Rattle.std.specs.Prelude.{◌≡◌, ℕ, List, [], ◌⊎◌, ◌++◌, ◌<◌, ◌≤◌, length};
+ghost use Rattle.tagvalue_codec.specs.declared.data_tags.Pair.{Pair};
+ghost use Rattle.tagvalue_codec.specs.declared.read.FixFault.{FixFault};
+ghost use Rattle.tagvalue_codec.specs.Fields.{Field, field_bytes};
+ghost use Rattle.tagvalue_codec.specs.Texts.{FixText, IsFirstFault, IsAt, Body, Free, most_between, text_over};
+
+/// A text has at most one list of fields.
+pub fn at_most_one_list()
+    ensures { (tags : List Pair) (text : List ℕ) (f g : List Field) → FixText tags f text → FixText tags g text → f ≡ g }
+{}
+
+/// Bytes have at most one first fault.
+pub fn at_most_one_fault()
+    ensures { (tags : List Pair) (text : List ℕ) (f g : FixFault) → IsFirstFault tags text f → IsFirstFault tags text g → f ≡ g }
+{}
+
+/// A text has no fault.
+pub fn no_fault_of_a_text()
+    ensures { (tags : List Pair) (text : List ℕ) (fields : List Field) (fault : FixFault) → FixText tags fields text → ¬ (IsFirstFault tags text fault) }
+{}
+
+/// Any bytes are a text of some fields, or have a first fault.
+pub fn fields_or_fault()
+    ensures { (tags : List Pair) (text : List ℕ) → ((fields : List Field) × FixText tags fields text) ⊎ ((fault : FixFault) × IsFirstFault tags text fault) }
+{}
+
+/// What a writer finishes over fields that may follow one another is a text of these fields.
+pub fn what_is_written_is_a_text()
+    ensures { (tags : List Pair) (begin : List ℕ) (kind : Field) (others : List Field) (rest : List ℕ) → IsAt 8 (record { tag = 8; value = begin }) → IsAt 35 kind → Body tags Free others rest → length others ≤ most_between →
+        length (field_bytes kind ++ rest) < 1000000000 → (fields : List Field) × FixText tags fields (text_over begin (field_bytes kind ++ rest)) }
+{}

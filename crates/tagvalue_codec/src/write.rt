@@ -1,0 +1,323 @@
+ghost use Rattle.std.specs.Prelude.{◌≡◌, ℕ, List, ◌≤◌, ◌<◌, ◌+◌, ◌++◌, ◌∷◌, [], length, false, decimal, IfOk, OnOk, OnErr, IfErr, min};
+ghost use Rattle.tagvalue_codec.specs.Fields.{IsTag, soh, field_bytes};
+ghost use Rattle.tagvalue_codec.specs.Drafts.{IsValue, IsReady, IsFull, idle, begun, done, finished, typed, field_of, ready_bytes, data_bytes};
+ghost use Rattle.tagvalue_codec.specs.Rooms.{head_bytes, text_from, needed_for, sum_of_bytes};
+ghost use Rattle.tagvalue_codec.specs.Texts.{is_locked, text_over};
+ghost use Rattle.tagvalue_codec.specs.declared.write.TheConstants.{MOST_AROUND, MOST_MORE};
+ghost use Rattle.tagvalue_codec.specs.declared.room.TheConstants.{TEXT_LIMIT};
+
+use crate::room::Room;
+use crate::scan::{SOH, sum_of};
+use itoa::Buffer;
+use lists::NoMem;
+use std::alloc::Global;
+use std::marker::Model;
+use thiserror::Error;
+
+/// No piece of a body has more bytes: a value of a slice's length, three numbers and what stands between them.
+const MOST_MORE: u64 = 9_223_372_036_854_775_900;
+
+/// No text has more bytes than its head, its body and these: 20 digits, SOH and the last field.
+const MOST_AROUND: u64 = 28;
+
+/// A field has no room in a text.
+#[derive(Clone, Copy, Debug, PartialEq, Eq, Drop, Error)]
+#[error("{needed} bytes are needed, and the limit is {limit}")]
+pub struct Full {
+    /// How many bytes the finished text has with the field, or `u64::MAX` where it has more than that.
+    pub needed: u64,
+    /// The most bytes that it may have.
+    pub limit: usize,
+}
+
+/// How far a text is.
+#[derive(Clone, Copy, Debug, PartialEq, Eq)]
+pub enum Phase {
+    /// None is begun.
+    Idle,
+    /// Fields are being appended.
+    Open,
+    /// It is finished.
+    Done,
+}
+
+/// Writes a text field by field.
+///
+/// All memory is taken by `new`. Each field is accepted only if the finished text, with its BodyLength and its
+/// CheckSum, stays within the limit.
+#[derive(Drop)]
+pub struct FixWriter {
+    phase: Phase,
+    /// How many bytes the value after `8=` has.
+    begin: usize,
+    /// `8=`, its value, SOH and `9=`; the whole text once it is finished.
+    text: Room,
+    body: Room,
+}
+
+impl Model for FixWriter {
+    ghost use Rattle.std.specs.Prelude.{◌≡◌};
+    ghost use Rattle.tagvalue_codec.specs.Drafts.{Draft};
+    ghost use Rattle.tagvalue_codec.specs.Rooms.{begin_in, Keeps};
+
+    ghost Value = { Draft };
+
+    ghost view = { λ w. record { phase = w.phase; begin = begin_in w.begin w.text.bytes; body = w.body.bytes; limit = w.text.limit } };
+
+    ghost invariant = { λ w. (w.body.limit ≡ w.text.limit) × Keeps w.phase (begin_in w.begin w.text.bytes) w.text.bytes w.body.bytes w.text.limit };
+}
+
+impl FixWriter {
+    /// Takes all memory for a text of at most `limit` bytes, which is at most 16,777,216.
+    ///
+    /// # Errors
+    ///
+    /// Out of memory.
+    pub fn new(alloc: Global, limit: usize) -> Result<FixWriter, NoMem>
+        requires { limit ≤ TEXT_LIMIT }
+        ensures { IfOk result (λ w. w ≡ idle limit) }
+    {
+        let text = Room::new(alloc, limit)?;
+        let body = Room::new(alloc, limit)?;
+        Ok(FixWriter {
+            phase: Phase::Idle,
+            begin: 0,
+            text,
+            body,
+        })
+    }
+
+    /// The finished text. It is empty before `finish`.
+    pub fn bytes(&self) -> &[u8]
+        ensures { result.now ≡ finished self.now }
+    {
+        match self.phase {
+            Phase::Done => self.text.bytes(),
+            Phase::Idle | Phase::Open => &[],
+        }
+    }
+
+    /// Begins a text afresh with BeginString (8) and MsgType (35). What was there is dropped.
+    ///
+    /// # Errors
+    ///
+    /// `Full` exactly where the finished text of these fields alone passes the limit. No text is begun then.
+    pub fn start(&mut self, begin: &[u8], msg_type: &[u8]) -> Result<(), Full>
+        requires begin { IsValue begin.now }
+        requires msg_type { IsValue msg_type.now }
+        ensures ok { OnOk result (self.new ≡ begun self.old.limit begin.now (field_bytes (typed msg_type.now))) }
+        ensures err { OnErr result (self.new ≡ idle self.old.limit) }
+        ensures fits { OnOk result (length (text_over begin.now (field_bytes (typed msg_type.now))) ≤ self.old.limit) }
+        ensures full { IfErr result (IsFull self.old.limit begin.now (field_bytes (typed msg_type.now))) }
+    {
+        self.phase = Phase::Idle;
+        self.begin = 0;
+        self.text.clear();
+        self.body.clear();
+        let head = begin.len() as u64 + 5;
+        let body = msg_type.len() as u64 + 4;
+        match self.judge(head, body) {
+            Ok(()) => {}
+            Err(full) => return Err(full),
+        }
+        self.begin = begin.len();
+        put_head(&mut self.text, begin);
+        self.body.append_ready(b"35=", msg_type);
+        self.phase = Phase::Open;
+        Ok(())
+    }
+
+    /// Appends a field.
+    ///
+    /// # Errors
+    ///
+    /// `Full` exactly where the text finished with this field passes the limit. The text stays as it was.
+    pub fn field(&mut self, tag: u32, value: &[u8]) -> Result<(), Full>
+        requires open { self.old.phase ≡ Phase.Open }
+        requires tag { IsTag tag }
+        requires unlocked { is_locked tag ≡ false }
+        requires value { IsValue value.now }
+        ensures ok { OnOk result (self.new ≡ begun self.old.limit self.old.begin (self.old.body ++ field_bytes (field_of tag value.now))) }
+        ensures err { OnErr result (self.new ≡ self.old) }
+        ensures fits { OnOk result (length (text_over self.old.begin (self.old.body ++ field_bytes (field_of tag value.now))) ≤ self.old.limit) }
+        ensures full { IfErr result (IsFull self.old.limit self.old.begin (self.old.body ++ field_bytes (field_of tag value.now))) }
+    {
+        let mut buffer = Buffer::new();
+        let digits = buffer.format(tag).as_bytes();
+        let more = digits.len() as u64 + value.len() as u64 + 2;
+        match self.admit(more) {
+            Ok(()) => {}
+            Err(full) => return Err(full),
+        }
+        self.body.append_field(digits, value);
+        Ok(())
+    }
+
+    /// Appends a field by the bytes of its tag with the `=`, as `55=`.
+    ///
+    /// # Errors
+    ///
+    /// `Full` exactly where the text finished with this field passes the limit. The text stays as it was.
+    #[inline(always)]
+    pub fn ready_field(&mut self, tag: &[u8], value: &[u8]) -> Result<(), Full>
+        requires open { self.old.phase ≡ Phase.Open }
+        requires tag { IsReady tag.now }
+        requires value { IsValue value.now }
+        ensures ok { OnOk result (self.new ≡ begun self.old.limit self.old.begin (self.old.body ++ ready_bytes tag.now value.now)) }
+        ensures err { OnErr result (self.new ≡ self.old) }
+        ensures fits { OnOk result (length (text_over self.old.begin (self.old.body ++ ready_bytes tag.now value.now)) ≤ self.old.limit) }
+        ensures full { IfErr result (IsFull self.old.limit self.old.begin (self.old.body ++ ready_bytes tag.now value.now)) }
+    {
+        let more = tag.len() as u64 + value.len() as u64 + 1;
+        match self.admit(more) {
+            Ok(()) => {}
+            Err(full) => return Err(full),
+        }
+        self.body.append_ready(tag, value);
+        Ok(())
+    }
+
+    /// Appends a length field and its data field, which count as one. SOH may stand in the value.
+    ///
+    /// # Errors
+    ///
+    /// `Full` exactly where the text finished with both passes the limit. The text stays as it was.
+    pub fn data_field(&mut self, length_tag: u32, tag: u32, value: &[u8]) -> Result<(), Full>
+        requires open { self.old.phase ≡ Phase.Open }
+        requires length_tag { IsTag length_tag }
+        requires tag { IsTag tag }
+        requires unlocked { is_locked length_tag ≡ false }
+        requires unlocked_data { is_locked tag ≡ false }
+        requires value { 0 < length value.now }
+        ensures ok { OnOk result (self.new ≡ begun self.old.limit self.old.begin (self.old.body ++ data_bytes length_tag tag value.now)) }
+        ensures err { OnErr result (self.new ≡ self.old) }
+        ensures fits { OnOk result (length (text_over self.old.begin (self.old.body ++ data_bytes length_tag tag value.now)) ≤ self.old.limit) }
+        ensures full { IfErr result (IsFull self.old.limit self.old.begin (self.old.body ++ data_bytes length_tag tag value.now)) }
+    {
+        let mut length_buffer = Buffer::new();
+        let length_digits = length_buffer.format(length_tag).as_bytes();
+        let mut count_buffer = Buffer::new();
+        let count = count_buffer.format(value.len()).as_bytes();
+        let mut buffer = Buffer::new();
+        let digits = buffer.format(tag).as_bytes();
+        let first = length_digits.len() as u64 + count.len() as u64 + 2;
+        let second = digits.len() as u64 + value.len() as u64 + 2;
+        match self.admit(first + second) {
+            Ok(()) => {}
+            Err(full) => return Err(full),
+        }
+        self.body.append_field(length_digits, count);
+        self.body.append_field(digits, value);
+        Ok(())
+    }
+
+    /// Puts BodyLength (9) before the body and CheckSum (10) after it. It is never refused: each field was accepted
+    /// with both counted.
+    pub fn finish(&mut self)
+        requires { self.old.phase ≡ Phase.Open }
+        ensures { self.new ≡ done self.old }
+    {
+        put_rest(&mut self.text, &self.body);
+        self.phase = Phase::Done;
+    }
+
+    /// Whether the text finished with so many more bytes in its body is within the limit.
+    #[inline(always)]
+    fn admit(&self, more: u64) -> Result<(), Full>
+        requires open { self.now.phase ≡ Phase.Open }
+        requires few { more ≤ MOST_MORE }
+        ensures room { OnOk result (length self.now.body + more ≤ self.now.limit) }
+        ensures ok { OnOk result ((piece : List ℕ) → length piece ≡ more → length (text_over self.now.begin (self.now.body ++ piece)) ≤ self.now.limit) }
+        ensures full { IfErr result (λ f. (piece : List ℕ) → length piece ≡ more → IsFull self.now.limit self.now.begin (self.now.body ++ piece) f) }
+    {
+        let head = self.text.len() as u64;
+        let body = self.body.len() as u64 + more;
+        if head + body + MOST_AROUND <= self.text.limit() as u64 {
+            return Ok(());
+        }
+        self.judge(head, body)
+    }
+
+    /// Whether a text with a head and a body of so many bytes is within the limit.
+    fn judge(&self, head: u64, body: u64) -> Result<(), Full>
+        ensures ok { OnOk result (needed_for head body ≤ self.now.limit) }
+        ensures full { IfErr result (λ f. (self.now.limit < needed_for head body) × (f.needed ≡ min (needed_for head body) 18446744073709551615) × (f.limit ≡ self.now.limit)) }
+    {
+        let needed = head
+            .saturating_add(body)
+            .saturating_add(digit_count(body) + 8);
+        let limit = self.text.limit();
+        if needed > limit as u64 {
+            return Err(Full { needed, limit });
+        }
+        Ok(())
+    }
+}
+
+/// How many digits a number has in decimal.
+#[inline(always)]
+fn digit_count(number: u64) -> u64
+    ensures is { result ≡ length (decimal number) }
+    ensures few { result ≤ 20 }
+{
+    if number < 10 {
+        return 1;
+    }
+    if number < 100 {
+        return 2;
+    }
+    if number < 1000 {
+        return 3;
+    }
+    long_digit_count(number)
+}
+
+/// The same by writing them.
+fn long_digit_count(number: u64) -> u64
+    ensures is { result ≡ length (decimal number) }
+    ensures few { result ≤ 20 }
+{
+    let mut buffer = Buffer::new();
+    buffer.format(number).len() as u64
+}
+
+/// Appends what stands before the number after `9=`.
+#[inline(always)]
+fn put_head(room: &mut Room, begin: &[u8])
+    requires { length room.old.bytes + length begin.now + 5 ≤ room.old.limit }
+    ensures bytes { room.new.bytes ≡ room.old.bytes ++ head_bytes begin.now }
+    ensures limit { room.new.limit ≡ room.old.limit }
+{
+    room.append_ready(b"8=", begin);
+    room.append(b"9=");
+}
+
+/// Appends what comes after `9=`: the number, the body and the last field.
+fn put_rest(text: &mut Room, body: &Room)
+    requires { length (text_from text.old.bytes body.now.bytes) ≤ text.old.limit }
+    ensures bytes { text.new.bytes ≡ text_from text.old.bytes body.now.bytes }
+    ensures limit { text.new.limit ≡ text.old.limit }
+{
+    let mut buffer = Buffer::new();
+    text.append(buffer.format(body.len()).as_bytes());
+    text.append(&[SOH]);
+    text.append(body.bytes());
+    let sum = sum_of(text.bytes());
+    text.append(&last_field(sum));
+}
+
+/// The bytes of the last field.
+#[inline(always)]
+fn last_field(sum: u8) -> [u8; 7]
+    ensures { result ≡ field_bytes (sum_of_bytes sum) }
+{
+    [
+        b'1',
+        b'0',
+        b'=',
+        b'0' + sum / 100,
+        b'0' + sum / 10 % 10,
+        b'0' + sum % 10,
+        SOH,
+    ]
+}
