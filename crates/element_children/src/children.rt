@@ -1,0 +1,85 @@
+ghost use Rattle.std.specs.Prelude.{◌≡◌, ℕ, List, [], Option};
+ghost use Rattle.serde_json.specs.Data.{Data};
+ghost use Rattle.serde_json.specs.View.{view, items_view};
+ghost use Rattle.json_elements.specs.Reading.{Reading, Gives, at_child};
+ghost use Rattle.json_elements.specs.Elements.{named};
+ghost use Rattle.element_children.specs.Children.{known_children, no_child};
+
+use json_elements::{Cause, ElementErr, at_child, lone_of, refuse};
+use lists::List;
+use serde_json::Value;
+use std::alloc::Global;
+
+/// The children that an element may have.
+pub trait Child {
+    type Out: Drop;
+
+    /// What is read of a child by those before it, its name and its value; nothing where the name
+    /// isn't known.
+    ghost child: { List Self.Out → List ℕ → Data → Reading (Option Self.Out) };
+
+    /// Reads a child, if its name is known.
+    fn read(
+        alloc: Global,
+        before: &[Self::Out],
+        name: &str,
+        element: &Value,
+    ) -> Result<Option<Self::Out>, ElementErr>
+        ensures { Gives result (child before.now name.now (view element.now)) };
+}
+
+/// No children: every name is passed over.
+pub enum NoChild {}
+
+impl Child for NoChild {
+    type Out = ();
+
+    ghost child = { no_child };
+
+    fn read(
+        alloc: Global,
+        before: &[()],
+        name: &str,
+        element: &Value,
+    ) -> Result<Option<()>, ElementErr> {
+        Ok(None)
+    }
+}
+
+/// The children of known names, in their order.
+pub fn read_children<C: Child>(alloc: Global, items: &[Value]) -> Result<List<C::Out>, ElementErr>
+    ensures { Gives result (known_children C.child [] 0 (items_view items.now)) }
+{
+    let mut children: List<C::Out> = List::new(alloc);
+    for (i, item) in items.iter().enumerate() {
+        if let Some(child) = child_at::<C>(alloc, children.as_slice(), i, item)? {
+            children.push(child)?;
+        }
+    }
+    Ok(children)
+}
+
+/// The child at a position, if its name is known.
+fn child_at<C: Child>(
+    alloc: Global,
+    before: &[C::Out],
+    i: usize,
+    item: &Value,
+) -> Result<Option<C::Out>, ElementErr>
+    ensures { Gives result (at_child i (named (C.child before.now) (view item.now))) }
+{
+    at_child(i, child_of::<C>(alloc, before, item))
+}
+
+fn child_of<C: Child>(
+    alloc: Global,
+    before: &[C::Out],
+    item: &Value,
+) -> Result<Option<C::Out>, ElementErr>
+    ensures { Gives result (named (C.child before.now) (view item.now)) }
+{
+    match lone_of(item) {
+        None => refuse(alloc, Cause::Shape),
+        Some((name, element)) => C::read(alloc, before, name, element),
+    }
+}

@@ -1,0 +1,5 @@
+pub mod Graphs
+pub mod Structures
+pub mod Expansion
+pub mod Learning
+pub mod Walking

@@ -1,0 +1,61 @@
+ghost use Rattle.std.specs.Prelude.{◌≡◌, ◌+◌, ◌<◌, nat_lt, ◌||◌};
+ghost use Rattle.reference_graph.specs.Learning.{extent_of, joined, with_count, is_over};
+
+/// The most places, fields and counts, that a structure may have.
+pub const PLACE_LIMIT: u32 = 4096;
+
+/// How deep groups may be nested.
+pub const DEPTH_LIMIT: u32 = 6;
+
+/// What is known of a structure. A number above its limit stands for all that is more.
+#[derive(Clone, Copy, Debug, PartialEq, Eq)]
+pub struct Extent {
+    /// How many places it has.
+    pub places: u32,
+    /// How deep its groups are nested.
+    pub depth: u32,
+}
+
+/// Of a structure without places.
+pub const EMPTY: Extent = Extent {
+    places: 0,
+    depth: 0,
+};
+
+/// Of a field.
+pub const ONE_FIELD: Extent = Extent {
+    places: 1,
+    depth: 0,
+};
+
+impl Extent {
+    /// Of one structure after another.
+    pub fn joined(self, other: Extent) -> Extent
+        ensures { result ≡ joined self other }
+    {
+        Extent {
+            places: self
+                .places
+                .saturating_add(other.places)
+                .min(PLACE_LIMIT + 1),
+            depth: self.depth.max(other.depth),
+        }
+    }
+
+    /// Of a group whose entries have this structure.
+    pub fn with_count(self) -> Extent
+        ensures { result ≡ with_count self }
+    {
+        Extent {
+            places: self.places.saturating_add(1).min(PLACE_LIMIT + 1),
+            depth: self.depth.saturating_add(1).min(DEPTH_LIMIT + 1),
+        }
+    }
+
+    /// Whether it is over a limit.
+    pub fn is_over(self) -> bool
+        ensures { result ≡ is_over self }
+    {
+        self.places > PLACE_LIMIT || self.depth > DEPTH_LIMIT
+    }
+}

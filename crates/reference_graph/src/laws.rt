@@ -1,0 +1,28 @@
+ghost use Rattle.std.specs.Prelude.{◌≡◌, ◌≤◌, ℕ, suc, List, Some, false, length, slice_get};
+ghost use Rattle.reference_graph.specs.declared.graph.Link.{Link};
+ghost use Rattle.reference_graph.specs.declared.graph.Link.TheVariants.{To};
+ghost use Rattle.reference_graph.specs.declared.graph.Node.{Node};
+ghost use Rattle.reference_graph.specs.Graphs.{folded, goes_on, is_endless};
+ghost use Rattle.reference_graph.specs.Structures.{tags_of, depth_of};
+ghost use Rattle.reference_graph.specs.Expansion.{places, structure_of, structure_tags, structure_depth};
+
+/// Where the chains after a node end, so do those that begin with a link to it: a chain of as many
+/// nodes as there are doesn't go on once more.
+pub fn a_link_to_what_ends_ends()
+    ensures { (graph : List Node) (i : ℕ) (node : Node) → slice_get graph i ≡ Some node → is_endless graph node.links ≡ false → goes_on (length graph) graph (To i) ≡ false }
+{}
+
+/// The tags of a structure are those of its places, in order.
+pub fn tags_are_those_of_the_structure()
+    ensures { (graph : List Node) (links : List Link) → structure_tags (structure_of graph links) ≡ tags_of graph links }
+{}
+
+/// The depth of a structure is that of its places.
+pub fn depth_is_that_of_the_structure()
+    ensures { (graph : List Node) (links : List Link) → structure_depth (structure_of graph links) ≡ depth_of graph links }
+{}
+
+/// Where chains of references end, more names change nothing.
+pub fn more_names_change_nothing()
+    ensures { (graph : List Node) (links : List Link) (n : ℕ) → is_endless graph links ≡ false → length graph ≤ n → folded places (suc n) graph links ≡ structure_of graph links }
+{}

@@ -1,0 +1,128 @@
+ghost use Rattle.std.specs.Prelude.{◌≡◌, ◌<◌, false, length, slice_get, Some, IfOk};
+ghost use Rattle.reference_graph.specs.Graphs.{links_at, is_endless};
+ghost use Rattle.reference_graph.specs.declared.graph.Node.{Node};
+ghost use Rattle.reference_graph.specs.Structures.{is_ambiguous, is_over_limit};
+
+use crate::extent::Extent;
+use crate::graph::Node;
+use crate::learning::{Extents, find_extents};
+use crate::walk::has_tag_twice;
+use lists::{List, NoMem};
+use std::alloc::Global;
+use std::marker::Model;
+
+/// Components, groups and messages, with what is known of the structure of each.
+#[derive(Drop)]
+pub struct Structures {
+    nodes: List<Node>,
+    extents: Extents,
+}
+
+impl Model for Structures {
+    ghost use Rattle.std.specs.Prelude.{List};
+    ghost use Rattle.std.specs.Coded.{codes};
+    ghost use Rattle.reference_graph.specs.declared.graph.Node.{Node};
+    ghost use Rattle.reference_graph.specs.contracts.graph.Node as node;
+    ghost use Rattle.reference_graph.specs.Learning.{HasExtents};
+
+    ghost Value = { List Node };
+
+    ghost coded = { Prim.hlevel (codes, node.the_row.coded) };
+
+    ghost view = { λ structures. structures.nodes };
+
+    ghost invariant = { λ structures. HasExtents structures.nodes structures.extents.items };
+}
+
+impl Structures {
+    /// What is put together of these nodes.
+    pub fn new(alloc: Global, nodes: List<Node>) -> Result<Structures, NoMem>
+        ensures { IfOk result (λ structures. structures ≡ nodes) }
+    {
+        let extents = find_extents(alloc, nodes.as_slice())?;
+        Ok(Structures { nodes, extents })
+    }
+
+    /// How many nodes there are.
+    pub fn len(&self) -> usize
+        ensures { result ≡ length self.now }
+    {
+        self.nodes.len()
+    }
+
+    /// Whether some chain of references from the node at a place comes to a node twice.
+    pub fn is_endless(&self, i: usize) -> bool
+        requires { i < length self.now }
+        ensures { (node : Node) → slice_get self.now i ≡ Some node → result ≡ is_endless self.now node.links }
+    {
+        self.extents[i].is_none()
+    }
+
+    /// Whether its structure is over a limit.
+    pub fn is_over_limit(&self, i: usize) -> bool
+        requires { i < length self.now }
+        ensures { (node : Node) → slice_get self.now i ≡ Some node → is_endless self.now node.links ≡ false → result ≡ is_over_limit self.now node }
+    {
+        match self.extents[i] {
+            None => false,
+            Some(extent) => extent.is_over(),
+        }
+    }
+
+    /// Whether a tag stands twice in its structure, counts included.
+    pub fn is_ambiguous(&self, alloc: Global, i: usize) -> Result<bool, NoMem>
+        requires within { i < length self.now }
+        requires ends { is_endless self.now (links_at self.now i) ≡ false }
+        ensures { IfOk result (λ twice. (node : Node) → slice_get self.now i ≡ Some node → twice ≡ is_ambiguous self.now node.links) }
+    {
+        let node = self.nodes.at(i);
+        has_tag_twice(
+            alloc,
+            self.nodes.as_slice(),
+            self.extents.as_slice(),
+            node.links.as_slice(),
+        )
+    }
+}
+
+#[cfg(test)]
+mod tests {
+    use super::*;
+    use crate::graph::Link;
+    use std::test::Fail;
+
+    /// So many components, each of which refers twice to the one before; the first has these links.
+    fn doubled(alloc: Global, many: usize, first: &[Link]) -> Result<List<Node>, NoMem> {
+        let mut nodes = List::new(alloc);
+        nodes.push(Node {
+            count: None,
+            links: List::from_slice(alloc, first)?,
+        })?;
+        for i in 0..many {
+            nodes.push(Node {
+                count: None,
+                links: List::from_slice(alloc, &[Link::To(i), Link::To(i)])?,
+            })?;
+        }
+        Ok(nodes)
+    }
+
+    #[test]
+    fn two_to_the_thousand_places_are_judged(rt: HostRuntime) -> Result<(), Fail> {
+        let nodes = doubled(rt.alloc(), 1000, &[Link::Field(55)])?;
+        let structures = Structures::new(rt.alloc(), nodes)?;
+        assert!(rt; structures.len() > 1000);
+        assert!(rt; !structures.is_endless(1000));
+        assert!(rt; structures.is_over_limit(1000));
+        Ok(())
+    }
+
+    #[test]
+    fn a_chain_that_comes_back_is_endless(rt: HostRuntime) -> Result<(), Fail> {
+        let nodes = doubled(rt.alloc(), 20, &[Link::Field(55), Link::To(20)])?;
+        let structures = Structures::new(rt.alloc(), nodes)?;
+        assert!(rt; structures.len() > 20);
+        assert!(rt; structures.is_endless(20));
+        Ok(())
+    }
+}
