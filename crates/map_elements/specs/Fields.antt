@@ -1,5 +1,5 @@
 -- Datatypes, code sets and fields.
-use Rattle.std.specs.Prelude.{ℕ, List, [], codes, Option, Some, None, Ok}
+use Rattle.std.specs.Prelude.{[], codes, Option, None, Ok}
 use Rattle.serde_json.specs.Data.{Data}
 use Rattle.json_elements.specs.Reading.{Reading, ◌>>=◌}
 use Rattle.json_elements.specs.Forms.{text}
@@ -17,6 +17,7 @@ use Rattle.map_elements.specs.References.{known}
 
 -- ---- datatype: name; no children
 
+-- A declared datatype.
 abbrev pub datatype_from : Data → Reading DatatypeEl
 datatype_from d = do
   children ← content d
@@ -35,6 +36,7 @@ datatype_child before name d = datatype_item (element_of name) d
 
 -- ---- code: name, value; no children
 
+-- A code.
 abbrev pub code_from : Data → Reading CodeEl
 code_from d = do
   children ← content d
@@ -54,6 +56,7 @@ code_child before name d = code_item (element_of name) d
 
 -- ---- codeSet: name, type; codes
 
+-- A code set.
 abbrev pub code_set_from : Data → Reading CodeSetEl
 code_set_from d = do
   children ← content d
@@ -73,6 +76,7 @@ code_set_child before name d = code_set_item (element_of name) d
 
 -- ---- field: id, name, type; lengthId, which may be missing; no children
 
+-- A field.
 abbrev pub field_from : Data → Reading FieldEl
 field_from d = do
   children ← content d

@@ -1,5 +1,5 @@
 -- Components and groups.
-use Rattle.std.specs.Prelude.{ℕ, Bool, true, false, not, List, [], ◌∷◌, codes, Option, Some, None, Ok}
+use Rattle.std.specs.Prelude.{Bool, true, false, not, List, [], ◌∷◌, codes, Option, Some, None, Ok}
 use Rattle.serde_json.specs.Data.{Data}
 use Rattle.json_elements.specs.declared.refusal.Cause.TheVariants.{Shape}
 use Rattle.json_elements.specs.Reading.{Reading, ◌>>=◌, refuse, inside}
@@ -18,6 +18,7 @@ use Rattle.map_elements.specs.References.{known, id_from, ref_child}
 
 -- ---- component: id, name; references
 
+-- A component.
 abbrev pub component_from : Data → Reading ComponentEl
 component_from d = do
   children ← content d

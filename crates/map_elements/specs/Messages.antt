@@ -1,5 +1,5 @@
 -- Messages: name, msgType; one structure or none, with references.
-use Rattle.std.specs.Prelude.{ℕ, List, [], ◌∷◌, codes, Option, Some, None, Ok}
+use Rattle.std.specs.Prelude.{List, [], ◌∷◌, codes, Option, Some, None, Ok}
 use Rattle.serde_json.specs.Data.{Data}
 use Rattle.json_elements.specs.declared.refusal.Cause.TheVariants.{Shape}
 use Rattle.json_elements.specs.Reading.{Reading, ◌>>=◌, refuse, inside}

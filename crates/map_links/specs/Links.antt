@@ -1,5 +1,5 @@
 -- What references lead to.
-use Rattle.std.specs.Prelude.{ℕ, ◌+◌, Bool, is_none, List, [], ◌∷◌, ◌++◌, map, length, filter_map, Option, Some, None, option_map, option_and_then}
+use Rattle.std.specs.Prelude.{ℕ, ◌+◌, Bool, is_none, List, [], ◌∷◌, ◌++◌, map, filter_map, Option, Some, None, option_map, option_and_then}
 use Rattle.std.specs.Borrow.{Bor}
 use Rattle.map_types.specs.Trees.{ref_in, Members}
 use Rattle.map_members.specs.Seen.{seen}
@@ -34,8 +34,12 @@ linked components groups messages = record { components = seen components; group
 
 -- the ids of these members, and the msgTypes
 abbrev pub ids_of : List FieldEl → Linked → Ids
-ids_of fields m =
-    record { fields = map (λ f. f.id) fields; components = map (λ c. c.id) m.components; groups = map (λ g. g.id) m.groups; msg_types = map (λ m. m.msg_type) m.messages }
+ids_of fields m = record {
+  fields = map (λ f. f.id) fields;
+  components = map (λ c. c.id) m.components;
+  groups = map (λ g. g.id) m.groups;
+  msg_types = map (λ m. m.msg_type) m.messages;
+}
 
 -- the id of a reference names nothing
 abbrev pub is_unknown : Ids → RefItem → Bool

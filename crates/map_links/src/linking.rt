@@ -1,4 +1,7 @@
-ghost use Rattle.std.specs.Prelude.{◌≡◌, ◌+◌, ◌^◌, ◌<◌, ◌++◌, length, map, filter_map, None, Some, IfOk, OnOk};
+ghost use Rattle.std.specs.Prelude.{◌≡◌, ℕ, ◌+◌, ◌^◌, ◌<◌, ◌++◌, length, map, filter_map, Option, None, Some, IfOk, OnOk};
+ghost use Rattle.reference_graph.specs.declared.graph.Link.{Link};
+ghost use Rattle.reference_graph.specs.declared.graph.Node.{Node};
+ghost use Rattle.map_links.specs.declared.ids.Ids.{Ids};
 ghost use Rattle.map_links.specs.Links.{link_of, item_link, component_node, group_node, message_node, count_of, structure_of, nodes_of, linked};
 ghost use Rattle.map_members.specs.Seen.{seen};
 
@@ -22,93 +25,70 @@ pub fn nodes_of(
 {
     let count = components.len();
     let mut nodes = List::new(alloc);
-    push_components(alloc, ids, count, components, &mut nodes)?;
-    push_groups(alloc, ids, count, groups, &mut nodes)?;
-    push_messages(alloc, ids, count, messages, &mut nodes)?;
+    push_nodes(alloc, ids, count, components, &mut nodes)?;
+    push_nodes(alloc, ids, count, groups, &mut nodes)?;
+    push_nodes(alloc, ids, count, messages, &mut nodes)?;
     Ok(nodes)
 }
 
-fn push_components(
+/// A member that refers to others.
+trait Linking {
+    /// Its node, where `count` components come before the groups.
+    ghost node: { ℕ → Ids → Self → Node };
+
+    fn node(&self, alloc: Global, ids: &Ids, count: usize) -> Result<Node, NoMem>
+        requires { count + length ids.now.groups < 2 ^ 64 }
+        ensures { IfOk result (λ node. node ≡ Self.node count ids.now self.now) };
+}
+
+impl Linking for ComponentEl {
+    ghost node = { component_node };
+
+    fn node(&self, alloc: Global, ids: &Ids, count: usize) -> Result<Node, NoMem> {
+        Ok(Node {
+            count: None,
+            links: links_of(alloc, ids, count, self.children.as_slice())?,
+        })
+    }
+}
+
+impl Linking for GroupEl {
+    ghost node = { group_node };
+
+    fn node(&self, alloc: Global, ids: &Ids, count: usize) -> Result<Node, NoMem> {
+        Ok(Node {
+            count: count_of(self.children.as_slice()),
+            links: links_of(alloc, ids, count, self.children.as_slice())?,
+        })
+    }
+}
+
+impl Linking for MessageEl {
+    ghost node = { message_node };
+
+    fn node(&self, alloc: Global, ids: &Ids, count: usize) -> Result<Node, NoMem> {
+        Ok(Node {
+            count: None,
+            links: links_of(alloc, ids, count, structure_of(self))?,
+        })
+    }
+}
+
+/// Appends the nodes of these members.
+fn push_nodes<M: Linking>(
     alloc: Global,
     ids: &Ids,
     count: usize,
-    components: &[&ComponentEl],
+    members: &[&M],
     nodes: &mut List<Node>,
 ) -> Result<(), NoMem>
     requires { count + length ids.now.groups < 2 ^ 64 }
-    ensures { OnOk result (nodes.new ≡ nodes.old ++ map (component_node count ids.now) (seen components.now)) }
+    ensures { OnOk result (nodes.new ≡ nodes.old ++ map (M.node count ids.now) (seen members.now)) }
 {
-    for component in components {
-        nodes.push(component_node(alloc, ids, count, component)?)?;
+    for member in members {
+        nodes.push(member.node(alloc, ids, count)?)?;
     }
     Ok(())
-}
-
-fn push_groups(
-    alloc: Global,
-    ids: &Ids,
-    count: usize,
-    groups: &[&GroupEl],
-    nodes: &mut List<Node>,
-) -> Result<(), NoMem>
-    requires { count + length ids.now.groups < 2 ^ 64 }
-    ensures { OnOk result (nodes.new ≡ nodes.old ++ map (group_node count ids.now) (seen groups.now)) }
-{
-    for group in groups {
-        nodes.push(group_node(alloc, ids, count, group)?)?;
-    }
-    Ok(())
-}
-
-fn push_messages(
-    alloc: Global,
-    ids: &Ids,
-    count: usize,
-    messages: &[&MessageEl],
-    nodes: &mut List<Node>,
-) -> Result<(), NoMem>
-    requires { count + length ids.now.groups < 2 ^ 64 }
-    ensures { OnOk result (nodes.new ≡ nodes.old ++ map (message_node count ids.now) (seen messages.now)) }
-{
-    for message in messages {
-        nodes.push(message_node(alloc, ids, count, message)?)?;
-    }
-    Ok(())
-}
-
-fn component_node(
-    alloc: Global,
-    ids: &Ids,
-    count: usize,
-    component: &ComponentEl,
-) -> Result<Node, NoMem>
-    requires { count + length ids.now.groups < 2 ^ 64 }
-    ensures { IfOk result (λ node. node ≡ component_node count ids.now component.now) }
-{
-    Ok(Node {
-        count: None,
-        links: links_of(alloc, ids, count, component.children.as_slice())?,
-    })
-}
-
-fn group_node(alloc: Global, ids: &Ids, count: usize, group: &GroupEl) -> Result<Node, NoMem>
-    requires { count + length ids.now.groups < 2 ^ 64 }
-    ensures { IfOk result (λ node. node ≡ group_node count ids.now group.now) }
-{
-    Ok(Node {
-        count: count_of(group.children.as_slice()),
-        links: item_links_of(alloc, ids, count, group.children.as_slice())?,
-    })
-}
-
-fn message_node(alloc: Global, ids: &Ids, count: usize, message: &MessageEl) -> Result<Node, NoMem>
-    requires { count + length ids.now.groups < 2 ^ 64 }
-    ensures { IfOk result (λ node. node ≡ message_node count ids.now message.now) }
-{
-    Ok(Node {
-        count: None,
-        links: links_of(alloc, ids, count, structure_of(message))?,
-    })
 }
 
 /// The references of a message, which has none where it has no structure.
@@ -131,48 +111,50 @@ pub fn count_of(children: &[GroupItem]) -> Option<u32>
     }
 }
 
-fn links_of(
+/// A reference, or a child of a group that may be one.
+trait Reference {
+    /// Where it leads, if its id is known.
+    ghost link: { ℕ → Ids → Self → Option Link };
+
+    fn link(&self, ids: &Ids, count: usize) -> Option<Link>
+        requires { count + length ids.now.groups < 2 ^ 64 }
+        ensures { result ≡ Self.link count ids.now self.now };
+}
+
+impl Reference for RefItem {
+    ghost link = { link_of };
+
+    fn link(&self, ids: &Ids, count: usize) -> Option<Link> {
+        ids.link(count, *self)
+    }
+}
+
+impl Reference for GroupItem {
+    ghost link = { item_link };
+
+    fn link(&self, ids: &Ids, count: usize) -> Option<Link> {
+        match self.reference() {
+            None => None,
+            Some(reference) => ids.link(count, reference),
+        }
+    }
+}
+
+/// Where these references lead. Those of unknown ids are left out.
+fn links_of<R: Reference>(
     alloc: Global,
     ids: &Ids,
     count: usize,
-    references: &[RefItem],
+    references: &[R],
 ) -> Result<List<Link>, NoMem>
     requires { count + length ids.now.groups < 2 ^ 64 }
-    ensures { IfOk result (λ links. links ≡ filter_map (link_of count ids.now) references.now) }
+    ensures { IfOk result (λ links. links ≡ filter_map (R.link count ids.now) references.now) }
 {
     let mut links = List::new(alloc);
     for reference in references {
-        if let Some(link) = ids.link(count, *reference) {
+        if let Some(link) = reference.link(ids, count) {
             links.push(link)?;
         }
     }
     Ok(links)
-}
-
-fn item_links_of(
-    alloc: Global,
-    ids: &Ids,
-    count: usize,
-    items: &[GroupItem],
-) -> Result<List<Link>, NoMem>
-    requires { count + length ids.now.groups < 2 ^ 64 }
-    ensures { IfOk result (λ links. links ≡ filter_map (item_link count ids.now) items.now) }
-{
-    let mut links = List::new(alloc);
-    for item in items {
-        if let Some(link) = item_link(ids, count, *item) {
-            links.push(link)?;
-        }
-    }
-    Ok(links)
-}
-
-fn item_link(ids: &Ids, count: usize, item: GroupItem) -> Option<Link>
-    requires { count + length ids.now.groups < 2 ^ 64 }
-    ensures { result ≡ item_link count ids.now item }
-{
-    match item.reference() {
-        None => None,
-        Some(reference) => ids.link(count, reference),
-    }
 }

@@ -1,5 +1,5 @@
--- What is told of members that are lent, told of the members.
-use Rattle.std.proofs.Common.{◌≡◌, ℕ, zero, suc, List, [], ◌∷◌, Option, Some, map, length, refl, ap, Bor}
+-- Facts of members that are lent are facts of the members.
+use Rattle.std.proofs.Common.{◌≡◌, ℕ, zero, suc, List, [], ◌∷◌, Some, map, length, refl, ap, Bor}
 use Rattle.std.specs.Prelude.{slice_get}
 use Rattle.std.proofs.lemmas.Option.{same_Some}
 use Rattle.map_members.specs.Seen.{seen}

@@ -1,5 +1,5 @@
 -- What the elements of a repository hold.
-use Rattle.std.specs.Prelude.{List, [], ◌∷◌, flat_map, Option, Some, None}
+use Rattle.std.specs.Prelude.{List, [], flat_map, Option, Some, None}
 use Rattle.map_types.specs.declared.tree.RefItem.{RefItem}
 use Rattle.map_types.specs.declared.tree.RefItem.TheVariants as item
 use Rattle.map_types.specs.declared.tree.GroupItem.{GroupItem}

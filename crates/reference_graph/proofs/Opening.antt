@@ -21,14 +21,14 @@ bare_in true ts deep h = cc
 bare_in false ts deep h = none_bare ts deep h
 
 module _ (graph : List Node) (i : ℕ) (ends : goes_on (length graph) graph (To i) ≡ false) where
-  behind : {X : Type 0} (R : Fold X) (node : Node) → slice_get graph i ≡ Some node → of_link R graph (folded R (length graph) graph) (To i) ≡ R.node node.count (fold R graph node.links)
-  behind R node at = sym (one_more R graph (length graph) (To i) ends) ∙ ap (of_node R (fold R graph)) at
+  unrolled : {X : Type 0} (R : Fold X) (node : Node) → slice_get graph i ≡ Some node → of_link R graph (folded R (length graph) graph) (To i) ≡ R.node node.count (fold R graph node.links)
+  unrolled R node at = sym (one_more R graph (length graph) (To i) ends) ∙ ap (of_node R (fold R graph)) at
 
   pub opens_node : (node : Node) → slice_get graph i ≡ Some node → Opens graph (To i) node.count node.links
   opens_node node at =
-      let e : of_link steps graph (folded steps (length graph) graph) (To i) ≡ fold steps graph node.links = behind steps node at in
+      let e : of_link steps graph (folded steps (length graph) graph) (To i) ≡ fold steps graph node.links = unrolled steps node at in
       record {
-        tags = behind tags node at;
+        tags = unrolled tags node at;
         ends = sym (ap (λ (o : Option Node). list_any (goes_on (length graph) graph) (links_in o)) at) ∙ ends_later (length graph) graph (To i) ends;
         steps = omega arith;
       }
@@ -42,4 +42,4 @@ module _ (graph : List Node) (i : ℕ) (ends : goes_on (length graph) graph (To 
   pub opens_bare : (table : List (Option Extent)) → HasExtents graph table → (node : Node) → slice_get graph i ≡ Some node → is_bare (looked_up table (To i)) ≡ true → Opens graph (To i) None []
   opens_bare table tells node at h =
       let is : is_bare (final_extent graph node) ≡ true = sym (ap (λ o. is_bare (entry_extent o)) (tells.looked_up i node at)) ∙ h in
-      bare (behind tags node at ∙ bare_in (is_endless graph node.links) (counted_tags node.count (tags_of graph node.links)) (counted_depth node.count (depth_of graph node.links)) is)
+      bare (unrolled tags node at ∙ bare_in (is_endless graph node.links) (counted_tags node.count (tags_of graph node.links)) (counted_depth node.count (depth_of graph node.links)) is)

@@ -19,7 +19,7 @@ turned s t h = grind (arith, nat_tests, h)
 turned_true : (s t : ℕ) → nat_eq t s ≡ true → nat_eq s t ≡ true
 turned_true s t h = grind (arith, nat_tests, h)
 
-neither : (p q : Bool) → (p || q) ≡ false → (p ≡ false) × (q ≡ false)
+pub neither : (p q : Bool) → (p || q) ≡ false → (p ≡ false) × (q ≡ false)
 neither true q h = cc
 neither false q h = (refl, h)
 
@@ -60,21 +60,21 @@ true_false h = cc
 -- ---- what is left
 
 module _ (graph : List Node) where
-  tags_pushed : (left : List (List Link)) (links : List Link) → tags_left graph (left ++ links ∷ []) ≡ tags_of graph links ++ tags_left graph left
+  pub tags_pushed : (left : List (List Link)) (links : List Link) → tags_left graph (left ++ links ∷ []) ≡ tags_of graph links ++ tags_left graph left
   tags_pushed [] links = sym (append-nil (tags_of graph links))
   tags_pushed (l ∷ left) links = ap (λ ts. ts ++ tags_of graph l) (tags_pushed left links) ∙ append_assoc (tags_of graph links) (tags_left graph left) (tags_of graph l)
 
-  steps_pushed : (left : List (List Link)) (links : List Link) → steps_left graph (left ++ links ∷ []) ≡ steps_left graph left + suc (fold steps graph links)
+  pub steps_pushed : (left : List (List Link)) (links : List Link) → steps_left graph (left ++ links ∷ []) ≡ steps_left graph left + suc (fold steps graph links)
   steps_pushed [] links = refl
   steps_pushed (l ∷ left) links = let e : steps_left graph (left ++ links ∷ []) ≡ steps_left graph left + suc (fold steps graph links) = steps_pushed left links in omega arith
 
-  ends_pushed : (left : List (List Link)) (links : List Link) → list_any (is_endless graph) left ≡ false → is_endless graph links ≡ false → list_any (is_endless graph) (left ++ links ∷ []) ≡ false
+  pub ends_pushed : (left : List (List Link)) (links : List Link) → list_any (is_endless graph) left ≡ false → is_endless graph links ≡ false → list_any (is_endless graph) (left ++ links ∷ []) ≡ false
   ends_pushed [] links h g = ap (λ b. b || false) g
   ends_pushed (l ∷ left) links h g =
       let both = neither (is_endless graph l) (list_any (is_endless graph) left) h in
       ap (λ b. b || list_any (is_endless graph) (left ++ links ∷ [])) both.0 ∙ ends_pushed left links both.1 g
 
-  ends_below : (left : List (List Link)) (links : List Link) → list_any (is_endless graph) (left ++ links ∷ []) ≡ false → (list_any (is_endless graph) left ≡ false) × (is_endless graph links ≡ false)
+  pub ends_below : (left : List (List Link)) (links : List Link) → list_any (is_endless graph) (left ++ links ∷ []) ≡ false → (list_any (is_endless graph) left ≡ false) × (is_endless graph links ≡ false)
   ends_below [] links h = (refl, (neither (is_endless graph links) false h).0)
   ends_below (l ∷ left) links h =
       let both = neither (is_endless graph l) (list_any (is_endless graph) (left ++ links ∷ [])) h in
@@ -158,7 +158,7 @@ module _ (graph : List Node) where
       met (Some t) now true same there put = cc
       met (Some t) now false same there put =
           ap has_twice (split ∙ ap (λ (o : Option ℕ). seen ++ (counted_tags o (tags_of graph inner) ++ (tags_of graph rest ++ tags_left graph below))) (sym same))
-          ∙ met_again t seen (tags_of graph inner ++ (tags_of graph rest ++ tags_left graph below)) put
+          ∙ met_again t seen (tags_of graph inner ++ (tags_of graph rest ++ tags_left graph below)) put.0
 
 -- ---- slices that are left
 

@@ -1,5 +1,5 @@
 -- Nodes that refer to one another: what is folded over the parts of a structure, and chains of references.
-use Rattle.std.specs.Prelude.{ℕ, zero, suc, Bool, false, List, [], ◌∷◌, length, is_some, Option, Some, None, slice_get}
+use Rattle.std.specs.Prelude.{◌≡◌, ℕ, zero, suc, Bool, false, List, [], ◌∷◌, length, is_some, Option, Some, None, slice_get}
 use Rattle.std.specs.List.{list_any}
 use Rattle.reference_graph.specs.declared.graph.Link.{Link}
 use Rattle.reference_graph.specs.declared.graph.Link.TheVariants.{Field, To}
@@ -68,3 +68,11 @@ goes_on (suc n) graph link = list_any (goes_on n graph) (links_after graph link)
 -- a chain of more nodes than there are has one of them twice
 abbrev pub is_endless : List Node → List Link → Bool
 is_endless graph links = list_any (goes_on (length graph) graph) links
+
+-- Chains of references from these links end.
+abbrev pub Ends : List Node → List Link → Type 0
+Ends graph links = is_endless graph links ≡ false
+
+-- Chains of references that begin with this link end.
+abbrev pub LinkEnds : List Node → Link → Type 0
+LinkEnds graph link = goes_on (length graph) graph link ≡ false

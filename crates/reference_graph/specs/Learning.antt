@@ -12,6 +12,7 @@ use Rattle.reference_graph.specs.Structures.{tags, depth, counted_tags, counted_
 abbrev pub extent_of : ℕ → ℕ → Extent
 extent_of places deep = record { places = min places (PLACE_LIMIT + 1); depth = min deep (DEPTH_LIMIT + 1) }
 
+-- The extent of no places.
 abbrev pub empty : Extent
 empty = EMPTY
 
@@ -57,7 +58,9 @@ node_extent table node = option_map (counted_extent node.count) (links_extent ta
 
 -- What was learned of the node at a place.
 abbrev pub Learned : List Node → ℕ → List (Option Extent) → List (Option Extent) → Bool → Type 0
-Learned graph i old new true = (extent : Extent) × (node : Node) × (slice_get old i ≡ Some None) × (slice_get graph i ≡ Some node) × (node_extent old node ≡ Some extent) × (new ≡ set old i (Some extent))
+Learned graph i old new true =
+    (extent : Extent) × (node : Node) × (slice_get old i ≡ Some None) × (slice_get graph i ≡ Some node)
+    × (node_extent old node ≡ Some extent) × (new ≡ set old i (Some extent))
 Learned graph i old new false = (new ≡ old) × ((node : Node) → slice_get graph i ≡ Some node → slice_get old i ≡ Some None → node_extent old node ≡ None)
 
 -- nothing is to be learned of the first so many nodes
@@ -70,7 +73,7 @@ known [] = 0
 known (None ∷ fs) = known fs
 known (Some extent ∷ fs) = suc (known fs)
 
--- a extent is that of a link from which no chain has more than k nodes
+-- an extent is that of a link from which no chain has more than k nodes
 pub record IsSettled (k : ℕ) (graph : List Node) (link : Link) (extent : Extent) : Type 0 where
   pub ends : goes_on k graph link ≡ false
   pub places : extent.places ≡ min (length (of_link tags graph (folded tags k graph) link)) (PLACE_LIMIT + 1)

@@ -36,7 +36,7 @@ pub record Opens (graph : List Node) (link : Link) (tag : Option ℕ) (inner : L
 abbrev pub Inserts : List ℕ → Option ℕ → List ℕ → Bool → Type 0
 Inserts old None now new = (new ≡ true) × (now ≡ old)
 Inserts old (Some tag) now true = (list_any (nat_eq tag) old ≡ false) × (now ≡ old ++ tag ∷ [])
-Inserts old (Some tag) now false = list_any (nat_eq tag) old ≡ true
+Inserts old (Some tag) now false = (list_any (nat_eq tag) old ≡ true) × (now ≡ old)
 
 -- the tags that were seen are different, those that are left follow, and chains of what is left end
 pub record Goes (graph : List Node) (all : List ℕ) (seen : List ℕ) (left : List (List Link)) : Type 0 where

@@ -7,7 +7,7 @@ pub const PLACE_LIMIT: u32 = 4096;
 /// How deep groups may be nested.
 pub const DEPTH_LIMIT: u32 = 6;
 
-/// What is known of a structure. A number above its limit stands for all that is more.
+/// What is known of a structure. A number above its limit means that number or more.
 #[derive(Clone, Copy, Debug, PartialEq, Eq)]
 pub struct Extent {
     /// How many places it has.

@@ -1,15 +1,15 @@
-ghost use Rattle.std.specs.Prelude.{◌≡◌, ◌≤◌, ℕ, suc, List, Some, false, length, slice_get};
+ghost use Rattle.std.specs.Prelude.{◌≡◌, ◌≤◌, ℕ, suc, List, Some, length, slice_get};
 ghost use Rattle.reference_graph.specs.declared.graph.Link.{Link};
 ghost use Rattle.reference_graph.specs.declared.graph.Link.TheVariants.{To};
 ghost use Rattle.reference_graph.specs.declared.graph.Node.{Node};
-ghost use Rattle.reference_graph.specs.Graphs.{folded, goes_on, is_endless};
+ghost use Rattle.reference_graph.specs.Graphs.{folded, Ends, LinkEnds};
 ghost use Rattle.reference_graph.specs.Structures.{tags_of, depth_of};
 ghost use Rattle.reference_graph.specs.Expansion.{places, structure_of, structure_tags, structure_depth};
 
 /// Where the chains after a node end, so do those that begin with a link to it: a chain of as many
 /// nodes as there are doesn't go on once more.
 pub fn a_link_to_what_ends_ends()
-    ensures { (graph : List Node) (i : ℕ) (node : Node) → slice_get graph i ≡ Some node → is_endless graph node.links ≡ false → goes_on (length graph) graph (To i) ≡ false }
+    ensures { (graph : List Node) (i : ℕ) (node : Node) → slice_get graph i ≡ Some node → Ends graph node.links → LinkEnds graph (To i) }
 {}
 
 /// The tags of a structure are those of its places, in order.
@@ -24,5 +24,5 @@ pub fn depth_is_that_of_the_structure()
 
 /// Where chains of references end, more names change nothing.
 pub fn more_names_change_nothing()
-    ensures { (graph : List Node) (links : List Link) (n : ℕ) → is_endless graph links ≡ false → length graph ≤ n → folded places (suc n) graph links ≡ structure_of graph links }
+    ensures { (graph : List Node) (links : List Link) (n : ℕ) → Ends graph links → length graph ≤ n → folded places (suc n) graph links ≡ structure_of graph links }
 {}

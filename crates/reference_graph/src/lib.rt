@@ -19,3 +19,4 @@ pub use laws::{
     tags_are_those_of_the_structure,
 };
 pub use structures::Structures;
+pub use tag_set::TagSet;

@@ -5,15 +5,15 @@ use std::alloc::Global;
 /// A step of the walk over all nodes.
 #[derive(Clone, Copy, Debug, PartialEq, Eq)]
 enum Visit {
-    /// A node is come to.
+    /// A node is visited.
     Enter(usize),
-    /// All that it refers to was come to.
+    /// All nodes that it refers to were visited.
     Leave(usize),
 }
 
-/// The nodes in an order in which each comes after those that it refers to, where references end.
-/// Whoever learns of them in this order needs one round. No contract speaks of the order: what is
-/// learned in the end doesn't depend on it, only the time does.
+/// The nodes in an order in which each comes after those that it refers to, if references end. In this
+/// order one round of learning is enough. No contract speaks of the order: it decides the time, and
+/// not what is learned.
 pub fn references_first(alloc: Global, nodes: &[Node]) -> Result<Vec<usize>, NoMem> {
     let mut order = Vec::new(alloc);
     let mut entered = vec![in alloc; false; nodes.len()]?;
@@ -28,7 +28,7 @@ pub fn references_first(alloc: Global, nodes: &[Node]) -> Result<Vec<usize>, NoM
     Ok(order)
 }
 
-/// Each node is to be come to.
+/// Each node is to be visited.
 fn first_visits(alloc: Global, nodes: &[Node]) -> Result<Vec<Visit>, NoMem> {
     let mut visits = Vec::new(alloc);
     for i in 0..nodes.len() {
@@ -37,8 +37,7 @@ fn first_visits(alloc: Global, nodes: &[Node]) -> Result<Vec<Visit>, NoMem> {
     Ok(visits)
 }
 
-/// A number of visits that is never passed: each node is come to at first and for each link to it, and
-/// left once.
+/// An upper bound of the visits: one for each node and one for each link to it, and one to leave each.
 fn most_visits(nodes: &[Node]) -> usize {
     let mut most = nodes.len().saturating_add(nodes.len());
     for node in nodes {
@@ -47,7 +46,7 @@ fn most_visits(nodes: &[Node]) -> usize {
     most
 }
 
-/// Comes to a node, unless it was come to before: what it refers to is next, and then it is left.
+/// Visits a node, unless it was visited before: what it refers to is next, and then it is left.
 fn enter(
     nodes: &[Node],
     i: usize,

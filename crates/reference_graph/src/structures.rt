@@ -1,5 +1,5 @@
-ghost use Rattle.std.specs.Prelude.{◌≡◌, ◌<◌, false, length, slice_get, Some, IfOk};
-ghost use Rattle.reference_graph.specs.Graphs.{links_at, is_endless};
+ghost use Rattle.std.specs.Prelude.{◌≡◌, ◌<◌, length, slice_get, Some, IfOk};
+ghost use Rattle.reference_graph.specs.Graphs.{links_at, is_endless, Ends};
 ghost use Rattle.reference_graph.specs.declared.graph.Node.{Node};
 ghost use Rattle.reference_graph.specs.Structures.{is_ambiguous, is_over_limit};
 
@@ -61,7 +61,7 @@ impl Structures {
     /// Whether its structure is over a limit.
     pub fn is_over_limit(&self, i: usize) -> bool
         requires { i < length self.now }
-        ensures { (node : Node) → slice_get self.now i ≡ Some node → is_endless self.now node.links ≡ false → result ≡ is_over_limit self.now node }
+        ensures { (node : Node) → slice_get self.now i ≡ Some node → Ends self.now node.links → result ≡ is_over_limit self.now node }
     {
         match self.extents[i] {
             None => false,
@@ -72,7 +72,7 @@ impl Structures {
     /// Whether a tag stands twice in its structure, counts included.
     pub fn is_ambiguous(&self, alloc: Global, i: usize) -> Result<bool, NoMem>
         requires within { i < length self.now }
-        requires ends { is_endless self.now (links_at self.now i) ≡ false }
+        requires ends { Ends self.now (links_at self.now i) }
         ensures { IfOk result (λ twice. (node : Node) → slice_get self.now i ≡ Some node → twice ≡ is_ambiguous self.now node.links) }
     {
         let node = self.nodes.at(i);

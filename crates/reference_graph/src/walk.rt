@@ -1,5 +1,5 @@
-ghost use Rattle.std.specs.Prelude.{◌≡◌, false, IfOk, length};
-ghost use Rattle.reference_graph.specs.Graphs.{goes_on, is_endless};
+ghost use Rattle.std.specs.Prelude.{◌≡◌, IfOk};
+ghost use Rattle.reference_graph.specs.Graphs.{Ends, LinkEnds};
 ghost use Rattle.reference_graph.specs.Structures.{is_ambiguous};
 ghost use Rattle.reference_graph.specs.Learning.{looked_up, HasExtents};
 ghost use Rattle.reference_graph.specs.Walking.{is_bare, Opens};
@@ -19,7 +19,7 @@ pub fn has_tag_twice(
     links: &[Link],
 ) -> Result<bool, NoMem>
     requires looked_up { HasExtents nodes.now extents.now }
-    requires ends { is_endless nodes.now links.now ≡ false }
+    requires ends { Ends nodes.now links.now }
     ensures { IfOk result (λ twice. twice ≡ is_ambiguous nodes.now links.now) }
 {
     let mut seen = TagSet::new(alloc);
@@ -45,7 +45,7 @@ fn opened<'a>(
     link: Link,
 ) -> (Option<u32>, &'a [Link])
     requires looked_up { HasExtents nodes.now extents.now }
-    requires ends { goes_on (length nodes.now) nodes.now link ≡ false }
+    requires ends { LinkEnds nodes.now link }
     ensures { Opens nodes.now link result.0 result.1.now }
 {
     match link {

@@ -1,0 +1,76 @@
+//! Mapping files that are made for a row.
+
+use anyhow::{Result, bail};
+use row_tables::Row;
+use std::alloc::Global;
+
+/// A text with the row's first old text, which is there once, replaced by its new one.
+pub fn changed(alloc: Global, text: &str, row: &Row) -> Result<String> {
+    let old = row.text(0)?;
+    let Some((front, back)) = text.split_once(old) else {
+        bail!("the old text isn't there");
+    };
+    if back.contains(old) {
+        bail!("the old text is there more than once");
+    }
+    let mut made = String::from_str(alloc, front)?;
+    made.push_str(row.text(1)?)?;
+    made.push_str(back)?;
+    Ok(made)
+}
+
+/// A message of so many fields.
+pub fn of_fields(alloc: Global, many: usize) -> Result<String> {
+    let mut text = String::from_str(
+        alloc,
+        "{\"repository\":{\"content\":[{\"fields\":{\"content\":[",
+    )?;
+    for i in 0..many {
+        text.push_str(comma(i))?;
+        let field = format!(in alloc;
+            "{{\"field\":{{\"id\":{},\"name\":\"\",\"type\":\"int\"}}}}",
+            i.saturating_add(1)
+        )?;
+        text.push_str(field.as_str())?;
+    }
+    text.push_str(
+        "]}},{\"messages\":{\"content\":[{\"message\":{\"name\":\"m\",\"msgType\":\"m\",\"content\":[{\"structure\":{\"content\":[",
+    )?;
+    for i in 0..many {
+        text.push_str(comma(i))?;
+        let reference = format!(in alloc; "{{\"fieldRef\":{{\"id\":{}}}}}", i.saturating_add(1))?;
+        text.push_str(reference.as_str())?;
+    }
+    text.push_str("]}}]}}]}}]}}")?;
+    Ok(text)
+}
+
+/// Components of which each refers twice to the one before it, and a message that refers to the last.
+pub fn of_doubled(alloc: Global, many: usize) -> Result<String> {
+    let mut text = String::from_str(
+        alloc,
+        "{\"repository\":{\"content\":[{\"fields\":{\"content\":[{\"field\":{\"id\":1,\"name\":\"\",\"type\":\"int\"}}]}},{\"components\":{\"content\":[{\"component\":{\"id\":1,\"name\":\"\",\"content\":[{\"fieldRef\":{\"id\":1}}]}}",
+    )?;
+    for i in 0..many {
+        let below = i.saturating_add(1);
+        let component = format!(in alloc;
+            ",{{\"component\":{{\"id\":{},\"name\":\"\",\"content\":[{{\"componentRef\":{{\"id\":{below}}}}},{{\"componentRef\":{{\"id\":{below}}}}}]}}}}",
+            below.saturating_add(1)
+        )?;
+        text.push_str(component.as_str())?;
+    }
+    let message = format!(in alloc;
+        "]}}}},{{\"messages\":{{\"content\":[{{\"message\":{{\"name\":\"m\",\"msgType\":\"m\",\"content\":[{{\"structure\":{{\"content\":[{{\"componentRef\":{{\"id\":{}}}}}]}}}}]}}}}]}}}}]}}}}",
+        many.saturating_add(1)
+    )?;
+    text.push_str(message.as_str())?;
+    Ok(text)
+}
+
+/// What comes before an item of a list.
+fn comma(i: usize) -> &'static str {
+    if i == 0 {
+        return "";
+    }
+    ","
+}

@@ -1,0 +1,17 @@
+//! The rules that the members of a mapping keep among one another: names and ids that stand twice,
+//! references to nothing, references without end, tags at two places, wrong datatypes, and limits.
+#![tactic(auto)]
+
+mod code_sets;
+mod datatypes;
+mod fields;
+mod laws;
+mod references;
+mod rule;
+mod tables;
+mod verdict;
+
+pub use datatypes::is_standard;
+pub use laws::{the_first_broken_rule_is_told, verdicts_are_first_broken_rules};
+pub use rule::{Rule, first_broken};
+pub use verdict::judge;

@@ -1,0 +1,7 @@
+use Rattle.std.proofs.Common.{◌≡◌, ◌++◌, drop}
+use Rattle.map_members.specs.Seen.{seen}
+use Rattle.orchestra_map.specs.Headers.{header_places, header_links}
+use Rattle.orchestra_map.proofs.headers.header_links.Given as goal
+
+abbrev pub invariant-loop-i : goal.invariant-loop-i
+invariant-loop-i l = l.links ++ header_places l.i (seen (drop l.i l.components)) ≡ header_links (seen l.components)

@@ -1,0 +1,47 @@
+-- The mapping of a file.
+use Rattle.std.specs.Prelude.{◌≡◌, ℕ, List, Result, Ok, Err, ⊤}
+use Rattle.json_elements.specs.declared.refusal.Cause.{Cause}
+use Rattle.json_elements.specs.declared.refusal.Cause.TheVariants as cause
+use Rattle.json_elements.specs.Reading.{Reading}
+use Rattle.map_types.specs.declared.codes.MCode.{MCode}
+use Rattle.map_types.specs.declared.codes.MCode.TheVariants as code
+use Rattle.map_types.specs.declared.codes.MapErr.{MapErr}
+use Rattle.map_types.specs.declared.codes.MapErr.TheVariants.{Refused, Memory}
+use Rattle.map_types.specs.declared.tree.Repository.{Repository}
+use Rattle.map_types.specs.Trees.{members_of}
+use Rattle.map_elements.specs.Repositories.{repository_of}
+use Rattle.map_rules.specs.Verdicts.{Refusal, Verdict}
+use Rattle.map_rules.specs.Rules.{verdict}
+
+-- The code of what is wrong with an element, an attribute or the file.
+abbrev pub code_of : Cause → MCode
+code_of cause.Xml = code.Xml
+code_of cause.NotJson = code.NotJson
+code_of cause.Shape = code.Shape
+code_of cause.Missing = code.BadAttribute
+code_of cause.BadAttribute = code.BadAttribute
+code_of cause.Limit = code.Limit
+
+-- A mapping, or its first refusal.
+abbrev pub Mapping : Type 0
+Mapping = Result Repository Refusal
+
+-- a repository whose members keep their rules
+abbrev pub kept : Repository → Verdict → Mapping
+kept repository (Ok x) = Ok repository
+kept repository (Err e) = Err e
+
+-- of what was read: first its elements, then the rules of its members
+abbrev pub judged : Reading Repository → Mapping
+judged (Ok repository) = kept repository (verdict (members_of repository))
+judged (Err e) = Err (record { code = code_of e.cause; path = e.path })
+
+-- the mapping of a file, or the first refusal
+abbrev pub map_of : List ℕ → Mapping
+map_of bytes = judged (repository_of bytes)
+
+-- what was answered is the mapping, unless memory ran out
+abbrev pub Answers : Result Repository MapErr → Mapping → Type 0
+Answers (Ok repository) mapping = mapping ≡ Ok repository
+Answers (Err Memory) mapping = ⊤
+Answers (Err (Refused code path)) mapping = mapping ≡ Err (record { code = code; path = path })
