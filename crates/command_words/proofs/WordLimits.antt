@@ -3,8 +3,8 @@ use Rattle.std.proofs.Common.{◌≡◌, ◌≤◌, ◌^◌, ℕ, Bool, true, fa
 use Rattle.std.proofs.lemmas.Bool.{leb-true}
 use Rattle.std.specs.Str.Parse.{digits_value}
 use Rattle.sbe_base.specs.declared.status.Limits.{Limits}
-use Rattle.command_words.specs.declared.words.options.NumberRange.{NumberRange}
-use Rattle.command_words.specs.declared.words.options.TheConstants.{FRAME_RANGE, INPUT_RANGE, MAX_FRAME, MAX_INPUT}
+use Rattle.command_words.specs.declared.options.NumberRange.{NumberRange}
+use Rattle.command_words.specs.declared.options.TheConstants.{FRAME_RANGE, INPUT_RANGE, MAX_FRAME, MAX_INPUT}
 use Rattle.command_words.specs.Words.{is_number, limits_from, limits_of, number_by, number_given, number_within, values_of}
 
 abbrev InRange : NumberRange → ℕ → Type 0

@@ -1,5 +1,5 @@
 -- Words by one, and by two.
-use Rattle.std.proofs.Common.{◌≡◌, ◌≤◌, ◌<◌, ◌-◌, ◌==◌, Bool, true, false, not, ◌&&◌, ◌||◌, ℕ, ◌+◌, cond, Some, find, add-one, drop-cons, List, [], ◌∷◌, length, get_or, map, take, drop, refl, sym, ap, ◌∙◌, subst, arith, Bor}
+use Rattle.std.proofs.Common.{◌≡◌, ◌≤◌, ◌<◌, ◌-◌, ◌==◌, Bool, true, false, not, ◌&&◌, ◌||◌, ℕ, ◌+◌, cond, Some, None, find, add-one, drop-cons, List, [], ◌∷◌, length, get_or, map, take, drop, refl, sym, ap, ◌∙◌, subst, arith, if◌then◌else◌, Bor}
 use Rattle.std.proofs.lemmas.Bool.{le-leb}
 use Rattle.std.proofs.lemmas.List.{length-map, take_rest, take-map}
 use Rattle.std.specs.List.{drop-map, list_all, list_any}
@@ -8,7 +8,8 @@ use Rattle.std.proofs.Math.Dec.{leb}
 use Rattle.std.specs.Prelude.{String, string_bytes}
 use Rattle.std.specs.declared.alloc.Global.{Global}
 use Rattle.std.specs.Str.{bytes_eq}
-use Rattle.command_words.specs.Words.{FormRow, are_options, fits, is_file_name}
+use Rattle.command_words.specs.Words.{FormRow, are_options, command_from, fits, is_file_name, limits_of, names_given, said_by}
+use Rattle.command_words.specs.declared.options.TheConstants.{ALSO, MOST_ALSO}
 
 abbrev pub texts : List (String Global) → List (List ℕ)
 texts words = map (λ word. string_bytes word) words
@@ -92,3 +93,20 @@ pub find_on : {X : Type 0} (p : X → Bool) (xs : List X) (i : ℕ) (x : X) → 
 find_on p xs i x h fails =
     let front : drop i xs ≡ get_or xs i x ∷ drop (i + 1) xs = rw add-one (drop-cons xs i x h) in
     sym (ap (find p) front ∙ ap (λ t. cond t (Some (get_or xs i x)) (find p (drop (i + 1) xs))) fails)
+
+-- what is said by words of a row that are enough
+pub said_so : (row : FormRow) (words : List (String Global)) → 1 ≤ length words → row.files ≤ length (behind_one words) →
+    said_by row (texts words) ≡ command_from row.form (texts (take row.files (behind_one words)))
+    (limits_of (texts (behind_files row.files words))) (names_given ALSO.now MOST_ALSO (texts (behind_files row.files words)))
+said_so row [] one enough = absurd (omega arith)
+said_so row (a ∷ more) one enough =
+    let behind : behind_one (a ∷ more) ≡ more = take_rest (a ∷ more) 1 in
+    let room : row.files ≤ length more = subst (λ m. row.files ≤ length m) behind enough in
+    let room' : row.files ≤ length (texts more) = subst (λ n. row.files ≤ n) (sym (length-map more (λ (word : String Global). string_bytes word))) room in
+    let rest : behind_files row.files (a ∷ more) ≡ drop row.files more = take_rest (behind_one (a ∷ more)) row.files ∙ ap (λ m. drop row.files m) behind in
+    let options : drop row.files (texts more) ≡ texts (behind_files row.files (a ∷ more)) = drop-map (λ word. string_bytes word) row.files more ∙ ap (λ m. texts m) (sym rest) in
+    let names : take row.files (texts more) ≡ texts (take row.files (behind_one (a ∷ more))) =
+    take-map (λ word. string_bytes word) row.files more ∙ ap (λ m. texts (take row.files m)) (sym behind) in
+    ap (λ b. if b then command_from row.form (take row.files (texts more)) (limits_of (drop row.files (texts more))) (names_given ALSO.now MOST_ALSO (drop row.files (texts more))) else None) (le-leb _ _ room')
+    ∙ ap (λ n. command_from row.form n (limits_of (drop row.files (texts more))) (names_given ALSO.now MOST_ALSO (drop row.files (texts more)))) names
+    ∙ ap (λ o. command_from row.form (texts (take row.files (behind_one (a ∷ more)))) (limits_of o) (names_given ALSO.now MOST_ALSO o)) options

@@ -6,7 +6,7 @@ use Rattle.std.specs.List.{list_all}
 use Rattle.std.specs.Prelude.{String, string_bytes}
 use Rattle.std.specs.declared.alloc.Global.{Global}
 use Rattle.std.specs.Str.{bytes_eq}
-use Rattle.command_words.specs.declared.words.options.NumberRange.{NumberRange}
+use Rattle.command_words.specs.declared.options.NumberRange.{NumberRange}
 use Rattle.command_words.specs.Words.{is_file_name, names_by, number_by, number_within, values_of}
 use Rattle.command_words.proofs.WordLists.{texts, behind_two, pair_front}
 

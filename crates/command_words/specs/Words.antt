@@ -1,19 +1,18 @@
 -- What words say.
-use Rattle.std.specs.Prelude.{◌≡◌, ◌≤◌, ◌^◌, ℕ, Bool, true, false, ◌&&◌, ◌==◌, not, nat_lt, nat_le, if◌then◌else◌, List, [], ◌∷◌, codes, length, take, drop, find, Option, Some, None, Result, Ok, Err, ⊤}
+use Rattle.std.specs.Prelude.{◌≡◌, ◌≤◌, ◌^◌, ℕ, Bool, true, false, ◌&&◌, ◌==◌, not, nat_lt, nat_le, if◌then◌else◌, List, [], ◌∷◌, length, map, get_or, codes, take, drop, find, Option, Some, None, Result, Ok, Err, ⊤}
 use Rattle.std.specs.Option.{option_and_then}
 use Rattle.std.specs.List.{list_all, list_any}
 use Rattle.std.specs.Str.{bytes_eq, all_ascii_digits}
 use Rattle.std.specs.Str.Parse.{digits_value}
 use Rattle.sbe_base.specs.declared.status.Limits.{Limits}
 use Rattle.command_words.specs.declared.words.Command.{Command}
-use Rattle.command_words.specs.declared.words.Command.TheVariants.{Check, Compat, Dump, Build}
 use Rattle.command_words.specs.declared.words.WordsErr.{WordsErr}
 use Rattle.command_words.specs.declared.words.WordsErr.TheVariants.{Usage, Memory}
-use Rattle.command_words.specs.declared.words.forms.Form.{Form}
-use Rattle.command_words.specs.declared.words.forms.Form.TheVariants as form
-use Rattle.command_words.specs.declared.words.forms.TheConstants.{FORMS}
-use Rattle.command_words.specs.declared.words.options.NumberRange.{NumberRange}
-use Rattle.command_words.specs.declared.words.options.TheConstants.{ALSO, MOST_ALSO, MAX_FRAME, MAX_INPUT, FRAME_RANGE, INPUT_RANGE}
+use Rattle.command_words.specs.declared.forms.Form.{Form}
+use Rattle.command_words.specs.declared.forms.Form.TheVariants as form
+use Rattle.command_words.specs.declared.forms.TheConstants.{FORMS}
+use Rattle.command_words.specs.declared.options.NumberRange.{NumberRange}
+use Rattle.command_words.specs.declared.options.TheConstants.{ALSO, MOST_ALSO, MAX_FRAME, MAX_INPUT, FRAME_RANGE, INPUT_RANGE}
 
 -- ---- one word
 
@@ -79,18 +78,16 @@ names_given option most pairs = names_by most (values_of option pairs)
 
 -- ---- forms: a command's word, names of files, and options
 
--- what words of a form begin with, how many names of files follow, and which options
+-- A row of the table of forms: what words of the form begin with, how many names of files follow, and which options.
 pub record FormRow : Type 0 where
+  pub form : Form
   pub word : List ℕ
   pub files : ℕ
   pub options : List (List ℕ)
 
 -- the table of forms
-abbrev pub row_of : Form → FormRow
-row_of form.Check = record { word = codes "check"; files = 1; options = [] }
-row_of form.Compat = record { word = codes "compat"; files = 2; options = [] }
-row_of form.Dump = record { word = codes "dump"; files = 1; options = MAX_FRAME.now ∷ MAX_INPUT.now ∷ ALSO.now ∷ [] }
-row_of form.Build = record { word = codes "build"; files = 1; options = MAX_FRAME.now ∷ MAX_INPUT.now ∷ [] }
+abbrev pub rows : List FormRow
+rows = map (λ row. record { form = row.0; word = row.1.now; files = row.2; options = map (λ option. option.now) row.3.now }) FORMS
 
 -- the words have the form of this row, whatever values its options have
 abbrev pub fits : FormRow → List (List ℕ) → Bool
@@ -99,54 +96,23 @@ fits row (word ∷ rest) =
     bytes_eq word row.word && nat_le row.files (length rest)
     && list_all is_file_name (take row.files rest) && are_options row.options (drop row.files rest)
 
--- `check S`
-abbrev pub check_of : List (List ℕ) → Option Command
-check_of (word ∷ schema ∷ []) = Some (Check schema)
-check_of (word ∷ schema ∷ next ∷ more) = None
-check_of (word ∷ []) = None
-check_of [] = None
+-- a command of this form over these files, where the values of its options are there
+abbrev pub command_from : Form → List (List ℕ) → Option Limits → Option (List (List ℕ)) → Option Command
+command_from form files None also = None
+command_from form files (Some limits) None = None
+command_from form files (Some limits) (Some also) = Some (record { form = form; files = files; also = also; limits = limits })
 
--- `compat OLD NEW`
-abbrev pub compat_of : List (List ℕ) → Option Command
-compat_of (word ∷ older ∷ newer ∷ []) = Some (Compat older newer)
-compat_of (word ∷ older ∷ newer ∷ next ∷ more) = None
-compat_of (word ∷ older ∷ []) = None
-compat_of (word ∷ []) = None
-compat_of [] = None
-
--- a dump of these files, where their names and the limits are there
-abbrev pub dump_from : List ℕ → Option Limits → Option (List (List ℕ)) → Option Command
-dump_from schema None also = None
-dump_from schema (Some limits) None = None
-dump_from schema (Some limits) (Some also) = Some (Dump schema also limits)
-
--- `dump S`, with further schemas and the limits of its options
-abbrev pub dump_of : List (List ℕ) → Option Command
-dump_of (word ∷ schema ∷ pairs) = dump_from schema (limits_of pairs) (names_given ALSO.now MOST_ALSO pairs)
-dump_of (word ∷ []) = None
-dump_of [] = None
-
--- a build of these frames, where the limits are there
-abbrev pub build_from : List ℕ → Option Limits → Option Command
-build_from schema None = None
-build_from schema (Some limits) = Some (Build schema limits)
-
--- `build S`, with the limits of its options
-abbrev pub build_of : List (List ℕ) → Option Command
-build_of (word ∷ schema ∷ pairs) = build_from schema (limits_of pairs)
-build_of (word ∷ []) = None
-build_of [] = None
-
--- what words of this form say, if the values of their options may be so
-abbrev pub said_by : Form → List (List ℕ) → Option Command
-said_by form.Check words = check_of words
-said_by form.Compat words = compat_of words
-said_by form.Dump words = dump_of words
-said_by form.Build words = build_of words
+-- what words of this row say: the files behind its word, and the values of the options behind these
+abbrev pub said_by : FormRow → List (List ℕ) → Option Command
+said_by row [] = None
+said_by row (word ∷ rest) =
+    if nat_le row.files (length rest)
+    then command_from row.form (take row.files rest) (limits_of (drop row.files rest)) (names_given ALSO.now MOST_ALSO (drop row.files rest))
+    else None
 
 -- The command that words say: that of the first form that they have, with each option at most once and a right value.
 abbrev pub command_of : List (List ℕ) → Option Command
-command_of words = option_and_then (λ form. said_by form words) (find (λ form. fits (row_of form) words) FORMS)
+command_of words = option_and_then (λ row. said_by row words) (find (λ row. fits row words) rows)
 
 -- what was answered is what the words say, or that they say nothing, unless memory ran out
 abbrev pub Says : {T : Type 0} → Result T WordsErr → Option T → Type 0
@@ -154,29 +120,36 @@ Says (Ok x) said = said ≡ Some x
 Says (Err Usage) said = said ≡ None
 Says (Err Memory) said = ⊤
 
+-- the name of the file at this place of a command's words
+abbrev pub file_at : Command → ℕ → List ℕ
+file_at command place = get_or command.files place []
+
+-- What a command does with the input, and whether it may want memory once its files are loaded.
+pub record InputUse : Type 0 where
+  pub reads : Bool
+  pub spares_memory : Bool
+
+-- One line a form.
+abbrev pub input_use : Form → InputUse
+input_use form.Check = record { reads = false; spares_memory = false }
+input_use form.Compat = record { reads = false; spares_memory = false }
+input_use form.Dump = record { reads = true; spares_memory = true }
+input_use form.Build = record { reads = true; spares_memory = false }
+
 -- whether a command takes anything of the input
 abbrev pub reads_input : Option Command → Bool
 reads_input None = false
-reads_input (Some (Check name)) = false
-reads_input (Some (Compat older newer)) = false
-reads_input (Some (Dump name also limits)) = true
-reads_input (Some (Build name limits)) = true
+reads_input (Some command) = (input_use command.form).reads
 
--- whether a command takes frames of the input
-abbrev pub reads_frames : Option Command → Bool
-reads_frames None = false
-reads_frames (Some (Check name)) = false
-reads_frames (Some (Compat older newer)) = false
-reads_frames (Some (Dump name also limits)) = true
-reads_frames (Some (Build name limits)) = false
+-- whether a command takes no memory once its files are loaded
+abbrev pub spares_memory : Option Command → Bool
+spares_memory None = false
+spares_memory (Some command) = (input_use command.form).spares_memory
 
 -- 64 to 16,777,216 bytes a frame, and 1 to 1,099,511,627,776 bytes in all
 abbrev pub AreInRange : Limits → Type 0
 AreInRange limits = (64 ≤ limits.frame) × (limits.frame ≤ 16_777_216) × (1 ≤ limits.input) × (limits.input ≤ 2 ^ 40)
 
--- the limits of a command, where it has some, are in their ranges
+-- the limits of a command are in their ranges
 abbrev pub HasLimits : Command → Type 0
-HasLimits (Check schema) = ⊤
-HasLimits (Compat older newer) = ⊤
-HasLimits (Dump schema also limits) = AreInRange limits
-HasLimits (Build schema limits) = AreInRange limits
+HasLimits command = AreInRange command.limits

@@ -1,6 +1,10 @@
 //! The words of the command line, and the command that they say.
 #![tactic(auto)]
 
+mod forms;
+mod options;
+mod rows;
 mod words;
 
-pub use words::{Command, FORMS, Form, Name, NameList, Row, WordsErr, read_words};
+pub use forms::{FORMS, Form};
+pub use words::{Command, Name, NameList, WordsErr, read_words};

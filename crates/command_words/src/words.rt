@@ -1,14 +1,13 @@
 ghost use Rattle.std.specs.Prelude.{◌≡◌, map, string_bytes, IfOk};
 ghost use Rattle.std.specs.List.{list_all};
-ghost use Rattle.command_words.specs.Words.{Says, HasLimits, build_of, check_of, command_of, compat_of, dump_of, is_file_name, limits_of, names_given, said_by, values_of};
+ghost use Rattle.command_words.specs.declared.options.TheConstants.{ALSO, MOST_ALSO};
+ghost use Rattle.command_words.specs.Words.{Says, HasLimits, command_from, command_of, file_at, is_file_name, limits_of, names_given, said_by, values_of};
 
-mod forms;
-mod options;
-
-use forms::names_file;
-pub use forms::{FORMS, Form, Row};
+use crate::forms::{FORMS, Form, Row, names_file};
+use crate::options::{
+    ALSO, FRAME_RANGE, INPUT_RANGE, MAX_FRAME, MAX_INPUT, MOST_ALSO, number_given,
+};
 use lists::{List, NoMem};
-use options::{ALSO, FRAME_RANGE, INPUT_RANGE, MAX_FRAME, MAX_INPUT, MOST_ALSO, number_given};
 use sbe_base::Limits;
 use std::alloc::Global;
 use std::marker::Model;
@@ -48,29 +47,28 @@ impl Name {
     }
 }
 
-/// What a run is to do.
+/// What a run is to do: the form that its words have, and what they give it.
 #[derive(Drop)]
-pub enum Command {
-    /// Prints a line for each message of a schema that is in order.
-    Check {
-        schema: Name,
-    },
-    /// Prints whether the readers and writers of two schemas go together.
-    Compat {
-        older: Name,
-        newer: Name,
-    },
-    /// Prints a line for each frame of the input, by the schema that its message names.
-    Dump {
-        schema: Name,
-        also: NameList,
-        limits: Limits,
-    },
-    /// Writes a frame for each line of the input that is a message of the schema.
-    Build {
-        schema: Name,
-        limits: Limits,
-    },
+pub struct Command {
+    pub form: Form,
+    /// The files that the form names, in the order of the words.
+    pub files: NameList,
+    /// Further schemas.
+    pub also: NameList,
+    /// The limits of its input.
+    pub limits: Limits,
+}
+
+impl Command {
+    /// The name of the file at this place of the words, or an empty name where the form has fewer files.
+    pub fn file(&self, place: usize) -> &str
+        ensures { result.now ≡ file_at self.now place }
+    {
+        match self.files.as_slice().get(place) {
+            Some(name) => name.as_str(),
+            None => "",
+        }
+    }
 }
 
 /// Why words are no command.
@@ -92,63 +90,45 @@ pub fn read_words(alloc: Global, words: &[String]) -> Result<Command, WordsErr>
     ensures says { Says result (command_of (map (λ word. string_bytes word) words.now)) }
     ensures ranges { IfOk result (λ command. HasLimits command) }
 {
-    for form in FORMS {
-        if form.row().fits(words) {
-            return read_form(alloc, form, words);
+    for (form, word, files, options) in FORMS {
+        let row = Row {
+            form,
+            word,
+            files,
+            options,
+        };
+        if row.fits(words) {
+            return read_row(alloc, &row, words);
         }
     }
     Err(WordsErr::Usage)
 }
 
 /// The command that words of this form say.
-fn read_form(alloc: Global, form: Form, words: &[String]) -> Result<Command, WordsErr>
-    ensures says { Says result (said_by form (map (λ word. string_bytes word) words.now)) }
+fn read_row(alloc: Global, row: &Row, words: &[String]) -> Result<Command, WordsErr>
+    ensures says { Says result (said_by row.now (map (λ word. string_bytes word) words.now)) }
     ensures ranges { IfOk result (λ command. HasLimits command) }
 {
-    match form {
-        Form::Check => read_check(alloc, words),
-        Form::Compat => read_compat(alloc, words),
-        Form::Dump => read_dump(alloc, words),
-        Form::Build => read_build(alloc, words),
+    let [_, rest @ ..] = words else {
+        return Err(WordsErr::Usage);
+    };
+    if rest.len() < row.files {
+        return Err(WordsErr::Usage);
     }
+    read_command(alloc, row.form, &rest[..row.files], &rest[row.files..])
 }
 
-fn read_check(alloc: Global, words: &[String]) -> Result<Command, WordsErr>
-    ensures says { Says result (check_of (map (λ word. string_bytes word) words.now)) }
+/// The command of a form over these files, with these options.
+fn read_command(
+    alloc: Global,
+    form: Form,
+    files: &[String],
+    options: &[String],
+) -> Result<Command, WordsErr>
+    ensures says { Says result (command_from form (map (λ word. string_bytes word) files.now)
+        (limits_of (map (λ word. string_bytes word) options.now)) (names_given ALSO.now MOST_ALSO (map (λ word. string_bytes word) options.now))) }
     ensures ranges { IfOk result (λ command. HasLimits command) }
 {
-    let [_, schema] = words else {
-        return Err(WordsErr::Usage);
-    };
-    let Ok(schema) = Name::new(alloc, schema.as_str()) else {
-        return Err(WordsErr::Memory);
-    };
-    Ok(Command::Check { schema })
-}
-
-fn read_compat(alloc: Global, words: &[String]) -> Result<Command, WordsErr>
-    ensures says { Says result (compat_of (map (λ word. string_bytes word) words.now)) }
-    ensures ranges { IfOk result (λ command. HasLimits command) }
-{
-    let [_, older, newer] = words else {
-        return Err(WordsErr::Usage);
-    };
-    let Ok(older) = Name::new(alloc, older.as_str()) else {
-        return Err(WordsErr::Memory);
-    };
-    let Ok(newer) = Name::new(alloc, newer.as_str()) else {
-        return Err(WordsErr::Memory);
-    };
-    Ok(Command::Compat { older, newer })
-}
-
-fn read_dump(alloc: Global, words: &[String]) -> Result<Command, WordsErr>
-    ensures says { Says result (dump_of (map (λ word. string_bytes word) words.now)) }
-    ensures ranges { IfOk result (λ command. HasLimits command) }
-{
-    let [_, schema, options @ ..] = words else {
-        return Err(WordsErr::Usage);
-    };
     let Some(limits) = read_limits(options) else {
         return Err(WordsErr::Usage);
     };
@@ -156,30 +136,26 @@ fn read_dump(alloc: Global, words: &[String]) -> Result<Command, WordsErr>
         Ok(also) => also,
         Err(e) => return Err(e),
     };
-    let Ok(schema) = Name::new(alloc, schema.as_str()) else {
-        return Err(WordsErr::Memory);
-    };
-    Ok(Command::Dump {
-        schema,
-        also,
-        limits,
-    })
+    match names_of(alloc, files) {
+        Ok(files) => Ok(Command {
+            form,
+            files,
+            also,
+            limits,
+        }),
+        Err(NoMem) => Err(WordsErr::Memory),
+    }
 }
 
-fn read_build(alloc: Global, words: &[String]) -> Result<Command, WordsErr>
-    ensures says { Says result (build_of (map (λ word. string_bytes word) words.now)) }
-    ensures ranges { IfOk result (λ command. HasLimits command) }
+/// The names that words are.
+fn names_of(alloc: Global, words: &[String]) -> Result<NameList, NoMem>
+    ensures { IfOk result (λ names. names ≡ map (λ word. string_bytes word) words.now) }
 {
-    let [_, schema, options @ ..] = words else {
-        return Err(WordsErr::Usage);
-    };
-    let Some(limits) = read_limits(options) else {
-        return Err(WordsErr::Usage);
-    };
-    let Ok(schema) = Name::new(alloc, schema.as_str()) else {
-        return Err(WordsErr::Memory);
-    };
-    Ok(Command::Build { schema, limits })
+    let mut names = List::new(alloc);
+    for word in words {
+        names.push(Name::new(alloc, word.as_str())?)?;
+    }
+    Ok(names)
 }
 
 /// The limits that options give.

@@ -5,22 +5,24 @@ use Rattle.sbe_base.proofs.Known.{appends_more}
 use Rattle.sbe_base.specs.Causes.{AppendsPart}
 use Rattle.sbe_base.specs.declared.status.Status.{Status}
 use Rattle.sbe_base.specs.declared.status.Status.TheVariants as status
-use Rattle.command_words.specs.Words.{command_of, reads_input, reads_frames}
-use Rattle.command_jobs.specs.Splits.{is_read, is_framed, PieceEnd, End, EndInside, HeadFault, LineOver, InputLimit}
+use Rattle.command_words.specs.Words.{command_of, reads_input, spares_memory}
+use Rattle.command_steps.specs.Splits.{is_read, PieceEnd, End, EndInside, HeadFault, LineOver, InputLimit}
 use Rattle.replies.specs.Reply.{Written, Reply, written_of, then_written}
-use Rattle.command_jobs.specs.Replies.{reading_of}
-use Rattle.sbe_cli.specs.Report.{Outcome, end_status, JobReport, JudgedReport, CommandReport, Report}
+use Rattle.command_steps.specs.Ends.{Outcome, end_status}
+use Rattle.sbe_cli.specs.Report.{JobReport, JudgedReport, CommandReport, Report}
 use Rattle.replies.specs.Outside.{Sinks, Outside, Wrote, Breaks, Told, noted, failed}
-use Rattle.command_jobs.specs.Jobs.{IsReady, IsReadAs}
-use Rattle.sbe_cli.specs.Steps.{JudgedAs, IsReported, running, Ends, Stalls, Fails, ended_at, stalled_at, failed_at, wanting_at, Course, Drains}
+use Rattle.sbe_cli.specs.Jobs.{Job, answering_of, reading_of, IsReadAs}
+use Rattle.sbe_cli.specs.Opens.{JudgedAs}
+use Rattle.command_steps.specs.Steps.{IsReported, running, Ends, Stalls, Fails, ended_at, stalled_at, failed_at, wanting_at, Course, Drains}
 use Rattle.sbe_cli.specs.Runs.{desk, Known, IsJob, written_in, read_line, AllAnswered, StandsAtRead, StandsAtWrite, at_reply, at_end, at_read, NotesPart, Fronts, HasRead, Runs}
 use Rattle.schema_files.specs.declared.files.RefusedFile.{RefusedFile}
-use Rattle.command_jobs.specs.declared.job.Job.{Job}
 use Rattle.command_words.specs.declared.words.Command.{Command}
-use Rattle.command_jobs.proofs.Folding.{IsPlacedJob, ready_placed}
-use Rattle.sbe_cli.proofs.Reporting.{judged_once, one_report}
-use Rattle.sbe_cli.proofs.Running.{failed_since}
-use Rattle.sbe_cli.proofs.Standing.{whole_part, part_of, reported_told, Leading, leading, all_written, is_report, output_whole, notes_part, reported, given, whole_given, was_given, line_told, answers_written, line_part, begun_last, replied_last, broken_output, broken_notes}
+use Rattle.command_steps.specs.Replies.{Answering}
+use Rattle.command_steps.proofs.Folding.{AnswersOnce}
+use Rattle.sbe_cli.proofs.Judging.{judging}
+use Rattle.sbe_cli.proofs.Reporting.{one_report}
+use Rattle.command_steps.proofs.Running.{failed_since}
+use Rattle.command_steps.proofs.Standing.{whole_part, part_of, reported_told, Leading, leading, all_written, is_report, output_whole, notes_part, reported, given, whole_given, was_given, line_told, answers_written, line_part, begun_last, replied_last, broken_output, broken_notes}
 use Rattle.sbe_cli.proofs.Finishing.{no_fault, Touched, runs_reported, runs_read, runs_write, runs_wanting}
 
 -- ---- the statuses of the ends
@@ -47,17 +49,20 @@ end_no_read InputLimit refused e = cc
 
 -- ---- a run of a job
 
-module _ (words : List (List ℕ)) (old new : Outside) (command : Command) (is_command : command_of words ≡ Some command) (job : Job) (judged : JudgedAs command (desk old) (Ok job)) (ready : IsReady job) (as_command : IsReadAs command job) where
-  placed : IsPlacedJob job
-  placed = ready_placed job ready
+module _ (words : List (List ℕ)) (old new : Outside) (command : Command) (is_command : command_of words ≡ Some command) (job : Job) (judged : JudgedAs command (desk old) (Ok job)) (as_command : IsReadAs command job) where
+  abbrev on : Answering
+  on = answering_of job
+
+  placed : (contents : List ℕ → Option (List ℕ)) → old.files.told ≡ Some contents → AnswersOnce on
+  placed contents told = (judging command contents).answers job (judged contents told)
 
   -- the job takes something of the input exactly where the words say so
   reads : reads_input (command_of words) ≡ is_read (reading_of job)
   reads = ap reads_input is_command ∙ sym as_command.0
 
   -- and frames
-  reads_so : reads_frames (command_of words) ≡ is_framed (reading_of job)
-  reads_so = ap reads_frames is_command ∙ sym as_command.1
+  reads_so : spares_memory (command_of words) ≡ on.spares
+  reads_so = ap spares_memory is_command ∙ sym as_command.1
 
   is_job : (contents : List ℕ → Option (List ℕ)) (input : List ℕ) → Known old contents input → IsJob words contents job
   is_job contents input known = (command, is_command, judged contents known.files)
@@ -68,16 +73,16 @@ module _ (words : List (List ℕ)) (old new : Outside) (command : Command) (is_c
   of_report : (contents : List ℕ → Option (List ℕ)) (input : List ℕ) (outcome : Outcome) → Known old contents input → Report words contents input outcome → JobReport job input outcome
   of_report contents input outcome known h =
       let r = subst (λ (c : Option Command). CommandReport c contents input outcome) is_command h in
-      subst (λ (j : Result Job RefusedFile). JudgedReport j input outcome) (judged_once command contents r.0 (Ok job) r.1 (judged contents known.files)) r.2
+      subst (λ (j : Result Job RefusedFile). JudgedReport j input outcome) ((judging command contents).once r.0 (Ok job) r.1 (judged contents known.files)) r.2
 
-  module _ (code : Status) (drains : Drains job old.streams new.streams code) where
+  module _ (code : Status) (drains : Drains on old.streams new.streams code) where
     touched_by : Touched words old new code
     touched_by = record { untouched = λ none. drains.unread (sym reads ∙ none); unread = λ e. absurd (e drains.causes.late) }
 
     -- ---- the fronts
 
     module _ (contents : List ℕ → Option (List ℕ)) (input : List ℕ) (known : Known old contents input) where
-      abbrev course : Course job old.streams new.streams input code
+      abbrev course : Course on old.streams new.streams input code
       course = drains.course input known.source
 
       abbrev written : Written
@@ -87,45 +92,45 @@ module _ (words : List (List ℕ)) (old new : Outside) (command : Command) (is_c
       AreFronts outcome = AppendsPart old.streams.sinks.output.told new.streams.sinks.output.told outcome.output × NotesPart words old new outcome.notes
 
       led : (outcome : Outcome) → JobReport job input outcome → Leading written outcome
-      led outcome report = leading job placed input outcome report course.ahead.met_end course.progress.pieces course.progress.left written course.kept course.progress.begins course.progress.replies
+      led outcome report = leading on (placed contents known.files) input outcome report course.ahead.met_end course.progress.pieces course.progress.left written course.kept course.progress.begins course.progress.replies
 
-      ended_fronts : (outcome : Outcome) → Report words contents input outcome → Ends (running job course.kept course.ahead) course.mid new.streams course.progress.left code → AreFronts outcome
+      ended_fronts : (outcome : Outcome) → Report words contents input outcome → Ends on (running course.kept course.ahead) course.mid new.streams course.progress.left code → AreFronts outcome
       ended_fronts outcome report ends =
-          let whole = all_written (running job course.kept course.ahead) old.streams course.mid new.streams input course.progress code ends in
-          let mine = as_report contents input whole known (is_report (running job course.kept course.ahead) old.streams course.mid new.streams input course.progress code ends) in
+          let whole = all_written on (running course.kept course.ahead) old.streams course.mid new.streams input course.progress code ends in
+          let mine = as_report contents input whole known (is_report on (running course.kept course.ahead) old.streams course.mid new.streams input course.progress code ends) in
           let same : whole ≡ outcome = one_report contents input words whole outcome mine report in
           subst AreFronts same (
-            whole_part old.streams.sinks.output.told new.streams.sinks.output.told whole.output (output_whole (running job course.kept course.ahead) old.streams course.mid new.streams input course.progress code ends),
-            inl (notes_part (running job course.kept course.ahead) old.streams course.mid new.streams input course.progress code ends),
+            whole_part old.streams.sinks.output.told new.streams.sinks.output.told whole.output (output_whole on (running course.kept course.ahead) old.streams course.mid new.streams input course.progress code ends),
+            inl (notes_part on (running course.kept course.ahead) old.streams course.mid new.streams input course.progress code ends),
           )
 
-      stalled_fronts : (outcome : Outcome) → Report words contents input outcome → Stalls (running job course.kept course.ahead) course.mid new.streams course.progress.left code → AreFronts outcome
+      stalled_fronts : (outcome : Outcome) → Report words contents input outcome → Stalls on (running course.kept course.ahead) course.mid new.streams course.progress.left code → AreFronts outcome
       stalled_fronts outcome report stalls =
           let front = led outcome (of_report contents input outcome known report) in
-          let taken = given (running job course.kept course.ahead) old.streams course.mid new.streams input course.progress code stalls in (
+          let taken = given on (running course.kept course.ahead) old.streams course.mid new.streams input course.progress code stalls in (
             part_of old.streams.sinks.output.told new.streams.sinks.output.told written.output front.output outcome.output
-                (whole_part old.streams.sinks.output.told new.streams.sinks.output.told written.output (answers_written (running job course.kept course.ahead) old.streams course.mid new.streams input course.progress code stalls)) front.output_is,
+                (whole_part old.streams.sinks.output.told new.streams.sinks.output.told written.output (answers_written on (running course.kept course.ahead) old.streams course.mid new.streams input course.progress code stalls)) front.output_is,
             inr (
               written.notes,
               front.notes,
               read_line taken,
               front.notes_is,
-              inr (failed_since course.calm.input stalls.fault, (taken, was_given (running job course.kept course.ahead) old.streams course.mid new.streams input course.progress code stalls known.source, refl)),
-              line_part (running job course.kept course.ahead) old.streams course.mid new.streams input course.progress code stalls,
+              inr (failed_since course.calm.input stalls.fault, (taken, was_given on (running course.kept course.ahead) old.streams course.mid new.streams input course.progress code stalls known.source, refl)),
+              line_part on (running course.kept course.ahead) old.streams course.mid new.streams input course.progress code stalls,
             ),
           )
 
       failed_fronts : (outcome : Outcome) → Report words contents input outcome →
-          Fails (running job course.kept course.ahead) new.streams course.progress.left (λ reply. Breaks course.mid.sinks new.streams.sinks (written_of reply)) → AreFronts outcome
+          Fails on (running course.kept course.ahead) new.streams course.progress.left (λ reply. Breaks course.mid.sinks new.streams.sinks (written_of reply)) → AreFronts outcome
       failed_fronts outcome report fail =
           let last = λ (reply : Reply). Breaks course.mid.sinks new.streams.sinks (written_of reply) in
           let all = then_written written (written_of fail.reply) in
-          let front = leading job placed input outcome (of_report contents input outcome known report) fail.ahead.met_end (course.progress.pieces ++ fail.piece ∷ []) fail.left all _
-          (begun_last (running job course.kept course.ahead) old.streams course.mid new.streams input course.progress code last fail) (replied_last (running job course.kept course.ahead) old.streams course.mid new.streams input course.progress code last fail) in (
+          let front = leading on (placed contents known.files) input outcome (of_report contents input outcome known report) fail.ahead.met_end (course.progress.pieces ++ fail.piece ∷ []) fail.left all _
+          (begun_last on (running course.kept course.ahead) old.streams course.mid new.streams input course.progress code last fail) (replied_last on (running course.kept course.ahead) old.streams course.mid new.streams input course.progress code last fail) in (
             part_of old.streams.sinks.output.told new.streams.sinks.output.told all.output front.output outcome.output
-                (broken_output (running job course.kept course.ahead) old.streams course.mid new.streams input course.progress code (written_of fail.reply) fail.wrote) front.output_is,
+                (broken_output on (running course.kept course.ahead) old.streams course.mid new.streams input course.progress code (written_of fail.reply) fail.wrote) front.output_is,
             inl (part_of old.streams.sinks.notes.told new.streams.sinks.notes.told all.notes front.notes outcome.notes
-                (broken_notes (running job course.kept course.ahead) old.streams course.mid new.streams input course.progress code (written_of fail.reply) fail.wrote) front.notes_is),
+                (broken_notes on (running course.kept course.ahead) old.streams course.mid new.streams input course.progress code (written_of fail.reply) fail.wrote) front.notes_is),
           )
 
       wanting_fronts : (outcome : Outcome) → Report words contents input outcome → new.streams.sinks ≡ course.mid.sinks → AreFronts outcome
@@ -149,9 +154,9 @@ module _ (words : List (List ℕ)) (old new : Outside) (command : Command) (is_c
       reports_by : IsReported code → (outcome : Outcome) × Report words contents input outcome × (code ≡ outcome.status) × Wrote old.streams.sinks new.streams.sinks (written_in outcome)
       reports_by r = elim course.halts [
         | ended_at e ↦
-            let whole = all_written (running job course.kept course.ahead) old.streams course.mid new.streams input course.progress code e in
-            let told = reported (running job course.kept course.ahead) old.streams course.mid new.streams input course.progress code e r in
-            (whole, as_report contents input whole known (is_report (running job course.kept course.ahead) old.streams course.mid new.streams input course.progress code e), told.0, told.1)
+            let whole = all_written on (running course.kept course.ahead) old.streams course.mid new.streams input course.progress code e in
+            let told = reported on (running course.kept course.ahead) old.streams course.mid new.streams input course.progress code e r in
+            (whole, as_report contents input whole known (is_report on (running course.kept course.ahead) old.streams course.mid new.streams input course.progress code e), told.0, told.1)
         | stalled_at s ↦ absurd (no_fault code status.ReadFault r (λ x. x) (reported_told _ _ course.mid.sinks.notes new.streams.sinks.notes code s.noted r).0)
         | failed_at f c ↦ absurd (no_fault code status.WriteFault r (λ x. x) c)
         | wanting_at f c ↦ absurd (no_fault code status.NoMemory r (λ x. x) c)
@@ -159,13 +164,13 @@ module _ (words : List (List ℕ)) (old new : Outside) (command : Command) (is_c
 
       -- ---- what stands after a fault
 
-      answered : (s : Stalls (running job course.kept course.ahead) course.mid new.streams course.progress.left code) →
-          AllAnswered words contents (given (running job course.kept course.ahead) old.streams course.mid new.streams input course.progress code s) written
+      answered : (s : Stalls on (running course.kept course.ahead) course.mid new.streams course.progress.left code) →
+          AllAnswered words contents (given on (running course.kept course.ahead) old.streams course.mid new.streams input course.progress code s) written
       answered s = record {
         job = job;
         is_job = is_job contents input known;
         pieces = course.progress.pieces;
-        whole = whole_given (running job course.kept course.ahead) old.streams course.mid new.streams input course.progress code s;
+        whole = whole_given on (running course.kept course.ahead) old.streams course.mid new.streams input course.progress code s;
         kept = course.kept;
         replies = course.progress.replies;
       }
@@ -173,7 +178,7 @@ module _ (words : List (List ℕ)) (old new : Outside) (command : Command) (is_c
       stands_at_read : code ≡ status.ReadFault → StandsAtRead words old new contents
       stands_at_read is = elim course.halts [
         | ended_at e ↦ ended_apart e.end course.kept.refused e.noted
-        | stalled_at s ↦ stalled s (line_told (running job course.kept course.ahead) old.streams course.mid new.streams input course.progress code s)
+        | stalled_at s ↦ stalled s (line_told on (running course.kept course.ahead) old.streams course.mid new.streams input course.progress code s)
         | failed_at f c ↦ absurd (apart_write (sym is ∙ c))
         | wanting_at f c ↦ absurd (apart_want (sym is ∙ c))
       ]
@@ -190,16 +195,16 @@ module _ (words : List (List ℕ)) (old new : Outside) (command : Command) (is_c
             | failed c p f ↦ absurd (apart_write (sym is ∙ c))
           ]
 
-          stalled : (s : Stalls (running job course.kept course.ahead) course.mid new.streams course.progress.left code) →
-              Told (read_line (given (running job course.kept course.ahead) old.streams course.mid new.streams input course.progress code s)) status.ReadFault course.mid.sinks.notes new.streams.sinks.notes code → StandsAtRead words old new contents
+          stalled : (s : Stalls on (running course.kept course.ahead) course.mid new.streams course.progress.left code) →
+              Told (read_line (given on (running course.kept course.ahead) old.streams course.mid new.streams input course.progress code s)) status.ReadFault course.mid.sinks.notes new.streams.sinks.notes code → StandsAtRead words old new contents
           stalled s told = elim told [
             | noted c a k ↦ (
-              given (running job course.kept course.ahead) old.streams course.mid new.streams input course.progress code s,
+              given on (running course.kept course.ahead) old.streams course.mid new.streams input course.progress code s,
               written,
-              was_given (running job course.kept course.ahead) old.streams course.mid new.streams input course.progress code s known.source,
+              was_given on (running course.kept course.ahead) old.streams course.mid new.streams input course.progress code s known.source,
               answered s,
               record {
-                output = answers_written (running job course.kept course.ahead) old.streams course.mid new.streams input course.progress code s;
+                output = answers_written on (running course.kept course.ahead) old.streams course.mid new.streams input course.progress code s;
                 notes = appends_more old.streams.sinks.notes.told course.mid.sinks.notes.told new.streams.sinks.notes.told written.notes _ course.progress.wrote.notes a;
               },
             )
@@ -209,12 +214,12 @@ module _ (words : List (List ℕ)) (old new : Outside) (command : Command) (is_c
       stands_at_write : code ≡ status.WriteFault → StandsAtWrite words old new contents input
       stands_at_write is = elim course.halts [
         | ended_at e ↦
-            let whole = all_written (running job course.kept course.ahead) old.streams course.mid new.streams input course.progress code e in
-            at_end whole (as_report contents input whole known (is_report (running job course.kept course.ahead) old.streams course.mid new.streams input course.progress code e))
-            (output_whole (running job course.kept course.ahead) old.streams course.mid new.streams input course.progress code e) (notes_part (running job course.kept course.ahead) old.streams course.mid new.streams input course.progress code e)
-        | stalled_at s ↦ at_read (given (running job course.kept course.ahead) old.streams course.mid new.streams input course.progress code s) written
-            (was_given (running job course.kept course.ahead) old.streams course.mid new.streams input course.progress code s known.source) (answered s)
-            (answers_written (running job course.kept course.ahead) old.streams course.mid new.streams input course.progress code s) (line_part (running job course.kept course.ahead) old.streams course.mid new.streams input course.progress code s)
+            let whole = all_written on (running course.kept course.ahead) old.streams course.mid new.streams input course.progress code e in
+            at_end whole (as_report contents input whole known (is_report on (running course.kept course.ahead) old.streams course.mid new.streams input course.progress code e))
+            (output_whole on (running course.kept course.ahead) old.streams course.mid new.streams input course.progress code e) (notes_part on (running course.kept course.ahead) old.streams course.mid new.streams input course.progress code e)
+        | stalled_at s ↦ at_read (given on (running course.kept course.ahead) old.streams course.mid new.streams input course.progress code s) written
+            (was_given on (running course.kept course.ahead) old.streams course.mid new.streams input course.progress code s known.source) (answered s)
+            (answers_written on (running course.kept course.ahead) old.streams course.mid new.streams input course.progress code s) (line_part on (running course.kept course.ahead) old.streams course.mid new.streams input course.progress code s)
         | failed_at f c ↦ at_reply (record {
           job = job;
           is_job = is_job contents input known;
@@ -224,7 +229,7 @@ module _ (words : List (List ℕ)) (old new : Outside) (command : Command) (is_c
           ahead = f.ahead;
           only_lines = f.only_lines;
           source = f.source;
-          begins = begun_last (running job course.kept course.ahead) old.streams course.mid new.streams input course.progress code (λ reply. Breaks course.mid.sinks new.streams.sinks (written_of reply)) f;
+          begins = begun_last on (running course.kept course.ahead) old.streams course.mid new.streams input course.progress code (λ reply. Breaks course.mid.sinks new.streams.sinks (written_of reply)) f;
           kept = course.kept;
           written = written;
           replies = course.progress.replies;
@@ -262,7 +267,7 @@ module _ (words : List (List ℕ)) (old new : Outside) (command : Command) (is_c
   apart : ◌≡◌ {A = Bool} true false → ⊥
   apart e = cc
 
-  pub carried : (code : Status) → new.files ≡ old.files → Drains job old.streams new.streams code → Runs words old new code
+  pub carried : (code : Status) → new.files ≡ old.files → Drains on old.streams new.streams code → Runs words old new code
   carried status.Done files d = runs_so status.Done d files tt
   carried status.SomeRefused files d = runs_so status.SomeRefused d files tt
   carried status.FramingRefused files d = runs_so status.FramingRefused d files tt

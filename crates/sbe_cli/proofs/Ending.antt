@@ -6,18 +6,21 @@ use Rattle.sbe_base.specs.Causes.{AppendsPart}
 use Rattle.sbe_base.specs.declared.status.Status.{Status}
 use Rattle.sbe_base.specs.declared.status.Status.TheVariants as status
 use Rattle.command_words.specs.Words.{command_of}
-use Rattle.sbe_cli.specs.Report.{Outcome, CommandReport, Report, only_noted}
-use Rattle.sbe_cli.specs.Stops.{stop_line, usage_line}
+use Rattle.command_steps.specs.Ends.{Outcome}
+use Rattle.sbe_cli.specs.Report.{CommandReport, Report, only_noted}
+use Rattle.sbe_cli.specs.Stops.{unopened_line, usage_line}
 use Rattle.schema_files.specs.Refusals.{refusal_line, refusal_status}
 use Rattle.replies.specs.Outside.{Object, Desk, Streams, Outside, Failed, Told, noted, failed}
-use Rattle.sbe_cli.specs.Steps.{PumpState, Opens, JudgedAs, Declines, refuses, fails, wants, IsReported, Drains}
+use Rattle.command_steps.specs.Steps.{IsReported, Drains}
+use Rattle.sbe_cli.specs.Jobs.{answering_of}
+use Rattle.sbe_cli.specs.Opens.{PumpState, Opens, JudgedAs, Declines, refuses, fails, wants}
 use Rattle.sbe_cli.specs.Runs.{desk, Known, NamesFile, at_end, at_file, NotesPart, Fronts, HasRead, Runs, CarriesOut}
 use Rattle.schema_files.specs.declared.files.FileRole.{FileRole}
 use Rattle.schema_files.specs.declared.files.RefusedFile.{RefusedFile}
-use Rattle.sbe_cli.specs.declared.stop.Stop.TheVariants as stop
+use Rattle.sbe_cli.specs.declared.unopened.Unopened.TheVariants as unopened
 use Rattle.command_words.specs.declared.words.Command.{Command}
 use Rattle.sbe_cli.proofs.Reporting.{one_report}
-use Rattle.sbe_cli.proofs.Standing.{whole_part}
+use Rattle.command_steps.proofs.Standing.{whole_part}
 use Rattle.sbe_cli.proofs.Carrying.{carried}
 use Rattle.sbe_cli.proofs.Finishing.{Touched, runs_reported, runs_file, runs_write, runs_wanting, refused_apart, nothing_out}
 
@@ -69,15 +72,15 @@ module _ (words : List (List ℕ)) (old new : Outside) where
 
     -- the files failed
     file_fronts : (role : FileRole) → NamesFile words role → Failed old.files new.files → new.streams.sinks.output ≡ old.streams.sinks.output →
-        AppendsPart old.streams.sinks.notes.told new.streams.sinks.notes.told (stop_line (stop.FileFault role)) → Fronts words old new
-    file_fronts role named f output part contents bytes outcome known report = (nothing_out old new outcome output, inr ([], outcome.notes, stop_line (stop.FileFault role), refl, inl (f, (role, named, refl)), part))
+        AppendsPart old.streams.sinks.notes.told new.streams.sinks.notes.told (unopened_line (unopened.FileFault role)) → Fronts words old new
+    file_fronts role named f output part contents bytes outcome known report = (nothing_out old new outcome output, inr ([], outcome.notes, unopened_line (unopened.FileFault role), refl, inl (f, (role, named, refl)), part))
 
     pub file_failed : (code : Status) (role : FileRole) → NamesFile words role → Failed old.files new.files → new.streams.sinks.output ≡ old.streams.sinks.output →
-        Told (stop_line (stop.FileFault role)) status.FileFault old.streams.sinks.notes new.streams.sinks.notes code → Runs words old new code
+        Told (unopened_line (unopened.FileFault role)) status.FileFault old.streams.sinks.notes new.streams.sinks.notes code → Runs words old new code
     file_failed code role named f output told = elim told [
       | noted c a k ↦ subst (λ (s : Status). Runs words old new s) (sym c)
           (runs_file words old new f (record { role = role; named = named; input = input; wrote = record { output = no_output output; notes = a } })
-          (file_fronts role named f output (whole_part old.streams.sinks.notes.told new.streams.sinks.notes.told (stop_line (stop.FileFault role)) a)) (touched status.FileFault))
+          (file_fronts role named f output (whole_part old.streams.sinks.notes.told new.streams.sinks.notes.told (unopened_line (unopened.FileFault role)) a)) (touched status.FileFault))
       | failed c p g ↦ subst (λ (s : Status). Runs words old new s) (sym c)
           (runs_write words old new (inr g) (λ contents bytes known. at_file role named input output p) (file_fronts role named f output p) (touched status.WriteFault))
     ]
@@ -110,12 +113,12 @@ module _ (words : List (List ℕ)) (old new : Outside) where
 pub runs_command : (words : List (List ℕ)) (old new : Outside) (command : Command) (code : Status) → command_of words ≡ Some command → CarriesOut command old new code → Runs words old new code
 runs_command words old new command code is h = elim h [
   | inl d ↦ declined_early words old new d.1 command is code d.2 d.0
-  | inr d ↦ carried words old new command is d.0 d.1 d.2 d.5 code d.3 d.4
+  | inr d ↦ carried words old new command is d.0 d.1 d.5 code d.3 d.4
 ]
 
 -- a pump that was opened, and ran
 pub opened_and_drained : (command : Command) (old mid new : Outside) (pump : PumpState) (code : Status) → Opens command (desk old) (desk mid) (Ok pump) → mid.streams.input ≡ old.streams.input →
-    mid.streams.sinks.output ≡ old.streams.sinks.output → new.files ≡ mid.files → Drains pump.job mid.streams new.streams code → CarriesOut command old new code
+    mid.streams.sinks.output ≡ old.streams.sinks.output → new.files ≡ mid.files → Drains (answering_of pump.job) mid.streams new.streams code → CarriesOut command old new code
 opened_and_drained command old mid new pump code opens input output files drains =
     let same : mid.streams ≡ old.streams = same_streams mid.streams old.streams input output (ap (λ (d : Desk). d.notes) opens.3) in
-    inr (pump.job, opens.0, opens.1, files ∙ ap (λ (d : Desk). d.files) opens.3, subst (λ (s : Streams). Drains pump.job s new.streams code) same drains, opens.4)
+    inr (pump.job, opens.0, opens.1, files ∙ ap (λ (d : Desk). d.files) opens.3, subst (λ (s : Streams). Drains (answering_of pump.job) s new.streams code) same drains, opens.4)

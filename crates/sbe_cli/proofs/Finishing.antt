@@ -5,16 +5,16 @@ use Rattle.std.proofs.KnownBytes.{Appends-nil}
 use Rattle.sbe_base.specs.Causes.{AppendsPart}
 use Rattle.sbe_base.specs.declared.status.Status.{Status}
 use Rattle.sbe_base.specs.declared.status.Status.TheVariants as status
-use Rattle.command_words.specs.Words.{command_of, reads_input, reads_frames}
-use Rattle.sbe_cli.specs.Report.{Outcome}
+use Rattle.command_words.specs.Words.{command_of, reads_input, spares_memory}
+use Rattle.command_steps.specs.Ends.{Outcome}
 use Rattle.schema_files.specs.Refusals.{refusal_status}
 use Rattle.replies.specs.Outside.{Object, Outside, Wrote, Failed, Calm}
-use Rattle.sbe_cli.specs.Steps.{IsStepStatus, IsReported}
+use Rattle.command_steps.specs.Steps.{IsStepStatus, IsReported}
 use Rattle.sbe_cli.specs.Runs.{Known, written_in, Reports, StandsAtRead, StandsAtWrite, StandsAtFile, Fronts, HasRead, Runs}
 use Rattle.schema_files.specs.declared.files.FileRefusal.{FileRefusal}
 use Rattle.schema_files.specs.declared.files.FileRefusal.TheVariants.{Absent, TooLong, Unread, Broken, SameId, FormDiffers}
 use Rattle.sbe_cli.proofs.Reporting.{one_report}
-use Rattle.sbe_cli.proofs.Standing.{whole_part}
+use Rattle.command_steps.proofs.Standing.{whole_part}
 
 -- ---- statuses apart
 
@@ -109,7 +109,7 @@ module _ (words : List (List ℕ)) (old new : Outside) where
     unread = touched.unread;
   }
 
-  pub runs_wanting : Fronts words old new → (reads_frames (command_of words) ≡ true → new.streams ≡ old.streams) → Touched status.NoMemory → Runs words old new status.NoMemory
+  pub runs_wanting : Fronts words old new → (spares_memory (command_of words) ≡ true → new.streams ≡ old.streams) → Touched status.NoMemory → Runs words old new status.NoMemory
   runs_wanting fronts memory touched = record {
     report = λ x. absurd x;
     calm = λ x. absurd x;

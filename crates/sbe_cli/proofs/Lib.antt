@@ -1,15 +1,7 @@
-pub mod Telling
-pub mod Following
-pub mod Splitting
+pub mod Judging
 pub mod Reporting
 pub mod Opening
-pub mod Stepping
-pub mod Closing
-pub mod LineStepping
-pub mod LineClosing
-pub mod LineSizes
-pub mod Running
-pub mod Standing
+pub mod Draining
 pub mod Finishing
 pub mod Carrying
 pub mod Ending

@@ -1,7 +1,7 @@
-pub mod Ahead
+pub mod Jobs
 pub mod Stops
 pub mod Report
-pub mod Steps
+pub mod Opens
 pub mod Pumps
 pub mod Runs
 pub mod Rows

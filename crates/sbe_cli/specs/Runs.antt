@@ -4,21 +4,22 @@ use Rattle.std.specs.Io.KnownBytes.{Consumes, Appends}
 use Rattle.sbe_base.specs.Causes.{AppendsPart}
 use Rattle.sbe_base.specs.declared.status.Status.{Status}
 use Rattle.sbe_base.specs.declared.status.Status.TheVariants as status
-use Rattle.command_words.specs.Words.{command_of, reads_input, reads_frames}
-use Rattle.command_jobs.specs.Splits.{Piece, Holds}
-use Rattle.sbe_cli.specs.Ahead.{Ahead, IsAhead, Follows, Reaches}
+use Rattle.command_words.specs.Words.{command_of, reads_input, spares_memory}
+use Rattle.command_steps.specs.Splits.{Piece, Holds}
+use Rattle.command_steps.specs.Ahead.{Ahead, IsAhead, Follows, Reaches}
 use Rattle.replies.specs.Reply.{Written, Reply, written_of}
-use Rattle.command_jobs.specs.Replies.{reading_of, IsReply, none_kept, Replies}
-use Rattle.sbe_cli.specs.Report.{Outcome, Report}
-use Rattle.command_jobs.specs.Jobs.{Judges, IsReady, IsReadAs}
-use Rattle.sbe_cli.specs.Stops.{stop_line}
+use Rattle.command_steps.specs.Replies.{none_kept, Replies}
+use Rattle.command_steps.specs.Ends.{Outcome, stop_line}
+use Rattle.sbe_cli.specs.Report.{Report}
+use Rattle.sbe_cli.specs.Jobs.{Job, answering_of, reading_of, Judges, HasFile, IsReadAs, IsReady}
+use Rattle.sbe_cli.specs.Stops.{unopened_line}
 use Rattle.replies.specs.Outside.{Desk, Sinks, Streams, Outside, Wrote, Breaks, Failed, Calm}
-use Rattle.sbe_cli.specs.Steps.{JudgedAs, Declines, Drains, IsReported, IsStepStatus}
-use Rattle.schema_files.specs.Judged.{HasFile}
+use Rattle.command_steps.specs.Steps.{Drains, IsReported, IsStepStatus}
+use Rattle.sbe_cli.specs.Opens.{JudgedAs, Declines}
 use Rattle.schema_files.specs.declared.files.FileRole.{FileRole}
-use Rattle.command_jobs.specs.declared.job.Job.{Job}
-use Rattle.command_jobs.specs.declared.kept.Kept.{Kept}
-use Rattle.sbe_cli.specs.declared.stop.Stop.TheVariants as stop
+use Rattle.command_steps.specs.declared.kept.Kept.{Kept}
+use Rattle.command_steps.specs.declared.end.Stop.TheVariants as stop
+use Rattle.sbe_cli.specs.declared.unopened.Unopened.TheVariants as unopened
 use Rattle.command_words.specs.declared.words.Command.{Command}
 
 -- the files and the notes
@@ -57,7 +58,7 @@ pub record AllAnswered (words : List (List ℕ)) (contents : List ℕ → Option
   pub pieces : List Piece
   pub whole : Holds (reading_of job) taken pieces
   pub kept : Kept
-  pub replies : Replies job none_kept pieces written kept
+  pub replies : Replies (answering_of job) none_kept pieces written kept
 
 -- the line of an input that failed behind so many bytes
 abbrev pub read_line : List ℕ → List ℕ
@@ -82,9 +83,9 @@ pub record AtReply (words : List (List ℕ)) (contents : List ℕ → Option (Li
   pub begins : Reaches ahead.met_end (reading_of job) input (pieces ++ last ∷ []) left
   pub kept : Kept
   pub written : Written
-  pub replies : Replies job none_kept pieces written kept
+  pub replies : Replies (answering_of job) none_kept pieces written kept
   pub reply : Reply
-  pub replied : IsReply job kept last reply
+  pub replied : (answering_of job).IsReply kept last reply
   pub mid : Sinks
   pub whole : Wrote old.sinks mid written
   pub part : Breaks mid new.sinks (written_of reply)
@@ -98,21 +99,21 @@ pub data StandsAtWrite (words : List (List ℕ)) (old new : Outside) (contents :
       → Appends old.streams.sinks.output.told new.streams.sinks.output.told written.output
       → AppendsPart old.streams.sinks.notes.told new.streams.sinks.notes.told (written.notes ++ read_line taken) → StandsAtWrite words old new contents input
   at_file : (role : FileRole) → NamesFile words role → new.streams.input ≡ old.streams.input → new.streams.sinks.output ≡ old.streams.sinks.output
-      → AppendsPart old.streams.sinks.notes.told new.streams.sinks.notes.told (stop_line (stop.FileFault role)) → StandsAtWrite words old new contents input
+      → AppendsPart old.streams.sinks.notes.told new.streams.sinks.notes.told (unopened_line (unopened.FileFault role)) → StandsAtWrite words old new contents input
 
 -- The files failed at one of the words: nothing was read or written but the fault's line.
 pub record StandsAtFile (words : List (List ℕ)) (old new : Streams) : Type 0 where
   pub role : FileRole
   pub named : NamesFile words role
   pub input : new.input ≡ old.input
-  pub wrote : Wrote old.sinks new.sinks (record { output = []; notes = stop_line (stop.FileFault role) })
+  pub wrote : Wrote old.sinks new.sinks (record { output = []; notes = unopened_line (unopened.FileFault role) })
 
 -- ---- fronts
 
 -- A line that tells a fault of the files, or of the input behind the bytes that it gave. That object failed.
 abbrev pub IsFaultLine : List (List ℕ) → Outside → Outside → List ℕ → Type 0
 IsFaultLine words old new line =
-    (Failed old.files new.files × ((role : FileRole) × NamesFile words role × (line ≡ stop_line (stop.FileFault role))))
+    (Failed old.files new.files × ((role : FileRole) × NamesFile words role × (line ≡ unopened_line (unopened.FileFault role))))
     ⊎ (Failed old.streams.input new.streams.input × ((taken : List ℕ) × Consumes old.streams.input.told new.streams.input.told taken × (line ≡ read_line taken)))
 
 -- notes grew by a front of these, or by a front of them and a front of such a line
@@ -149,8 +150,8 @@ pub record Runs (words : List (List ℕ)) (old new : Outside) (code : Status) : 
   pub read_stands : code ≡ status.ReadFault → (contents : List ℕ → Option (List ℕ)) (input : List ℕ) → Known old contents input → StandsAtRead words old new contents
   pub write_stands : code ≡ status.WriteFault → (contents : List ℕ → Option (List ℕ)) (input : List ℕ) → Known old contents input → StandsAtWrite words old new contents input
   pub fronts : Fronts words old new
-  -- where the words are a command that reads frames, memory is wanting only before anything was read or written
-  pub memory : reads_frames (command_of words) ≡ true → code ≡ status.NoMemory → new.streams ≡ old.streams
+  -- where the words are a command that spares memory, memory is wanting only before anything was read or written
+  pub memory : spares_memory (command_of words) ≡ true → code ≡ status.NoMemory → new.streams ≡ old.streams
   -- the source is as it was where the words are no command that reads it, or the run ended before its items
   pub untouched : reads_input (command_of words) ≡ false → new.streams.input ≡ old.streams.input
   pub unread : (IsStepStatus code → ⊥) → new.streams.input ≡ old.streams.input
@@ -159,4 +160,4 @@ pub record Runs (words : List (List ℕ)) (old new : Outside) (code : Status) : 
 abbrev pub CarriesOut : Command → Outside → Outside → Status → Type 0
 CarriesOut command old new code =
     (Declines command (desk old) (desk new) code × (new.streams.input ≡ old.streams.input) × (new.streams.sinks.output ≡ old.streams.sinks.output))
-    ⊎ ((job : Job) × JudgedAs command (desk old) (Ok job) × IsReady job × (new.files ≡ old.files) × Drains job old.streams new.streams code × IsReadAs command job)
+    ⊎ ((job : Job) × JudgedAs command (desk old) (Ok job) × IsReady command job × (new.files ≡ old.files) × Drains (answering_of job) old.streams new.streams code × IsReadAs command job)

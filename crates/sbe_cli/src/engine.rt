@@ -2,10 +2,13 @@ ghost use Rattle.std.specs.Prelude.{◌≡◌, map, string_bytes};
 ghost use Rattle.replies.specs.Outside.{object_of, streams_of, outside_of};
 ghost use Rattle.command_words.specs.Words.{HasLimits};
 ghost use Rattle.sbe_cli.specs.Runs.{Runs, CarriesOut};
-ghost use Rattle.sbe_cli.specs.Steps.{Drains, opened};
+ghost use Rattle.command_steps.specs.Steps.{Drains};
+ghost use Rattle.sbe_cli.specs.Jobs.{answering_of};
+ghost use Rattle.sbe_cli.specs.Opens.{opened_for};
 
-use crate::pump::{Pump, Step};
-use crate::stop::{Stop, tell};
+use crate::pump::Pump;
+use crate::unopened::{Unopened, tell};
+use command_steps::Step;
 use command_words::{Command, WordsErr, read_words};
 use sbe_base::{Files, Sink, Source, Status};
 use std::alloc::Global;
@@ -28,7 +31,7 @@ pub fn run<F: Files, I: Source, O: Sink, N: Sink>(
 {
     match read_words(alloc, words) {
         Ok(command) => carry_out(alloc, command, files, input, output, notes),
-        Err(WordsErr::Usage) => tell(&Stop::Usage, notes),
+        Err(WordsErr::Usage) => tell(&Unopened::Usage, notes),
         Err(WordsErr::Memory) => Status::NoMemory,
     }
 }
@@ -63,8 +66,8 @@ fn drain<I: Source, O: Sink, N: Sink>(
     output: &mut O,
     notes: &mut N,
 ) -> Status
-    requires { pump.old ≡ opened pump.old.job }
-    ensures { Drains pump.old.job
+    requires { pump.old ≡ opened_for pump.old.job }
+    ensures { Drains (answering_of pump.old.job)
         (streams_of (object_of (I.left input.old) (I.faults input.old)) (object_of (O.held output.old) (O.faults output.old)) (object_of (N.held notes.old) (N.faults notes.old)))
         (streams_of (object_of (I.left input.new) (I.faults input.new)) (object_of (O.held output.new) (O.faults output.new)) (object_of (N.held notes.new) (N.faults notes.new)))
         result }

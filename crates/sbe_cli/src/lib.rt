@@ -2,19 +2,15 @@
 #![tactic(auto)]
 
 mod engine;
-mod frames;
 mod laws;
-mod lines;
-mod once;
 mod pump;
 pub mod rows;
-mod stop;
+mod unopened;
 
-pub use build_lines::Target;
-pub use command_jobs::{FrameJob, Job, Kept, LineJob, OnceJob};
-pub use command_words::{Command, FORMS, Form, Name, NameList, Row, WordsErr, read_words};
+pub use command_steps::{Kept, Step};
+pub use command_words::{Command, FORMS, Form, Name, NameList, WordsErr, read_words};
 pub use engine::run;
 pub use laws::{one_report, some_report};
-pub use pump::{Pump, Step};
+pub use pump::Pump;
 pub use replies::Verdict;
 pub use schema_files::{FileRefusal, FileRole, RefusedFile};

@@ -1,62 +1,46 @@
 ghost use Rattle.std.specs.Prelude.{◌≡◌, IfOk};
 ghost use Rattle.replies.specs.Outside.{object_of, streams_of, desk_of};
-ghost use Rattle.sbe_cli.specs.Ahead.{none_ahead};
+ghost use Rattle.schema_files.specs.Files.{JobCause};
 ghost use Rattle.command_words.specs.Words.{HasLimits};
-ghost use Rattle.command_jobs.specs.Replies.{none_kept, counted_by};
-ghost use Rattle.sbe_cli.specs.Report.{done_status};
-ghost use Rattle.command_jobs.specs.Jobs.{IsReady, IsBoundedJob};
-ghost use Rattle.sbe_cli.specs.Steps.{Opens, Steps, running};
-ghost use Rattle.sbe_cli.specs.Pumps.{ahead_of, job_of, IsSoundWork, StandsSo, CanCount, Answers, EndsAs, IsOpened};
+ghost use Rattle.command_steps.specs.Replies.{none_kept, counted_by};
+ghost use Rattle.command_steps.specs.Ahead.{none_ahead};
+ghost use Rattle.command_steps.specs.Stands.{CanCount};
+ghost use Rattle.command_steps.specs.Steps.{Steps, Answers, running};
+ghost use Rattle.sbe_cli.specs.Jobs.{LoadsJob, answering_of, made_so};
+ghost use Rattle.sbe_cli.specs.Opens.{Opens, opened_for};
+ghost use Rattle.sbe_cli.specs.Pumps.{ahead_of, job_of, IsSoundWork, StandsSo, EndsAs, IsOpened};
 
-use crate::frames::{FrameWork, open_frames};
-use crate::lines::{LineWork, open_lines};
-use crate::once::answer_once;
-use crate::stop::{Stop, tell};
-use command_jobs::{Job, Kept, OnceJob, load_job};
-use command_words::Command;
-use lists::NoMem;
-use replies::{Draft, Verdict};
+use crate::unopened::{Unopened, tell};
+use build_command::{Builder, load_build};
+use check_command::{Checker, load_check};
+use command_steps::{FrameWork, Kept, LineWork, Step, Tally, WholeWork, count};
+use command_words::{Command, Form};
+use compat_command::{Comparer, load_compat};
+use dump_command::{Dumper, load_dump};
 use sbe_base::{Files, Sink, Source, Status};
 use schema_files::JobStop;
 use std::alloc::Global;
 use std::marker::Model;
 
-/// What is counted of an item that was answered.
-#[derive(Clone, Copy, Debug, PartialEq, Eq)]
-pub struct Tally {
-    /// Its bytes in the input.
-    pub bytes: u64,
-    pub verdict: Verdict,
-}
-
-/// What a step did.
-#[derive(Clone, Copy, Debug, PartialEq, Eq)]
-pub enum Step {
-    /// An item was answered.
-    Went,
-    /// The run has ended.
-    Ended(Status),
-}
-
-/// A job, with what it needs of its input.
+/// A command at work.
 #[derive(Drop)]
 pub enum Work {
-    Frames(FrameWork),
-    Lines(LineWork),
-    Once(OnceJob),
+    Check(WholeWork<Checker>),
+    Compat(WholeWork<Comparer>),
+    Dump(FrameWork<Dumper>),
+    Build(LineWork<Builder>),
 }
 
 /// One command on its way through its input.
 #[derive(Drop)]
 pub struct Pump {
     work: Work,
-    draft: Draft,
     kept: Kept,
     ended: Option<Status>,
 }
 
 impl Model for Pump {
-    ghost use Rattle.sbe_cli.specs.Steps.{PumpState};
+    ghost use Rattle.sbe_cli.specs.Opens.{PumpState};
     ghost use Rattle.sbe_cli.specs.Pumps.{IsPump, ahead_of, job_of};
     ghost use Rattle.std.specs.Coded.{codes};
     ghost use Rattle.sbe_types.specs.contracts.kind.Kind as kind;
@@ -66,7 +50,7 @@ impl Model for Pump {
 
     ghost coded = { Prim.hlevel (codes, kind.the_row.coded, level.the_row.coded) };
 
-    ghost view = { λ pump. record { job = job_of pump.work; kept = pump.kept; ahead = ahead_of pump.work; ended = pump.ended } };
+    ghost view = { λ pump. record { job = job_of pump.work; at = record { kept = pump.kept; ahead = ahead_of pump.work; ended = pump.ended } } };
 
     ghost invariant = { λ pump. IsPump pump.work pump.kept pump.ended };
 }
@@ -90,10 +74,10 @@ impl Pump {
             (desk_of (object_of (F.contents files.new) (F.faults files.new)) (object_of (N.held notes.new) (N.faults notes.new)))
             result }
     {
-        match load_job(alloc, command, files) {
-            Ok(job) => begin(alloc, job),
-            Err(JobStop::Refused(file)) => Err(tell(&Stop::Refused(file), notes)),
-            Err(JobStop::Fault(role)) => Err(tell(&Stop::FileFault(role), notes)),
+        match Work::open(alloc, command, files) {
+            Ok(work) => Ok(begin(work)),
+            Err(JobStop::Refused(file)) => Err(tell(&Unopened::Refused(file), notes)),
+            Err(JobStop::Fault(role)) => Err(tell(&Unopened::FileFault(role), notes)),
             Err(JobStop::NoMemory) => Err(Status::NoMemory),
         }
     }
@@ -106,18 +90,16 @@ impl Pump {
         output: &mut O,
         notes: &mut N,
     ) -> Step
-        ensures { Steps self.old self.new
+        ensures steps { Steps (answering_of self.old.job) self.old.at self.new.at
             (streams_of (object_of (I.left input.old) (I.faults input.old)) (object_of (O.held output.old) (O.faults output.old)) (object_of (N.held notes.old) (N.faults notes.old)))
             (streams_of (object_of (I.left input.new) (I.faults input.new)) (object_of (O.held output.new) (O.faults output.new)) (object_of (N.held notes.new) (N.faults notes.new)))
             result }
+        ensures job { self.new.job ≡ self.old.job }
     {
         if let Some(status) = self.ended {
             return Step::Ended(status);
         }
-        match self
-            .work
-            .answer_next(&self.kept, &mut self.draft, input, output, notes)
-        {
+        match self.work.answer_next(&self.kept, input, output, notes) {
             Ok(tally) => {
                 count(&mut self.kept, tally);
                 Step::Went
@@ -128,25 +110,37 @@ impl Pump {
 }
 
 impl Work {
-    /// Work on a job of which nothing is done yet.
-    fn open(alloc: Global, job: Job) -> Result<Work, NoMem>
-        requires ready { IsReady job }
-        requires bounded { IsBoundedJob job }
-        ensures job { IfOk result (λ work. job_of work ≡ job) }
-        ensures sound { IfOk result (λ work. IsSoundWork work) }
-        ensures ahead { IfOk result (λ work. ahead_of work ≡ none_ahead) }
-        ensures stands { IfOk result (λ work. StandsSo work none_kept) }
+    /// The work of a command, whose files are loaded and judged. Nothing is done yet.
+    fn open<F: Files>(alloc: Global, command: Command, files: &mut F) -> Result<Work, JobStop>
+        requires { HasLimits command }
+        ensures kept { F.contents files.new ≡ F.contents files.old }
+        ensures loads { LoadsJob (F.contents files.old) command (made_so job_of result) }
+        ensures cause { JobCause (F.faults files.old) (F.faults files.new) result }
+        ensures opened { IfOk result (λ work. IsOpened work) }
     {
-        match job {
-            Job::Frames { job, limits } => match open_frames(alloc, job, limits) {
-                Ok(work) => Ok(Work::Frames(work)),
-                Err(e) => Err(e),
+        match command.form {
+            Form::Check => match load_check(alloc, command.file(0), files) {
+                Ok(checker) => Ok(Work::Check(WholeWork::open(alloc, checker))),
+                Err(stop) => Err(stop),
             },
-            Job::Lines { job, limits } => match open_lines(alloc, job, limits) {
-                Ok(work) => Ok(Work::Lines(work)),
-                Err(e) => Err(e),
+            Form::Compat => match load_compat(alloc, command.file(0), command.file(1), files) {
+                Ok(comparer) => Ok(Work::Compat(WholeWork::open(alloc, comparer))),
+                Err(stop) => Err(stop),
             },
-            Job::Once(job) => Ok(Work::Once(job)),
+            Form::Dump => match load_dump(alloc, command.file(0), &command.also, files) {
+                Ok(dumper) => match FrameWork::open(alloc, dumper, command.limits) {
+                    Ok(work) => Ok(Work::Dump(work)),
+                    Err(_) => Err(JobStop::NoMemory),
+                },
+                Err(stop) => Err(stop),
+            },
+            Form::Build => match load_build(alloc, command.file(0), command.limits, files) {
+                Ok(builder) => match LineWork::open(alloc, builder, command.limits) {
+                    Ok(work) => Ok(Work::Build(work)),
+                    Err(_) => Err(JobStop::NoMemory),
+                },
+                Err(stop) => Err(stop),
+            },
         }
     }
 
@@ -154,14 +148,13 @@ impl Work {
     fn answer_next<I: Source, O: Sink, N: Sink>(
         &mut self,
         kept: &Kept,
-        draft: &mut Draft,
         input: &mut I,
         output: &mut O,
         notes: &mut N,
     ) -> Result<Tally, Status>
         requires sound { IsSoundWork self.old }
         requires stands { StandsSo self.old kept.now }
-        ensures answers { Answers (running (job_of self.old) kept.now (ahead_of self.old)) (ahead_of self.new)
+        ensures answers { Answers (answering_of (job_of self.old)) (running kept.now (ahead_of self.old)) (ahead_of self.new)
             (streams_of (object_of (I.left input.old) (I.faults input.old)) (object_of (O.held output.old) (O.faults output.old)) (object_of (N.held notes.old) (N.faults notes.old)))
             (streams_of (object_of (I.left input.new) (I.faults input.new)) (object_of (O.held output.new) (O.faults output.new)) (object_of (N.held notes.new) (N.faults notes.new)))
             result }
@@ -171,57 +164,30 @@ impl Work {
         ensures countable { IfOk result (λ tally. CanCount kept.now tally) }
     {
         match self {
-            Work::Frames(work) => work.answer_next(kept, input, output, notes),
-            Work::Lines(work) => work.answer_next(*kept, input, output, notes),
-            Work::Once(job) => answer_once(job, *kept, draft, output, notes),
+            Work::Check(work) => work.answer_next(kept, input, output, notes),
+            Work::Compat(work) => work.answer_next(kept, input, output, notes),
+            Work::Dump(work) => work.answer_next(kept, input, output, notes),
+            Work::Build(work) => work.answer_next(kept, input, output, notes),
         }
     }
 }
 
 /// A pump that has done nothing yet.
-fn begin(alloc: Global, job: Job) -> Result<Pump, Status>
-    requires ready { IsReady job }
-    requires bounded { IsBoundedJob job }
-    ensures { IsOpened job result }
+fn begin(work: Work) -> Pump
+    requires { IsOpened work }
+    ensures { result ≡ opened_for (job_of work) }
 {
-    let Ok(work) = Work::open(alloc, job) else {
-        return Err(Status::NoMemory);
-    };
-    Ok(Pump {
+    Pump {
         work,
-        draft: Draft::new(alloc),
         kept: Kept {
             items: 0,
             refused: 0,
             translated: 0,
+            dropped: 0,
+            filled: 0,
             bytes: 0,
         },
         ended: None,
-    })
-}
-
-/// Counts an item.
-fn count(kept: &mut Kept, tally: Tally)
-    requires { CanCount kept.old tally }
-    ensures { kept.new ≡ counted_by kept.old tally.bytes tally.verdict }
-{
-    kept.items += 1;
-    kept.bytes += tally.bytes;
-    match tally.verdict {
-        Verdict::Answered => {}
-        Verdict::Refused => kept.refused += 1,
-        Verdict::Translated => kept.translated += 1,
-    }
-}
-
-/// The status of a run that answered all items.
-pub fn done(kept: Kept) -> Status
-    ensures { result ≡ done_status kept.refused }
-{
-    if kept.refused > 0 {
-        Status::SomeRefused
-    } else {
-        Status::Done
     }
 }
 

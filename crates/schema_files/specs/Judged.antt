@@ -16,8 +16,6 @@ use Rattle.schema_files.specs.declared.files.FileRole.{FileRole}
 use Rattle.schema_files.specs.declared.files.FileRole.TheVariants as role
 use Rattle.schema_files.specs.declared.files.RefusedFile.{RefusedFile}
 use Rattle.schema_files.specs.declared.files.TheConstants.{SCHEMA_BYTES}
-use Rattle.command_words.specs.declared.words.Command.{Command}
-use Rattle.command_words.specs.declared.words.Command.TheVariants.{Check, Compat, Dump, Build}
 
 -- ---- one file
 
@@ -57,13 +55,6 @@ IsOfTwo role.Schema = ⊥
 IsOfTwo (role.Also n) = ⊥
 IsOfTwo role.Old = ⊤
 IsOfTwo role.New = ⊤
-
--- a command has a file in that role
-abbrev pub HasFile : Command → FileRole → Type 0
-HasFile (Check name) role = IsWithin 0 role
-HasFile (Compat older newer) role = IsOfTwo role
-HasFile (Dump name also limits) role = IsWithin (length also) role
-HasFile (Build name limits) role = IsWithin 0 role
 
 -- ---- several schemas
 

@@ -3,7 +3,7 @@
 use anyhow::{Result, bail};
 use row_tables::Row;
 use sbe_base::Limits;
-use sbe_cli::{Command, FORMS, WordsErr, read_words};
+use sbe_cli::{Command, FORMS, Form, WordsErr, read_words};
 use std::alloc::Global;
 
 /// The words that a row gives behind so many others.
@@ -22,23 +22,21 @@ fn limits_text(alloc: Global, limits: Limits) -> Result<String> {
 }
 
 fn command_text(alloc: Global, command: &Command) -> Result<String> {
-    match command {
-        Command::Check { schema } => Ok(format!(in alloc; "check {}", schema.as_str())?),
-        Command::Compat { older, newer } => {
-            Ok(format!(in alloc; "compat {} {}", older.as_str(), newer.as_str())?)
+    let file = command.file(0);
+    match command.form {
+        Form::Check => Ok(format!(in alloc; "check {file}")?),
+        Form::Compat => {
+            let newer = command.file(1);
+            Ok(format!(in alloc; "compat {file} {newer}")?)
         }
-        Command::Dump {
-            schema,
-            also,
-            limits,
-        } => {
-            let limits = limits_text(alloc, *limits)?;
-            let more = also.len();
-            Ok(format!(in alloc; "dump {} and {more}, {}", schema.as_str(), limits.as_str())?)
+        Form::Dump => {
+            let limits = limits_text(alloc, command.limits)?;
+            let more = command.also.len();
+            Ok(format!(in alloc; "dump {file} and {more}, {}", limits.as_str())?)
         }
-        Command::Build { schema, limits } => {
-            let limits = limits_text(alloc, *limits)?;
-            Ok(format!(in alloc; "build {}, {}", schema.as_str(), limits.as_str())?)
+        Form::Build => {
+            let limits = limits_text(alloc, command.limits)?;
+            Ok(format!(in alloc; "build {file}, {}", limits.as_str())?)
         }
     }
 }
@@ -56,8 +54,8 @@ pub fn command_told(alloc: Global, row: &Row) -> Result<String> {
 /// The words of the forms, in their order.
 pub fn forms_told(alloc: Global) -> Result<String> {
     let mut text = String::new(alloc);
-    for form in FORMS {
-        text.push_str(form.row().word())?;
+    for (_, word, _, _) in FORMS {
+        text.push_str(word)?;
         text.push_str(" ")?;
     }
     Ok(text)

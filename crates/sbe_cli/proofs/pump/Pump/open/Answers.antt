@@ -1,16 +1,16 @@
 use Rattle.replies.specs.Outside.{Desk}
-use Rattle.sbe_cli.specs.Steps.{fails}
+use Rattle.sbe_cli.specs.Opens.{fails}
 use Rattle.sbe_cli.proofs.Opening.{declined, same_object}
 use Rattle.sbe_cli.proofs.pump.Pump.open.Goals as goal
 
 pub returns-in-Err-Refused : goal.returns-in-Err-Refused
 returns-in-Err-Refused g c =
     let before : Desk = record { files = record { told = g.F.Files.contents c.args.files.now; faults = g.F.Files.faults c.args.files.now }; notes = record { told = g.N.Sink.held c.args.notes.now; faults = g.N.Sink.faults c.args.notes.now } } in
-    let after : Desk = record { files = record { told = g.F.Files.contents c.load_job.new.files; faults = g.F.Files.faults c.load_job.new.files }; notes = record { told = g.N.Sink.held c.tell.new.notes; faults = g.N.Sink.faults c.tell.new.notes } } in
-    declined c.args.command before after c.in-Err-Refused.file c.tell.result (rw c.in-Err-Refused.field-0-is at c.in-Err-Refused.ensures.loads) (same_object before.files after.files c.in-Err-Refused.ensures.kept (rw c.in-Err-Refused.field-0-is at c.in-Err-Refused.ensures.cause)) (rw c.in-Err-Refused.field-0-is at c.tell.ensures)
+    let after : Desk = record { files = record { told = g.F.Files.contents c.open.new.files; faults = g.F.Files.faults c.open.new.files }; notes = record { told = g.N.Sink.held c.tell.new.notes; faults = g.N.Sink.faults c.tell.new.notes } } in
+    declined c.args.command before after c.in-Err-Refused.file c.tell.result (rw c.in-Err-Refused.field-0-is at c.in-Err-Refused.ensures.loads) (same_object before.files after.files c.in-Err-Refused.ensures.kept (rw c.in-Err-Refused.field-0-is at c.in-Err-Refused.ensures.cause)) c.tell.ensures
 
 pub returns-in-Err-Fault : goal.returns-in-Err-Fault
 returns-in-Err-Fault g c =
     let loads = rw c.in-Err-Fault.field-0-is at c.in-Err-Fault.ensures.loads in
     let cause = rw c.in-Err-Fault.field-0-is at c.in-Err-Fault.ensures.cause in
-    fails c.in-Err-Fault.role loads.sound (record { rose = cause.1; later = cause.0 }) (rw c.in-Err-Fault.field-0-is at c.tell-in-Err-Fault.ensures)
+    fails c.in-Err-Fault.role loads.files.fails (record { rose = cause.1; later = cause.0 }) c.tell-in-Err-Fault.ensures

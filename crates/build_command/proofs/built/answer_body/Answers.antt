@@ -1,0 +1,12 @@
+use Rattle.std.proofs.Common.{ap, ◌∙◌}
+use Rattle.dump_lines.specs.Dumped.{encoding_of}
+use Rattle.build_command.proofs.Answering.{body_is, put_whole, put_part}
+use Rattle.build_command.proofs.built.answer_body.Goals as goal
+
+pub returns-in-Ok : goal.returns-in-Ok
+returns-in-Ok g c = λ notes.
+    put_whole _ _ _ _ _ _ (body_is c.args.layout.now c.args.body.now c.encoding_of.result (c.encoding_of.ensures ∙ ap encoding_of c.order.ensures)) notes c.in-Ok.ensures
+
+pub returns-in-Err : goal.returns-in-Err
+returns-in-Err g c = λ notes.
+    put_part _ _ _ _ _ _ (body_is c.args.layout.now c.args.body.now c.encoding_of.result (c.encoding_of.ensures ∙ ap encoding_of c.order.ensures)) notes _ c.in-Err.ensures

@@ -1,0 +1,34 @@
+-- The command `build`: what its file is judged as, and its reply to a line.
+use Rattle.std.specs.Prelude.{◌≡◌, ℕ, List, Option, Result, Ok, Err}
+use Rattle.sbe_types.specs.declared.schema.WireSchema.{WireSchema}
+use Rattle.replies.specs.Reply.{Reply}
+use Rattle.schema_files.specs.Judged.{file_schema, IsWithin}
+use Rattle.command_files.specs.Files.{judged_in}
+use Rattle.command_files.specs.Files.{FilesOf}
+use Rattle.schema_facts.specs.IsChecked.{IsChecked}
+use Rattle.schema_files.specs.declared.files.FileRole.TheVariants as role
+use Rattle.schema_files.specs.declared.files.RefusedFile.{RefusedFile}
+use Rattle.command_steps.specs.declared.kept.Kept.{Kept}
+use Rattle.build_command.specs.Build.{IsBuilt}
+
+-- the schema of the messages that are built, and the most bytes of a frame
+pub record Building : Type 0 where
+  pub schema : WireSchema
+  pub frame : ℕ
+
+-- the reply of `build` to a line
+abbrev pub IsBuildReply : Building → Kept → List ℕ → Reply → Type 0
+IsBuildReply building kept line reply = IsBuilt building.schema building.frame kept.items line reply
+
+-- the same file, for frames of so many bytes
+abbrev pub built_for : ℕ → Result WireSchema RefusedFile → Result Building RefusedFile
+built_for frame (Ok schema) = Ok (record { schema = schema; frame = frame })
+built_for frame (Err file) = Err file
+
+-- the file of that name is judged so
+abbrev pub JudgesBuild : List ℕ → ℕ → (List ℕ → Option (List ℕ)) → Result Building RefusedFile → Type 0
+JudgesBuild name frame contents judged = judged ≡ built_for frame (judged_in role.Schema (file_schema (contents name)))
+
+-- The files of `build`: the schema alone, for frames of so many bytes.
+abbrev pub build_files : List ℕ → ℕ → FilesOf Building
+build_files name frame = record { AreJudged = JudgesBuild name frame; IsRole = IsWithin 0; AreGood = λ building. IsChecked building.schema }

@@ -1,0 +1,132 @@
+//! The answer of `build` to a line: the frame of its message, or a note of why there is none.
+
+ghost use Rattle.std.specs.Prelude.{◌≡◌, ◌<◌, ◌^◌, ℕ, List, length, slice_get};
+ghost use Rattle.std.specs.Option.{IsSome};
+ghost use Rattle.layout_tables.specs.Writes.{Writes, outlet_of};
+ghost use Rattle.open_framing.specs.Frames.{frame};
+ghost use Rattle.sbe_wire.specs.Misfit.{misfit};
+ghost use Rattle.build_command.specs.Build.{body_limit, built_reply, frame_reply, message_reply};
+ghost use Rattle.replies.specs.Drafts.{DeliversDraft};
+ghost use Rattle.replies.specs.Outside.{Object, object_of, sinks_of};
+
+use crate::space::LineSpace;
+use crate::target::Target;
+use crate::unbuilt::{put_misfit, put_unread};
+use dump_lines::encoding_of;
+use layout_tables::Layout;
+use line_values::LineFault;
+use line_reading::msg_of_line_with;
+use open_framing::{HEAD_BYTES, Head, put_head};
+use printed_lines::body_of_line;
+use replies::Verdict;
+use sbe_base::{Sink, Status, WriteFault};
+use sbe_types::Msg;
+use std::alloc::Global;
+use tree_codec::encode;
+use json_values::Chunk;
+use typed_writer::FrameBuf;
+
+/// Writes the answer to a line: the frame of its message to the output, or the line of a refused item to the notes. A line in
+/// the form in which messages are printed goes a short way to its body, which takes no memory.
+///
+/// # Errors
+///
+/// `WriteFault` where a write fails; `NoMemory` for want of memory, and then nothing is written.
+pub fn answer_built<O: Sink, N: Sink>(
+    alloc: Global,
+    target: &Target,
+    item: u64,
+    line: &[u8],
+    space: &mut LineSpace,
+    output: &mut O,
+    notes: &mut N,
+) -> Result<Verdict, Status>
+    requires room { space.old.buffer.limit < 2 ^ 24 }
+    ensures answers { (limit : ℕ) → space.old.buffer.limit ≡ body_limit limit → DeliversDraft (built_reply target.now limit item line.now)
+        (sinks_of (object_of (O.held output.old) (O.faults output.old)) (object_of (N.held notes.old) (N.faults notes.old)))
+        (sinks_of (object_of (O.held output.new) (O.faults output.new)) (object_of (N.held notes.new) (N.faults notes.new)))
+        result }
+    ensures limit { space.new.buffer.limit ≡ space.old.buffer.limit }
+{
+    if line.is_empty() {
+        return Ok(Verdict::Answered);
+    }
+    if body_of_line(&target.layout, line, space.buffer.limit(), &mut space.draft) {
+        return answer_body(&target.layout, space.draft.bytes(), output);
+    }
+    match msg_of_line_with(alloc, &target.checked, line, &mut space.json) {
+        Ok(message) => {
+            answer_message(
+                &target.layout,
+                item,
+                &message,
+                &mut space.buffer,
+                output,
+                notes,
+            )
+        }
+        Err(LineFault::Refused(code, place)) => {
+            match put_unread(notes, item, code, place.as_slice()) {
+                Ok(()) => Ok(Verdict::Refused),
+                Err(WriteFault) => Err(Status::WriteFault),
+            }
+        }
+        Err(LineFault::Memory) => Err(Status::NoMemory),
+    }
+}
+
+/// Writes the answer to a message of one of the schema's templates. It takes no memory.
+fn answer_message<O: Sink, N: Sink>(
+    layout: &Layout,
+    item: u64,
+    message: &Msg,
+    buffer: &mut FrameBuf,
+    output: &mut O,
+    notes: &mut N,
+) -> Result<Verdict, Status>
+    requires room { buffer.old.limit < 2 ^ 24 }
+    requires known { IsSome (slice_get layout.now.messages message.now.template) }
+    ensures answers { DeliversDraft (message_reply layout.now item message.now (misfit layout.now message.now buffer.old.limit))
+        (sinks_of (object_of (O.held output.old) (O.faults output.old)) (object_of (N.held notes.old) (N.faults notes.old)))
+        (sinks_of (object_of (O.held output.new) (O.faults output.new)) (object_of (N.held notes.new) (N.faults notes.new)))
+        result }
+    ensures limit { buffer.new.limit ≡ buffer.old.limit }
+{
+    let _schema = layout.schema();
+    match encode(layout, message, buffer) {
+        Ok(_) => answer_body(layout, buffer.bytes(), output),
+        Err(why) => match put_misfit(notes, layout, item, message.template, &why) {
+            Ok(()) => Ok(Verdict::Refused),
+            Err(WriteFault) => Err(Status::WriteFault),
+        },
+    }
+}
+
+/// Writes the answer that is the frame of a body. It takes no memory.
+fn answer_body<O: Sink>(layout: &Layout, body: &[u8], output: &mut O) -> Result<Verdict, Status>
+    requires { length body.now < 2 ^ 24 }
+    ensures { (notes : Object (List ℕ)) → DeliversDraft (frame_reply layout.now body.now)
+        (sinks_of (object_of (O.held output.old) (O.faults output.old)) notes)
+        (sinks_of (object_of (O.held output.new) (O.faults output.new)) notes)
+        result }
+{
+    match put_frame(output, encoding_of(layout.order()), body) {
+        Ok(()) => Ok(Verdict::Answered),
+        Err(WriteFault) => Err(Status::WriteFault),
+    }
+}
+
+/// Writes the frame of a body.
+fn put_frame<O: Sink>(sink: &mut O, encoding: u16, body: &[u8]) -> Result<(), WriteFault>
+    requires { length body.now < 2 ^ 24 }
+    ensures { Writes (outlet_of (O.held sink.old) (O.faults sink.old)) (outlet_of (O.held sink.new) (O.faults sink.new))
+        (frame encoding body.now) result }
+{
+    let length = (body.len() + HEAD_BYTES) as u32;
+    let mut head = [0; HEAD_BYTES];
+    put_head(&Head { length, encoding }, &mut head);
+    let mut chunk = Chunk::new();
+    chunk.put(sink, &head);
+    chunk.put(sink, body);
+    chunk.finish(sink)
+}

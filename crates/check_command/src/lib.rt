@@ -1,0 +1,6 @@
+//! The command `check`: the schema of one file, and a line for each of its messages.
+#![tactic(auto)]
+
+mod check;
+
+pub use check::{Checker, load_check};

@@ -1,0 +1,46 @@
+-- The files of a command: what they are judged as, and what loading them gives.
+use Rattle.std.specs.Prelude.{◌≡◌, ℕ, List, Option, Some, Result, Ok, Err, IfOk, ⊤}
+use Rattle.sbe_types.specs.declared.schema.WireSchema.{WireSchema}
+use Rattle.schema_files.specs.Judged.{file_schema, refused_as}
+use Rattle.schema_files.specs.declared.files.FileRefusal.{FileRefusal}
+use Rattle.schema_files.specs.declared.files.FileRole.{FileRole}
+use Rattle.schema_files.specs.declared.files.RefusedFile.{RefusedFile}
+use Rattle.schema_files.specs.declared.files.JobStop.{JobStop}
+use Rattle.schema_files.specs.declared.files.JobStop.TheVariants as stop
+
+-- The files of a command: what they are judged as, which roles they have, and what holds of those that are accepted.
+pub record FilesOf (X : Type 0) : Type 1 where
+  pub AreJudged : (List ℕ → Option (List ℕ)) → Result X RefusedFile → Type 0
+  pub IsRole : FileRole → Type 0
+  pub AreGood : X → Type 0
+
+-- what files are judged as, unless they failed or memory was wanting
+abbrev pub JudgedSo : {X : Type 0} → (Result X RefusedFile → Type 0) → Result X JobStop → Type 0
+JudgedSo AreJudged (Ok files) = AreJudged (Ok files)
+JudgedSo AreJudged (Err (stop.Refused file)) = AreJudged (Err file)
+JudgedSo AreJudged (Err (stop.Fault role)) = ⊤
+JudgedSo AreJudged (Err stop.NoMemory) = ⊤
+
+-- a file that failed has one of these roles
+abbrev pub FailsIn : {X : Type 0} → (FileRole → Type 0) → Result X JobStop → Type 0
+FailsIn IsRole (Ok files) = ⊤
+FailsIn IsRole (Err (stop.Refused file)) = ⊤
+FailsIn IsRole (Err (stop.Fault role)) = IsRole role
+FailsIn IsRole (Err stop.NoMemory) = ⊤
+
+-- The files were loaded: what is there is what they are judged as, where they tell what they hold; a file that failed is one of them.
+pub record LoadsFiles {X : Type 0} (files : FilesOf X) (told : Option (List ℕ → Option (List ℕ))) (result : Result X JobStop) : Type 0 where
+  pub judges : (contents : List ℕ → Option (List ℕ)) → told ≡ Some contents → JudgedSo (files.AreJudged contents) result
+  pub fails : FailsIn files.IsRole result
+  pub good : IfOk result files.AreGood
+
+-- ---- one file
+
+-- the schema of the file in that role, or its refusal
+abbrev pub judged_in : FileRole → Result WireSchema FileRefusal → Result WireSchema RefusedFile
+judged_in at (Ok schema) = Ok schema
+judged_in at (Err why) = Err (refused_as at why)
+
+-- the file of that name, in that role, is judged so
+abbrev pub JudgesFile : FileRole → List ℕ → (List ℕ → Option (List ℕ)) → Result WireSchema RefusedFile → Type 0
+JudgesFile at name contents judged = judged ≡ judged_in at (file_schema (contents name))

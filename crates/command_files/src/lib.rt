@@ -1,0 +1,2 @@
+//! What the files of a command are, and what loading them gives.
+#![tactic(auto)]

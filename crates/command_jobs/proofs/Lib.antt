@@ -1,4 +1,0 @@
-pub mod Putting
-pub mod Replied
-pub mod JobLoading
-pub mod Folding

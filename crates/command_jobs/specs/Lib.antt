@@ -1,5 +1,0 @@
-pub mod Splits
-pub mod Dump
-pub mod Compat
-pub mod Replies
-pub mod Jobs

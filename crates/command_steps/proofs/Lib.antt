@@ -1,0 +1,14 @@
+pub mod Folding
+pub mod Splitting
+pub mod Following
+pub mod Telling
+pub mod LineSizes
+pub mod Stepping
+pub mod Closing
+pub mod LineStepping
+pub mod LineClosing
+pub mod Running
+pub mod Reporting
+pub mod Standing
+pub mod Drafting
+pub mod Told

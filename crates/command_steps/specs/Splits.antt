@@ -1,0 +1,159 @@
+-- What a command takes from its input, one piece after another.
+use Rattle.std.specs.Prelude.{◌≡◌, ◌≤◌, ◌⊎◌, ℕ, ◌+◌, ◌-◌, nat_lt, Bool, true, false, List, [], ◌∷◌, ◌++◌, length, map}
+use Rattle.std.specs.List.{AllByRecursion}
+use Rattle.sbe_base.specs.declared.status.Limits.{Limits}
+use Rattle.open_framing.specs.declared.head.HeadErr.{HeadErr}
+use Rattle.open_framing.specs.Heads.{IsBytes}
+use Rattle.open_framing.specs.Pieces.{Pieces, joined}
+use Rattle.open_framing.specs.Frames.{Item, frame_of, IsFrame, Cut, CutEnd}
+use Rattle.open_framing.specs.Frames as frames
+use Rattle.open_framing.specs.Lines.{IsLine, LineEnd}
+use Rattle.open_framing.specs.Lines as lines
+
+-- one thing to answer: a frame's item, a line without its end and whether that end is there, the one job of a command that reads nothing, or other bytes and of which kind they are
+pub data Piece : Type 0 where
+  Frame : Item → Piece
+  Line : List ℕ → Bool → Piece
+  Whole : Piece
+  Other : List ℕ → ℕ → Piece
+
+-- a line's bytes in the input: with its end, which the last line may lack
+abbrev pub line_bytes : List ℕ → Bool → List ℕ
+line_bytes line true = lines.ended line
+line_bytes line false = line
+
+-- a piece's bytes in the input
+abbrev pub piece_bytes : Piece → List ℕ
+piece_bytes (Frame item) = frame_of item
+piece_bytes (Line line has_end) = line_bytes line has_end
+piece_bytes Whole = []
+piece_bytes (Other bytes kind) = bytes
+
+-- how the pieces end: with nothing left, inside a frame of which so many bytes are there, at a head or a line that is at fault, or at the limit
+pub data PieceEnd : Type 0 where
+  End : PieceEnd
+  EndInside : ℕ → PieceEnd
+  HeadFault : HeadErr → PieceEnd
+  LineOver : PieceEnd
+  InputLimit : PieceEnd
+
+-- The end of frames as an end of pieces.
+abbrev pub frames_end : CutEnd → PieceEnd
+frames_end frames.End = End
+frames_end (frames.EndInside n) = EndInside n
+frames_end (frames.HeadFault fault) = HeadFault fault
+frames_end frames.InputLimit = InputLimit
+
+-- The end of lines as an end of pieces.
+abbrev pub lines_end : LineEnd → PieceEnd
+lines_end lines.End = End
+lines_end lines.LineOver = LineOver
+lines_end lines.InputLimit = InputLimit
+
+-- ---- how an input is read
+
+-- What else an input may be split into, within so many bytes of it: all its pieces and their end; pieces at its front, and the rest; the pieces that are whole in bytes, of which no further one is; which pieces there may be.
+pub record OtherReading : Type 1 where
+  pub Splits : ℕ → List ℕ → List Piece → PieceEnd → Type 0
+  pub Begins : ℕ → List ℕ → List Piece → List ℕ → Type 0
+  pub Holds : List ℕ → List Piece → Type 0
+  pub Suits : Piece → Type 0
+
+-- how many bytes pieces take up
+abbrev pub taken_by : List Piece → ℕ
+taken_by pieces = length (joined piece_bytes pieces)
+
+-- What holds of every reading: an input is split in one way, pieces at its front are the first of all, and go on piece by piece.
+pub record IsReading (reading : OtherReading) : Type 0 where
+  pub once : (n : ℕ) (stream : List ℕ) (xs ys : List Piece) (a b : PieceEnd) → reading.Splits n stream xs a → reading.Splits n stream ys b → (xs ≡ ys) × (a ≡ b)
+  pub some : (n : ℕ) (stream : List ℕ) → IsBytes stream → (pieces : List Piece) × (end : PieceEnd) × reading.Splits n stream pieces end
+  pub suits : (n : ℕ) (stream : List ℕ) (pieces : List Piece) (end : PieceEnd) → reading.Splits n stream pieces end → AllByRecursion reading.Suits pieces
+  pub none : (n : ℕ) (stream : List ℕ) → reading.Begins n stream [] stream
+  pub first : (n : ℕ) (stream : List ℕ) (xs ys : List Piece) (rest : List ℕ) (end : PieceEnd) → reading.Begins n stream xs rest → reading.Splits n stream ys end → (tail : List Piece) × (ys ≡ xs ++ tail)
+  pub more : (n : ℕ) (stream mid rest : List ℕ) (xs ys : List Piece) → reading.Begins n stream xs mid → reading.Begins (n - taken_by xs) mid ys rest → reading.Begins n stream (xs ++ ys) rest
+  pub all : (n : ℕ) (stream rest : List ℕ) (xs ys : List Piece) (end : PieceEnd) → reading.Begins n stream xs rest → reading.Splits (n - taken_by xs) rest ys end → reading.Splits n stream (xs ++ ys) end
+  pub held : (n : ℕ) (stream held left : List ℕ) (xs : List Piece) → reading.Begins n stream xs (held ++ left) → reading.Holds held []
+      → reading.Holds (joined piece_bytes xs ++ held) xs × (stream ≡ (joined piece_bytes xs ++ held) ++ left)
+  pub ended : (n : ℕ) (end : PieceEnd) → reading.Splits n [] [] end → end ≡ End
+
+-- how an input is read: frames within limits, lines of so many bytes in all at most, not at all, with one job to do or none, or in another way, with so many bytes in all at most
+pub data Reading : Type 1 where
+  Frames : Limits → Reading
+  Lines : ℕ → Reading
+  Once : Reading
+  Nothing : Reading
+  Others : (reading : OtherReading) → IsReading reading → ℕ → Reading
+
+-- the most bytes that are taken
+abbrev pub most_taken : Reading → ℕ
+most_taken (Frames limits) = limits.input
+most_taken (Lines input) = input
+most_taken Once = 0
+most_taken Nothing = 0
+most_taken (Others reading laws input) = input
+
+-- the pieces are taken of the input
+abbrev pub is_read : Reading → Bool
+is_read (Frames limits) = true
+is_read (Lines input) = true
+is_read Once = false
+is_read Nothing = false
+is_read (Others reading laws input) = true
+
+-- no more pieces than this are there: each has a byte, or there is one in all
+abbrev pub most_pieces : Reading → ℕ
+most_pieces (Frames limits) = limits.input
+most_pieces (Lines input) = input
+most_pieces Once = 1
+most_pieces Nothing = 0
+most_pieces (Others reading laws input) = input
+
+-- whether a piece is a frame
+abbrev pub is_framed : Reading → Bool
+is_framed (Frames limits) = true
+is_framed (Lines input) = false
+is_framed Once = false
+is_framed Nothing = false
+is_framed (Others reading laws input) = false
+
+-- a line whose end is there
+abbrev pub ended_piece : List ℕ → Piece
+ended_piece line = Line line true
+
+-- the lines at the front of so many bytes as pieces: a line has its end where one more byte is there
+abbrev pub line_pieces : ℕ → List (List ℕ) → List Piece
+line_pieces count [] = []
+line_pieces count (line ∷ all) = Line line (nat_lt (length line) count) ∷ line_pieces (count - (length line + 1)) all
+
+-- The input is these pieces, as many as there are, and ends so.
+abbrev pub Splits : Reading → List ℕ → List Piece → PieceEnd → Type 0
+Splits (Frames limits) stream pieces end =
+    (items : List Item) × (cut : CutEnd) × Cut stream limits.frame limits.input items cut × (pieces ≡ map Frame items) × (end ≡ frames_end cut)
+Splits (Lines input) stream pieces end =
+    (all : List (List ℕ)) × (cut : LineEnd) × lines.Lines stream input all cut × (pieces ≡ line_pieces (length stream) all) × (end ≡ lines_end cut)
+Splits Once stream pieces end = (pieces ≡ Whole ∷ []) × (end ≡ End)
+Splits Nothing stream pieces end = (pieces ≡ []) × (end ≡ End)
+Splits (Others reading laws input) stream pieces end = reading.Splits input stream pieces end
+
+-- the bytes are these items' and then the rest
+pub record Leads {X : Type 0} (IsItem : X → Type 0) (bytes_of : X → List ℕ) (bytes : List ℕ) (items : List X) (rest : List ℕ) : Type 0 where
+  pub whole : bytes ≡ joined bytes_of items ++ rest
+  pub each : AllByRecursion IsItem items
+
+-- The input begins with these pieces, which are within the limits, and the rest stands behind them.
+abbrev pub Begins : Reading → List ℕ → List Piece → List ℕ → Type 0
+Begins (Frames limits) stream pieces rest =
+    (items : List Item) × Leads (IsFrame limits.frame) frame_of stream items rest × (length (joined frame_of items) ≤ limits.input) × (pieces ≡ map Frame items)
+Begins (Lines input) stream pieces rest =
+    (all : List (List ℕ)) × Leads IsLine lines.ended stream all rest × (length (joined lines.ended all) ≤ input) × (pieces ≡ map ended_piece all)
+Begins Once stream pieces rest = ((pieces ≡ []) ⊎ (pieces ≡ Whole ∷ [])) × (rest ≡ stream)
+Begins Nothing stream pieces rest = (pieces ≡ []) × (rest ≡ stream)
+Begins (Others reading laws input) stream pieces rest = reading.Begins input stream pieces rest
+
+-- These pieces are whole in the bytes, and no further one is.
+abbrev pub Holds : Reading → List ℕ → List Piece → Type 0
+Holds (Frames limits) bytes pieces = (items : List Item) × (rest : List ℕ) × Pieces (IsFrame limits.frame) frame_of bytes items rest × (pieces ≡ map Frame items)
+Holds (Lines input) bytes pieces = (all : List (List ℕ)) × (rest : List ℕ) × Pieces IsLine lines.ended bytes all rest × (pieces ≡ map ended_piece all)
+Holds Once bytes pieces = ⊥
+Holds Nothing bytes pieces = ⊥
+Holds (Others reading laws input) bytes pieces = reading.Holds bytes pieces

@@ -1,0 +1,202 @@
+-- What each step of a command does with its input, and how the steps end.
+use Rattle.std.specs.Prelude.{◌≡◌, ◌≤◌, ◌<◌, ◌⊎◌, ◌==◌, ℕ, ◌+◌, ◌-◌, Bool, true, false, Option, Some, None, Result, Ok, Err, List, [], ◌∷◌, ◌++◌, length, ⊤}
+use Rattle.sbe_base.specs.declared.status.Limits.{Limits}
+use Rattle.sbe_base.specs.declared.status.Status.{Status}
+use Rattle.sbe_base.specs.declared.status.Status.TheVariants as status
+use Rattle.command_steps.specs.Splits.{Reading, Frames, Lines, Once, Nothing, Others, Piece, PieceEnd, End, is_read, most_pieces, Splits, Holds, most_taken}
+use Rattle.command_steps.specs.Ahead.{Ahead, none_ahead, IsAhead, Follows, Reaches}
+use Rattle.replies.specs.Reply.{Written, Reply, written_of}
+use Rattle.command_steps.specs.Replies.{Answering, none_kept, counted, counted_by, Replies}
+use Rattle.command_steps.specs.Ends.{stop_line, end_notes, end_status}
+use Rattle.replies.specs.Outside.{Streams, Wrote, Breaks, Failed, Calm, Told}
+use Rattle.command_steps.specs.declared.kept.Kept.{Kept}
+use Rattle.command_steps.specs.declared.step.Step.{Step}
+use Rattle.command_steps.specs.declared.step.Step.TheVariants.{Went, Ended}
+use Rattle.command_steps.specs.declared.step.Tally.{Tally}
+use Rattle.command_steps.specs.declared.end.Stop.TheVariants as stop
+
+-- what a command has done, what it knows of its input behind that, and its last answer
+pub record Moment : Type 0 where
+  pub kept : Kept
+  pub ahead : Ahead
+  pub ended : Option Status
+
+-- A moment before the end.
+abbrev pub running : Kept → Ahead → Moment
+running kept ahead = record { kept = kept; ahead = ahead; ended = None }
+
+-- Nothing is done yet.
+abbrev pub opened : Moment
+opened = running none_kept none_ahead
+
+-- ---- a step
+
+-- the one job is still to do, or it is done
+abbrev pub once_if : Bool → Reading
+once_if true = Once
+once_if false = Nothing
+
+-- the reading of what stands behind what was done
+abbrev pub behind : Reading → Kept → Reading
+behind (Frames limits) kept = Frames (record { frame = limits.frame; input = limits.input - kept.bytes })
+behind (Lines input) kept = Lines (input - kept.bytes)
+behind Once kept = once_if (kept.items == 0)
+behind Nothing kept = Nothing
+behind (Others reading laws input) kept = Others reading laws (input - kept.bytes)
+
+-- how a pump reads on
+abbrev pub reading_on : Answering → Moment → Reading
+reading_on on pump = behind on.reading pump.kept
+
+-- The next piece of what follows was taken, and its answer was written; the numbers count it.
+pub record TakesPiece (on : Answering) (old new : Moment) (before after : Streams) (input : List ℕ) : Type 0 where
+  pub piece : Piece
+  pub reply : Reply
+  pub left : List ℕ
+  pub source : Follows new.ahead after.input.told left
+  pub taken : Reaches new.ahead.met_end (reading_on on old) input (piece ∷ []) left
+  pub replied : on.IsReply old.kept piece reply
+  pub wrote : Wrote before.sinks after.sinks (written_of reply)
+  pub kept : new.kept ≡ counted old.kept piece reply.verdict
+
+-- A step that answers a piece. Behind a frame nothing was taken.
+pub record Goes (on : Answering) (old new : Moment) (before after : Streams) : Type 0 where
+  pub answers : (input : List ℕ) → Follows old.ahead before.input.told input → TakesPiece on old new before after input
+  pub unmet : old.ahead.met_end ≡ false
+  pub ahead : IsAhead on.reading new.ahead
+  pub calm : Calm before after
+  pub runs : new.ended ≡ None
+  -- the items grow to their most, and the bytes of an input to its limit
+  pub more : old.kept.items < new.kept.items
+  pub within : new.kept.items ≤ most_pieces on.reading
+  pub bytes_more : is_read on.reading ≡ true → old.kept.bytes < new.kept.bytes
+  pub bytes_within : new.kept.bytes ≤ most_taken on.reading
+  -- a job that takes nothing of the input leaves it as it was
+  pub unread : is_read on.reading ≡ false → after.input ≡ before.input
+
+-- ---- the end of the steps
+
+-- The pieces end here: all that was taken behind the last one is told, or nothing is left of an input that is read.
+pub record Ends (on : Answering) (pump : Moment) (before after : Streams) (input : List ℕ) (code : Status) : Type 0 where
+  pub end : PieceEnd
+  pub split : Splits (reading_on on pump) input [] end
+  pub left : is_read on.reading ≡ true → end ≡ End → after.input.told ≡ Some []
+  pub output : after.sinks.output ≡ before.sinks.output
+  pub noted : Told (end_notes on end pump.kept) (end_status end pump.kept.refused) before.sinks.notes after.sinks.notes code
+
+-- A read failed. What was taken before is no whole piece.
+pub record Stalls (on : Answering) (pump : Moment) (before after : Streams) (input : List ℕ) (code : Status) : Type 0 where
+  pub unmet : pump.ahead.met_end ≡ false
+  pub held : List ℕ
+  pub left : List ℕ
+  pub source : after.input.told ≡ Some left
+  pub taken : input ≡ held ++ left
+  pub part : Holds (reading_on on pump) held []
+  pub fault : Failed before.input after.input
+  pub output : after.sinks.output ≡ before.sinks.output
+  pub noted : Told (stop_line (stop.ReadFault (pump.kept.bytes + length held))) status.ReadFault before.sinks.notes after.sinks.notes code
+
+-- A write of the next piece's answer failed, or memory for it was wanting. Nothing behind a frame was taken.
+pub record Fails (on : Answering) (pump : Moment) (after : Streams) (input : List ℕ) (IsWritten : Reply → Type 0) : Type 0 where
+  pub piece : Piece
+  pub reply : Reply
+  pub left : List ℕ
+  pub unmet : pump.ahead.met_end ≡ false
+  pub ahead : Ahead
+  pub only_lines : IsAhead on.reading ahead
+  pub source : Follows ahead after.input.told left
+  pub taken : Reaches ahead.met_end (reading_on on pump) input (piece ∷ []) left
+  pub replied : on.IsReply pump.kept piece reply
+  pub wrote : IsWritten reply
+
+-- How the steps end.
+pub data Halts (on : Answering) (pump : Moment) (before after : Streams) (input : List ℕ) (code : Status) : Type 0 where
+  ended_at : Ends on pump before after input code → Halts on pump before after input code
+  stalled_at : Stalls on pump before after input code → Halts on pump before after input code
+  failed_at : Fails on pump after input (λ reply. Breaks before.sinks after.sinks (written_of reply)) → code ≡ status.WriteFault → Halts on pump before after input code
+  wanting_at : Fails on pump after input (λ reply. after.sinks ≡ before.sinks) → code ≡ status.NoMemory → Halts on pump before after input code
+
+-- the status of a run that nothing outside cut short
+abbrev pub IsReported : Status → Type 0
+IsReported status.Done = ⊤
+IsReported status.SomeRefused = ⊤
+IsReported status.Usage = ⊤
+IsReported status.SchemaRefused = ⊤
+IsReported status.MapRefused = ⊤
+IsReported status.FramingRefused = ⊤
+IsReported status.InputLimit = ⊤
+IsReported status.NoFile = ⊤
+IsReported status.FileFault = ⊥
+IsReported status.ReadFault = ⊥
+IsReported status.WriteFault = ⊥
+IsReported status.NoMemory = ⊥
+
+-- the status that a step may end with
+abbrev pub IsStepStatus : Status → Type 0
+IsStepStatus status.Done = ⊤
+IsStepStatus status.SomeRefused = ⊤
+IsStepStatus status.FramingRefused = ⊤
+IsStepStatus status.ReadFault = ⊤
+IsStepStatus status.WriteFault = ⊤
+IsStepStatus status.NoMemory = ⊤
+IsStepStatus status.InputLimit = ⊤
+IsStepStatus status.Usage = ⊥
+IsStepStatus status.SchemaRefused = ⊥
+IsStepStatus status.MapRefused = ⊥
+IsStepStatus status.FileFault = ⊥
+IsStepStatus status.NoFile = ⊥
+
+-- a fault of a stream is answered only where its count rose, and no count changed where a report is answered
+pub record Causes (before after : Streams) (code : Status) : Type 0 where
+  pub calm : IsReported code → Calm before after
+  pub read : code ≡ status.ReadFault → Failed before.input after.input
+  pub write : code ≡ status.WriteFault → Failed before.sinks.output after.sinks.output ⊎ Failed before.sinks.notes after.sinks.notes
+  pub late : IsStepStatus code
+
+-- a step that ends the pump
+pub record Closes (on : Answering) (old new : Moment) (before after : Streams) (code : Status) : Type 0 where
+  pub halts : (input : List ℕ) → Follows old.ahead before.input.told input → Halts on old before after input code
+  pub causes : Causes before after code
+  pub kept : new ≡ record { kept = old.kept; ahead = new.ahead; ended = Some code }
+  -- a command that spares memory never wants it
+  pub memory : code ≡ status.NoMemory → on.spares ≡ false
+  pub unread : is_read on.reading ≡ false → after.input ≡ before.input
+
+-- A piece is answered, or the pump ends; a pump that has ended answers the same again, and leaves all as it was.
+abbrev pub Steps : Answering → Moment → Moment → Streams → Streams → Step → Type 0
+Steps on old new before after Went = (old.ended ≡ None) × Goes on old new before after
+Steps on old new before after (Ended code) =
+    ((old.ended ≡ Some code) × (new ≡ old) × (after ≡ before)) ⊎ ((old.ended ≡ None) × Closes on old new before after code)
+
+-- ---- many steps
+
+-- These pieces of the input were taken and answered, and the numbers count them.
+pub record Progress (on : Answering) (pump : Moment) (old now : Streams) (input : List ℕ) : Type 0 where
+  pub pieces : List Piece
+  pub left : List ℕ
+  pub written : Written
+  pub source : Follows pump.ahead now.input.told left
+  pub begins : Reaches pump.ahead.met_end on.reading input pieces left
+  pub replies : Replies on none_kept pieces written pump.kept
+  pub wrote : Wrote old.sinks now.sinks written
+
+-- how far a job has come, and how it then ends
+pub record Course (on : Answering) (old new : Streams) (input : List ℕ) (code : Status) : Type 0 where
+  pub kept : Kept
+  pub ahead : Ahead
+  pub mid : Streams
+  pub progress : Progress on (running kept ahead) old mid input
+  pub calm : Calm old mid
+  pub halts : Halts on (running kept ahead) mid new progress.left code
+
+-- a job that is carried out to its end
+pub record Drains (on : Answering) (old new : Streams) (code : Status) : Type 0 where
+  pub course : (input : List ℕ) → old.input.told ≡ Some input → Course on old new input code
+  pub causes : Causes old new code
+  pub memory : code ≡ status.NoMemory → on.spares ≡ false
+  pub unread : is_read on.reading ≡ false → new.input ≡ old.input
+
+-- a piece was answered, of which this is counted, or the steps end with this status; then this is known of the input
+abbrev pub Answers : Answering → Moment → Ahead → Streams → Streams → Result Tally Status → Type 0
+Answers on pump ahead before after (Ok tally) = Goes on pump (running (counted_by pump.kept tally.bytes tally.verdict) ahead) before after
+Answers on pump ahead before after (Err code) = Closes on pump (record { kept = pump.kept; ahead = ahead; ended = Some code }) before after code

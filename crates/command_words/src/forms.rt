@@ -1,0 +1,104 @@
+ghost use Rattle.std.specs.Prelude.{◌≡◌, map, string_bytes};
+ghost use Rattle.std.specs.List.{list_all, list_any};
+ghost use Rattle.std.specs.Str.{bytes_eq};
+ghost use Rattle.command_words.specs.Words.{fits, are_options, is_file_name};
+
+use crate::options::{ALSO, MAX_FRAME, MAX_INPUT};
+use std::marker::Model;
+
+/// A form that words may have. A command with two forms is two of these.
+#[derive(Clone, Copy, Debug, PartialEq, Eq)]
+pub enum Form {
+    /// `check S`
+    Check,
+    /// `compat OLD NEW`
+    Compat,
+    /// `dump S`, with further schemas
+    Dump,
+    /// `build S`
+    Build,
+}
+
+/// What words of a form are: a command's word, names of files, and options in pairs.
+#[derive(Drop)]
+pub struct Row {
+    pub form: Form,
+    /// The command's word.
+    pub word: &'static str,
+    /// How many names of files follow it.
+    pub files: usize,
+    /// The words of the options that may follow these.
+    pub options: &'static [&'static str],
+}
+
+impl Model for Row {
+    ghost use Rattle.std.specs.Prelude.{map};
+    ghost use Rattle.command_words.specs.Words.{FormRow};
+
+    ghost Value = { FormRow };
+
+    ghost view = { λ row. record { form = row.form; word = row.word.now; files = row.files; options = map (λ option. option.now) row.options.now } };
+}
+
+/// All forms, in the order in which they are tried: the form, its word, how many files it names, and its options.
+pub const FORMS: [(Form, &str, usize, &[&str]); 4] = [
+    (Form::Check, "check", 1, &[]),
+    (Form::Compat, "compat", 2, &[]),
+    (Form::Dump, "dump", 1, &[MAX_FRAME, MAX_INPUT, ALSO]),
+    (Form::Build, "build", 1, &[MAX_FRAME, MAX_INPUT]),
+];
+
+impl Row {
+    /// Whether words have this form, whatever values its options have.
+    pub fn fits(&self, words: &[String]) -> bool
+        ensures { result ≡ fits self.now (map (λ word. string_bytes word) words.now) }
+    {
+        let [word, rest @ ..] = words else {
+            return false;
+        };
+        if word.as_str() != self.word || rest.len() < self.files {
+            return false;
+        }
+        if !are_file_names(&rest[..self.files]) {
+            return false;
+        }
+        self.takes_all(&rest[self.files..])
+    }
+
+    /// Whether these words are its options, each with a value.
+    fn takes_all(&self, options: &[String]) -> bool
+        ensures { result ≡ are_options self.now.options (map (λ word. string_bytes word) options.now) }
+    {
+        let mut left = options;
+        while let [word, _, rest @ ..] = left {
+            if !is_among(word.as_str(), self.options) {
+                return false;
+            }
+            left = rest;
+        }
+        left.is_empty()
+    }
+}
+
+fn is_among(word: &str, options: &[&str]) -> bool
+    ensures { result ≡ list_any (λ option. bytes_eq option.now word.now) options.now }
+{
+    options.iter().any(|option| *option == word)
+}
+
+fn are_file_names(words: &[String]) -> bool
+    ensures { result ≡ list_all (λ word. is_file_name (string_bytes word)) words.now }
+{
+    words.iter().all(|word| names_file(word.as_str()))
+}
+
+/// Whether a word may name a file.
+pub fn names_file(word: &str) -> bool
+    ensures { result ≡ is_file_name word.now }
+{
+    let bytes = word.as_bytes();
+    if bytes.is_empty() {
+        return false;
+    }
+    &bytes[..bytes.len().min(2)] != b"--".as_slice()
+}

@@ -1,0 +1,7 @@
+//! The command `dump`: the schemas of its files, and a line for each frame.
+#![tactic(auto)]
+
+mod dump;
+mod dumped;
+
+pub use dump::{Dumper, load_dump};

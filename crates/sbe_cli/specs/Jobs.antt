@@ -1,0 +1,96 @@
+-- The job of a command: what its files are judged as, and what it then answers.
+use Rattle.std.specs.Prelude.{◌≡◌, ℕ, true, List, Option, Some, Result, Ok, Err, ⊤}
+use Rattle.sbe_base.specs.declared.status.Limits.{Limits}
+use Rattle.sbe_types.specs.declared.schema.WireSchema.{WireSchema}
+use Rattle.dump_lines.specs.declared.schemas.Schemas.{Schemas}
+use Rattle.command_files.specs.Files.{FilesOf, LoadsFiles}
+use Rattle.schema_files.specs.declared.files.FileRole.{FileRole}
+use Rattle.schema_files.specs.declared.files.RefusedFile.{RefusedFile}
+use Rattle.schema_files.specs.declared.files.JobStop.{JobStop}
+use Rattle.command_words.specs.Words.{file_at, reads_input, spares_memory}
+use Rattle.command_words.specs.declared.words.Command.{Command}
+use Rattle.command_words.specs.declared.forms.Form.{Form}
+use Rattle.command_words.specs.declared.forms.Form.TheVariants as form
+use Rattle.command_steps.specs.Splits.{Reading, is_read}
+use Rattle.command_steps.specs.Replies.{Answering, by_frames, by_lines, by_whole, no_line}
+use Rattle.check_command.specs.Check.{IsCheckReply, check_files}
+use Rattle.compat_command.specs.Compat.{Pair, IsCompatReply, compat_files}
+use Rattle.dump_command.specs.Dump.{IsDumpReply, dump_files}
+use Rattle.build_command.specs.Builds.{Building, IsBuildReply, build_files}
+
+-- a command whose files are accepted
+pub data Job : Type 0 where
+  Check : WireSchema → Job
+  Compat : Pair → Job
+  Dump : Schemas → Limits → Job
+  Build : Building → ℕ → Job
+
+-- What each job takes of its input, and what it answers: one line a command.
+abbrev pub answering_of : Job → Answering
+answering_of (Check schema) = by_whole (IsCheckReply schema)
+answering_of (Compat pair) = by_whole (IsCompatReply pair)
+answering_of (Dump schemas limits) = by_frames limits true no_line (IsDumpReply schemas)
+answering_of (Build building input) = by_lines input no_line (IsBuildReply building)
+
+-- how a job reads its input
+abbrev pub reading_of : Job → Reading
+reading_of job = (answering_of job).reading
+
+-- ---- the files
+
+-- files that are judged so, and the job that they make
+abbrev pub Makes : {X : Type 0} → (Result X RefusedFile → Type 0) → (X → Job) → Result Job RefusedFile → Type 0
+Makes {X} AreJudged make (Ok job) = (files : X) × AreJudged (Ok files) × (job ≡ make files)
+Makes {X} AreJudged make (Err file) = AreJudged (Err file)
+
+-- the same files, and the job that they make
+abbrev pub making : {X : Type 0} → FilesOf X → (X → Job) → FilesOf Job
+making {X} files make = record {
+  AreJudged = λ contents. Makes (files.AreJudged contents) make;
+  IsRole = files.IsRole;
+  AreGood = λ job. (accepted : X) × files.AreGood accepted × (job ≡ make accepted);
+}
+
+-- What the files of a command of this form are: one line a form.
+abbrev pub files_by : Form → Command → FilesOf Job
+files_by form.Check command = making (check_files (file_at command 0)) Check
+files_by form.Compat command = making (compat_files (file_at command 0) (file_at command 1)) Compat
+files_by form.Dump command = making (dump_files (file_at command 0) command.also) (λ schemas. Dump schemas command.limits)
+files_by form.Build command = making (build_files (file_at command 0) command.limits.frame) (λ building. Build building command.limits.input)
+
+-- what the files of a command are
+abbrev pub files_of : Command → FilesOf Job
+files_of command = files_by command.form command
+
+-- The job of a command whose files are accepted, or the first refusal of a file.
+abbrev pub Judges : Command → (List ℕ → Option (List ℕ)) → Result Job RefusedFile → Type 0
+Judges command contents judged = (files_of command).AreJudged contents judged
+
+-- the job is one that the command's accepted files make, and its schemas are in order
+abbrev pub IsReady : Command → Job → Type 0
+IsReady command job = (files_of command).AreGood job
+
+-- a command has a file in that role
+abbrev pub HasFile : Command → FileRole → Type 0
+HasFile command role = (files_of command).IsRole role
+
+-- ---- the loading
+
+-- the job takes something of the input exactly where its command does, and spares memory exactly where its command does
+abbrev pub IsReadAs : Command → Job → Type 0
+IsReadAs command job = (is_read (reading_of job) ≡ reads_input (Some command)) × ((answering_of job).spares ≡ spares_memory (Some command))
+
+-- a job that is there reads what its command does
+abbrev pub IsReadSo : Command → Result Job JobStop → Type 0
+IsReadSo command (Ok job) = IsReadAs command job
+IsReadSo command (Err stop) = ⊤
+
+-- The files of a command are loaded, and make its job.
+pub record LoadsJob (told : Option (List ℕ → Option (List ℕ))) (command : Command) (result : Result Job JobStop) : Type 0 where
+  pub files : LoadsFiles (files_of command) told result
+  pub reads : IsReadSo command result
+
+-- the job that accepted files make
+abbrev pub made_so : {X : Type 0} → (X → Job) → Result X JobStop → Result Job JobStop
+made_so make (Ok files) = Ok (make files)
+made_so make (Err stop) = Err stop

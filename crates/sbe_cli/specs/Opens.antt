@@ -1,0 +1,38 @@
+-- What opening a pump does.
+use Rattle.std.specs.Prelude.{◌≡◌, ℕ, Option, Some, Result, Ok, Err, List}
+use Rattle.sbe_base.specs.declared.status.Status.{Status}
+use Rattle.sbe_base.specs.declared.status.Status.TheVariants as status
+use Rattle.command_steps.specs.Steps.{Moment, opened}
+use Rattle.sbe_cli.specs.Jobs.{Job, IsReadAs, IsReady, Judges, HasFile}
+use Rattle.sbe_cli.specs.Stops.{unopened_line, unopened_status}
+use Rattle.replies.specs.Outside.{Desk, Failed, Told}
+use Rattle.schema_files.specs.declared.files.FileRole.{FileRole}
+use Rattle.schema_files.specs.declared.files.RefusedFile.{RefusedFile}
+use Rattle.sbe_cli.specs.declared.unopened.Unopened.TheVariants as unopened
+use Rattle.command_words.specs.declared.words.Command.{Command}
+
+-- what a pump does, and where it is
+pub record PumpState : Type 0 where
+  pub job : Job
+  pub at : Moment
+
+-- A pump that has done nothing yet.
+abbrev pub opened_for : Job → PumpState
+opened_for job = record { job = job; at = opened }
+
+-- the files judge the command so, where they tell what they hold
+abbrev pub JudgedAs : Command → Desk → Result Job RefusedFile → Type 0
+JudgedAs command before judged = (contents : List ℕ → Option (List ℕ)) → before.files.told ≡ Some contents → Judges command contents judged
+
+-- A file is refused, the files failed, or memory was wanting.
+pub data Declines (command : Command) (before after : Desk) (code : Status) : Type 0 where
+  refuses : (file : RefusedFile) → JudgedAs command before (Err file) → after.files ≡ before.files
+      → Told (unopened_line (unopened.Refused file)) (unopened_status (unopened.Refused file)) before.notes after.notes code → Declines command before after code
+  fails : (role : FileRole) → HasFile command role → Failed before.files after.files
+      → Told (unopened_line (unopened.FileFault role)) (unopened_status (unopened.FileFault role)) before.notes after.notes code → Declines command before after code
+  wants : code ≡ status.NoMemory → after ≡ before → Declines command before after code
+
+-- The pump of the command's job, or the status that its files are declined with.
+abbrev pub Opens : Command → Desk → Desk → Result PumpState Status → Type 0
+Opens command before after (Ok pump) = JudgedAs command before (Ok pump.job) × IsReady command pump.job × (pump ≡ opened_for pump.job) × (after ≡ before) × IsReadAs command pump.job
+Opens command before after (Err code) = Declines command before after code
