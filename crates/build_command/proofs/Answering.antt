@@ -4,7 +4,6 @@ use Rattle.std.specs.Prelude.{unwrap_or}
 use Rattle.std.proofs.lemmas.Bool.Decides.{nat_tests}
 use Rattle.std.proofs.KnownBytes.{Appends-nil}
 use Rattle.byte_digits.specs.Digits.{digits_high_first}
-use Rattle.sbe_base.specs.declared.stream.WriteFault.{WriteFault}
 use Rattle.sbe_base.specs.declared.status.Status.{Status}
 use Rattle.sbe_base.specs.declared.status.Status.TheVariants as status
 use Rattle.open_framing.specs.declared.head.TheConstants.{HEAD_BYTES}
@@ -16,13 +15,14 @@ use Rattle.sbe_wire.specs.Canonical.{canonical}
 use Rattle.sbe_wire.specs.declared.codes.NCode.{NCode}
 use Rattle.sbe_wire.specs.declared.codes.NCode.TheVariants as unfit
 use Rattle.schema_facts.specs.IsChecked.{IsChecked}
-use Rattle.layout_tables.specs.Writes.{Writes, outlet_of}
+use Rattle.sbe_base.specs.Writes.{WroteAll, WrotePart}
 use Rattle.line_values.specs.Refusals.{refusal}
 use Rattle.line_values.specs.declared.refusals.JCode.{JCode}
 use Rattle.line_reading.specs.Lines.{tree_of}
 use Rattle.dump_lines.specs.Dumped.{encoding_of}
 use Rattle.dump_lines.specs.Refused.{refused_line}
-use Rattle.replies.specs.Outside.{Object, Sinks, at_output, at_notes, object_of, sinks_of}
+use Rattle.sbe_base.specs.Objects.{Object}
+use Rattle.replies.specs.Outside.{Sinks, at_output, at_notes, sinks_of}
 use Rattle.replies.specs.Reply.{Reply}
 use Rattle.replies.specs.Drafts.{DeliversDraft}
 use Rattle.build_command.specs.Build.{LeavesRoom, body_limit, built_reply, frame_reply, message_reply, of_misfit, read_reply, refused_reply, unread_line}
@@ -47,32 +47,32 @@ body_within schema m limit body checked none bytes =
     same_bytes : {x y : List ℕ} → ◌≡◌ {A = Option (List ℕ)} (Some x) (Some y) → x ≡ y
     same_bytes h = cc
 
-module _ (a b : Option (List ℕ)) (j k : ℕ) where
+module _ (a b : Object (List ℕ)) where
   module _ (reply : Reply) (output : List ℕ) (is : reply ≡ record { output = output; notes = []; verdict = Answered }) (notes : Object (List ℕ)) where
     -- an answer that notes nothing is written
-    pub put_whole : Writes (outlet_of a j) (outlet_of b k) output (Ok tt) → DeliversDraft reply (sinks_of (object_of a j) notes) (sinks_of (object_of b k) notes) (Ok Answered)
+    pub put_whole : WroteAll a b output → DeliversDraft reply (sinks_of a notes) (sinks_of b notes) (Ok Answered)
     put_whole w =
-        subst (λ (r : Reply). DeliversDraft r (sinks_of (object_of a j) notes) (sinks_of (object_of b k) notes) (Ok Answered)) (sym is)
-        ((record { output = w.ok; notes = Appends-nil notes.told }, w.cause.kept, refl), refl)
+        subst (λ (r : Reply). DeliversDraft r (sinks_of a notes) (sinks_of b notes) (Ok Answered)) (sym is)
+        ((record { output = w.all; notes = Appends-nil notes.told }, w.kept, refl), refl)
 
     -- or in part
-    pub put_part : (e : WriteFault) → Writes (outlet_of a j) (outlet_of b k) output (Err e) → DeliversDraft reply (sinks_of (object_of a j) notes) (sinks_of (object_of b k) notes) (Err status.WriteFault)
-    put_part e w =
-        subst (λ (r : Reply). DeliversDraft r (sinks_of (object_of a j) notes) (sinks_of (object_of b k) notes) (Err status.WriteFault)) (sym is)
-        (inl (refl, at_output w.part refl (record { rose = w.cause.failed; later = w.cause.later })))
+    pub put_part : WrotePart a b output → DeliversDraft reply (sinks_of a notes) (sinks_of b notes) (Err status.WriteFault)
+    put_part w =
+        subst (λ (r : Reply). DeliversDraft r (sinks_of a notes) (sinks_of b notes) (Err status.WriteFault)) (sym is)
+        (inl (refl, at_output w.part refl w.failed))
 
   module _ (reply : Reply) (line : List ℕ) (is : reply ≡ refused_reply line) (output : Object (List ℕ)) where
     -- a refused item is noted
-    pub note_whole : Writes (outlet_of a j) (outlet_of b k) line (Ok tt) → DeliversDraft reply (sinks_of output (object_of a j)) (sinks_of output (object_of b k)) (Ok Refused)
+    pub note_whole : WroteAll a b line → DeliversDraft reply (sinks_of output a) (sinks_of output b) (Ok Refused)
     note_whole w =
-        subst (λ (r : Reply). DeliversDraft r (sinks_of output (object_of a j)) (sinks_of output (object_of b k)) (Ok Refused)) (sym is)
-        ((record { output = Appends-nil output.told; notes = w.ok }, refl, w.cause.kept), refl)
+        subst (λ (r : Reply). DeliversDraft r (sinks_of output a) (sinks_of output b) (Ok Refused)) (sym is)
+        ((record { output = Appends-nil output.told; notes = w.all }, refl, w.kept), refl)
 
     -- or in part
-    pub note_part : (e : WriteFault) → Writes (outlet_of a j) (outlet_of b k) line (Err e) → DeliversDraft reply (sinks_of output (object_of a j)) (sinks_of output (object_of b k)) (Err status.WriteFault)
-    note_part e w =
-        subst (λ (r : Reply). DeliversDraft r (sinks_of output (object_of a j)) (sinks_of output (object_of b k)) (Err status.WriteFault)) (sym is)
-        (inl (refl, at_notes (Appends-nil output.told) refl w.part (record { rose = w.cause.failed; later = w.cause.later })))
+    pub note_part : WrotePart a b line → DeliversDraft reply (sinks_of output a) (sinks_of output b) (Err status.WriteFault)
+    note_part w =
+        subst (λ (r : Reply). DeliversDraft r (sinks_of output a) (sinks_of output b) (Err status.WriteFault)) (sym is)
+        (inl (refl, at_notes (Appends-nil output.told) refl w.part w.failed))
 
 -- ---- the answer to a message
 

@@ -1,5 +1,5 @@
 -- The file of a build is loaded.
-use Rattle.std.proofs.Common.{◌≡◌, ℕ, List, Option, Ok, Err, sym, ap}
+use Rattle.std.proofs.Common.{ℕ, List, Option, Ok, Err, sym, ap}
 use Rattle.sbe_types.specs.declared.schema.WireSchema.{WireSchema}
 use Rattle.schema_facts.specs.IsChecked.{IsChecked}
 use Rattle.command_files.specs.Files.{judged_in}

@@ -1,5 +1,5 @@
 -- What `build` answers to one line. Own profile.
-use Rattle.std.specs.Prelude.{◌≡◌, ◌≢◌, ◌<◌, ℕ, ◌-◌, ◌^◌, ⊤, ℤ, pos, ◌+ℤ◌, Option, Some, None, Result, Ok, Err, List, [], ◌∷◌, ◌++◌, codes, decimal, unwrap_or}
+use Rattle.std.specs.Prelude.{◌≡◌, ◌≢◌, ◌<◌, ℕ, ◌-◌, ◌^◌, ⊤, ℤ, pos, ◌+ℤ◌, Option, Some, None, Result, Ok, Err, List, [], ◌∷◌, ◌++◌, codes, unwrap_or}
 use Rattle.std.specs.Fmt.{signed_decimal}
 use Rattle.sbe_types.specs.declared.schema.WireSchema.{WireSchema}
 use Rattle.sbe_types.specs.declared.message.Msg.{Msg}
@@ -17,7 +17,7 @@ use Rattle.line_reading.specs.Lines.{tree_of}
 use Rattle.line_values.specs.declared.refusals.JCode.{JCode}
 use Rattle.line_values.specs.declared.refusals.JCode.TheVariants as unread
 use Rattle.dump_lines.specs.Dumped.{encoding_of}
-use Rattle.dump_lines.specs.Refused.{Refused as RefusedItem, refused_line, offset_text}
+use Rattle.dump_lines.specs.Refused.{Refused as RefusedItem, refused_line, front_text}
 use Rattle.replies.specs.Reply.{Reply}
 use Rattle.replies.specs.declared.verdict.Verdict.TheVariants.{Answered, Refused}
 
@@ -32,9 +32,7 @@ line_code unread.Kind = codes "J04"
 
 -- the line of an item whose line is no message; its place may be a key of the line, and is shown as a text is
 abbrev pub unread_line : ℕ → Refusal → List ℕ
-unread_line item why =
-    codes "{\"refused\":\"" ++ (line_code why.code ++ (codes "\",\"item\":" ++ (decimal item ++ (codes ",\"offset\":" ++ (offset_text None
-    ++ (codes ",\"path\":" ++ (plain_text (text_data why.place) ++ codes ",\"detail\":\"\"}\n")))))))
+unread_line item why = front_text item (line_code why.code) None ++ (plain_text (text_data why.place) ++ codes ",\"detail\":\"\"}\n")
 
 -- ---- a message that can't be written
 

@@ -51,9 +51,9 @@ pub fn load_build<F: Files>(
     files: &mut F,
 ) -> Result<Builder, JobStop>
     requires { IsBounded limits }
-    ensures kept { F.contents files.new ≡ F.contents files.old }
-    ensures loads { LoadsFiles (build_files name.now limits.frame) (F.contents files.old) result }
-    ensures cause { JobCause (F.faults files.old) (F.faults files.new) result }
+    ensures kept { (F.state files.new).told ≡ (F.state files.old).told }
+    ensures loads { LoadsFiles (build_files name.now limits.frame) (F.state files.old).told result }
+    ensures cause { JobCause (F.state files.old).faults (F.state files.new).faults result }
 {
     let checked = match load_checked(alloc, files, name) {
         Ok(checked) => checked,

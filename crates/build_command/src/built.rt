@@ -2,28 +2,30 @@
 
 ghost use Rattle.std.specs.Prelude.{◌≡◌, ◌<◌, ◌^◌, ℕ, List, length, slice_get};
 ghost use Rattle.std.specs.Option.{IsSome};
-ghost use Rattle.layout_tables.specs.Writes.{Writes, outlet_of};
+ghost use Rattle.sbe_base.specs.Writes.{Writes};
+ghost use Rattle.printers.specs.Prints.{Prints};
 ghost use Rattle.open_framing.specs.Frames.{frame};
 ghost use Rattle.sbe_wire.specs.Misfit.{misfit};
 ghost use Rattle.build_command.specs.Build.{body_limit, built_reply, frame_reply, message_reply};
 ghost use Rattle.replies.specs.Drafts.{DeliversDraft};
-ghost use Rattle.replies.specs.Outside.{Object, object_of, sinks_of};
+ghost use Rattle.sbe_base.specs.Objects.{Object};
+ghost use Rattle.replies.specs.Outside.{sinks_of};
 
 use crate::space::LineSpace;
 use crate::target::Target;
 use crate::unbuilt::{put_misfit, put_unread};
 use dump_lines::encoding_of;
 use layout_tables::Layout;
-use line_values::LineFault;
 use line_reading::msg_of_line_with;
+use line_values::LineFault;
 use open_framing::{HEAD_BYTES, Head, put_head};
 use printed_lines::body_of_line;
+use printers::{Chunk, Printer};
 use replies::Verdict;
 use sbe_base::{Sink, Status, WriteFault};
 use sbe_types::Msg;
 use std::alloc::Global;
 use tree_codec::encode;
-use json_values::Chunk;
 use typed_writer::FrameBuf;
 
 /// Writes the answer to a line: the frame of its message to the output, or the line of a refused item to the notes. A line in
@@ -43,8 +45,8 @@ pub fn answer_built<O: Sink, N: Sink>(
 ) -> Result<Verdict, Status>
     requires room { space.old.buffer.limit < 2 ^ 24 }
     ensures answers { (limit : ℕ) → space.old.buffer.limit ≡ body_limit limit → DeliversDraft (built_reply target.now limit item line.now)
-        (sinks_of (object_of (O.held output.old) (O.faults output.old)) (object_of (N.held notes.old) (N.faults notes.old)))
-        (sinks_of (object_of (O.held output.new) (O.faults output.new)) (object_of (N.held notes.new) (N.faults notes.new)))
+        (sinks_of (O.state output.old) (N.state notes.old))
+        (sinks_of (O.state output.new) (N.state notes.new))
         result }
     ensures limit { space.new.buffer.limit ≡ space.old.buffer.limit }
 {
@@ -87,8 +89,8 @@ fn answer_message<O: Sink, N: Sink>(
     requires room { buffer.old.limit < 2 ^ 24 }
     requires known { IsSome (slice_get layout.now.messages message.now.template) }
     ensures answers { DeliversDraft (message_reply layout.now item message.now (misfit layout.now message.now buffer.old.limit))
-        (sinks_of (object_of (O.held output.old) (O.faults output.old)) (object_of (N.held notes.old) (N.faults notes.old)))
-        (sinks_of (object_of (O.held output.new) (O.faults output.new)) (object_of (N.held notes.new) (N.faults notes.new)))
+        (sinks_of (O.state output.old) (N.state notes.old))
+        (sinks_of (O.state output.new) (N.state notes.new))
         result }
     ensures limit { buffer.new.limit ≡ buffer.old.limit }
 {
@@ -106,27 +108,35 @@ fn answer_message<O: Sink, N: Sink>(
 fn answer_body<O: Sink>(layout: &Layout, body: &[u8], output: &mut O) -> Result<Verdict, Status>
     requires { length body.now < 2 ^ 24 }
     ensures { (notes : Object (List ℕ)) → DeliversDraft (frame_reply layout.now body.now)
-        (sinks_of (object_of (O.held output.old) (O.faults output.old)) notes)
-        (sinks_of (object_of (O.held output.new) (O.faults output.new)) notes)
+        (sinks_of (O.state output.old) notes)
+        (sinks_of (O.state output.new) notes)
         result }
 {
-    match put_frame(output, encoding_of(layout.order()), body) {
+    match write_frame(output, encoding_of(layout.order()), body) {
         Ok(()) => Ok(Verdict::Answered),
         Err(WriteFault) => Err(Status::WriteFault),
     }
 }
 
 /// Writes the frame of a body.
-fn put_frame<O: Sink>(sink: &mut O, encoding: u16, body: &[u8]) -> Result<(), WriteFault>
+fn write_frame<O: Sink>(sink: &mut O, encoding: u16, body: &[u8]) -> Result<(), WriteFault>
     requires { length body.now < 2 ^ 24 }
-    ensures { Writes (outlet_of (O.held sink.old) (O.faults sink.old)) (outlet_of (O.held sink.new) (O.faults sink.new))
-        (frame encoding body.now) result }
+    ensures { Writes (O.state sink.old) (O.state sink.new) (frame encoding body.now) result }
+{
+    let mut chunk = Chunk::new();
+    let mut printer = Printer::new(sink, &mut chunk);
+    put_frame(&mut printer, encoding, body);
+    printer.finish()
+}
+
+/// Prints the frame of a body.
+fn put_frame<O: Sink>(printer: &mut Printer<'_, O>, encoding: u16, body: &[u8])
+    requires { length body.now < 2 ^ 24 }
+    ensures { Prints O.state printer.old printer.new (frame encoding body.now) }
 {
     let length = (body.len() + HEAD_BYTES) as u32;
     let mut head = [0; HEAD_BYTES];
     put_head(&Head { length, encoding }, &mut head);
-    let mut chunk = Chunk::new();
-    chunk.put(sink, &head);
-    chunk.put(sink, body);
-    chunk.finish(sink)
+    printer.put(&head);
+    printer.put(body);
 }

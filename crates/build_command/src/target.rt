@@ -1,7 +1,7 @@
 ghost use Rattle.std.specs.Prelude.{◌≡◌, IfOk};
 
-use layout_tables::Layout;
 use layout_compile::compile;
+use layout_tables::Layout;
 use lists::NoMem;
 use schema_check::Checked;
 use std::alloc::Global;

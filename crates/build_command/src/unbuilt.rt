@@ -1,23 +1,23 @@
 //! The notes of lines that `build` refuses.
 
-ghost use Rattle.std.specs.Prelude.{◌≡◌, None};
-ghost use Rattle.std.specs.Fmt.{signed_decimal};
-ghost use Rattle.layout_tables.specs.Paths.{IsPathOf, path_text};
-ghost use Rattle.layout_tables.specs.Writes.{Writes, outlet_of};
-ghost use Rattle.json_values.specs.Writes.{output, Writes as Puts};
+ghost use Rattle.std.specs.Prelude.{◌≡◌};
+ghost use Rattle.layout_tables.specs.Paths.{IsPathOf};
+ghost use Rattle.printers.specs.Prints.{Prints};
+ghost use Rattle.sbe_base.specs.Writes.{Writes};
 ghost use Rattle.line_values.specs.Refusals.{refusal};
-ghost use Rattle.dump_lines.specs.Refused.{back_text, front_text, refused_line};
+ghost use Rattle.dump_lines.specs.Refused.{back_text, refused_line};
 ghost use Rattle.tree_codec.specs.Sized.{sized_err};
 ghost use Rattle.build_command.specs.Build.{LeavesRoom, line_code, misfit_code, misfit_detail, of_misfit, unread_line};
 
+use dump_lines::{put_refused_back, put_refused_front, put_refused_number};
+use json_values::put_text;
 use layout_tables::Layout;
 use line_values::JCode;
 use open_framing::HEAD_BYTES;
+use printers::{Chunk, Printer};
 use sbe_base::{Sink, WriteFault};
-use sbe_types::Path;
 use sbe_wire::NCode;
 use tree_codec::EncodeErr;
-use json_values::{Chunk, put_count, put_number, put_text};
 
 /// Writes the line of an item whose line is no message. It takes no memory.
 ///
@@ -30,18 +30,21 @@ pub fn put_unread<O: Sink>(
     code: JCode,
     place: &[u8],
 ) -> Result<(), WriteFault>
-    ensures { Writes (outlet_of (O.held sink.old) (O.faults sink.old)) (outlet_of (O.held sink.new) (O.faults sink.new))
-        (unread_line item (refusal code place.now)) result }
+    ensures { Writes (O.state sink.old) (O.state sink.new) (unread_line item (refusal code place.now)) result }
 {
     let mut chunk = Chunk::new();
-    chunk.put(sink, b"{\"refused\":\"");
-    chunk.put(sink, line_code(code).as_bytes());
-    chunk.put(sink, b"\",\"item\":");
-    put_count(&mut chunk, sink, item);
-    chunk.put(sink, b",\"offset\":null,\"path\":");
-    put_text(&mut chunk, sink, place);
-    chunk.put(sink, b",\"detail\":\"\"}\n");
-    chunk.finish(sink)
+    let mut printer = Printer::new(sink, &mut chunk);
+    put_unread_line(&mut printer, item, code, place);
+    printer.finish()
+}
+
+/// Prints the line of an item whose line is no message.
+fn put_unread_line<O: Sink>(printer: &mut Printer<'_, O>, item: u64, code: JCode, place: &[u8])
+    ensures { Prints O.state printer.old printer.new (unread_line item (refusal code place.now)) }
+{
+    put_refused_front(printer, item, line_code(code), None);
+    put_text(printer, place);
+    printer.put(b",\"detail\":\"\"}\n");
 }
 
 /// Writes the line of an item whose message can't be written. It needs a path of the message's template. It takes
@@ -59,80 +62,48 @@ pub fn put_misfit<O: Sink>(
 ) -> Result<(), WriteFault>
     requires way { IsPathOf layout.now template why.now.path }
     requires room { LeavesRoom why.now.code why.now.detail }
-    ensures { Writes (outlet_of (O.held sink.old) (O.faults sink.old)) (outlet_of (O.held sink.new) (O.faults sink.new))
-        (refused_line item (of_misfit layout.now template (sized_err why.now))) result }
-{
-    put_front(sink, item, why.code)?;
-    put_path(sink, layout, template, &why.path)?;
-    put_back(sink, why.code, &why.detail)
-}
-
-/// Writes the line of a message that can't be written up to its path.
-fn put_front<O: Sink>(sink: &mut O, item: u64, code: NCode) -> Result<(), WriteFault>
-    ensures { Writes (outlet_of (O.held sink.old) (O.faults sink.old)) (outlet_of (O.held sink.new) (O.faults sink.new))
-        (front_text item (misfit_code code) None) result }
+    ensures { Writes (O.state sink.old) (O.state sink.new) (refused_line item (of_misfit layout.now template (sized_err why.now))) result }
 {
     let mut chunk = Chunk::new();
-    chunk.put(sink, b"{\"refused\":\"");
-    chunk.put(sink, misfit_code(code).as_bytes());
-    chunk.put(sink, b"\",\"item\":");
-    put_count(&mut chunk, sink, item);
-    chunk.put(sink, b",\"offset\":null,\"path\":\"");
-    chunk.finish(sink)
+    let mut printer = Printer::new(sink, &mut chunk);
+    put_misfit_line(&mut printer, layout, item, template, why);
+    printer.finish()
 }
 
-/// Writes the text of a path of that template.
-fn put_path<O: Sink>(
-    sink: &mut O,
+/// Prints the line of an item whose message can't be written. It needs a path of the message's template.
+fn put_misfit_line<O: Sink>(
+    printer: &mut Printer<'_, O>,
     layout: &Layout,
+    item: u64,
     template: usize,
-    path: &Path,
-) -> Result<(), WriteFault>
-    requires { IsPathOf layout.now template path.now }
-    ensures { Writes (outlet_of (O.held sink.old) (O.faults sink.old)) (outlet_of (O.held sink.new) (O.faults sink.new))
-        (path_text layout.now template path.now) result }
+    why: &EncodeErr,
+)
+    requires way { IsPathOf layout.now template why.now.path }
+    requires room { LeavesRoom why.now.code why.now.detail }
+    ensures { Prints O.state printer.old printer.new (refused_line item (of_misfit layout.now template (sized_err why.now))) }
 {
-    layout.write_path(template, path, sink)
+    put_refused_front(printer, item, misfit_code(why.code), None);
+    printer.put(b"\"");
+    layout.put_path(printer, template, &why.path);
+    put_back(printer, why.code, &why.detail);
 }
 
-/// Writes what stands behind the path.
-fn put_back<O: Sink>(sink: &mut O, code: NCode, detail: &i128) -> Result<(), WriteFault>
+/// Prints what follows the path: the number of a misfit, where it has one.
+fn put_back<O: Sink>(printer: &mut Printer<'_, O>, code: NCode, detail: &i128)
     requires { LeavesRoom code detail.now }
-    ensures { Writes (outlet_of (O.held sink.old) (O.faults sink.old)) (outlet_of (O.held sink.new) (O.faults sink.new))
-        (back_text (misfit_detail code detail.now)) result }
-{
-    let mut chunk = Chunk::new();
-    chunk.put(sink, b"\",\"detail\":\"");
-    put_detail(&mut chunk, sink, code, detail);
-    chunk.put(sink, b"\"}\n");
-    chunk.finish(sink)
-}
-
-/// Writes the number of a misfit, where it has one.
-fn put_detail<O: Sink>(chunk: &mut Chunk, sink: &mut O, code: NCode, detail: &i128)
-    requires { LeavesRoom code detail.now }
-    ensures { Puts (output (O.held sink.old) (O.faults sink.old) chunk.old)
-        (output (O.held sink.new) (O.faults sink.new) chunk.new) (misfit_detail code detail.now) }
+    ensures { Prints O.state printer.old printer.new (back_text (misfit_detail code detail.now)) }
 {
     match code {
-        NCode::Kind => {}
-        NCode::Shape => {}
-        NCode::Full => put_signed(chunk, sink, &(*detail + HEAD_BYTES as i128)),
-        NCode::Range => put_signed(chunk, sink, detail),
-        NCode::EnumUnknown => put_signed(chunk, sink, detail),
-        NCode::SetUnknown => put_signed(chunk, sink, detail),
-        NCode::TextByte => put_signed(chunk, sink, detail),
-        NCode::Count => put_signed(chunk, sink, detail),
-        NCode::Length => put_signed(chunk, sink, detail),
+        NCode::Kind => put_refused_back(printer, b""),
+        NCode::Shape => put_refused_back(printer, b""),
+        NCode::Full => put_refused_number(printer, &(*detail + HEAD_BYTES as i128)),
+        NCode::Range => put_refused_number(printer, detail),
+        NCode::EnumUnknown => put_refused_number(printer, detail),
+        NCode::SetUnknown => put_refused_number(printer, detail),
+        NCode::TextByte => put_refused_number(printer, detail),
+        NCode::Count => put_refused_number(printer, detail),
+        NCode::Length => put_refused_number(printer, detail),
     }
-}
-
-/// Writes a number with its sign.
-fn put_signed<O: Sink>(chunk: &mut Chunk, sink: &mut O, n: &i128)
-    ensures { Puts (output (O.held sink.old) (O.faults sink.old) chunk.old)
-        (output (O.held sink.new) (O.faults sink.new) chunk.new) (signed_decimal n.now) }
-{
-    put_number(chunk, sink, n);
 }
 
 /// The code of why a line is no message.

@@ -36,9 +36,9 @@ impl Model for Checker {
 
 /// Loads and judges the schema of a check.
 pub fn load_check<F: Files>(alloc: Global, name: &str, files: &mut F) -> Result<Checker, JobStop>
-    ensures kept { F.contents files.new ≡ F.contents files.old }
-    ensures loads { LoadsFiles (check_files name.now) (F.contents files.old) result }
-    ensures cause { JobCause (F.faults files.old) (F.faults files.new) result }
+    ensures kept { (F.state files.new).told ≡ (F.state files.old).told }
+    ensures loads { LoadsFiles (check_files name.now) (F.state files.old).told result }
+    ensures cause { JobCause (F.state files.old).faults (F.state files.new).faults result }
 {
     match load_checked(alloc, files, name) {
         Ok(schema) => Ok(Checker { schema }),

@@ -15,9 +15,10 @@ use Rattle.frame_stream.specs.declared.stream.StreamErr.TheVariants as err
 use Rattle.frame_stream.specs.Stream.{StreamState, told_by, Takes, TakeCause}
 use Rattle.command_steps.specs.Splits.{Once, Whole, End, Splits, Begins}
 use Rattle.replies.specs.Reply.{Written, Reply, written_of}
-use Rattle.command_steps.specs.Replies.{Answering, by_frames, by_whole, counted_by, HasParts, Replied, Wants}
+use Rattle.command_steps.specs.Replies.{Answering, by_whole, counted_by, HasParts, Replied, Wants}
 use Rattle.command_steps.specs.Ends.{end_notes, end_status, done_status, stop_line, stop_status}
-use Rattle.replies.specs.Outside.{Object, Sinks, Streams, Breaks, at_output, at_notes, Failed, Told, noted, failed}
+use Rattle.sbe_base.specs.Objects.{Object, Failed}
+use Rattle.replies.specs.Outside.{Sinks, Streams, Breaks, at_output, at_notes, Told, noted, failed}
 use Rattle.command_steps.specs.Steps.{Moment, running, behind, IsStepStatus, Fails, Halts, ended_at, failed_at, wanting_at, Causes, Answers}
 use Rattle.open_framing.specs.Frames.{Item}
 use Rattle.replies.specs.Drafts.{DeliversDraft}

@@ -1,5 +1,5 @@
 -- A reply that is put into an empty draft.
-use Rattle.std.proofs.Common.{◌≡◌, ℕ, List, [], ◌++◌, Result, Ok, Err, sym, ap, ◌∙◌}
+use Rattle.std.proofs.Common.{◌≡◌, ℕ, List, [], ◌++◌, Result, Ok, Err, ap, ◌∙◌}
 use Rattle.std.specs.Prelude.{OnOk, IfOk}
 use Rattle.lists.specs.declared.list.NoMem.{NoMem}
 use Rattle.replies.specs.Reply.{Reply}

@@ -8,7 +8,6 @@ use Rattle.sbe_base.specs.declared.status.Limits.{Limits}
 use Rattle.command_steps.specs.Splits.{OtherReading, IsReading, Reading, Frames, Lines, Once, Nothing, Others, Piece, Frame, Line, Whole, Other, piece_bytes, line_pieces, PieceEnd, Splits}
 use Rattle.replies.specs.Reply.{Written, Reply, none_written, written_of, then_written}
 use Rattle.command_steps.specs.Replies.{Answering, by_frames, by_lines, by_whole, counted, Replies}
-use Rattle.replies.specs.declared.verdict.Verdict.{Verdict}
 use Rattle.command_steps.specs.declared.kept.Kept.{Kept}
 
 -- ---- each piece has exactly one reply

@@ -1,5 +1,5 @@
 -- What a step over lines answers: its status, and the counts of faults.
-use Rattle.std.proofs.Common.{◌≡◌, inl, inr, ℕ, List, length, Option, Some, None, Result, Ok, Err, refl, sym, ap, subst}
+use Rattle.std.proofs.Common.{◌≡◌, inl, inr, ℕ, List, length, Option, Some, None, Result, Ok, Err, refl, sym, subst}
 use Rattle.std.specs.Prelude.{IfSome, nat_lt}
 use Rattle.sbe_base.specs.declared.status.Limits.{Limits}
 use Rattle.sbe_base.specs.declared.status.Status.{Status}
@@ -15,9 +15,9 @@ use Rattle.command_steps.specs.Splits.{End}
 use Rattle.command_steps.specs.Ahead.{Follows}
 use Rattle.replies.specs.Reply.{Reply, written_of}
 use Rattle.command_steps.specs.Ends.{end_notes, end_status, done_status, stop_line, stop_status}
-use Rattle.replies.specs.Outside.{Streams, Breaks, Failed, Told}
+use Rattle.sbe_base.specs.Objects.{Failed}
+use Rattle.replies.specs.Outside.{Streams, Breaks, Told}
 use Rattle.command_steps.specs.Steps.{Moment, running, Halts, failed_at, wanting_at, Causes, Answers}
-use Rattle.replies.specs.Drafts.{DeliversDraft}
 use Rattle.command_steps.specs.Stands.{StandsLines, lines_ahead}
 use Rattle.command_steps.specs.Replies.{Answering, by_lines, Replied}
 use Rattle.replies.specs.declared.verdict.Verdict.{Verdict}

@@ -22,7 +22,8 @@ use Rattle.command_steps.specs.Ahead.{Follows, Reaches}
 use Rattle.replies.specs.Reply.{Reply, written_of}
 use Rattle.command_steps.specs.Replies.{Answering, by_lines, HasParts, counted_by}
 use Rattle.command_steps.specs.Ends.{end_notes, end_status, stop_line}
-use Rattle.replies.specs.Outside.{Streams, Wrote, Failed, Calm, Told}
+use Rattle.sbe_base.specs.Objects.{Failed}
+use Rattle.replies.specs.Outside.{Streams, Wrote, Calm, Told}
 use Rattle.command_steps.specs.Steps.{Moment, running, Goes, Fails, Halts, ended_at, stalled_at}
 use Rattle.command_steps.specs.Stands.{IsBounded, StandsLines, HasTaken, CanCount, is_at_end, lines_ahead}
 use Rattle.replies.specs.declared.verdict.Verdict.{Verdict}

@@ -14,7 +14,7 @@ use Rattle.open_framing.specs.Lines.{IsLine, LineEnd, first_line, lines_of}
 use Rattle.open_framing.specs.Lines as lines
 use Rattle.open_framing.proofs.FrameLemmas.{cut_more, cut_once, cut_found, frame_complete}
 use Rattle.open_framing.proofs.LineLemmas.{lines_once, lines_found, lines_more, line_complete}
-use Rattle.command_steps.specs.Splits.{Reading, Frames, Lines, Once, Nothing, Others, Piece, Frame, Line, Whole, piece_bytes, taken_by, ended_piece, line_pieces, PieceEnd, End, frames_end, lines_end, Splits, Leads, Begins, Holds}
+use Rattle.command_steps.specs.Splits.{Reading, Frames, Lines, Once, Nothing, Others, Piece, Frame, Line, Whole, piece_bytes, ended_piece, line_pieces, PieceEnd, End, frames_end, lines_end, Splits, Leads, Begins, Holds}
 use Rattle.command_steps.specs.Ahead.{Reaches}
 use Rattle.command_steps.specs.Steps.{behind, once_if}
 use Rattle.command_steps.specs.declared.kept.Kept.{Kept}

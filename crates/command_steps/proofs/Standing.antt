@@ -12,7 +12,8 @@ use Rattle.command_steps.specs.Ahead.{Reaches}
 use Rattle.replies.specs.Reply.{Written, Reply, written_of, then_written}
 use Rattle.command_steps.specs.Replies.{Answering, none_kept, counted, Replies}
 use Rattle.command_steps.specs.Ends.{Outcome, end_notes, closed, PiecesReport, stop_line}
-use Rattle.replies.specs.Outside.{Object, Streams, Wrote, Breaks, at_output, at_notes, Told, noted, failed}
+use Rattle.sbe_base.specs.Objects.{Object}
+use Rattle.replies.specs.Outside.{Streams, Wrote, Breaks, at_output, at_notes, Told, noted, failed}
 use Rattle.command_steps.specs.Steps.{Moment, behind, IsReported, Ends, Stalls, Fails, Progress}
 use Rattle.command_steps.specs.declared.kept.Kept.{Kept}
 use Rattle.command_steps.specs.declared.end.Stop.TheVariants as stop

@@ -1,12 +1,12 @@
 -- What stands while a command works over a stream.
-use Rattle.std.specs.Prelude.{◌≡◌, ◌⊎◌, Bool, true, false, ◌≤◌, ◌<◌, ◌+◌, ◌-◌, ◌^◌, Option, Some, None, [], length, ⊤}
+use Rattle.std.specs.Prelude.{◌≡◌, ◌⊎◌, Bool, true, false, ◌≤◌, ◌<◌, ◌+◌, ◌-◌, ◌^◌, Option, Some, None, [], length}
 use Rattle.sbe_base.specs.declared.status.Limits.{Limits}
 use Rattle.open_framing.specs.Lines.{longest_line}
 use Rattle.frame_stream.specs.Stream.{StreamState, room}
 use Rattle.frame_stream.specs.LineTakes.{LineState, line_bytes, line_room}
 use Rattle.frame_stream.specs.declared.lines.LineEnded.{LineEnded}
 use Rattle.frame_stream.specs.declared.lines.LineEnded.TheVariants as line_ended
-use Rattle.command_steps.specs.Ahead.{Ahead, none_ahead}
+use Rattle.command_steps.specs.Ahead.{Ahead}
 use Rattle.command_steps.specs.Replies.{parts_dropped, parts_filled, most_parts}
 use Rattle.command_steps.specs.declared.kept.Kept.{Kept}
 use Rattle.command_steps.specs.declared.step.Tally.{Tally}

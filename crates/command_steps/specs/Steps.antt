@@ -1,6 +1,5 @@
 -- What each step of a command does with its input, and how the steps end.
 use Rattle.std.specs.Prelude.{◌≡◌, ◌≤◌, ◌<◌, ◌⊎◌, ◌==◌, ℕ, ◌+◌, ◌-◌, Bool, true, false, Option, Some, None, Result, Ok, Err, List, [], ◌∷◌, ◌++◌, length, ⊤}
-use Rattle.sbe_base.specs.declared.status.Limits.{Limits}
 use Rattle.sbe_base.specs.declared.status.Status.{Status}
 use Rattle.sbe_base.specs.declared.status.Status.TheVariants as status
 use Rattle.command_steps.specs.Splits.{Reading, Frames, Lines, Once, Nothing, Others, Piece, PieceEnd, End, is_read, most_pieces, Splits, Holds, most_taken}
@@ -8,7 +7,8 @@ use Rattle.command_steps.specs.Ahead.{Ahead, none_ahead, IsAhead, Follows, Reach
 use Rattle.replies.specs.Reply.{Written, Reply, written_of}
 use Rattle.command_steps.specs.Replies.{Answering, none_kept, counted, counted_by, Replies}
 use Rattle.command_steps.specs.Ends.{stop_line, end_notes, end_status}
-use Rattle.replies.specs.Outside.{Streams, Wrote, Breaks, Failed, Calm, Told}
+use Rattle.sbe_base.specs.Objects.{Failed}
+use Rattle.replies.specs.Outside.{Streams, Wrote, Breaks, Calm, Told}
 use Rattle.command_steps.specs.declared.kept.Kept.{Kept}
 use Rattle.command_steps.specs.declared.step.Step.{Step}
 use Rattle.command_steps.specs.declared.step.Step.TheVariants.{Went, Ended}

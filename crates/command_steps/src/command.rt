@@ -1,7 +1,7 @@
 ghost use Rattle.std.specs.Prelude.{◌≡◌, [], ℕ, Bool, List, length};
 ghost use Rattle.open_framing.specs.Frames.{Item};
 ghost use Rattle.replies.specs.Reply.{Reply};
-ghost use Rattle.replies.specs.Outside.{object_of, sinks_of, Told};
+ghost use Rattle.replies.specs.Outside.{sinks_of, Told};
 ghost use Rattle.command_steps.specs.Ends.{done_status};
 ghost use Rattle.command_steps.specs.Replies.{Replied, Drafted, Wants};
 ghost use Rattle.command_steps.specs.declared.kept.Kept.{Kept as Numbers};
@@ -37,15 +37,15 @@ pub trait FrameCommand: Drop {
     ) -> Result<Verdict, Status>
         ensures same { self.new ≡ self.old }
         ensures replied { Replied (length body.now) (is_reply self.old kept.now (record { encoding = encoding; body = body.now }))
-            (sinks_of (object_of (O.held output.old) (O.faults output.old)) (object_of (N.held notes.old) (N.faults notes.old)))
-            (sinks_of (object_of (O.held output.new) (O.faults output.new)) (object_of (N.held notes.new) (N.faults notes.new)))
+            (sinks_of (O.state output.old) (N.state notes.old))
+            (sinks_of (O.state output.new) (N.state notes.new))
             result }
         ensures wants { Wants spares result };
 
     /// Notes the last line of a run that answered all of its input, and answers the status of the run.
     fn end<N: Sink>(&mut self, kept: &Kept, notes: &mut N) -> Status
         ensures same { self.new ≡ self.old }
-        ensures told { Told (last kept.now) (done_status kept.now.refused) (object_of (N.held notes.old) (N.faults notes.old)) (object_of (N.held notes.new) (N.faults notes.new)) result };
+        ensures told { Told (last kept.now) (done_status kept.now.refused) (N.state notes.old) (N.state notes.new) result };
 }
 
 /// A command that answers each line of its input.
@@ -70,14 +70,14 @@ pub trait LineCommand: Drop {
     ) -> Result<Verdict, Status>
         ensures same { self.new ≡ self.old }
         ensures replied { Replied (length line.now) (is_reply self.old kept.now line.now)
-            (sinks_of (object_of (O.held output.old) (O.faults output.old)) (object_of (N.held notes.old) (N.faults notes.old)))
-            (sinks_of (object_of (O.held output.new) (O.faults output.new)) (object_of (N.held notes.new) (N.faults notes.new)))
+            (sinks_of (O.state output.old) (N.state notes.old))
+            (sinks_of (O.state output.new) (N.state notes.new))
             result };
 
     /// Notes the last line of a run that answered all of its input, and answers the status of the run.
     fn end<N: Sink>(&mut self, kept: &Kept, notes: &mut N) -> Status
         ensures same { self.new ≡ self.old }
-        ensures told { Told (last kept.now) (done_status kept.now.refused) (object_of (N.held notes.old) (N.faults notes.old)) (object_of (N.held notes.new) (N.faults notes.new)) result };
+        ensures told { Told (last kept.now) (done_status kept.now.refused) (N.state notes.old) (N.state notes.new) result };
 }
 
 /// A command that does one job over its files, and takes nothing of its input.

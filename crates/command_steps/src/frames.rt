@@ -1,6 +1,6 @@
 ghost use Rattle.std.specs.Prelude.{◌≡◌, IfOk, length};
 ghost use Rattle.frame_stream.specs.Stream.{opened as opened_stream};
-ghost use Rattle.replies.specs.Outside.{object_of, sinks_of, streams_of};
+ghost use Rattle.replies.specs.Outside.{sinks_of, streams_of};
 ghost use Rattle.command_steps.specs.Ahead.{none_ahead};
 ghost use Rattle.command_steps.specs.Replies.{by_frames, counted_by, Replied, Wants};
 ghost use Rattle.command_steps.specs.Stands.{IsBounded, Stands, CanCount};
@@ -41,7 +41,7 @@ impl<C: FrameCommand> FrameWork<C> {
     }
 
     /// Takes the next frame, and writes its answer; or notes what ends the frames, and answers the status of the run.
-    #[inline(never)]
+    #[inline(always)]
     pub fn answer_next<I: Source, O: Sink, N: Sink>(
         &mut self,
         kept: &Kept,
@@ -52,8 +52,8 @@ impl<C: FrameCommand> FrameWork<C> {
         requires bounded { IsBounded self.old.limits }
         requires stands { Stands self.old.limits self.old.stream kept.now }
         ensures answers { Answers (by_frames self.old.limits C.spares C.last (C.is_reply self.old.command)) (running kept.now none_ahead) none_ahead
-            (streams_of (object_of (I.left input.old) (I.faults input.old)) (object_of (O.held output.old) (O.faults output.old)) (object_of (N.held notes.old) (N.faults notes.old)))
-            (streams_of (object_of (I.left input.new) (I.faults input.new)) (object_of (O.held output.new) (O.faults output.new)) (object_of (N.held notes.new) (N.faults notes.new)))
+            (streams_of (I.state input.old) (O.state output.old) (N.state notes.old))
+            (streams_of (I.state input.new) (O.state output.new) (N.state notes.new))
             result }
         ensures command { self.new.command ≡ self.old.command }
         ensures limits { self.new.limits ≡ self.old.limits }
@@ -100,8 +100,8 @@ fn answer<C: FrameCommand, O: Sink, N: Sink>(
 ) -> Result<Verdict, Status>
     ensures same { command.new ≡ command.old }
     ensures replied { Replied (length stream.now.body) (C.is_reply command.old kept.now (record { encoding = encoding; body = stream.now.body }))
-        (sinks_of (object_of (O.held output.old) (O.faults output.old)) (object_of (N.held notes.old) (N.faults notes.old)))
-        (sinks_of (object_of (O.held output.new) (O.faults output.new)) (object_of (N.held notes.new) (N.faults notes.new)))
+        (sinks_of (O.state output.old) (N.state notes.old))
+        (sinks_of (O.state output.new) (N.state notes.new))
         result }
     ensures wants { Wants C.spares result }
 {

@@ -1,6 +1,6 @@
 ghost use Rattle.std.specs.Prelude.{◌≡◌, IfOk, length};
 ghost use Rattle.frame_stream.specs.LineTakes.{line_bytes, lines_opened};
-ghost use Rattle.replies.specs.Outside.{object_of, sinks_of, streams_of};
+ghost use Rattle.replies.specs.Outside.{sinks_of, streams_of};
 ghost use Rattle.command_steps.specs.Replies.{by_lines, counted_by, Replied};
 ghost use Rattle.command_steps.specs.Stands.{IsBounded, StandsLines, HasTaken, CanCount, lines_ahead};
 ghost use Rattle.command_steps.specs.Steps.{running, Answers};
@@ -40,7 +40,7 @@ impl<C: LineCommand> LineWork<C> {
     }
 
     /// Takes the next line, and writes its answer; or notes what ends the lines, and answers the status of the run.
-    #[inline(never)]
+    #[inline(always)]
     pub fn answer_next<I: Source, O: Sink, N: Sink>(
         &mut self,
         kept: &Kept,
@@ -51,8 +51,8 @@ impl<C: LineCommand> LineWork<C> {
         requires bounded { IsBounded self.old.limits }
         requires stands { StandsLines self.old.limits self.old.stream kept.now }
         ensures answers { Answers (by_lines self.old.limits.input C.last (C.is_reply self.old.command)) (running kept.now (lines_ahead self.old.stream)) (lines_ahead self.new.stream)
-            (streams_of (object_of (I.left input.old) (I.faults input.old)) (object_of (O.held output.old) (O.faults output.old)) (object_of (N.held notes.old) (N.faults notes.old)))
-            (streams_of (object_of (I.left input.new) (I.faults input.new)) (object_of (O.held output.new) (O.faults output.new)) (object_of (N.held notes.new) (N.faults notes.new)))
+            (streams_of (I.state input.old) (O.state output.old) (N.state notes.old))
+            (streams_of (I.state input.new) (O.state output.new) (N.state notes.new))
             result }
         ensures command { self.new.command ≡ self.old.command }
         ensures limits { self.new.limits ≡ self.old.limits }
@@ -96,8 +96,8 @@ fn answer<C: LineCommand, O: Sink, N: Sink>(
 ) -> Result<Verdict, Status>
     ensures same { command.new ≡ command.old }
     ensures replied { Replied (length stream.now.line) (C.is_reply command.old kept.now stream.now.line)
-        (sinks_of (object_of (O.held output.old) (O.faults output.old)) (object_of (N.held notes.old) (N.faults notes.old)))
-        (sinks_of (object_of (O.held output.new) (O.faults output.new)) (object_of (N.held notes.new) (N.faults notes.new)))
+        (sinks_of (O.state output.old) (N.state notes.old))
+        (sinks_of (O.state output.new) (N.state notes.new))
         result }
 {
     command.answer(kept, stream.line(), output, notes)

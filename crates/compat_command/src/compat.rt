@@ -2,7 +2,7 @@ ghost use Rattle.std.specs.Prelude.{◌≡◌, ◌++◌, IfOk, OnOk};
 ghost use Rattle.version_laws.specs.Answer.{compat};
 ghost use Rattle.schema_lines.specs.Texts.{Puts};
 ghost use Rattle.compat_command.specs.Compat.{compared_line, compared_verdict, reason_name, IsCompatReply, compat_files};
-ghost use Rattle.schema_files.specs.Files.{JobCause};
+ghost use Rattle.schema_files.specs.Files.{JobCause, NamesLast};
 ghost use Rattle.command_files.specs.Files.{LoadsFiles};
 ghost use Rattle.version_laws.specs.declared.difference.Compat.TheVariants as answer;
 
@@ -45,9 +45,10 @@ pub fn load_compat<F: Files>(
     newer: &str,
     files: &mut F,
 ) -> Result<Comparer, JobStop>
-    ensures kept { F.contents files.new ≡ F.contents files.old }
-    ensures loads { LoadsFiles (compat_files older.now newer.now) (F.contents files.old) result }
-    ensures cause { JobCause (F.faults files.old) (F.faults files.new) result }
+    ensures kept { (F.state files.new).told ≡ (F.state files.old).told }
+    ensures loads { LoadsFiles (compat_files older.now newer.now) (F.state files.old).told result }
+    ensures cause { JobCause (F.state files.old).faults (F.state files.new).faults result }
+    ensures names { NamesLast (F.load_count files.old) (F.load_count files.new) result }
 {
     let older = match load_checked(alloc, files, older) {
         Ok(schema) => schema,

@@ -2,7 +2,6 @@
 use Rattle.std.proofs.Common.{◌≡◌, inl, ℕ, Bool, true, false, List, length, Result, Ok, Err, refl, sym, ap, ◌∙◌}
 use Rattle.sbe_base.specs.declared.stream.WriteFault.{WriteFault}
 use Rattle.open_framing.specs.Frames.{Item}
-use Rattle.layout_tables.specs.Writes.{Outlet}
 use Rattle.dump_lines.specs.declared.schemas.Schemas.{Schemas}
 use Rattle.dump_lines.specs.Dumped.{Answers, dumped, AreInOrder}
 use Rattle.dump_lines.proofs.Answered.{is_answered, answered_once}
@@ -10,7 +9,8 @@ use Rattle.std.proofs.KnownBytes.{Appends-nil}
 use Rattle.std.specs.Prelude.{[]}
 use Rattle.dump_command.specs.Dump.{verdict_of, put_so, IsDumpedLine, IsDumpReply}
 use Rattle.replies.specs.Reply.{Reply}
-use Rattle.replies.specs.Outside.{Object, sinks_of, at_output}
+use Rattle.sbe_base.specs.Objects.{Object}
+use Rattle.replies.specs.Outside.{sinks_of, at_output}
 use Rattle.sbe_base.specs.declared.status.Limits.{Limits}
 use Rattle.command_steps.specs.Replies.{HasParts, Replied, by_frames, no_line}
 use Rattle.command_steps.proofs.Folding.{AnswersOnce, frames_once}
@@ -40,16 +40,13 @@ dumped_parts bytes false = refused_parts bytes
 
 -- ---- what the code writes
 
-abbrev object : Outlet → Object (List ℕ)
-object out = record { told = out.held; faults = out.faults }
-
-module _ (schemas : Schemas) (kept : Kept) (item : Item) (order : AreInOrder schemas) (old new : Outlet) (notes : Object (List ℕ)) where
+module _ (schemas : Schemas) (kept : Kept) (item : Item) (order : AreInOrder schemas) (old new notes : Object (List ℕ)) where
   abbrev reply : Reply
   reply = record { output = (dumped schemas kept.items item).line; notes = []; verdict = verdict_of (dumped schemas kept.items item).is_message }
 
   is_reply : IsDumpReply schemas kept item reply
   is_reply = (is_dumped schemas kept.items item order, refl)
 
-  pub answered : (put : Result Bool WriteFault) → Answers (dumped schemas kept.items item) old new put → Replied (length item.body) (IsDumpReply schemas kept item) (sinks_of (object old) notes) (sinks_of (object new) notes) (put_so put)
-  answered (Ok is_message) h = (reply, is_reply, dumped_parts (length item.body) (dumped schemas kept.items item).is_message, ((record { output = h.0.ok; notes = Appends-nil notes.told }, h.0.cause.kept, refl), ap verdict_of h.1))
-  answered (Err e) h = (reply, is_reply, dumped_parts (length item.body) (dumped schemas kept.items item).is_message, inl (refl, at_output h.part refl (record { rose = h.cause.failed; later = h.cause.later })))
+  pub answered : (put : Result Bool WriteFault) → Answers (dumped schemas kept.items item) old new put → Replied (length item.body) (IsDumpReply schemas kept item) (sinks_of old notes) (sinks_of new notes) (put_so put)
+  answered (Ok is_message) h = (reply, is_reply, dumped_parts (length item.body) (dumped schemas kept.items item).is_message, ((record { output = h.0.all; notes = Appends-nil notes.told }, h.0.kept, refl), ap verdict_of h.1))
+  answered (Err e) h = (reply, is_reply, dumped_parts (length item.body) (dumped schemas kept.items item).is_message, inl (refl, at_output h.part refl h.failed))

@@ -1,5 +1,5 @@
 ghost use Rattle.std.specs.Prelude.{◌≡◌, true};
-ghost use Rattle.schema_files.specs.Files.{JobCause};
+ghost use Rattle.schema_files.specs.Files.{JobCause, NamesLast};
 ghost use Rattle.command_files.specs.Files.{LoadsFiles};
 ghost use Rattle.command_steps.specs.Replies.{no_line};
 ghost use Rattle.dump_command.specs.Dump.{put_so, IsDumpReply, dump_files};
@@ -7,7 +7,9 @@ ghost use Rattle.dump_command.specs.Dump.{put_so, IsDumpReply, dump_files};
 use crate::dumped::put_dumped;
 use command_steps::{FrameCommand, Kept, end_without_line};
 use command_words::NameList;
-use dump_lines::{Schemas, Workspace};
+use dump_lines::Schemas;
+use flyweight_view::LastRefusal;
+use printers::Chunk;
 use replies::Verdict;
 use sbe_base::{Files, Sink, Status, WriteFault};
 use schema_files::{JobStop, load_schemas};
@@ -18,15 +20,14 @@ use std::marker::Model;
 #[derive(Drop)]
 pub struct Dumper {
     schemas: Schemas,
-    space: Workspace,
+    chunk: Chunk,
+    last: LastRefusal,
 }
 
 impl Model for Dumper {
-    ghost use Rattle.std.specs.Prelude.{◌≡◌};
     ghost use Rattle.std.specs.Coded.{codes};
     ghost use Rattle.sbe_types.specs.contracts.kind.Kind as kind;
     ghost use Rattle.sbe_types.specs.contracts.schema.Level as level;
-    ghost use Rattle.json_values.specs.Writes.{nothing_gathered};
     ghost use Rattle.dump_lines.specs.Dumped.{AreInOrder};
     ghost use Rattle.dump_lines.specs.declared.schemas.Schemas.{Schemas};
 
@@ -36,7 +37,7 @@ impl Model for Dumper {
 
     ghost view = { λ dump. dump.schemas };
 
-    ghost invariant = { λ dump. AreInOrder dump.schemas × (dump.space.chunk ≡ nothing_gathered) };
+    ghost invariant = { λ dump. AreInOrder dump.schemas };
 }
 
 /// Loads and judges the schemas of a dump.
@@ -46,14 +47,16 @@ pub fn load_dump<F: Files>(
     also: &NameList,
     files: &mut F,
 ) -> Result<Dumper, JobStop>
-    ensures kept { F.contents files.new ≡ F.contents files.old }
-    ensures loads { LoadsFiles (dump_files name.now also.now) (F.contents files.old) result }
-    ensures cause { JobCause (F.faults files.old) (F.faults files.new) result }
+    ensures kept { (F.state files.new).told ≡ (F.state files.old).told }
+    ensures loads { LoadsFiles (dump_files name.now also.now) (F.state files.old).told result }
+    ensures cause { JobCause (F.state files.old).faults (F.state files.new).faults result }
+    ensures names { NamesLast (F.load_count files.old) (F.load_count files.new) result }
 {
     match load_schemas(alloc, name, also, files) {
         Ok(schemas) => Ok(Dumper {
             schemas,
-            space: Workspace::new(),
+            chunk: Chunk::new(),
+            last: LastRefusal::new(),
         }),
         Err(stop) => Err(stop),
     }
@@ -80,7 +83,8 @@ impl FrameCommand for Dumper {
             kept.items,
             encoding,
             body,
-            &mut self.space,
+            &mut self.chunk,
+            &mut self.last,
             output,
         );
         verdict_of(put)

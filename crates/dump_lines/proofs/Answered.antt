@@ -15,13 +15,11 @@ use Rattle.sbe_wire.specs.Placed.{IsPlaced}
 use Rattle.sbe_wire.proofs.Messages.{message_judges, one_message, not_both}
 use Rattle.schema_facts.specs.IsChecked.{IsChecked}
 use Rattle.open_framing.specs.Frames.{Item}
-use Rattle.sbe_base.specs.declared.stream.WriteFault.{WriteFault}
 use Rattle.layout_tables.specs.Heads.{header_number}
-use Rattle.layout_tables.specs.Writes.{Outlet, Writes}
 use Rattle.tree_json.specs.Lines.{message_at, line_of}
 use Rattle.dump_lines.specs.Chosen.{has_id, schema_with, schema_for}
 use Rattle.dump_lines.specs.Refused.{refused_line, of_encoding, of_fault, of_fault_in, message_meant, IsWay}
-use Rattle.dump_lines.specs.Dumped.{encoding_of, seen_line, before_message, behind_message, message_line, Answers, IsDumped, other_encoding, a_message, a_fault, Answer, refusal, answer_by, body_answer, dumped, AreInOrder, IsAnswered, IsAnsweredOnce}
+use Rattle.dump_lines.specs.Dumped.{encoding_of, seen_line, before_message, behind_message, message_line, PrintsAnswer, IsDumped, other_encoding, a_message, a_fault, Answer, refusal, answer_by, body_answer, dumped, AreInOrder, IsAnswered, IsAnsweredOnce}
 use Rattle.dump_lines.specs.declared.schemas.Schemas.{Schemas}
 use Rattle.flyweight_view.specs.Seen.{SeenMessage}
 use Rattle.flyweight_view.specs.Told.{Misread}
@@ -135,7 +133,7 @@ pub before_several : (also : List WireSchema) (id : ℕ) → (length also == 0) 
 before_several [] id some = cc
 before_several (other ∷ more) id some = refl
 
--- ---- an answer that was written
+-- ---- an answer that was printed
 
 module _ (schemas : Schemas) (schema : WireSchema) (number : ℕ) (item : Item) where
   module _ (seen : SeenMessage) (placed : IsPlaced schema) (lies : Lays schema seen.message item.body) (at : slice_get schema.messages seen.message.template ≡ Some seen.level) where
@@ -144,22 +142,16 @@ module _ (schemas : Schemas) (schema : WireSchema) (number : ℕ) (item : Item) 
         ap (λ l. before_message schemas.also schema.id ++ (l ++ behind_message schemas.also)) (line_seen schema seen.level seen.message at)
         ∙ sym (ap (λ (a : Answer). a.line) (message_answer schemas schema number item seen.message placed lies))
 
-    pub message_written : (a b : Outlet) → Writes a b (before_message schemas.also schema.id ++ (seen_line seen ++ behind_message schemas.also)) (Ok tt) → Answers (body_answer schemas schema item number) a b (Ok true)
-    message_written a b w = (subst (λ t. Writes a b t (Ok tt)) line_told w, sym (ap (λ (x : Answer). x.is_message) (message_answer schemas schema number item seen.message placed lies)))
-
-    pub message_broken : (a b : Outlet) (e : WriteFault) → Writes a b (before_message schemas.also schema.id ++ (seen_line seen ++ behind_message schemas.also)) (Err e) → Answers (body_answer schemas schema item number) a b (Err e)
-    message_broken a b e w = subst (λ t. Writes a b t (Err e)) line_told w
+    pub message_printed : {prints : List ℕ → Type 0} → prints (before_message schemas.also schema.id ++ (seen_line seen ++ behind_message schemas.also)) → PrintsAnswer (body_answer schemas schema item number) prints true
+    message_printed {prints} w = record { line = subst prints line_told w; told = sym (ap (λ (x : Answer). x.is_message) (message_answer schemas schema number item seen.message placed lies)) }
 
   module _ (r : Misread) (placed : IsPlaced schema) (first : FirstFault schema r.fault item.body) (meant : r.template ≡ message_meant schema item.body) where
     fault_told : refused_line number (of_fault_in schema r.template r.fault) ≡ (body_answer schemas schema item number).line
     fault_told =
         ap (λ o. refused_line number (of_fault_in schema o r.fault)) meant ∙ sym (ap (λ (a : Answer). a.line) (fault_answer schemas schema number item r.fault placed first))
 
-    pub fault_written : (a b : Outlet) → Writes a b (refused_line number (of_fault_in schema r.template r.fault)) (Ok tt) → Answers (body_answer schemas schema item number) a b (Ok false)
-    fault_written a b w = (subst (λ t. Writes a b t (Ok tt)) fault_told w, sym (ap (λ (x : Answer). x.is_message) (fault_answer schemas schema number item r.fault placed first)))
-
-    pub fault_broken : (a b : Outlet) (e : WriteFault) → Writes a b (refused_line number (of_fault_in schema r.template r.fault)) (Err e) → Answers (body_answer schemas schema item number) a b (Err e)
-    fault_broken a b e w = subst (λ t. Writes a b t (Err e)) fault_told w
+    pub fault_printed : {prints : List ℕ → Type 0} → prints (refused_line number (of_fault_in schema r.template r.fault)) → PrintsAnswer (body_answer schemas schema item number) prints false
+    fault_printed {prints} w = record { line = subst prints fault_told w; told = sym (ap (λ (x : Answer). x.is_message) (fault_answer schemas schema number item r.fault placed first)) }
 
 -- the way of a refusal leads to a part of the message that is meant
 pub way_there : (schema : WireSchema) (body : List ℕ) (r : Misread) → FirstFault schema r.fault body → r.template ≡ message_meant schema body → IsWay schema r.template r.fault.path
@@ -167,14 +159,11 @@ way_there schema body r first meant = subst (λ o. IsWay schema o r.fault.path) 
 
 -- ---- a frame
 
-pub body_written : (schemas : Schemas) (number encoding : ℕ) (body : List ℕ) (schema : WireSchema) (a b : Outlet) (r : Result Bool WriteFault) → schema ≡ schema_for schemas body → encoding ≡ encoding_of schemas.first.order →
-    Answers (body_answer schemas schema (record { encoding = encoding; body = body }) number) a b r → Answers (dumped schemas number (record { encoding = encoding; body = body })) a b r
-body_written schemas number encoding body schema a b r chosen same h =
-    subst (λ x. Answers x a b r) (ap (λ s. body_answer schemas s (record { encoding = encoding; body = body }) number) chosen ∙ sym (right_answer schemas number encoding body same)) h
+module _ (schemas : Schemas) (number encoding : ℕ) (body : List ℕ) {prints : List ℕ → Type 0} where
+  pub body_printed : (schema : WireSchema) (is_message : Bool) → schema ≡ schema_for schemas body → encoding ≡ encoding_of schemas.first.order →
+      PrintsAnswer (body_answer schemas schema (record { encoding = encoding; body = body }) number) prints is_message → PrintsAnswer (dumped schemas number (record { encoding = encoding; body = body })) prints is_message
+  body_printed schema is_message chosen same h =
+      subst (λ x. PrintsAnswer x prints is_message) (ap (λ s. body_answer schemas s (record { encoding = encoding; body = body }) number) chosen ∙ sym (right_answer schemas number encoding body same)) h
 
-module _ (schemas : Schemas) (number encoding : ℕ) (body : List ℕ) (a b : Outlet) (differs : encoding ≢ encoding_of schemas.first.order) where
-  pub other_written : Writes a b (refused_line number (of_encoding encoding)) (Ok tt) → Answers (dumped schemas number (record { encoding = encoding; body = body })) a b (Ok false)
-  other_written w = subst (λ x. Answers x a b (Ok false)) (sym (other_answer schemas number encoding body differs)) (w, refl)
-
-  pub other_broken : (e : WriteFault) → Writes a b (refused_line number (of_encoding encoding)) (Err e) → Answers (dumped schemas number (record { encoding = encoding; body = body })) a b (Err e)
-  other_broken e w = subst (λ x. Answers x a b (Err e)) (sym (other_answer schemas number encoding body differs)) w
+  pub other_printed : encoding ≢ encoding_of schemas.first.order → prints (refused_line number (of_encoding encoding)) → PrintsAnswer (dumped schemas number (record { encoding = encoding; body = body })) prints false
+  other_printed differs w = subst (λ x. PrintsAnswer x prints false) (sym (other_answer schemas number encoding body differs)) (record { line = w; told = refl })

@@ -1,4 +1,3 @@
-pub mod Written
 pub mod Finding
 pub mod Ways
 pub mod Answered

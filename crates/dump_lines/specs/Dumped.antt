@@ -1,6 +1,8 @@
 -- What a frame is answered. Own profile.
 use Rattle.std.specs.Prelude.{◌≡◌, ◌≢◌, ℕ, ◌==◌, Bool, true, false, if◌then◌else◌, Some, Result, Ok, Err, List, [], ◌∷◌, ◌++◌, codes, decimal}
 use Rattle.std.specs.List.{AllByRecursion}
+use Rattle.sbe_base.specs.Objects.{Object}
+use Rattle.sbe_base.specs.Writes.{WroteAll, WrotePart}
 use Rattle.sbe_base.specs.declared.stream.WriteFault.{WriteFault}
 use Rattle.sbe_types.specs.declared.kind.Order.{Order}
 use Rattle.sbe_types.specs.declared.kind.Order.TheVariants.{Little, Big}
@@ -12,7 +14,6 @@ use Rattle.sbe_wire.specs.Reading.{message_of}
 use Rattle.open_framing.specs.Frames.{Item}
 use Rattle.open_framing.specs.declared.head.TheConstants.{SBE_LITTLE, SBE_BIG}
 use Rattle.schema_facts.specs.IsChecked.{IsChecked}
-use Rattle.layout_tables.specs.Writes.{Outlet, Writes}
 use Rattle.serde_json.specs.Written.{compact_text}
 use Rattle.flyweight_view.specs.Seen.{SeenMessage}
 use Rattle.tree_json.specs.Lines.{line_of, message_at}
@@ -83,10 +84,15 @@ dumped schemas number item =
     then body_answer schemas (schema_for schemas item.body) item number
     else refusal (refused_line number (of_encoding item.encoding))
 
--- the answer was written, or a front of it and a write failed
-abbrev pub Answers : Answer → Outlet → Outlet → Result Bool WriteFault → Type 0
-Answers answer before after (Ok is_message) = Writes before after answer.line (Ok tt) × (is_message ≡ answer.is_message)
-Answers answer before after (Err e) = Writes before after answer.line (Err e)
+-- the answer is written, or a front of it and a write failed
+abbrev pub Answers : Answer → Object (List ℕ) → Object (List ℕ) → Result Bool WriteFault → Type 0
+Answers answer old new (Ok is_message) = WroteAll old new answer.line × (is_message ≡ answer.is_message)
+Answers answer old new (Err e) = WrotePart old new answer.line
+
+-- the answer is printed, and told so
+pub record PrintsAnswer (answer : Answer) (prints : List ℕ → Type 0) (is_message : Bool) : Type 0 where
+  pub line : prints answer.line
+  pub told : is_message ≡ answer.is_message
 
 -- ---- schemas in order
 

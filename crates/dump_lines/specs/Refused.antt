@@ -23,18 +23,18 @@ abbrev pub offset_text : Option ℕ → List ℕ
 offset_text None = codes "null"
 offset_text (Some at) = decimal at
 
--- the line up to the path
+-- the line up to the value of its path
 abbrev pub front_text : ℕ → List ℕ → Option ℕ → List ℕ
 front_text item code offset =
-    codes "{\"refused\":\"" ++ (code ++ (codes "\",\"item\":" ++ (decimal item ++ (codes ",\"offset\":" ++ (offset_text offset ++ codes ",\"path\":\"")))))
+    codes "{\"refused\":\"" ++ (code ++ (codes "\",\"item\":" ++ (decimal item ++ (codes ",\"offset\":" ++ (offset_text offset ++ codes ",\"path\":")))))
 
--- the line behind the path
+-- the line after the path
 abbrev pub back_text : List ℕ → List ℕ
 back_text detail = codes "\",\"detail\":\"" ++ (detail ++ codes "\"}\n")
 
 -- the line of an item that is refused, counted from 0
 abbrev pub refused_line : ℕ → Refused → List ℕ
-refused_line item why = front_text item why.code why.offset ++ (why.path ++ back_text why.detail)
+refused_line item why = front_text item why.code why.offset ++ (codes "\"" ++ (why.path ++ back_text why.detail))
 
 -- ---- a frame of another encoding type
 

@@ -6,11 +6,11 @@ mod laws;
 mod lines;
 mod refused;
 mod schemas;
-mod workspace;
 
 pub use codes::encoding_of;
 pub use laws::{each_frame_has_one_answer, faults_have_ways};
 pub use lines::put_message;
-pub use refused::{put_encoding, put_fault};
+pub use refused::{
+    put_encoding, put_fault, put_refused_back, put_refused_front, put_refused_number,
+};
 pub use schemas::Schemas;
-pub use workspace::Workspace;

@@ -1,135 +1,115 @@
 ghost use Rattle.std.specs.Prelude.{◌≡◌, ◌<◌, slice_index};
 ghost use Rattle.std.specs.Fmt.{signed_decimal};
 ghost use Rattle.hex.specs.Hex.{lower_digits};
-ghost use Rattle.layout_tables.specs.Writes.{Writes, outlet_of};
-ghost use Rattle.json_values.specs.Writes.{output, Writes as Puts};
+ghost use Rattle.printers.specs.Prints.{Prints};
 ghost use Rattle.flyweight_view.specs.Viewed.{refused};
 ghost use Rattle.dump_lines.specs.Refused.{IsWay, back_text, front_text, of_encoding, of_fault_in, offset_text, refused_line, type_text, way_text};
 
 use crate::codes::fault_code;
 use flyweight_view::{LastRefusal, Refusal};
-use json_values::{Chunk, put_count, put_null, put_number};
+use json_values::{put_count, put_null, put_number};
 use layout_tables::Layout;
-use sbe_base::{Sink, WriteFault};
+use printers::Printer;
+use sbe_base::Sink;
 
 const HEX_DIGITS: &[u8; 16] = b"0123456789abcdef";
 
-/// Writes the line of an item whose frame is of another encoding type.
-///
-/// # Errors
-///
-/// Where a write fails; the sink then holds a front of the line.
+/// Prints the line of an item whose frame is of another encoding type.
 #[inline(never)]
-pub fn put_encoding<O: Sink>(sink: &mut O, item: u64, encoding: u16) -> Result<(), WriteFault>
-    ensures { Writes (outlet_of (O.held sink.old) (O.faults sink.old)) (outlet_of (O.held sink.new) (O.faults sink.new))
-        (refused_line item (of_encoding encoding)) result }
+pub fn put_encoding<O: Sink>(printer: &mut Printer<'_, O>, item: u64, encoding: u16)
+    ensures { Prints O.state printer.old printer.new (refused_line item (of_encoding encoding)) }
 {
-    put_front(sink, item, "E01", None)?;
-    put_back(sink, &digits_of(encoding))
+    put_refused_front(printer, item, "E01", None);
+    printer.put(b"\"");
+    put_refused_back(printer, &digits_of(encoding));
 }
 
-/// Writes the line of an item whose body is no message, by what was left of its refusal. It needs a path of the message
+/// Prints the line of an item whose body is no message, by what was left of its refusal. It needs a path of the message
 /// that the refusal names.
-///
-/// # Errors
-///
-/// Where a write fails; the sink then holds a front of the line.
 #[inline(never)]
 pub fn put_fault<O: Sink>(
-    sink: &mut O,
+    printer: &mut Printer<'_, O>,
     layout: &Layout,
     item: u64,
     last: &LastRefusal,
-) -> Result<(), WriteFault>
+)
     requires { IsWay layout.now last.now.template last.now.fault.path }
-    ensures { Writes (outlet_of (O.held sink.old) (O.faults sink.old)) (outlet_of (O.held sink.new) (O.faults sink.new))
-        (refused_line item (of_fault_in layout.now last.now.template last.now.fault)) result }
+    ensures { Prints O.state printer.old printer.new (refused_line item (of_fault_in layout.now last.now.template last.now.fault)) }
 {
-    put_refusal(sink, layout, item, &last.refusal())
+    put_refusal(printer, layout, item, &last.refusal());
 }
 
-/// Writes the line of a refusal. It needs a path of the message that it names.
-fn put_refusal<O: Sink>(
-    sink: &mut O,
-    layout: &Layout,
-    item: u64,
-    refusal: &Refusal,
-) -> Result<(), WriteFault>
+/// Prints the line of a refusal. It needs a path of the message that it names.
+fn put_refusal<O: Sink>(printer: &mut Printer<'_, O>, layout: &Layout, item: u64, refusal: &Refusal)
     requires { IsWay layout.now refusal.now.template refusal.now.path }
-    ensures { Writes (outlet_of (O.held sink.old) (O.faults sink.old)) (outlet_of (O.held sink.new) (O.faults sink.new))
-        (refused_line item (of_fault_in layout.now refusal.now.template (refused refusal.now))) result }
+    ensures { Prints O.state printer.old printer.new (refused_line item (of_fault_in layout.now refusal.now.template (refused refusal.now))) }
 {
-    put_front(sink, item, fault_code(refusal.code), Some(refusal.offset))?;
-    put_way(sink, layout, refusal)?;
-    put_number_back(sink, &refusal.detail)
+    put_refused_front(
+        printer,
+        item,
+        fault_code(refusal.code),
+        Some(refusal.offset),
+    );
+    printer.put(b"\"");
+    put_way(printer, layout, refusal);
+    put_refused_number(printer, &refusal.detail);
 }
 
-/// Writes the text of a refusal's path.
-fn put_way<O: Sink>(sink: &mut O, layout: &Layout, refusal: &Refusal) -> Result<(), WriteFault>
+/// Prints the text of a refusal's path.
+fn put_way<O: Sink>(printer: &mut Printer<'_, O>, layout: &Layout, refusal: &Refusal)
     requires { IsWay layout.now refusal.now.template refusal.now.path }
-    ensures { Writes (outlet_of (O.held sink.old) (O.faults sink.old)) (outlet_of (O.held sink.new) (O.faults sink.new))
-        (way_text layout.now refusal.now.template refusal.now.path) result }
+    ensures { Prints O.state printer.old printer.new (way_text layout.now refusal.now.template refusal.now.path) }
 {
     match refusal.template {
-        Some(template) => layout.write_path(template, &refusal.path, sink),
-        None => Ok(()),
+        Some(template) => layout.put_path(printer, template, &refusal.path),
+        None => {}
     }
 }
 
-/// Writes a refused item's line up to its path.
-fn put_front<O: Sink>(
-    sink: &mut O,
+/// Prints a refused item's line up to the value of its path.
+pub fn put_refused_front<O: Sink>(
+    printer: &mut Printer<'_, O>,
     item: u64,
     code: &str,
     offset: Option<usize>,
-) -> Result<(), WriteFault>
-    ensures { Writes (outlet_of (O.held sink.old) (O.faults sink.old)) (outlet_of (O.held sink.new) (O.faults sink.new))
-        (front_text item code.now offset) result }
+)
+    ensures { Prints O.state printer.old printer.new (front_text item code.now offset) }
 {
-    let mut chunk = Chunk::new();
-    chunk.put(sink, b"{\"refused\":\"");
-    chunk.put(sink, code.as_bytes());
-    chunk.put(sink, b"\",\"item\":");
-    put_count(&mut chunk, sink, item);
-    chunk.put(sink, b",\"offset\":");
-    put_offset(&mut chunk, sink, offset);
-    chunk.put(sink, b",\"path\":\"");
-    chunk.finish(sink)
+    printer.put(b"{\"refused\":\"");
+    printer.put(code.as_bytes());
+    printer.put(b"\",\"item\":");
+    put_count(printer, item);
+    printer.put(b",\"offset\":");
+    put_offset(printer, offset);
+    printer.put(b",\"path\":");
 }
 
-/// Writes a place in the body, or null.
-fn put_offset<O: Sink>(chunk: &mut Chunk, sink: &mut O, offset: Option<usize>)
-    ensures { Puts (output (O.held sink.old) (O.faults sink.old) chunk.old)
-        (output (O.held sink.new) (O.faults sink.new) chunk.new) (offset_text offset) }
+/// Prints a place in the body, or null.
+fn put_offset<O: Sink>(printer: &mut Printer<'_, O>, offset: Option<usize>)
+    ensures { Prints O.state printer.old printer.new (offset_text offset) }
 {
     match offset {
-        Some(at) => put_count(chunk, sink, at as u64),
-        None => put_null(chunk, sink),
+        Some(at) => put_count(printer, at as u64),
+        None => put_null(printer),
     }
 }
 
-/// Writes what stands behind a refused item's path.
-fn put_back<O: Sink>(sink: &mut O, detail: &[u8]) -> Result<(), WriteFault>
-    ensures { Writes (outlet_of (O.held sink.old) (O.faults sink.old)) (outlet_of (O.held sink.new) (O.faults sink.new))
-        (back_text detail.now) result }
+/// Prints what follows a refused item's path.
+pub fn put_refused_back<O: Sink>(printer: &mut Printer<'_, O>, detail: &[u8])
+    ensures { Prints O.state printer.old printer.new (back_text detail.now) }
 {
-    let mut chunk = Chunk::new();
-    chunk.put(sink, b"\",\"detail\":\"");
-    chunk.put(sink, detail);
-    chunk.put(sink, b"\"}\n");
-    chunk.finish(sink)
+    printer.put(b"\",\"detail\":\"");
+    printer.put(detail);
+    printer.put(b"\"}\n");
 }
 
-/// Writes what stands behind a refused item's path, with a number.
-fn put_number_back<O: Sink>(sink: &mut O, detail: &i128) -> Result<(), WriteFault>
-    ensures { Writes (outlet_of (O.held sink.old) (O.faults sink.old)) (outlet_of (O.held sink.new) (O.faults sink.new))
-        (back_text (signed_decimal detail.now)) result }
+/// Prints what follows a refused item's path, with a number.
+pub fn put_refused_number<O: Sink>(printer: &mut Printer<'_, O>, detail: &i128)
+    ensures { Prints O.state printer.old printer.new (back_text (signed_decimal detail.now)) }
 {
-    let mut chunk = Chunk::new();
-    chunk.put(sink, b"\",\"detail\":\"");
-    put_number(&mut chunk, sink, detail);
-    chunk.put(sink, b"\"}\n");
-    chunk.finish(sink)
+    printer.put(b"\",\"detail\":\"");
+    put_number(printer, detail);
+    printer.put(b"\"}\n");
 }
 
 /// The four digits of an encoding type.

@@ -7,6 +7,7 @@ mod apart;
 mod code;
 mod decimal;
 mod digits;
+pub mod laws;
 mod number;
 mod rule;
 mod short;

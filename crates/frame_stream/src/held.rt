@@ -35,8 +35,8 @@ impl Window {
     pub(crate) fn next_frame<I: Source>(&mut self, input: &mut I, whole: bool) -> Result<Head, Stop>
         requires room { HEAD_BYTES ≤ self.old.held.size }
         requires begun { whole ≡ false → IsBegun self.old.held }
-        ensures nexts { Nexts (released whole self.old.held) self.new.held (I.left input.old) (I.left input.new) result }
-        ensures cause { StopCause (I.faults input.old) (I.faults input.new) result }
+        ensures nexts { Nexts (released whole self.old.held) self.new.held (I.state input.old).told (I.state input.new).told result }
+        ensures cause { StopCause (I.state input.old).faults (I.state input.new).faults result }
     {
         if whole {
             self.let_go_all();
@@ -50,9 +50,9 @@ impl Window {
     /// Takes the next frame of what the source has read ahead, where the whole of it is there.
     fn take_ahead<I: Source>(&mut self, input: &mut I) -> Option<Head>
         requires none { self.old.held.bytes ≡ [] }
-        ensures nexts { IfSome result (λ head. Nexts self.old.held self.new.held (I.left input.old) (I.left input.new) (Ok head)) }
+        ensures nexts { IfSome result (λ head. Nexts self.old.held self.new.held (I.state input.old).told (I.state input.new).told (Ok head)) }
         ensures none { result ≡ None → (self.new.held ≡ self.old.held) × (input.new ≡ input.old) }
-        ensures cause { I.faults input.new ≡ I.faults input.old }
+        ensures cause { (I.state input.new).faults ≡ (I.state input.old).faults }
     {
         let head = match read_head(input.ahead(), self.size()) {
             Ok(head) => head,
@@ -70,8 +70,8 @@ impl Window {
     fn read_frame<I: Source>(&mut self, input: &mut I) -> Result<Head, Stop>
         requires room { HEAD_BYTES ≤ self.old.held.size }
         requires begun { IsBegun self.old.held }
-        ensures nexts { Nexts self.old.held self.new.held (I.left input.old) (I.left input.new) result }
-        ensures cause { StopCause (I.faults input.old) (I.faults input.new) result }
+        ensures nexts { Nexts self.old.held self.new.held (I.state input.old).told (I.state input.new).told result }
+        ensures cause { StopCause (I.state input.old).faults (I.state input.new).faults result }
     {
         match self.begin_frame(input) {
             Ok(()) => {}
@@ -93,8 +93,8 @@ impl Window {
     fn begin_frame<I: Source>(&mut self, input: &mut I) -> Result<(), Stop>
         requires room { HEAD_BYTES ≤ self.old.held.size }
         requires begun { IsBegun self.old.held }
-        ensures begins { Begins self.old.held self.new.held (I.left input.old) (I.left input.new) result }
-        ensures cause { StopCause (I.faults input.old) (I.faults input.new) result }
+        ensures begins { Begins self.old.held self.new.held (I.state input.old).told (I.state input.new).told result }
+        ensures cause { StopCause (I.state input.old).faults (I.state input.new).faults result }
     {
         self.is_within();
         if self.len() < HEAD_BYTES {
@@ -109,8 +109,8 @@ impl Window {
         requires less { length self.old.held.bytes ≤ want }
         ensures whole { OnOk result (length self.new.held.bytes ≡ want) }
         ensures part { OnErr result (length self.new.held.bytes < want) }
-        ensures fills { Fills self.old.held self.new.held (I.left input.old) (I.left input.new) result }
-        ensures cause { StopCause (I.faults input.old) (I.faults input.new) result }
+        ensures fills { Fills self.old.held self.new.held (I.state input.old).told (I.state input.new).told result }
+        ensures cause { StopCause (I.state input.old).faults (I.state input.new).faults result }
     {
         self.is_within();
         while self.len() < want {

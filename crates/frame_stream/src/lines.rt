@@ -95,11 +95,11 @@ impl LineStream {
         ensures stays { IfSome self.old.ended (λ ended. result ≡ line_told_by ended) }
         ensures kept { IsSome self.old.ended → self.new ≡ record self.old { line = [] } }
         ensures unread { IsSome self.old.ended → input.new ≡ input.old }
-        ensures takes { self.old.ended ≡ None → TakesLine self.old self.new (I.left input.old) (I.left input.new) result }
+        ensures takes { self.old.ended ≡ None → TakesLine self.old self.new (I.state input.old).told (I.state input.new).told result }
         ensures ahead { IsSome (before_end self.old.held) → input.new ≡ input.old }
         ensures line { LineOf self.new result }
         ensures fits { length self.new.held ≤ window_bytes }
-        ensures cause { LineCause (I.faults input.old) (I.faults input.new) result }
+        ensures cause { LineCause (I.state input.old).faults (I.state input.new).faults result }
     {
         self.line = 0;
         if let Some(ended) = self.ended {

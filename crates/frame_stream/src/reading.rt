@@ -28,8 +28,8 @@ pub(crate) fn read_within<I: Source>(
     ensures kept { take len buf.new ≡ take len buf.old }
     ensures bound { IfOk result (λ n. n ≤ most) }
     ensures over { IfErr result (λ dry. dry ≡ Dry.Over → most ≡ 0) }
-    ensures read { ReadsWithin len (I.left input.old) (I.left input.new) buf.new result }
-    ensures cause { DryCause (I.faults input.old) (I.faults input.new) result }
+    ensures read { ReadsWithin len (I.state input.old).told (I.state input.new).told buf.new result }
+    ensures cause { DryCause (I.state input.old).faults (I.state input.new).faults result }
 {
     if most == 0 {
         return Err(read_over(input));
@@ -43,8 +43,8 @@ pub(crate) fn read_within<I: Source>(
 
 /// Asks for one byte more than may be taken.
 fn read_over<I: Source>(input: &mut I) -> Dry
-    ensures read { ReadsWithin 0 (I.left input.old) (I.left input.new) [] (Err result) }
-    ensures cause { DryCause {T = ℕ} (I.faults input.old) (I.faults input.new) (Err result) }
+    ensures read { ReadsWithin 0 (I.state input.old).told (I.state input.new).told [] (Err result) }
+    ensures cause { DryCause {T = ℕ} (I.state input.old).faults (I.state input.new).faults (Err result) }
 {
     let mut next = [0u8; 1];
     match input.read(&mut next) {
@@ -66,8 +66,8 @@ fn read_behind<I: Source>(
     ensures size { length buf.new ≡ length buf.old }
     ensures kept { take len buf.new ≡ take len buf.old }
     ensures bound { IfOk result (λ n. n ≤ most) }
-    ensures read { ReadsBehind len (I.left input.old) (I.left input.new) buf.new result }
-    ensures cause { HasCause (I.faults input.old) (I.faults input.new) result }
+    ensures read { ReadsBehind len (I.state input.old).told (I.state input.new).told buf.new result }
+    ensures cause { HasCause (I.state input.old).faults (I.state input.new).faults result }
 {
     input.read(&mut buf[len..len + most])
 }

@@ -90,11 +90,11 @@ impl FrameStream {
         ensures stays { IfSome self.old.ended (λ ended. result ≡ told_by ended) }
         ensures kept { IsSome self.old.ended → self.new ≡ self.old }
         ensures unread { IsSome self.old.ended → input.new ≡ input.old }
-        ensures takes { self.old.ended ≡ None → Takes self.old self.new (I.left input.old) (I.left input.new) result }
+        ensures takes { self.old.ended ≡ None → Takes self.old self.new (I.state input.old).told (I.state input.new).told result }
         ensures body { BodyOf self.new result }
         ensures part { first_item self.new.frame self.new.held ≡ None }
         ensures fits { length self.new.held ≤ self.new.frame }
-        ensures cause { TakeCause (I.faults input.old) (I.faults input.new) result }
+        ensures cause { TakeCause (I.state input.old).faults (I.state input.new).faults result }
     {
         if let Some(ended) = self.ended {
             return told(ended);

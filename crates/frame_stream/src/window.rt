@@ -118,9 +118,9 @@ impl Window {
         front: usize,
     ) -> Result<usize, NoEnd>
         requires { front ≤ length self.old.held.bytes }
-        ensures ends { LineEnds (let_go_of front self.old.held) self.new.held (I.left input.old) (I.left input.new) result }
+        ensures ends { LineEnds (let_go_of front self.old.held) self.new.held (I.state input.old).told (I.state input.new).told result }
         ensures ahead { IsSome (before_end (drop front self.old.held.bytes)) → input.new ≡ input.old }
-        ensures cause { EndCause (I.faults input.old) (I.faults input.new) result }
+        ensures cause { EndCause (I.state input.old).faults (I.state input.new).faults result }
     {
         self.let_go(front);
         self.is_within();
@@ -142,8 +142,8 @@ impl Window {
     /// Reads until a line end is held, and tells where it stands.
     fn read_end<I: Source>(&mut self, input: &mut I) -> Result<usize, NoEnd>
         requires none { before_end self.old.held.bytes ≡ None }
-        ensures ends { LineEnds self.old.held self.new.held (I.left input.old) (I.left input.new) result }
-        ensures cause { EndCause (I.faults input.old) (I.faults input.new) result }
+        ensures ends { LineEnds self.old.held self.new.held (I.state input.old).told (I.state input.new).told result }
+        ensures cause { EndCause (I.state input.old).faults (I.state input.new).faults result }
     {
         let size = self.size();
         self.is_within();
@@ -166,8 +166,8 @@ impl Window {
         requires less { length self.old.held.bytes < want }
         requires room { want ≤ self.old.held.size }
         ensures most { OnOk result (length self.new.held.bytes ≤ want) }
-        ensures reads { Reads self.old.held self.new.held (I.left input.old) (I.left input.new) result }
-        ensures cause { DryCause (I.faults input.old) (I.faults input.new) result }
+        ensures reads { Reads self.old.held self.new.held (I.state input.old).told (I.state input.new).told result }
+        ensures cause { DryCause (I.state input.old).faults (I.state input.new).faults result }
     {
         if self.end == self.buffer.len() {
             self.compact();
@@ -180,10 +180,10 @@ impl Window {
     pub(crate) fn copy_ahead<I: Source>(&mut self, input: &mut I, n: usize) -> bool
         requires none { self.old.held.bytes ≡ [] }
         requires room { n ≤ self.old.held.size }
-        ensures moves { IsTrue result → Moves self.old.held self.new.held (I.left input.old) (I.left input.new) [] }
+        ensures moves { IsTrue result → Moves self.old.held self.new.held (I.state input.old).told (I.state input.new).told [] }
         ensures bytes { IsTrue result → (n ≤ length (I.read_ahead input.old)) × (self.new.held.bytes ≡ take n (I.read_ahead input.old)) }
         ensures none { result ≡ false → (self.new.held ≡ self.old.held) × (input.new ≡ input.old) }
-        ensures cause { I.faults input.new ≡ I.faults input.old }
+        ensures cause { (I.state input.new).faults ≡ (I.state input.old).faults }
     {
         let ahead = input.ahead();
         if ahead.len() < n || self.limit - self.taken < n as u64 {
@@ -215,8 +215,8 @@ impl Window {
         requires free { 0 < self.old.free }
         requires less { length self.old.held.bytes < want }
         ensures most { OnOk result (length self.new.held.bytes ≤ want) }
-        ensures reads { Reads self.old.held self.new.held (I.left input.old) (I.left input.new) result }
-        ensures cause { DryCause (I.faults input.old) (I.faults input.new) result }
+        ensures reads { Reads self.old.held self.new.held (I.state input.old).told (I.state input.new).told result }
+        ensures cause { DryCause (I.state input.old).faults (I.state input.new).faults result }
     {
         let room = self.limit - self.taken;
         let free = self.buffer.len() - self.end;

@@ -6,6 +6,7 @@ mod attribute;
 mod element;
 mod file;
 mod form;
+pub mod laws;
 mod refusal;
 
 pub use attribute::{needed, optional, with_default};

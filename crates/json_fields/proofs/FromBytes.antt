@@ -23,10 +23,12 @@ use Rattle.field_values.specs.Told.{before_zero}
 use Rattle.field_values.proofs.Shown.{text_front}
 use Rattle.json_values.specs.Values.{value_data, is_character, single_data, number_data, enum_data, text_data, set_data, element_data, elements_data, constant_data, is_there}
 use Rattle.json_values.specs.Plain.{plain_text, plain_items, shown_text}
-use Rattle.json_fields.specs.Shown.{single_shown, enum_shown, text_shown, element_shown, elements_shown, WritesShown}
-use Rattle.json_values.specs.Writes.{Output, Writes}
+use Rattle.json_fields.specs.Shown.{single_shown, enum_shown, text_shown, element_shown, elements_shown, PrintsShown}
+use Rattle.sbe_base.specs.Objects.{Object}
+use Rattle.printers.specs.Prints.{Prints}
+use Rattle.printers.specs.declared.printer.Printer.{Printer}
 use Rattle.json_fields.proofs.Shown.{there_is}
-use Rattle.json_values.proofs.Written.{retold}
+use Rattle.printers.proofs.Printing.{reprinted}
 use Rattle.json_values.proofs.Entries.{item_next}
 
 some_is : {A : Type 0} {x y : A} → ◌≡◌ {A = Option A} (Some x) (Some y) → x ≡ y
@@ -136,37 +138,37 @@ module _ (order : Order) (known : Bool) (v : Value) (b : List ℕ) where
 -- ---- what was written
 
 -- the text of data that a value is
-pub told_as : {a c : Output} (kind : Kind) (v : Value) (d : Data) → value_data kind v ≡ Some d → Writes a c (plain_text d) → Writes a c (shown_text (value_data kind v))
-told_as kind v d is w = retold (ap shown_text (sym is)) w
+pub told_as : {O : Type 0} {state : O → Object (List ℕ)} {a c : Printer O} (kind : Kind) (v : Value) (d : Data) → value_data kind v ≡ Some d → Prints state a c (plain_text d) → Prints state a c (shown_text (value_data kind v))
+told_as kind v d is w = reprinted (ap shown_text (sym is)) w
 
-pub single_written : {a c : Output} (order : Order) (leaf : LeafOf) (b : List ℕ) → Writes a c (plain_text (single_shown leaf (number_of order leaf.prim b)))
-    → (v : Value) → ShowsLeaf order Number leaf v b → Writes a c (shown_text (value_data (Leaf leaf) v))
+pub single_written : {O : Type 0} {state : O → Object (List ℕ)} {a c : Printer O} (order : Order) (leaf : LeafOf) (b : List ℕ) → Prints state a c (plain_text (single_shown leaf (number_of order leaf.prim b)))
+    → (v : Value) → ShowsLeaf order Number leaf v b → Prints state a c (shown_text (value_data (Leaf leaf) v))
 single_written order leaf b w v h = told_as (Leaf leaf) v _ (single_is order leaf v b h) w
 
-pub text_written : {a c : Output} (order : Order) (leaf : LeafOf) (b : List ℕ) → Writes a c (plain_text (text_shown leaf b))
-    → (v : Value) → ShowsText leaf v b → Writes a c (shown_text (value_data (Leaf leaf) v))
+pub text_written : {O : Type 0} {state : O → Object (List ℕ)} {a c : Printer O} (order : Order) (leaf : LeafOf) (b : List ℕ) → Prints state a c (plain_text (text_shown leaf b))
+    → (v : Value) → ShowsText leaf v b → Prints state a c (shown_text (value_data (Leaf leaf) v))
 text_written order leaf b w v h = told_as (Leaf leaf) v _ (text_is order leaf v b h) w
 
-pub array_written : {a c : Output} (order : Order) (leaf : LeafOf) (b : List ℕ) → length b ≡ prim_width leaf.prim * leaf.length → Writes a c (plain_text (array (elements_shown order leaf leaf.length b)))
-    → (v : Value) → ShowsArray order leaf v b → Writes a c (shown_text (value_data (Leaf leaf) v))
+pub array_written : {O : Type 0} {state : O → Object (List ℕ)} {a c : Printer O} (order : Order) (leaf : LeafOf) (b : List ℕ) → length b ≡ prim_width leaf.prim * leaf.length → Prints state a c (plain_text (array (elements_shown order leaf leaf.length b)))
+    → (v : Value) → ShowsArray order leaf v b → Prints state a c (shown_text (value_data (Leaf leaf) v))
 array_written order leaf b wide w v h = told_as (Leaf leaf) v _ (array_is order leaf v b h wide) w
 
-pub enum_written : {a c : Output} (order : Order) (l : LeafOf) (names : List Named) (b : List ℕ) → Writes a c (plain_text (enum_shown l names (number_of order l.prim b))) → WritesShown order (Enum l names) b a c
+pub enum_written : {O : Type 0} {state : O → Object (List ℕ)} {a c : Printer O} (order : Order) (l : LeafOf) (names : List Named) (b : List ℕ) → Prints state a c (plain_text (enum_shown l names (number_of order l.prim b))) → PrintsShown order (Enum l names) b (Prints state a c)
 enum_written order l names b w = record { text = λ known v h. told_as (Enum l names) v _ (enum_is order known v b l names h) w }
 
-pub set_written : {a c : Output} (order : Order) (p : Primitive) (names : List Named) (b : List ℕ) (bits : ℕ) → pos bits ≡ number_of order p b → Writes a c (plain_text (set_data names bits)) → WritesShown order (Set p names) b a c
+pub set_written : {O : Type 0} {state : O → Object (List ℕ)} {a c : Printer O} (order : Order) (p : Primitive) (names : List Named) (b : List ℕ) (bits : ℕ) → pos bits ≡ number_of order p b → Prints state a c (plain_text (set_data names bits)) → PrintsShown order (Set p names) b (Prints state a c)
 set_written order p names b bits is w =
-    record { text = λ known v h. told_as (Set p names) v _ (set_is order known v b p names h) (retold (ap (λ n. plain_text (set_data names (natural n))) is) w) }
+    record { text = λ known v h. told_as (Set p names) v _ (set_is order known v b p names h) (reprinted (ap (λ n. plain_text (set_data names (natural n))) is) w) }
 
-pub constant_written : {a c : Output} (order : Order) (k : ConstValue) (b : List ℕ) → Writes a c (plain_text (constant_data k)) → WritesShown order (Const k) b a c
+pub constant_written : {O : Type 0} {state : O → Object (List ℕ)} {a c : Printer O} (order : Order) (k : ConstValue) (b : List ℕ) → Prints state a c (plain_text (constant_data k)) → PrintsShown order (Const k) b (Prints state a c)
 constant_written order k b w = record { text = λ known v h. told_as (Const k) v _ (constant_is order known v b k h) w }
 
-pub leaf_written : {a c : Output} (order : Order) (leaf : LeafOf) (b : List ℕ) → ((v : Value) → ShowsLeaf order leaf.shape leaf v b → Writes a c (shown_text (value_data (Leaf leaf) v))) → WritesShown order (Leaf leaf) b a c
+pub leaf_written : {O : Type 0} {state : O → Object (List ℕ)} {a c : Printer O} (order : Order) (leaf : LeafOf) (b : List ℕ) → ((v : Value) → ShowsLeaf order leaf.shape leaf v b → Prints state a c (shown_text (value_data (Leaf leaf) v))) → PrintsShown order (Leaf leaf) b (Prints state a c)
 leaf_written order leaf b w = record { text = λ known v h. w v h.1 }
 
 -- the same of a kind that is this one
-pub written_as : {a c : Output} (order : Order) (kind k : Kind) (b : List ℕ) → kind ≡ k → WritesShown order k b a c → WritesShown order kind b a c
-written_as {a} {c} order kind k b is w = subst (λ x. WritesShown order x b a c) (sym is) w
+pub written_as : {O : Type 0} {state : O → Object (List ℕ)} {a c : Printer O} (order : Order) (kind k : Kind) (b : List ℕ) → kind ≡ k → PrintsShown order k b (Prints state a c) → PrintsShown order kind b (Prints state a c)
+written_as {O} {state} {a} {c} order kind k b is w = subst (λ x. PrintsShown order x b (Prints state a c)) (sym is) w
 
 -- ---- a value that bytes show is there
 

@@ -14,9 +14,11 @@ use Rattle.sbe_types.specs.Shown.{is_null}
 use Rattle.sbe_types.specs.Shows.{ShowsLeaf}
 use Rattle.json_values.specs.Values.{value_data, is_character, number_data, single_data}
 use Rattle.json_values.specs.Plain.{plain_text, shown_text}
-use Rattle.json_fields.specs.Shown.{WritesShown, single_shown, text_shown}
-use Rattle.json_values.specs.Writes.{Output, Writes}
-use Rattle.json_values.proofs.Written.{then_writes, retold, writes_nothing}
+use Rattle.json_fields.specs.Shown.{PrintsShown, single_shown, text_shown}
+use Rattle.sbe_base.specs.Objects.{Object}
+use Rattle.printers.specs.Prints.{Prints}
+use Rattle.printers.specs.declared.printer.Printer.{Printer}
+use Rattle.printers.proofs.Printing.{then_prints, reprinted, prints_nothing}
 use Rattle.json_fields.proofs.FromBytes.{single_written, text_written, leaf_written, written_as}
 use Rattle.flat_rows.specs.declared.rows.Quick.{Quick}
 use Rattle.flat_rows.specs.Quick.{is_word, is_none, KeepsNumber, KeepsText, IsQuickNumber}
@@ -28,42 +30,42 @@ use Rattle.flat_rows.specs.Tables.{AreRows}
 use Rattle.json_fields.specs.Printed.{SlotsText}
 
 -- of all values those before the rest were printed, whichever values their bytes show
-pub record Goes (all rest : List Slot) (block : List ℕ) (start now : Output) : Type 0 where
+pub record Goes (all rest : List Slot) (block : List ℕ) (prints : List ℕ → Type 0) : Type 0 where
   pub goes : (known : Bool) (text : List ℕ) → SlotsText Little known all block text →
-      (more : List ℕ) × (done : List ℕ) × SlotsText Little known rest block more × Writes start now done × (done ++ more ≡ text)
+      (more : List ℕ) × (done : List ℕ) × SlotsText Little known rest block more × prints done × (done ++ more ≡ text)
 
-pub goes_first : {all : List Slot} {block : List ℕ} {a : Output} → Goes all all block a a
-goes_first = record { goes = λ known text h. (text, [], h, writes_nothing, refl) }
+pub goes_first : {all : List Slot} {block : List ℕ} {O : Type 0} {state : O → Object (List ℕ)} {a : Printer O} → Goes all all block (Prints state a a)
+goes_first = record { goes = λ known text h. (text, [], h, prints_nothing, refl) }
 
-pub goes_next : {all : List Slot} {block : List ℕ} {start now literal next : Output} (before rest : List Slot) (s : Slot) → before ≡ s ∷ rest → Goes all before block start now →
-    Writes now literal s.before → WritesShown Little s.kind (bytes_there s.kind s.place block) literal next → Goes all rest block start next
-goes_next {all} {block} {start} {now} {literal} {next} before rest s is g k w = record { goes = step }
+pub goes_next : {all : List Slot} {block : List ℕ} {O : Type 0} {state : O → Object (List ℕ)} {start now literal next : Printer O} (before rest : List Slot) (s : Slot) → before ≡ s ∷ rest → Goes all before block (Prints state start now) →
+    Prints state now literal s.before → PrintsShown Little s.kind (bytes_there s.kind s.place block) (Prints state literal next) → Goes all rest block (Prints state start next)
+goes_next {all} {block} {O} {state} {start} {now} {literal} {next} before rest s is g k w = record { goes = step }
   where
-    on : (known : Bool) (text more done : List ℕ) → SlotsText Little known (s ∷ rest) block more → Writes start now done → done ++ more ≡ text →
-        (after : List ℕ) × (all_done : List ℕ) × SlotsText Little known rest block after × Writes start next all_done × (all_done ++ after ≡ text)
+    on : (known : Bool) (text more done : List ℕ) → SlotsText Little known (s ∷ rest) block more → Prints state start now done → done ++ more ≡ text →
+        (after : List ℕ) × (all_done : List ℕ) × SlotsText Little known rest block after × Prints state start next all_done × (all_done ++ after ≡ text)
     on known text more done h d same =
         let value = shown_text (value_data s.kind h.0) in (
           h.1,
           done ++ (s.before ++ value),
           h.4,
-          then_writes d (then_writes k (w.text known h.0 h.2)),
+          then_prints d (then_prints k (w.text known h.0 h.2)),
           append_assoc done (s.before ++ value) h.1 ∙ ap (λ l. done ++ l) (append_assoc s.before value h.1 ∙ sym h.3) ∙ same,
         )
 
     step : (known : Bool) (text : List ℕ) → SlotsText Little known all block text →
-        (more : List ℕ) × (done : List ℕ) × SlotsText Little known rest block more × Writes start next done × (done ++ more ≡ text)
+        (more : List ℕ) × (done : List ℕ) × SlotsText Little known rest block more × Prints state start next done × (done ++ more ≡ text)
     step known text h =
         let so_far = g.goes known text h in
         on known text so_far.0 so_far.1 (subst (λ ss. SlotsText Little known ss block so_far.0) is so_far.2) so_far.3 so_far.4
 
 -- all values, and what stands behind them
-pub goes_over : {all : List Slot} {block : List ℕ} {start now next : Output} (rest : List Slot) (last : List ℕ) → rest ≡ [] → Goes all rest block start now → Writes now next last →
-    (known : Bool) (text front : List ℕ) → SlotsText Little known all block front → text ≡ front ++ last → Writes start next text
-goes_over {all} {block} {start} {now} {next} rest last is g k known text front h same =
+pub goes_over : {all : List Slot} {block : List ℕ} {O : Type 0} {state : O → Object (List ℕ)} {start now next : Printer O} (rest : List Slot) (last : List ℕ) → rest ≡ [] → Goes all rest block (Prints state start now) → Prints state now next last →
+    (known : Bool) (text front : List ℕ) → SlotsText Little known all block front → text ≡ front ++ last → Prints state start next text
+goes_over {all} {block} {O} {state} {start} {now} {next} rest last is g k known text front h same =
     let so_far = g.goes known front h in
     let none : so_far.0 ≡ [] = subst (λ ss. SlotsText Little known ss block so_far.0) is so_far.2 in
     let done : so_far.1 ≡ front = sym (append-nil so_far.1) ∙ ap (λ l. so_far.1 ++ l) (sym none) ∙ so_far.4 in
-    retold (ap (λ l. l ++ last) done ∙ sym same) (then_writes so_far.3 k)
+    reprinted (ap (λ l. l ++ last) done ∙ sym same) (then_prints so_far.3 k)
 
 -- ---- rows
 
@@ -98,23 +100,23 @@ word_text prim q leaf n m word is same =
     ∙ ap (λ c. plain_text (cond (is_null leaf m) null (single_data c m))) (sym char)
 
 -- a number that was printed by what is kept of it
-pub word_written : {a c : Output} (kind : Kind) (prim : Primitive) (q : Quick) (b : List ℕ) (n : ℤ) → is_word prim ≡ true → KeepsNumber prim q kind → n ≡ number_of Little prim b →
-    Writes a c (plain_text (cond (is_none q n) null (number_data n))) → WritesShown Little kind b a c
-word_written {a} {c} kind prim q b n word is same w =
+pub word_written : {O : Type 0} {state : O → Object (List ℕ)} {a c : Printer O} (kind : Kind) (prim : Primitive) (q : Quick) (b : List ℕ) (n : ℤ) → is_word prim ≡ true → KeepsNumber prim q kind → n ≡ number_of Little prim b →
+    Prints state a c (plain_text (cond (is_none q n) null (number_data n))) → PrintsShown Little kind b (Prints state a c)
+word_written {O} {state} {a} {c} kind prim q b n word is same w =
     let number : n ≡ number_of Little is.0.prim b = same ∙ ap (λ p. number_of Little p b) (sym is.2.prim_is) in
-    let written : Writes a c (plain_text (single_shown is.0 (number_of Little is.0.prim b))) = retold (word_text prim q is.0 n _ word is.2 number) w in
+    let written : Prints state a c (plain_text (single_shown is.0 (number_of Little is.0.prim b))) = reprinted (word_text prim q is.0 n _ word is.2 number) w in
     written_as Little kind (Leaf is.0) b is.1 (leaf_written Little is.0 b (λ v h. single_written Little is.0 b written v (subst (λ s. ShowsLeaf Little s is.0 v b) is.2.shape h)))
 
 leaf_is : {k l : LeafOf} → ◌≡◌ {A = Kind} (Leaf k) (Leaf l) → k ≡ l
 leaf_is h = cc
 
 -- a text that was printed as one of its leaf
-pub text_kept : {a c : Output} (kind : Kind) (q : Quick) (leaf : LeafOf) (b : List ℕ) → KeepsText q kind → kind ≡ Leaf leaf → Writes a c (plain_text (text_shown leaf b)) → WritesShown Little kind b a c
-text_kept {a} {c} kind q leaf b keeps is w =
+pub text_kept : {O : Type 0} {state : O → Object (List ℕ)} {a c : Printer O} (kind : Kind) (q : Quick) (leaf : LeafOf) (b : List ℕ) → KeepsText q kind → kind ≡ Leaf leaf → Prints state a c (plain_text (text_shown leaf b)) → PrintsShown Little kind b (Prints state a c)
+text_kept {O} {state} {a} {c} kind q leaf b keeps is w =
     let same : keeps.0 ≡ leaf = leaf_is (sym keeps.1 ∙ is) in
     let shape : leaf.shape ≡ RangedText = sym (ap (λ (l : LeafOf). l.shape) same) ∙ keeps.2.shape in
     written_as Little kind (Leaf leaf) b is (leaf_written Little leaf b (λ v h. text_written Little leaf b w v (subst (λ s. ShowsLeaf Little s leaf v b) shape h)))
 
 -- the same of bytes in another form
-pub shown_at : {a c : Output} (kind : Kind) {b d : List ℕ} → b ≡ d → WritesShown Little kind b a c → WritesShown Little kind d a c
-shown_at {a} {c} kind {b} {d} same w = subst (λ x. WritesShown Little kind x a c) same w
+pub shown_at : {O : Type 0} {state : O → Object (List ℕ)} {a c : Printer O} (kind : Kind) {b d : List ℕ} → b ≡ d → PrintsShown Little kind b (Prints state a c) → PrintsShown Little kind d (Prints state a c)
+shown_at {O} {state} {a} {c} kind {b} {d} same w = subst (λ x. PrintsShown Little kind x (Prints state a c)) same w

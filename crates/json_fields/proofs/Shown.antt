@@ -1,5 +1,5 @@
 -- Values by the lists of their parts.
-use Rattle.std.proofs.Common.{◌≡◌, List, [], ◌∷◌, ◌++◌, false, Option, Some, None, refl, sym, ap, ◌∙◌}
+use Rattle.std.proofs.Common.{◌≡◌, ℕ, List, [], ◌∷◌, ◌++◌, false, Option, Some, None, refl, sym, ap, ◌∙◌}
 use Rattle.std.specs.Prelude.{codes, is_some, option_map}
 use Rattle.serde_json.specs.Data.{object}
 use Rattle.sbe_types.specs.declared.kind.Kind.{Kind, Leaf, Enum, Set, Const, Comp', items-the_row-Member, Row_of-Member, end_of-Member, more_of-Member}
@@ -11,8 +11,10 @@ use Rattle.sbe_types.specs.declared.message.Value.{Value, items_hidden-the_row-V
 use Rattle.sbe_types.specs.declared.message.Value as value
 use Rattle.json_values.specs.Values.{Entry, listed, zipped, no_entries, shown_data, value_data, row_entries, member_entry, members_in, constant_of, constant_data, is_there}
 use Rattle.json_values.specs.Plain.{shown_text, entries_text}
-use Rattle.json_values.specs.Writes.{Output, Writes}
-use Rattle.json_values.proofs.Written.{retold}
+use Rattle.sbe_base.specs.Objects.{Object}
+use Rattle.printers.specs.Prints.{Prints}
+use Rattle.printers.specs.declared.printer.Printer.{Printer}
+use Rattle.printers.proofs.Printing.{reprinted}
 
 row_is : {n : _} (row : Row_of-Member n) (vs : List Value) → row_entries row vs ≡ zipped member_entry (items-the_row-Member _ row) vs
 unfolding value_data
@@ -45,14 +47,14 @@ shown_is (Const k) v = same_shown (Const k) (by_members (Const k)) no_entries (�
 shown_is (Comp' n members) v = same_shown (Comp' n members) (by_members (Comp' n members)) (row_entries members) (λ vs. sym (row_is members vs)) v
 
 -- a composite
-shows_composite : {a b : Output} (kind : Kind) (vs : List Value) → Writes a b (codes "{" ++ entries_text false (zipped member_entry (members_in kind) vs)) → Writes a b (shown_text (value_data kind (value.TheVariants.Comp vs)))
+shows_composite : {O : Type 0} {state : O → Object (List ℕ)} {a b : Printer O} (kind : Kind) (vs : List Value) → Prints state a b (codes "{" ++ entries_text false (zipped member_entry (members_in kind) vs)) → Prints state a b (shown_text (value_data kind (value.TheVariants.Comp vs)))
 shows_composite kind vs w =
-    retold (ap (λ xs. codes "{" ++ entries_text false (by_members kind xs)) (sym (items_hidden-the_row-Value-0 vs)) ∙ ap shown_text (shown_is kind (value.TheVariants.Comp vs))) w
+    reprinted (ap (λ xs. codes "{" ++ entries_text false (by_members kind xs)) (sym (items_hidden-the_row-Value-0 vs)) ∙ ap shown_text (shown_is kind (value.TheVariants.Comp vs))) w
 
 -- the members of a composite
-pub shows_members : {a b : Output} (ms : List Member) (vs : List Value) → Writes a b (codes "{" ++ entries_text false (zipped member_entry ms vs)) → Writes a b (shown_text (value_data (kinds.Comp ms) (value.TheVariants.Comp vs)))
+pub shows_members : {O : Type 0} {state : O → Object (List ℕ)} {a b : Printer O} (ms : List Member) (vs : List Value) → Prints state a b (codes "{" ++ entries_text false (zipped member_entry ms vs)) → Prints state a b (shown_text (value_data (kinds.Comp ms) (value.TheVariants.Comp vs)))
 shows_members ms vs w =
-    shows_composite (kinds.Comp ms) vs (retold (ap (λ xs. codes "{" ++ entries_text false (zipped member_entry xs vs)) (sym (items_hidden-the_row-Member-0 ms))) w)
+    shows_composite (kinds.Comp ms) vs (reprinted (ap (λ xs. codes "{" ++ entries_text false (zipped member_entry xs vs)) (sym (items_hidden-the_row-Member-0 ms))) w)
 
 constant_there : (o : Option ConstValue) → is_some o ≡ is_some (option_map constant_data o)
 constant_there None = refl

@@ -13,7 +13,6 @@ use Rattle.sbe_types.specs.Shows.{Shows, is_empty}
 use Rattle.field_values.specs.Told.{before_zero}
 use Rattle.json_values.specs.Values.{is_character, number_data, single_data, enum_data, text_data, value_data}
 use Rattle.json_values.specs.Plain.{shown_text}
-use Rattle.json_values.specs.Writes.{Output, Writes}
 
 -- a single number, or null
 abbrev pub single_shown : Leaf → ℤ → Data
@@ -38,5 +37,5 @@ elements_shown order leaf (suc n) bytes =
     item (element_shown leaf (number_of order leaf.prim (take (prim_width leaf.prim) bytes))) (elements_shown order leaf n (drop (prim_width leaf.prim) bytes))
 
 -- whichever value of a kind the bytes show, its text was written
-pub record WritesShown (order : Order) (kind : Kind) (bytes : List ℕ) (before after : Output) : Type 0 where
-  pub text : (known : Bool) (v : Value) → Shows order known kind v bytes → Writes before after (shown_text (value_data kind v))
+pub record PrintsShown (order : Order) (kind : Kind) (bytes : List ℕ) (prints : List ℕ → Type 0) : Type 0 where
+  pub text : (known : Bool) (v : Value) → Shows order known kind v bytes → prints (shown_text (value_data kind v))

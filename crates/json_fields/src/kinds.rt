@@ -12,70 +12,68 @@ ghost use Rattle.schema_facts.specs.InOrder.{IsKindInOrder, IsLeafInOrder};
 ghost use Rattle.json_values.specs.Values.{value_data, enum_data, is_character};
 ghost use Rattle.json_values.specs.Names.{AreNamed};
 ghost use Rattle.json_values.specs.Plain.{plain_text, shown_text};
-ghost use Rattle.json_fields.specs.Shown.{single_shown, enum_shown, text_shown, element_shown, elements_shown, WritesShown};
-ghost use Rattle.json_values.specs.Writes.{output, Writes};
+ghost use Rattle.json_fields.specs.Shown.{single_shown, enum_shown, text_shown, element_shown, elements_shown, PrintsShown};
+ghost use Rattle.printers.specs.Prints.{Prints};
 
 use field_values::before_zero;
 use flat_rows::{begin_of, end_behind};
 use json_values::{
-    Chunk, name_of, plain_front, put_comma, put_constant, put_null, put_number, put_plain_front,
+    name_of, plain_front, put_comma, put_constant, put_key, put_null, put_number, put_plain_front,
     put_set, put_single, put_text,
 };
+use printers::Printer;
 use sbe_base::Sink;
 use sbe_types::{Kind, Leaf, LeafShape, List, Member, Named, Order, Presence, Prim, get_num};
 
-/// Writes the value that the bytes of a kind show. It needs a kind in order, and as many bytes as it is wide.
+/// Prints the value that the bytes of a kind show. It needs a kind in order, and as many bytes as it is wide.
 #[cycle(kind)]
 #[inline(always)]
 #[tactic(auto, using(crate::proofs::FromBytes::enum_written, crate::proofs::FromBytes::set_written, crate::proofs::FromBytes::constant_written))]
-pub fn put_shown<O: Sink>(chunk: &mut Chunk, sink: &mut O, order: Order, kind: &Kind, bytes: &[u8])
+pub fn put_shown<O: Sink>(printer: &mut Printer<'_, O>, order: Order, kind: &Kind, bytes: &[u8])
     requires ready { IsKindInOrder kind.now }
     requires wide { length bytes.now ≡ width kind.now }
-    ensures { WritesShown order kind.now bytes.now (output (O.held sink.old) (O.faults sink.old) chunk.old)
-        (output (O.held sink.new) (O.faults sink.new) chunk.new) }
+    ensures { PrintsShown order kind.now bytes.now (Prints O.state printer.old printer.new) }
 {
     match kind {
-        Kind::Leaf(leaf) => put_leaf(chunk, sink, order, leaf, bytes),
+        Kind::Leaf(leaf) => put_leaf(printer, order, leaf, bytes),
         Kind::Enum(leaf, names) => {
             let number = get_num(order, leaf.prim, bytes);
-            put_listed(chunk, sink, leaf, names.as_slice(), &number);
+            put_listed(printer, leaf, names.as_slice(), &number);
         }
         Kind::Set(prim, names) => {
             let bits = set_number(order, *prim, bytes);
-            put_set(chunk, sink, names.as_slice(), bits);
+            put_set(printer, names.as_slice(), bits);
         }
-        Kind::Comp(members) => put_members(chunk, sink, order, members, bytes),
-        Kind::Const(constant) => put_constant(chunk, sink, constant),
+        Kind::Comp(members) => put_members(printer, order, members, bytes),
+        Kind::Const(constant) => put_constant(printer, constant),
     }
 }
 
-/// Writes the members of a composite, as an object.
+/// Prints the members of a composite, as an object.
 #[cycle(kind)]
 #[inline(never)]
 fn put_members<O: Sink>(
-    chunk: &mut Chunk,
-    sink: &mut O,
+    printer: &mut Printer<'_, O>,
     order: Order,
     members: &List<Member>,
     bytes: &[u8],
 )
     requires ready { IsKindInOrder (Comp members.now) }
     requires wide { length bytes.now ≡ width (Comp members.now) }
-    ensures { WritesShown order (Comp members.now) bytes.now (output (O.held sink.old) (O.faults sink.old) chunk.old)
-        (output (O.held sink.new) (O.faults sink.new) chunk.new) }
+    ensures { PrintsShown order (Comp members.now) bytes.now (Prints O.state printer.old printer.new) }
 {
-    chunk.put(sink, b"{");
+    printer.put(b"{");
     let mut end = 0;
     let mut later = false;
     for member in members.as_slice() {
-        chunk.put_key(sink, later, member.name.as_slice());
+        put_key(printer, later, member.name.as_slice());
         let behind = end_behind(end, member.offset, &member.kind);
         let part = member_bytes(member, end, behind, bytes);
-        put_shown(chunk, sink, order, &member.kind, part);
+        put_shown(printer, order, &member.kind, part);
         end = behind;
         later = true;
     }
-    chunk.put(sink, b"}");
+    printer.put(b"}");
 }
 
 /// The bytes of a composite's member, which stands behind members that end at `end` and itself ends at
@@ -102,24 +100,23 @@ fn set_number(order: Order, prim: Prim, bytes: &[u8]) -> u64
     get_num(order, prim, bytes) as u64
 }
 
-/// Writes a single number, a text or an array.
+/// Prints a single number, a text or an array.
 #[inline(always)]
-fn put_leaf<O: Sink>(chunk: &mut Chunk, sink: &mut O, order: Order, leaf: &Leaf, bytes: &[u8])
+fn put_leaf<O: Sink>(printer: &mut Printer<'_, O>, order: Order, leaf: &Leaf, bytes: &[u8])
     requires order { IsLeafInOrder leaf.now }
     requires wide { length bytes.now ≡ width (LeafKind leaf.now) }
     ensures { (v : Value) → ShowsLeaf order leaf.now.shape leaf.now v bytes.now
-        → Writes (output (O.held sink.old) (O.faults sink.old) chunk.old)
-        (output (O.held sink.new) (O.faults sink.new) chunk.new) (shown_text (value_data (LeafKind leaf.now) v)) }
+        → Prints O.state printer.old printer.new (shown_text (value_data (LeafKind leaf.now) v)) }
 {
     match leaf.shape {
         LeafShape::Number => {
             let number = get_num(order, leaf.prim, bytes);
-            put_one(chunk, sink, leaf, &number);
+            put_one(printer, leaf, &number);
         }
-        LeafShape::RangedText => put_text_in(chunk, sink, leaf, bytes),
-        LeafShape::EncodedText => put_text_in(chunk, sink, leaf, bytes),
-        LeafShape::Octets => put_array(chunk, sink, order, leaf, bytes),
-        LeafShape::Numbers => put_array(chunk, sink, order, leaf, bytes),
+        LeafShape::RangedText => put_text_in(printer, leaf, bytes),
+        LeafShape::EncodedText => put_text_in(printer, leaf, bytes),
+        LeafShape::Octets => put_array(printer, order, leaf, bytes),
+        LeafShape::Numbers => put_array(printer, order, leaf, bytes),
     }
 }
 
@@ -130,113 +127,103 @@ fn is_character(leaf: &Leaf) -> bool
     leaf.prim == Prim::Char
 }
 
-/// Writes a single number, or null.
+/// Prints a single number, or null.
 #[inline(always)]
-fn put_one<O: Sink>(chunk: &mut Chunk, sink: &mut O, leaf: &Leaf, number: &i128)
-    ensures { Writes (output (O.held sink.old) (O.faults sink.old) chunk.old)
-        (output (O.held sink.new) (O.faults sink.new) chunk.new) (plain_text (single_shown leaf.now number.now)) }
+fn put_one<O: Sink>(printer: &mut Printer<'_, O>, leaf: &Leaf, number: &i128)
+    ensures { Prints O.state printer.old printer.new (plain_text (single_shown leaf.now number.now)) }
 {
     if leaf.is_null(*number) {
-        put_null(chunk, sink);
+        put_null(printer);
     } else {
-        put_single(chunk, sink, is_character(leaf), number);
+        put_single(printer, is_character(leaf), number);
     }
 }
 
-/// Writes the number of an enum, or null. It needs names in form.
+/// Prints the number of an enum, or null. It needs names in form.
 #[inline(never)]
 pub(crate) fn put_listed<O: Sink>(
-    chunk: &mut Chunk,
-    sink: &mut O,
+    printer: &mut Printer<'_, O>,
     leaf: &Leaf,
     names: &[Named],
     number: &i128,
 )
     requires { AreNamed names.now }
-    ensures { Writes (output (O.held sink.old) (O.faults sink.old) chunk.old)
-        (output (O.held sink.new) (O.faults sink.new) chunk.new) (plain_text (enum_shown leaf.now names.now number.now)) }
+    ensures { Prints O.state printer.old printer.new (plain_text (enum_shown leaf.now names.now number.now)) }
 {
     if leaf.is_null(*number) {
-        put_null(chunk, sink);
+        put_null(printer);
     } else {
-        put_valid(chunk, sink, names, number);
+        put_valid(printer, names, number);
     }
 }
 
-/// Writes the name of an enum's number as it stands, or the number where no valid value has it.
+/// Prints the name of an enum's number as it stands, or the number where no valid value has it.
 #[inline(always)]
 #[tactic(auto, using(crate::proofs::Valid::name_written, crate::proofs::Valid::number_written))]
-fn put_valid<O: Sink>(chunk: &mut Chunk, sink: &mut O, names: &[Named], number: &i128)
+fn put_valid<O: Sink>(printer: &mut Printer<'_, O>, names: &[Named], number: &i128)
     requires { AreNamed names.now }
-    ensures { Writes (output (O.held sink.old) (O.faults sink.old) chunk.old)
-        (output (O.held sink.new) (O.faults sink.new) chunk.new) (plain_text (enum_data names.now number.now)) }
+    ensures { Prints O.state printer.old printer.new (plain_text (enum_data names.now number.now)) }
 {
     match name_of(names, number) {
-        Some(name) => chunk.put_in_quotes(sink, name),
-        None => put_number(chunk, sink, number),
+        Some(name) => printer.put_in_quotes(name),
+        None => put_number(printer, number),
     }
 }
 
-/// Writes the text before the first 00: null where it is empty and the leaf optional.
+/// Prints the text before the first 00: null where it is empty and the leaf optional.
 #[inline(always)]
 #[tactic(auto, using(crate::proofs::Fronts::front_written))]
-pub(crate) fn put_text_in<O: Sink>(chunk: &mut Chunk, sink: &mut O, leaf: &Leaf, bytes: &[u8])
-    ensures { Writes (output (O.held sink.old) (O.faults sink.old) chunk.old)
-        (output (O.held sink.new) (O.faults sink.new) chunk.new) (plain_text (text_shown leaf.now bytes.now)) }
+pub(crate) fn put_text_in<O: Sink>(printer: &mut Printer<'_, O>, leaf: &Leaf, bytes: &[u8])
+    ensures { Prints O.state printer.old printer.new (plain_text (text_shown leaf.now bytes.now)) }
 {
     match plain_front(bytes) {
-        Some(run) => put_plain_front(chunk, sink, bytes, run),
-        None => put_any_text(chunk, sink, leaf, bytes),
+        Some(run) => put_plain_front(printer, bytes, run),
+        None => put_any_text(printer, leaf, bytes),
     }
 }
 
-/// Writes the text before the first 00, whatever its bytes: null where it is empty and the leaf optional.
+/// Prints the text before the first 00, whatever its bytes: null where it is empty and the leaf optional.
 #[inline(never)]
-fn put_any_text<O: Sink>(chunk: &mut Chunk, sink: &mut O, leaf: &Leaf, bytes: &[u8])
-    ensures { Writes (output (O.held sink.old) (O.faults sink.old) chunk.old)
-        (output (O.held sink.new) (O.faults sink.new) chunk.new) (plain_text (text_shown leaf.now bytes.now)) }
+fn put_any_text<O: Sink>(printer: &mut Printer<'_, O>, leaf: &Leaf, bytes: &[u8])
+    ensures { Prints O.state printer.old printer.new (plain_text (text_shown leaf.now bytes.now)) }
 {
     let text = before_zero(bytes);
     if leaf.presence == Presence::Optional && text.is_empty() {
-        put_null(chunk, sink);
+        put_null(printer);
     } else {
-        put_text(chunk, sink, text);
+        put_text(printer, text);
     }
 }
 
-/// Writes the elements of an array.
+/// Prints the elements of an array.
 #[inline(never)]
-fn put_array<O: Sink>(chunk: &mut Chunk, sink: &mut O, order: Order, leaf: &Leaf, bytes: &[u8])
+fn put_array<O: Sink>(printer: &mut Printer<'_, O>, order: Order, leaf: &Leaf, bytes: &[u8])
     requires { length bytes.now ≡ prim_width leaf.now.prim * leaf.now.length }
-    ensures { Writes (output (O.held sink.old) (O.faults sink.old) chunk.old)
-        (output (O.held sink.new) (O.faults sink.new) chunk.new)
-        (plain_text (array (elements_shown order leaf.now leaf.now.length bytes.now))) }
+    ensures { Prints O.state printer.old printer.new (plain_text (array (elements_shown order leaf.now leaf.now.length bytes.now))) }
 {
-    chunk.put(sink, b"[");
+    printer.put(b"[");
     let wide = leaf.prim.width();
     let mut rest = bytes;
     let mut later = false;
     let mut left = leaf.length;
     while left > 0 {
         let number = get_num(order, leaf.prim, &rest[..wide]);
-        put_next(chunk, sink, later, leaf, &number);
+        put_next(printer, later, leaf, &number);
         rest = &rest[wide..];
         left -= 1;
         later = true;
     }
-    chunk.put(sink, b"]");
+    printer.put(b"]");
 }
 
-/// Writes an element of an array or null, behind a comma where another stands before.
-fn put_next<O: Sink>(chunk: &mut Chunk, sink: &mut O, later: bool, leaf: &Leaf, number: &i128)
-    ensures { Writes (output (O.held sink.old) (O.faults sink.old) chunk.old)
-        (output (O.held sink.new) (O.faults sink.new) chunk.new)
-        (comma_if later ++ plain_text (element_shown leaf.now number.now)) }
+/// Prints an element of an array or null, behind a comma where another stands before.
+fn put_next<O: Sink>(printer: &mut Printer<'_, O>, later: bool, leaf: &Leaf, number: &i128)
+    ensures { Prints O.state printer.old printer.new (comma_if later ++ plain_text (element_shown leaf.now number.now)) }
 {
-    put_comma(chunk, sink, later);
+    put_comma(printer, later);
     if leaf.is_null(*number) {
-        put_null(chunk, sink);
+        put_null(printer);
     } else {
-        put_number(chunk, sink, number);
+        put_number(printer, number);
     }
 }

@@ -1,8 +1,6 @@
-pub mod Written
 pub mod Numbers
 pub mod Entries
 pub mod Plainly
 pub mod Bits
 pub mod Lanes
 pub mod Fronts
-pub mod Gathered

@@ -7,8 +7,10 @@ use Rattle.std.proofs.lemmas.Fmt.{decimal_digit, decimal_step}
 use Rattle.std.specs.Fmt.{signed_decimal, decimal, digits}
 use Rattle.json_values.specs.Values.{number_data, last_four, digit_pairs, digits_in, padded_digits, digits_in_byte}
 use Rattle.json_values.specs.Plain.{plain_text}
-use Rattle.json_values.specs.Writes.{Output, Writes}
-use Rattle.json_values.proofs.Written.{retold, then_writes}
+use Rattle.sbe_base.specs.Objects.{Object}
+use Rattle.printers.specs.Prints.{Prints}
+use Rattle.printers.specs.declared.printer.Printer.{Printer}
+use Rattle.printers.proofs.Printing.{reprinted, then_prints}
 
 pub number_is : (n : ℤ) → signed_decimal n ≡ plain_text (number_data n)
 number_is (pos n) = refl
@@ -22,8 +24,8 @@ first_there n h =
     (bytes_eq-Decides (take (digits_in_byte n) (take 4 (drop (4 * n) padded_digits))) (decimal n)).0
     (agree_below_at (λ k. bytes_eq (take (digits_in_byte k) (take 4 (drop (4 * k) padded_digits))) (decimal k)) (λ k. true) 256 n refl h)
 
-pub byte_alone : {a b : Output} (x : List ℕ) (r n : ℕ) → r ≡ digits_in_byte n → take (digits_in_byte n) x ≡ decimal n → Writes a b (take r x ++ ([] ++ [])) → Writes a b (plain_text (number_data (pos n)))
-byte_alone x r n run is w = retold (append-nil (take r x) ∙ ap (λ k. take k x) run ∙ is) w
+pub byte_alone : {O : Type 0} {state : O → Object (List ℕ)} {a b : Printer O} (x : List ℕ) (r n : ℕ) → r ≡ digits_in_byte n → take (digits_in_byte n) x ≡ decimal n → Prints state a b (take r x ++ ([] ++ [])) → Prints state a b (plain_text (number_data (pos n)))
+byte_alone x r n run is w = reprinted (append-nil (take r x) ∙ ap (λ k. take k x) run ∙ is) w
 
 -- ---- by pairs of digits
 
@@ -71,10 +73,10 @@ split_two n least h =
     ∙ rw (x, y, z) refl
 
 -- a number of at most two digits, with two digits behind
-pub lead_pair : {a b : Output} {y : List ℕ} (x : List ℕ) (r n : ℕ) → 100 ≤ n → n < 10000 → r ≡ digits_in (n / 100) → take (digits_in (n / 100)) x ≡ decimal (n / 100) →
-    y ≡ (48 + n % 100 / 10) ∷ (48 + n % 100 % 10) ∷ [] → Writes a b (take r x ++ (y ++ [])) → Writes a b (plain_text (number_data (pos n)))
+pub lead_pair : {O : Type 0} {state : O → Object (List ℕ)} {a b : Printer O} {y : List ℕ} (x : List ℕ) (r n : ℕ) → 100 ≤ n → n < 10000 → r ≡ digits_in (n / 100) → take (digits_in (n / 100)) x ≡ decimal (n / 100) →
+    y ≡ (48 + n % 100 / 10) ∷ (48 + n % 100 % 10) ∷ [] → Prints state a b (take r x ++ (y ++ [])) → Prints state a b (plain_text (number_data (pos n)))
 lead_pair x r n least h run is q w =
-    retold (ap₂ (λ (s t : List ℕ). s ++ (t ++ [])) (ap (λ k. take k x) run ∙ is) q ∙ sym (split_two n least h)) w
+    reprinted (ap₂ (λ (s t : List ℕ). s ++ (t ++ [])) (ap (λ k. take k x) run ∙ is) q ∙ sym (split_two n least h)) w
 
 -- the last four digits
 four_are : (n : ℕ) → n < 10000 → (48 + n / 100 / 10) ∷ (48 + n / 100 % 10) ∷ (48 + n % 100 / 10) ∷ (48 + n % 100 % 10) ∷ [] ≡ last_four n
@@ -105,19 +107,19 @@ pairs_are : {y z : List ℕ} (l : ℕ) → l < 10000 → y ≡ (48 + l / 100 / 1
 pairs_are l low q r = ap₂ (λ (s t : List ℕ). s ++ t) q r ∙ four_are l low
 
 -- a number of at most two digits, and four digits behind it
-pub lead_four : {a b : Output} {y z : List ℕ} (x : List ℕ) (many h l : ℕ) → many ≡ digits_in h → take (digits_in h) x ≡ decimal h → l < 10000 →
+pub lead_four : {O : Type 0} {state : O → Object (List ℕ)} {a b : Printer O} {y z : List ℕ} (x : List ℕ) (many h l : ℕ) → many ≡ digits_in h → take (digits_in h) x ≡ decimal h → l < 10000 →
     y ≡ (48 + l / 100 / 10) ∷ (48 + l / 100 % 10) ∷ [] → z ≡ (48 + l % 100 / 10) ∷ (48 + l % 100 % 10) ∷ [] →
-    Writes a b (take many x ++ (y ++ z)) → Writes a b (plain_text (number_data (pos h)) ++ last_four l)
-lead_four x many h l run is low q r w = retold (ap₂ (λ (s t : List ℕ). s ++ t) (ap (λ k. take k x) run ∙ is) (pairs_are l low q r)) w
+    Prints state a b (take many x ++ (y ++ z)) → Prints state a b (plain_text (number_data (pos h)) ++ last_four l)
+lead_four x many h l run is low q r w = reprinted (ap₂ (λ (s t : List ℕ). s ++ t) (ap (λ k. take k x) run ∙ is) (pairs_are l low q r)) w
 
 -- of more, whose digits were written before
-pub longer : {a b c : Output} {y z : List ℕ} (h l : ℕ) → l < 10000 → Writes a b (plain_text (number_data (pos h))) →
+pub longer : {O : Type 0} {state : O → Object (List ℕ)} {a b c : Printer O} {y z : List ℕ} (h l : ℕ) → l < 10000 → Prints state a b (plain_text (number_data (pos h))) →
     y ≡ (48 + l / 100 / 10) ∷ (48 + l / 100 % 10) ∷ [] → z ≡ (48 + l % 100 / 10) ∷ (48 + l % 100 % 10) ∷ [] →
-    Writes b c (y ++ (z ++ [])) → Writes a c (plain_text (number_data (pos h)) ++ last_four l)
-longer h l low front q r w = then_writes front (retold (ap₂ (λ (s t : List ℕ). s ++ (t ++ [])) q r ∙ four_are l low) w)
+    Prints state b c (y ++ (z ++ [])) → Prints state a c (plain_text (number_data (pos h)) ++ last_four l)
+longer h l low front q r w = then_prints front (reprinted (ap₂ (λ (s t : List ℕ). s ++ (t ++ [])) q r ∙ four_are l low) w)
 
 -- all digits but the last four, and those
-pub long_number : {a b : Output} (n : ℕ) → 10000 ≤ n → n < 2 ^ 32 → Writes a b (plain_text (number_data (pos (n / 10000))) ++ last_four (n % 10000)) → Writes a b (plain_text (number_data (pos n)))
+pub long_number : {O : Type 0} {state : O → Object (List ℕ)} {a b : Printer O} (n : ℕ) → 10000 ≤ n → n < 2 ^ 32 → Prints state a b (plain_text (number_data (pos (n / 10000))) ++ last_four (n % 10000)) → Prints state a b (plain_text (number_data (pos n)))
 long_number n least h =
     let high : n / 10000 ≡ n / 10 / 10 / 10 / 10 = omega arith in
     let w : n % 10000 / 10 / 10 / 10 % 10 ≡ n / 10 / 10 / 10 % 10 = omega arith in
@@ -125,4 +127,4 @@ long_number n least h =
     let y : n % 10000 / 10 % 10 ≡ n / 10 % 10 = omega arith in
     let z : n % 10000 % 10 ≡ n % 10 = omega arith in
     let low : last_four (n % 10000) ≡ last_four n = rw (w, x, y, z) refl in
-    retold (ap₂ (λ (s t : List ℕ). s ++ t) (ap decimal high) low ∙ sym (split_four n least (omega (arith, h))))
+    reprinted (ap₂ (λ (s t : List ℕ). s ++ t) (ap decimal high) low ∙ sym (split_four n least (omega (arith, h))))

@@ -14,8 +14,10 @@ use Rattle.json_values.specs.Values.{text_data, hex, hex_pairs, is_printable}
 use Rattle.sbe_types.specs.InForm.{is_letter, is_name_byte}
 use Rattle.json_values.specs.Names.{NamesStand}
 use Rattle.json_values.specs.Plain.{plain_text, is_plain_byte}
-use Rattle.json_values.specs.Writes.{Output, Writes}
-use Rattle.json_values.proofs.Written.{retold}
+use Rattle.sbe_base.specs.Objects.{Object}
+use Rattle.printers.specs.Prints.{Prints}
+use Rattle.printers.specs.declared.printer.Printer.{Printer}
+use Rattle.printers.proofs.Printing.{reprinted}
 
 plain_byte : (b : ℕ) → is_plain_byte b ≡ true → escape_byte b ≡ b ∷ []
 unfolding escape_byte
@@ -45,16 +47,16 @@ hex_by : (bytes : List ℕ) → list_all is_printable bytes ≡ false → plain_
 hex_by bytes h = rw h
 
 -- a text whose bytes stand for themselves
-pub shows_plain : {a b : Output} (bytes : List ℕ) → list_all is_plain_byte bytes ≡ true → Writes a b (plain_text (string bytes)) → Writes a b (plain_text (text_data bytes))
-shows_plain bytes h w = retold (string_by bytes (printable_too bytes h)) w
+pub shows_plain : {O : Type 0} {state : O → Object (List ℕ)} {a b : Printer O} (bytes : List ℕ) → list_all is_plain_byte bytes ≡ true → Prints state a b (plain_text (string bytes)) → Prints state a b (plain_text (text_data bytes))
+shows_plain bytes h w = reprinted (string_by bytes (printable_too bytes h)) w
 
 -- a text of printable bytes
-pub shows_printable : {a b : Output} (bytes : List ℕ) → list_all is_printable bytes ≡ true → Writes a b (plain_text (string bytes)) → Writes a b (plain_text (text_data bytes))
-shows_printable bytes h w = retold (string_by bytes h) w
+pub shows_printable : {O : Type 0} {state : O → Object (List ℕ)} {a b : Printer O} (bytes : List ℕ) → list_all is_printable bytes ≡ true → Prints state a b (plain_text (string bytes)) → Prints state a b (plain_text (text_data bytes))
+shows_printable bytes h w = reprinted (string_by bytes h) w
 
 -- any other text
-pub shows_hex : {a b : Output} (bytes : List ℕ) → list_all is_printable bytes ≡ false → Writes a b (plain_text (hex bytes)) → Writes a b (plain_text (text_data bytes))
-shows_hex bytes h w = retold (hex_by bytes h) w
+pub shows_hex : {O : Type 0} {state : O → Object (List ℕ)} {a b : Printer O} (bytes : List ℕ) → list_all is_printable bytes ≡ false → Prints state a b (plain_text (hex bytes)) → Prints state a b (plain_text (text_data bytes))
+shows_hex bytes h w = reprinted (hex_by bytes h) w
 
 -- ---- digits to the base 16
 
@@ -122,15 +124,15 @@ by_itself : (byte : ℕ) → escape_letter byte ≤ 0 → 32 ≤ byte → byte �
 unfolding escape_byte
 by_itself byte h k = grind (arith, nat_tests)
 
-pub escapes_short : {a b : Output} (byte letter : ℕ) → letter ≡ escape_letter byte → 0 < letter → Writes a b (92 ∷ letter ∷ []) → Writes a b (escape_byte byte)
-escapes_short byte letter is h w = retold (ap (λ (l : ℕ). 92 ∷ l ∷ []) is ∙ by_letter byte (omega (arith, is, h))) w
+pub escapes_short : {O : Type 0} {state : O → Object (List ℕ)} {a b : Printer O} (byte letter : ℕ) → letter ≡ escape_letter byte → 0 < letter → Prints state a b (92 ∷ letter ∷ []) → Prints state a b (escape_byte byte)
+escapes_short byte letter is h w = reprinted (ap (λ (l : ℕ). 92 ∷ l ∷ []) is ∙ by_letter byte (omega (arith, is, h))) w
 
-pub escapes_control : {a b : Output} (byte letter : ℕ) → letter ≡ escape_letter byte → letter ≤ 0 → byte < 32
-    → Writes a b (92 ∷ 117 ∷ 48 ∷ 48 ∷ digit_char (byte / 16) ∷ digit_char (byte % 16) ∷ []) → Writes a b (escape_byte byte)
-escapes_control byte letter is h k w = retold (by_number byte (omega (arith, is, h)) k) w
+pub escapes_control : {O : Type 0} {state : O → Object (List ℕ)} {a b : Printer O} (byte letter : ℕ) → letter ≡ escape_letter byte → letter ≤ 0 → byte < 32
+    → Prints state a b (92 ∷ 117 ∷ 48 ∷ 48 ∷ digit_char (byte / 16) ∷ digit_char (byte % 16) ∷ []) → Prints state a b (escape_byte byte)
+escapes_control byte letter is h k w = reprinted (by_number byte (omega (arith, is, h)) k) w
 
-pub escapes_none : {a b : Output} (byte letter : ℕ) → letter ≡ escape_letter byte → letter ≤ 0 → 32 ≤ byte → Writes a b (byte ∷ []) → Writes a b (escape_byte byte)
-escapes_none byte letter is h k w = retold (by_itself byte (omega (arith, is, h)) k) w
+pub escapes_none : {O : Type 0} {state : O → Object (List ℕ)} {a b : Printer O} (byte letter : ℕ) → letter ≡ escape_letter byte → letter ≤ 0 → 32 ≤ byte → Prints state a b (byte ∷ []) → Prints state a b (escape_byte byte)
+escapes_none byte letter is h k w = reprinted (by_itself byte (omega (arith, is, h)) k) w
 
 -- ---- names
 

@@ -1,4 +1,3 @@
-pub mod Writes
 pub mod Values
 pub mod Plain
 pub mod Names

@@ -6,25 +6,24 @@ ghost use Rattle.serde_json.specs.Data.{array, string};
 ghost use Rattle.serde_json.specs.Written.{comma_if};
 ghost use Rattle.json_values.specs.Values.{set_data, has_bit, bit_of, chosen};
 ghost use Rattle.json_values.specs.Plain.{plain_text, plain_items};
-ghost use Rattle.json_values.specs.Writes.{output, Writes};
+ghost use Rattle.printers.specs.Prints.{Prints};
 
-use crate::chunk::Chunk;
 use crate::texts::put_string;
 use crate::values::{put_comma, put_count};
+use printers::Printer;
 use sbe_base::Sink;
 use sbe_types::Named;
 
-/// Writes a set: an array of the names of its choices in the schema's order, or its number where a
+/// Prints a set: an array of the names of its choices in the schema's order, or its number where a
 /// bit is no choice.
 #[inline(never)]
-pub fn put_set<O: Sink>(chunk: &mut Chunk, sink: &mut O, names: &[Named], bits: u64)
-    ensures { Writes (output (O.held sink.old) (O.faults sink.old) chunk.old)
-        (output (O.held sink.new) (O.faults sink.new) chunk.new) (plain_text (set_data names.now bits)) }
+pub fn put_set<O: Sink>(printer: &mut Printer<'_, O>, names: &[Named], bits: u64)
+    ensures { Prints O.state printer.old printer.new (plain_text (set_data names.now bits)) }
 {
     if are_listed(names, bits) {
-        put_chosen(chunk, sink, names, bits);
+        put_chosen(printer, names, bits);
     } else {
-        put_count(chunk, sink, bits);
+        put_count(printer, bits);
     }
 }
 
@@ -75,36 +74,27 @@ fn has_bit(bits: u64, number: &i128) -> bool
     }
 }
 
-/// Writes the names of the choices whose bits are set, as an array.
-fn put_chosen<O: Sink>(chunk: &mut Chunk, sink: &mut O, names: &[Named], bits: u64)
-    ensures { Writes (output (O.held sink.old) (O.faults sink.old) chunk.old)
-        (output (O.held sink.new) (O.faults sink.new) chunk.new) (plain_text (array (chosen bits names.now))) }
+/// Prints the names of the choices whose bits are set, as an array.
+fn put_chosen<O: Sink>(printer: &mut Printer<'_, O>, names: &[Named], bits: u64)
+    ensures { Prints O.state printer.old printer.new (plain_text (array (chosen bits names.now))) }
 {
-    chunk.put(sink, b"[");
+    printer.put(b"[");
     let mut later = false;
     for choice in names {
-        later = put_choice(chunk, sink, later, choice, bits);
+        later = put_choice(printer, later, choice, bits);
     }
-    chunk.put(sink, b"]");
+    printer.put(b"]");
 }
 
-/// Writes the name of a choice whose bit is set, and tells whether a name stands now.
-fn put_choice<O: Sink>(
-    chunk: &mut Chunk,
-    sink: &mut O,
-    later: bool,
-    choice: &Named,
-    bits: u64,
-) -> bool
+/// Prints the name of a choice whose bit is set, and tells whether a name stands now.
+fn put_choice<O: Sink>(printer: &mut Printer<'_, O>, later: bool, choice: &Named, bits: u64) -> bool
     ensures later { result ≡ (has_bit bits choice.now.number || later) }
-    ensures text { Writes (output (O.held sink.old) (O.faults sink.old) chunk.old)
-        (output (O.held sink.new) (O.faults sink.new) chunk.new)
-        (if has_bit bits choice.now.number then comma_if later ++ plain_text (string choice.now.name) else []) }
+    ensures text { Prints O.state printer.old printer.new (if has_bit bits choice.now.number then comma_if later ++ plain_text (string choice.now.name) else []) }
 {
     if !has_bit(bits, &choice.number) {
         return later;
     }
-    put_comma(chunk, sink, later);
-    put_string(chunk, sink, choice.name.as_slice());
+    put_comma(printer, later);
+    put_string(printer, choice.name.as_slice());
     true
 }

@@ -1,43 +1,54 @@
-ghost use Rattle.std.specs.Prelude.{◌≡◌, ◌<◌, ◌≤◌, ◌/◌, ◌%◌, ◌∷◌, [], ◌+◌, length, take, drop, true, slice_index};
+ghost use Rattle.std.specs.Prelude.{◌≡◌, ◌<◌, ◌≤◌, ◌/◌, ◌%◌, ◌∷◌, ◌++◌, [], ◌+◌, length, take, drop, true, slice_index};
 ghost use Rattle.std.specs.Char.{digit_char};
 ghost use Rattle.std.specs.List.{list_all};
 ghost use Rattle.hex.specs.Hex.{encode_lower, lower_digits};
 ghost use Rattle.json.specs.Print.{escape, escape_byte, escape_letter};
 ghost use Rattle.serde_json.specs.Data.{string};
+ghost use Rattle.serde_json.specs.Written.{comma_if};
 ghost use Rattle.json_values.specs.Values.{hex, hex_pairs, text_data, is_printable};
-ghost use Rattle.json_values.specs.Plain.{plain_text, is_plain_byte};
-ghost use Rattle.json_values.specs.Writes.{output, Writes};
+ghost use Rattle.json_values.specs.Plain.{plain_text, key_text, is_plain_byte};
+ghost use Rattle.printers.specs.Prints.{Prints};
 
-use crate::chunk::Chunk;
 use crate::runs::plain_run;
+use printers::Printer;
 use sbe_base::Sink;
 
 const HEX_DIGITS: &[u8; 16] = b"0123456789abcdef";
 
-/// Writes bytes as a string where each is from 20 to 7e, and else as `{"hex":"61ff"}`.
+/// Prints bytes as a string where each is from 20 to 7e, and else as `{"hex":"61ff"}`.
 #[tactic(auto, using(crate::proofs::Plainly::shows_plain, crate::proofs::Plainly::shows_printable, crate::proofs::Plainly::shows_hex))]
-pub fn put_text<O: Sink>(chunk: &mut Chunk, sink: &mut O, bytes: &[u8])
-    ensures { Writes (output (O.held sink.old) (O.faults sink.old) chunk.old)
-        (output (O.held sink.new) (O.faults sink.new) chunk.new) (plain_text (text_data bytes.now)) }
+pub fn put_text<O: Sink>(printer: &mut Printer<'_, O>, bytes: &[u8])
+    ensures { Prints O.state printer.old printer.new (plain_text (text_data bytes.now)) }
 {
     if is_plain(bytes) {
-        put_plain(chunk, sink, bytes);
+        put_plain(printer, bytes);
     } else if is_printable(bytes) {
-        put_quoted(chunk, sink, bytes);
+        put_quoted(printer, bytes);
     } else {
-        put_hex(chunk, sink, bytes);
+        put_hex(printer, bytes);
     }
 }
 
-/// Writes a string of JSON (RFC 8259, Strings).
-pub fn put_string<O: Sink>(chunk: &mut Chunk, sink: &mut O, bytes: &[u8])
-    ensures { Writes (output (O.held sink.old) (O.faults sink.old) chunk.old)
-        (output (O.held sink.new) (O.faults sink.new) chunk.new) (plain_text (string bytes.now)) }
+/// Prints a string of JSON (RFC 8259, Strings).
+pub fn put_string<O: Sink>(printer: &mut Printer<'_, O>, bytes: &[u8])
+    ensures { Prints O.state printer.old printer.new (plain_text (string bytes.now)) }
 {
     if is_plain(bytes) {
-        put_plain(chunk, sink, bytes);
+        put_plain(printer, bytes);
     } else {
-        put_quoted(chunk, sink, bytes);
+        put_quoted(printer, bytes);
+    }
+}
+
+/// Prints the key of a member, after a comma where another member precedes it: its name between quotes, and a colon.
+#[inline(always)]
+pub fn put_key<O: Sink>(printer: &mut Printer<'_, O>, later: bool, name: &[u8])
+    ensures { Prints O.state printer.old printer.new (comma_if later ++ key_text name.now) }
+{
+    if later {
+        printer.put_between(b",\"", name, b"\":");
+    } else {
+        printer.put_between(b"\"", name, b"\":");
     }
 }
 
@@ -56,60 +67,55 @@ fn is_printable(bytes: &[u8]) -> bool
     bytes.iter().all(|b| *b >= b' ' && *b <= b'~')
 }
 
-/// Writes bytes that stand for themselves between quotes.
+/// Prints bytes that stand for themselves between quotes.
 #[inline(always)]
-fn put_plain<O: Sink>(chunk: &mut Chunk, sink: &mut O, bytes: &[u8])
+fn put_plain<O: Sink>(printer: &mut Printer<'_, O>, bytes: &[u8])
     requires { list_all is_plain_byte bytes.now ≡ true }
-    ensures { Writes (output (O.held sink.old) (O.faults sink.old) chunk.old)
-        (output (O.held sink.new) (O.faults sink.new) chunk.new) (plain_text (string bytes.now)) }
+    ensures { Prints O.state printer.old printer.new (plain_text (string bytes.now)) }
 {
-    chunk.put_in_quotes(sink, bytes);
+    printer.put_in_quotes(bytes);
 }
 
-/// Writes the first `run` bytes of a field, which stand for themselves, between quotes.
+/// Prints the first `run` bytes of a field, which stand for themselves, between quotes.
 #[inline(always)]
-pub fn put_plain_front<O: Sink>(chunk: &mut Chunk, sink: &mut O, field: &[u8], run: usize)
+pub fn put_plain_front<O: Sink>(printer: &mut Printer<'_, O>, field: &[u8], run: usize)
     requires run { run ≤ length field.now }
     requires plain { list_all is_plain_byte (take run field.now) ≡ true }
-    ensures { Writes (output (O.held sink.old) (O.faults sink.old) chunk.old)
-        (output (O.held sink.new) (O.faults sink.new) chunk.new) (plain_text (string (take run field.now))) }
+    ensures { Prints O.state printer.old printer.new (plain_text (string (take run field.now))) }
 {
-    chunk.put_front_in_quotes(sink, field, run);
+    printer.put_front_in_quotes(field, run);
 }
 
-/// Writes bytes between quotes, each of them escaped if need be.
+/// Prints bytes between quotes, each of them escaped if need be.
 #[inline(never)]
-fn put_quoted<O: Sink>(chunk: &mut Chunk, sink: &mut O, bytes: &[u8])
-    ensures { Writes (output (O.held sink.old) (O.faults sink.old) chunk.old)
-        (output (O.held sink.new) (O.faults sink.new) chunk.new) (plain_text (string bytes.now)) }
+fn put_quoted<O: Sink>(printer: &mut Printer<'_, O>, bytes: &[u8])
+    ensures { Prints O.state printer.old printer.new (plain_text (string bytes.now)) }
 {
-    chunk.put(sink, b"\"");
-    put_escaped(chunk, sink, bytes);
-    chunk.put(sink, b"\"");
+    printer.put(b"\"");
+    put_escaped(printer, bytes);
+    printer.put(b"\"");
 }
 
-/// Writes bytes, each of them escaped if need be.
-fn put_escaped<O: Sink>(chunk: &mut Chunk, sink: &mut O, bytes: &[u8])
-    ensures { Writes (output (O.held sink.old) (O.faults sink.old) chunk.old)
-        (output (O.held sink.new) (O.faults sink.new) chunk.new) (escape bytes.now) }
+/// Prints bytes, each of them escaped if need be.
+fn put_escaped<O: Sink>(printer: &mut Printer<'_, O>, bytes: &[u8])
+    ensures { Prints O.state printer.old printer.new (escape bytes.now) }
 {
     for byte in bytes {
-        put_escaped_byte(chunk, sink, *byte);
+        put_escaped_byte(printer, *byte);
     }
 }
 
 #[tactic(auto, using(crate::proofs::Plainly::escapes_short, crate::proofs::Plainly::escapes_control, crate::proofs::Plainly::escapes_none))]
-fn put_escaped_byte<O: Sink>(chunk: &mut Chunk, sink: &mut O, byte: u8)
-    ensures { Writes (output (O.held sink.old) (O.faults sink.old) chunk.old)
-        (output (O.held sink.new) (O.faults sink.new) chunk.new) (escape_byte byte) }
+fn put_escaped_byte<O: Sink>(printer: &mut Printer<'_, O>, byte: u8)
+    ensures { Prints O.state printer.old printer.new (escape_byte byte) }
 {
     let letter = escape_letter(byte);
     if letter > 0 {
-        chunk.put(sink, &[b'\\', letter]);
+        printer.put(&[b'\\', letter]);
     } else if byte < b' ' {
-        put_control(chunk, sink, byte);
+        put_control(printer, byte);
     } else {
-        chunk.put(sink, &[byte]);
+        printer.put(&[byte]);
     }
 }
 
@@ -128,33 +134,30 @@ fn escape_letter(byte: u8) -> u8
     }
 }
 
-/// Writes a byte below a space by its number.
-fn put_control<O: Sink>(chunk: &mut Chunk, sink: &mut O, byte: u8)
-    ensures { Writes (output (O.held sink.old) (O.faults sink.old) chunk.old)
-        (output (O.held sink.new) (O.faults sink.new) chunk.new) (92 ∷ 117 ∷ 48 ∷ 48 ∷ digit_char (byte / 16) ∷ digit_char (byte % 16) ∷ []) }
+/// Prints a byte below a space by its number.
+fn put_control<O: Sink>(printer: &mut Printer<'_, O>, byte: u8)
+    ensures { Prints O.state printer.old printer.new (92 ∷ 117 ∷ 48 ∷ 48 ∷ digit_char (byte / 16) ∷ digit_char (byte % 16) ∷ []) }
 {
-    chunk.put(sink, b"\\u00");
-    chunk.put(sink, &[hex_digit(byte / 16), hex_digit(byte % 16)]);
+    printer.put(b"\\u00");
+    printer.put(&[hex_digit(byte / 16), hex_digit(byte % 16)]);
 }
 
-/// Writes bytes by their digits to the base 16, as an object.
+/// Prints bytes by their digits to the base 16, as an object.
 #[inline(never)]
-fn put_hex<O: Sink>(chunk: &mut Chunk, sink: &mut O, bytes: &[u8])
-    ensures { Writes (output (O.held sink.old) (O.faults sink.old) chunk.old)
-        (output (O.held sink.new) (O.faults sink.new) chunk.new) (plain_text (hex bytes.now)) }
+fn put_hex<O: Sink>(printer: &mut Printer<'_, O>, bytes: &[u8])
+    ensures { Prints O.state printer.old printer.new (plain_text (hex bytes.now)) }
 {
-    chunk.put(sink, b"{\"hex\":\"");
-    put_digits(chunk, sink, bytes);
-    chunk.put(sink, b"\"}");
+    printer.put(b"{\"hex\":\"");
+    put_digits(printer, bytes);
+    printer.put(b"\"}");
 }
 
-/// Writes two digits for each byte.
-fn put_digits<O: Sink>(chunk: &mut Chunk, sink: &mut O, bytes: &[u8])
-    ensures { Writes (output (O.held sink.old) (O.faults sink.old) chunk.old)
-        (output (O.held sink.new) (O.faults sink.new) chunk.new) (encode_lower bytes.now) }
+/// Prints two digits for each byte.
+fn put_digits<O: Sink>(printer: &mut Printer<'_, O>, bytes: &[u8])
+    ensures { Prints O.state printer.old printer.new (encode_lower bytes.now) }
 {
     for byte in bytes {
-        put_byte(chunk, sink, *byte);
+        put_byte(printer, *byte);
     }
 }
 
@@ -162,12 +165,11 @@ fn put_digits<O: Sink>(chunk: &mut Chunk, sink: &mut O, bytes: &[u8])
 const HEX_PAIRS: &[u8] =
     b"000102030405060708090a0b0c0d0e0f101112131415161718191a1b1c1d1e1f202122232425262728292a2b2c2d2e2f303132333435363738393a3b3c3d3e3f404142434445464748494a4b4c4d4e4f505152535455565758595a5b5c5d5e5f606162636465666768696a6b6c6d6e6f707172737475767778797a7b7c7d7e7f808182838485868788898a8b8c8d8e8f909192939495969798999a9b9c9d9e9fa0a1a2a3a4a5a6a7a8a9aaabacadaeafb0b1b2b3b4b5b6b7b8b9babbbcbdbebfc0c1c2c3c4c5c6c7c8c9cacbcccdcecfd0d1d2d3d4d5d6d7d8d9dadbdcdddedfe0e1e2e3e4e5e6e7e8e9eaebecedeeeff0f1f2f3f4f5f6f7f8f9fafbfcfdfeff";
 
-/// Writes the two digits of a byte.
-fn put_byte<O: Sink>(chunk: &mut Chunk, sink: &mut O, byte: u8)
-    ensures { Writes (output (O.held sink.old) (O.faults sink.old) chunk.old)
-        (output (O.held sink.new) (O.faults sink.new) chunk.new) (encode_lower (byte ∷ [])) }
+/// Prints the two digits of a byte.
+fn put_byte<O: Sink>(printer: &mut Printer<'_, O>, byte: u8)
+    ensures { Prints O.state printer.old printer.new (encode_lower (byte ∷ [])) }
 {
-    chunk.put(sink, hex_pair(byte));
+    printer.put(hex_pair(byte));
 }
 
 /// The two digits of a byte to the base 16.

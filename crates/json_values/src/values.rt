@@ -5,125 +5,116 @@ ghost use Rattle.serde_json.specs.Data.{null, number, unsigned};
 ghost use Rattle.serde_json.specs.Written.{comma_if};
 ghost use Rattle.json_values.specs.Values.{number_data, char_data, single_data, enum_data, name_of, constant_data, last_four, digit_pairs, digits_in, padded_digits, digits_in_byte};
 ghost use Rattle.json_values.specs.Plain.{plain_text};
-ghost use Rattle.json_values.specs.Writes.{output, Writes};
+ghost use Rattle.printers.specs.Prints.{Prints};
 
-use crate::chunk::Chunk;
 use crate::texts::{put_string, put_text};
 use itoa::Buffer;
+use printers::Printer;
 use sbe_base::Sink;
 use sbe_types::{ConstValue, Named};
 
-/// Writes a null.
+/// Prints a null.
 #[inline(always)]
-pub fn put_null<O: Sink>(chunk: &mut Chunk, sink: &mut O)
-    ensures { Writes (output (O.held sink.old) (O.faults sink.old) chunk.old)
-        (output (O.held sink.new) (O.faults sink.new) chunk.new) (plain_text null) }
+pub fn put_null<O: Sink>(printer: &mut Printer<'_, O>)
+    ensures { Prints O.state printer.old printer.new (plain_text null) }
 {
-    chunk.put(sink, b"null");
+    printer.put(b"null");
 }
 
-/// Writes an integer.
-pub fn put_number<O: Sink>(chunk: &mut Chunk, sink: &mut O, n: &i128)
-    ensures { Writes (output (O.held sink.old) (O.faults sink.old) chunk.old)
-        (output (O.held sink.new) (O.faults sink.new) chunk.new) (plain_text (number_data n.now)) }
+/// Prints an integer.
+pub fn put_number<O: Sink>(printer: &mut Printer<'_, O>, n: &i128)
+    ensures { Prints O.state printer.old printer.new (plain_text (number_data n.now)) }
 {
     if *n >= 0 && *n < 256 {
-        put_small(chunk, sink, *n as u8);
+        put_small(printer, *n as u8);
     } else if *n >= 0 && *n < 100_000_000 {
-        put_middle(chunk, sink, *n as u32);
+        put_middle(printer, *n as u32);
     } else {
-        put_any_number(chunk, sink, n);
+        put_any_number(printer, n);
     }
 }
 
-/// Writes an integer of at most 64 bits.
+/// Prints an integer of at most 64 bits.
 #[inline(always)]
-pub fn put_small_number<O: Sink>(chunk: &mut Chunk, sink: &mut O, n: i64)
-    ensures { Writes (output (O.held sink.old) (O.faults sink.old) chunk.old)
-        (output (O.held sink.new) (O.faults sink.new) chunk.new) (plain_text (number_data n)) }
+pub fn put_small_number<O: Sink>(printer: &mut Printer<'_, O>, n: i64)
+    ensures { Prints O.state printer.old printer.new (plain_text (number_data n)) }
 {
     if n >= 0 && n < 256 {
-        put_small(chunk, sink, n as u8);
+        put_small(printer, n as u8);
     } else if n >= 0 && n < 100_000_000 {
-        put_middle(chunk, sink, n as u32);
+        put_middle(printer, n as u32);
     } else {
-        put_any_word(chunk, sink, n);
+        put_any_word(printer, n);
     }
 }
 
-/// Writes a byte as a number.
+/// Prints a byte as a number.
 #[inline(always)]
 #[tactic(auto, using(crate::proofs::Numbers::byte_alone))]
-fn put_small<O: Sink>(chunk: &mut Chunk, sink: &mut O, n: u8)
-    ensures { Writes (output (O.held sink.old) (O.faults sink.old) chunk.old)
-        (output (O.held sink.new) (O.faults sink.new) chunk.new) (plain_text (number_data (pos n))) }
+fn put_small<O: Sink>(printer: &mut Printer<'_, O>, n: u8)
+    ensures { Prints O.state printer.old printer.new (plain_text (number_data (pos n))) }
 {
-    chunk.put_front(sink, first_of(n), digits_of_byte(n), b"", b"");
+    printer.put_front(first_of(n), digits_of_byte(n), b"", b"");
 }
 
-/// Writes a number of three to eight digits.
+/// Prints a number of three to eight digits.
 #[inline(never)]
 #[tactic(auto, using(crate::proofs::Numbers::long_number))]
-fn put_middle<O: Sink>(chunk: &mut Chunk, sink: &mut O, n: u32)
+fn put_middle<O: Sink>(printer: &mut Printer<'_, O>, n: u32)
     requires least { 100 ≤ n }
     requires most { n < 100_000_000 }
-    ensures { Writes (output (O.held sink.old) (O.faults sink.old) chunk.old)
-        (output (O.held sink.new) (O.faults sink.new) chunk.new) (plain_text (number_data (pos n))) }
+    ensures { Prints O.state printer.old printer.new (plain_text (number_data (pos n))) }
 {
     if n < 10_000 {
-        put_short(chunk, sink, n as u16);
+        put_short(printer, n as u16);
     } else {
-        put_long(chunk, sink, (n / 10_000) as u16, (n % 10_000) as u16);
+        put_long(printer, (n / 10_000) as u16, (n % 10_000) as u16);
     }
 }
 
-/// Writes a number of three or four digits.
+/// Prints a number of three or four digits.
 #[inline(always)]
 #[tactic(auto, using(crate::proofs::Numbers::lead_pair))]
-fn put_short<O: Sink>(chunk: &mut Chunk, sink: &mut O, n: u16)
+fn put_short<O: Sink>(printer: &mut Printer<'_, O>, n: u16)
     requires least { 100 ≤ n }
     requires most { n < 10_000 }
-    ensures { Writes (output (O.held sink.old) (O.faults sink.old) chunk.old)
-        (output (O.held sink.new) (O.faults sink.new) chunk.new) (plain_text (number_data (pos n))) }
+    ensures { Prints O.state printer.old printer.new (plain_text (number_data (pos n))) }
 {
     let high = n / 100;
-    chunk.put_front(sink, lead_of(high), digits_of(high), pair_of(n % 100), b"");
+    printer.put_front(lead_of(high), digits_of(high), pair_of(n % 100), b"");
 }
 
-/// Writes a number of at most four digits, and four digits behind it.
+/// Prints a number of at most four digits, and four digits behind it.
 #[inline(always)]
 #[tactic(auto, using(crate::proofs::Numbers::lead_four))]
-fn put_long<O: Sink>(chunk: &mut Chunk, sink: &mut O, high: u16, low: u16)
+fn put_long<O: Sink>(printer: &mut Printer<'_, O>, high: u16, low: u16)
     requires high { high < 10_000 }
     requires low { low < 10_000 }
-    ensures { Writes (output (O.held sink.old) (O.faults sink.old) chunk.old)
-        (output (O.held sink.new) (O.faults sink.new) chunk.new) (plain_text (number_data (pos high)) ++ last_four low) }
+    ensures { Prints O.state printer.old printer.new (plain_text (number_data (pos high)) ++ last_four low) }
 {
     if high < 100 {
-        chunk.put_front(
-            sink,
+        printer.put_front(
             lead_of(high),
             digits_of(high),
             pair_of(low / 100),
             pair_of(low % 100),
         );
     } else {
-        put_longer(chunk, sink, high, low);
+        put_longer(printer, high, low);
     }
 }
 
-/// Writes a number of three or four digits, and four digits behind it.
+/// Prints a number of three or four digits, and four digits behind it.
 #[inline(never)]
 #[tactic(auto, using(crate::proofs::Numbers::longer))]
-fn put_longer<O: Sink>(chunk: &mut Chunk, sink: &mut O, high: u16, low: u16)
+fn put_longer<O: Sink>(printer: &mut Printer<'_, O>, high: u16, low: u16)
     requires least { 100 ≤ high }
     requires high { high < 10_000 }
     requires low { low < 10_000 }
-    ensures { Writes (output (O.held sink.old) (O.faults sink.old) chunk.old)
-        (output (O.held sink.new) (O.faults sink.new) chunk.new) (plain_text (number_data (pos high)) ++ last_four low) }
+    ensures { Prints O.state printer.old printer.new (plain_text (number_data (pos high)) ++ last_four low) }
 {
-    put_short(chunk, sink, high);
-    chunk.put_between(sink, pair_of(low / 100), pair_of(low % 100), b"");
+    put_short(printer, high);
+    printer.put_between(pair_of(low / 100), pair_of(low % 100), b"");
 }
 
 /// The two digits of each number below 100, one behind another.
@@ -203,84 +194,77 @@ fn four_at(at: usize) -> &'static [u8]
     &PADDED_DIGITS[at..at + 4]
 }
 
-/// Writes an integer of any number of digits.
+/// Prints an integer of any number of digits.
 #[inline(never)]
 #[tactic(auto, using(crate::proofs::Numbers::number_is))]
-fn put_any_number<O: Sink>(chunk: &mut Chunk, sink: &mut O, n: &i128)
-    ensures { Writes (output (O.held sink.old) (O.faults sink.old) chunk.old)
-        (output (O.held sink.new) (O.faults sink.new) chunk.new) (plain_text (number_data n.now)) }
+fn put_any_number<O: Sink>(printer: &mut Printer<'_, O>, n: &i128)
+    ensures { Prints O.state printer.old printer.new (plain_text (number_data n.now)) }
 {
     let mut buffer = Buffer::new();
-    chunk.put(sink, buffer.format(*n).as_bytes());
+    printer.put(buffer.format(*n).as_bytes());
 }
 
-/// Writes an integer of at most 64 bits and any number of digits.
+/// Prints an integer of at most 64 bits and any number of digits.
 #[inline(never)]
-fn put_any_word<O: Sink>(chunk: &mut Chunk, sink: &mut O, n: i64)
-    ensures { Writes (output (O.held sink.old) (O.faults sink.old) chunk.old)
-        (output (O.held sink.new) (O.faults sink.new) chunk.new) (plain_text (number_data n)) }
+fn put_any_word<O: Sink>(printer: &mut Printer<'_, O>, n: i64)
+    ensures { Prints O.state printer.old printer.new (plain_text (number_data n)) }
 {
     let mut buffer = Buffer::new();
-    chunk.put(sink, buffer.format(n).as_bytes());
+    printer.put(buffer.format(n).as_bytes());
 }
 
-/// Writes a count.
+/// Prints a count.
 #[inline(always)]
-pub fn put_count<O: Sink>(chunk: &mut Chunk, sink: &mut O, n: u64)
-    ensures { Writes (output (O.held sink.old) (O.faults sink.old) chunk.old)
-        (output (O.held sink.new) (O.faults sink.new) chunk.new) (plain_text (number (unsigned n))) }
+pub fn put_count<O: Sink>(printer: &mut Printer<'_, O>, n: u64)
+    ensures { Prints O.state printer.old printer.new (plain_text (number (unsigned n))) }
 {
     if n < 256 {
-        put_small(chunk, sink, n as u8);
+        put_small(printer, n as u8);
     } else if n < 100_000_000 {
-        put_middle(chunk, sink, n as u32);
+        put_middle(printer, n as u32);
     } else {
-        put_any_count(chunk, sink, n);
+        put_any_count(printer, n);
     }
 }
 
-/// Writes a count of any number of digits.
+/// Prints a count of any number of digits.
 #[inline(never)]
-fn put_any_count<O: Sink>(chunk: &mut Chunk, sink: &mut O, n: u64)
-    ensures { Writes (output (O.held sink.old) (O.faults sink.old) chunk.old)
-        (output (O.held sink.new) (O.faults sink.new) chunk.new) (plain_text (number (unsigned n))) }
+fn put_any_count<O: Sink>(printer: &mut Printer<'_, O>, n: u64)
+    ensures { Prints O.state printer.old printer.new (plain_text (number (unsigned n))) }
 {
     let mut buffer = Buffer::new();
-    chunk.put(sink, buffer.format(n).as_bytes());
+    printer.put(buffer.format(n).as_bytes());
 }
 
-/// Writes a char: from 20 to 7e as a string of one character, and else as an integer.
-pub fn put_char<O: Sink>(chunk: &mut Chunk, sink: &mut O, n: &i128)
-    ensures { Writes (output (O.held sink.old) (O.faults sink.old) chunk.old)
-        (output (O.held sink.new) (O.faults sink.new) chunk.new) (plain_text (char_data n.now)) }
+/// Prints a char: from 20 to 7e as a string of one character, and else as an integer.
+pub fn put_char<O: Sink>(printer: &mut Printer<'_, O>, n: &i128)
+    ensures { Prints O.state printer.old printer.new (plain_text (char_data n.now)) }
 {
     if *n >= 32 && *n <= 126 {
-        put_string(chunk, sink, &[*n as u8]);
+        put_string(printer, &[*n as u8]);
     } else {
-        put_number(chunk, sink, n);
+        put_number(printer, n);
     }
 }
 
-/// Writes a single number: a char, or an integer.
-pub fn put_single<O: Sink>(chunk: &mut Chunk, sink: &mut O, is_char: bool, n: &i128)
-    ensures { Writes (output (O.held sink.old) (O.faults sink.old) chunk.old)
-        (output (O.held sink.new) (O.faults sink.new) chunk.new) (plain_text (single_data is_char n.now)) }
+/// Prints a single number: a char, or an integer.
+pub fn put_single<O: Sink>(printer: &mut Printer<'_, O>, is_char: bool, n: &i128)
+    ensures { Prints O.state printer.old printer.new (plain_text (single_data is_char n.now)) }
 {
     if is_char {
-        put_char(chunk, sink, n);
+        put_char(printer, n);
     } else {
-        put_number(chunk, sink, n);
+        put_number(printer, n);
     }
 }
 
-/// Writes a comma, where something stands before.
+/// Prints a comma, where something stands before.
 #[inline(always)]
-pub fn put_comma<O: Sink>(chunk: &mut Chunk, sink: &mut O, later: bool)
-    ensures { Writes (output (O.held sink.old) (O.faults sink.old) chunk.old)
-        (output (O.held sink.new) (O.faults sink.new) chunk.new) (comma_if later) }
+pub fn put_comma<O: Sink>(printer: &mut Printer<'_, O>, later: bool)
+    ensures { Prints O.state printer.old printer.new (comma_if later) }
 {
     if later {
-        chunk.put(sink, b",");
+        printer.put(b",");
     }
 }
 
@@ -296,25 +280,23 @@ pub fn name_of<'a>(names: &'a [Named], n: &i128) -> Option<&'a [u8]>
     None
 }
 
-/// Writes an enum: the name of its number, or the number where no valid value has it.
-pub fn put_enum<O: Sink>(chunk: &mut Chunk, sink: &mut O, names: &[Named], n: &i128)
-    ensures { Writes (output (O.held sink.old) (O.faults sink.old) chunk.old)
-        (output (O.held sink.new) (O.faults sink.new) chunk.new) (plain_text (enum_data names.now n.now)) }
+/// Prints an enum: the name of its number, or the number where no valid value has it.
+pub fn put_enum<O: Sink>(printer: &mut Printer<'_, O>, names: &[Named], n: &i128)
+    ensures { Prints O.state printer.old printer.new (plain_text (enum_data names.now n.now)) }
 {
     match name_of(names, n) {
-        Some(name) => put_string(chunk, sink, name),
-        None => put_number(chunk, sink, n),
+        Some(name) => put_string(printer, name),
+        None => put_number(printer, n),
     }
 }
 
-/// Writes a constant as the value that it has; a valid value by its name.
-pub fn put_constant<O: Sink>(chunk: &mut Chunk, sink: &mut O, constant: &ConstValue)
-    ensures { Writes (output (O.held sink.old) (O.faults sink.old) chunk.old)
-        (output (O.held sink.new) (O.faults sink.new) chunk.new) (plain_text (constant_data constant.now)) }
+/// Prints a constant as the value that it has; a valid value by its name.
+pub fn put_constant<O: Sink>(printer: &mut Printer<'_, O>, constant: &ConstValue)
+    ensures { Prints O.state printer.old printer.new (plain_text (constant_data constant.now)) }
 {
     match constant {
-        ConstValue::Num(n) => put_number(chunk, sink, n),
-        ConstValue::Text(bytes) => put_text(chunk, sink, bytes.as_slice()),
-        ConstValue::Code(_, named) => put_string(chunk, sink, named.name.as_slice()),
+        ConstValue::Num(n) => put_number(printer, n),
+        ConstValue::Text(bytes) => put_text(printer, bytes.as_slice()),
+        ConstValue::Code(_, named) => put_string(printer, named.name.as_slice()),
     }
 }

@@ -8,7 +8,6 @@ pub mod Counts
 pub mod DataParts
 pub mod GroupWalk
 pub mod LeastRows
-pub mod WriteSteps
 pub mod PathParts
 pub mod PathSteps
 pub mod KeyRows

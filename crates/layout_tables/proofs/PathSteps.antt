@@ -1,53 +1,41 @@
 -- The text of a path, step by step.
-use Rattle.std.proofs.Common.{◌≡◌, ◌≤◌, ◌<◌, ◌+◌, ℕ, zero, suc, Bool, true, false, List, [], ◌∷◌, ◌++◌, length, drop, Option, Result, Some, None, Ok, Err, refl, sym, ap, ◌∙◌, subst, arith, append_assoc, rules}
-use Rattle.std.specs.Prelude.{slice_get, unwrap_or, IsErr}
-use Rattle.std.specs.Io.KnownBytes.{Appends}
+use Rattle.std.proofs.Common.{◌≡◌, ◌≤◌, ◌<◌, ◌+◌, ℕ, zero, suc, Bool, true, false, List, [], ◌∷◌, ◌++◌, length, drop, Option, Some, None, refl, sym, ap, ◌∙◌, subst, arith, append_assoc, rules}
+use Rattle.std.specs.Prelude.{slice_get, unwrap_or}
 use Rattle.std.specs.Option.{option_map, option_and_then, IsSome}
 use Rattle.std.proofs.lemmas.List.{append-nil}
-use Rattle.sbe_base.specs.declared.stream.WriteFault.{WriteFault}
 use Rattle.sbe_types.specs.declared.path.Step.{Step}
 use Rattle.sbe_types.specs.declared.path.Step.TheVariants.{Part, Entry, Elem}
 use Rattle.sbe_types.specs.declared.schema.Level.{Level}
 use Rattle.sbe_types.specs.declared.schema.WireSchema.{WireSchema}
 use Rattle.layout_tables.specs.Paths.{Inside, in_level, parts_inside, Stepped, to_part, stepped, path_from, path_found}
 use Rattle.layout_tables.specs.Walks.{step_text}
-use Rattle.layout_tables.specs.Writes.{Outlet, Writes}
-use Rattle.layout_tables.proofs.WriteSteps.{writes_more, writes_part}
+use Rattle.sbe_base.specs.Objects.{Object}
+use Rattle.printers.specs.Prints.{Prints}
+use Rattle.printers.specs.declared.printer.Printer.{Printer}
+use Rattle.printers.proofs.Printing.{then_prints, reprinted, prints_nothing}
 use Rattle.layout_tables.proofs.Items.{drop_at, all_dropped}
 
--- how far the text of a path is written: what is left of it is the text of the steps behind
-pub record PathSo (found left : Option (List ℕ)) (before after : Outlet) : Type 0 where
+-- how far the text of a path is printed: what is left of it is the text of the steps after those
+pub record PathSo (found left : Option (List ℕ)) (prints : List ℕ → Type 0) : Type 0 where
   pub so : List ℕ
   pub is : option_map (λ rest. so ++ rest) left ≡ found
-  pub wrote : Writes before after so (Ok tt)
+  pub printed : prints so
 
 none_some : (X : Type 0) → IsSome {T = X} None → ⊥
 none_some X h = cc
 
-appends_nothing : (a : Option (List ℕ)) → Appends a a []
-appends_nothing None = tt
-appends_nothing (Some xs) = sym (append-nil xs)
-
-begin : (found : Option (List ℕ)) (a : Outlet) → PathSo found found a a
-begin found a = record {
-  so = [];
-  is = same found;
-  wrote = record {
-    ok = appends_nothing a.held;
-    part = tt;
-    cause = record { later = omega arith; failed = tt; kept = refl };
-  };
-}
+begin : {O : Type 0} {state : O → Object (List ℕ)} {a : Printer O} (found : Option (List ℕ)) → PathSo found found (Prints state a a)
+begin found = record { so = []; is = same found; printed = prints_nothing }
   where
     same : (o : Option (List ℕ)) → option_map (λ rest. [] ++ rest) o ≡ o
     same None = refl
     same (Some x) = refl
 
-pub path_begins : (schema : WireSchema) (template : ℕ) (steps : List Step) (root : Level) (a : Outlet) → slice_get schema.messages template ≡ Some root →
-    PathSo (path_found schema template steps) (path_from true (in_level root) steps) a a
-path_begins schema template steps root a at =
-    subst (λ o. PathSo o (path_from true (in_level root) steps) a a) (sym (ap (option_and_then (λ level. path_from true (in_level level) steps)) at))
-    (begin (path_from true (in_level root) steps) a)
+pub path_begins : {O : Type 0} {state : O → Object (List ℕ)} {a : Printer O} (schema : WireSchema) (template : ℕ) (steps : List Step) (root : Level) → slice_get schema.messages template ≡ Some root →
+    PathSo (path_found schema template steps) (path_from true (in_level root) steps) (Prints state a a)
+path_begins {state = state} {a} schema template steps root at =
+    subst (λ o. PathSo o (path_from true (in_level root) steps) (Prints state a a)) (sym (ap (option_and_then (λ level. path_from true (in_level level) steps)) at))
+    (begin (path_from true (in_level root) steps))
 
 pub path_within : (schema : WireSchema) (template : ℕ) (steps : List Step) → IsSome (path_found schema template steps) → template < length schema.messages
 path_within schema template steps some = within schema.messages template some
@@ -69,9 +57,9 @@ leads_on : (found : Option (List ℕ)) (so : List ℕ) (steps : List Step) (o : 
 leads_on found so steps None is some = absurd (none_some (List ℕ) (subst (λ (p : Option (List ℕ)). IsSome p) (sym is) some))
 leads_on found so steps (Some s) is some = search rules
 
-pub path_leads : (found : Option (List ℕ)) (first : Bool) (inside : Inside) (steps : List Step) (i : ℕ) (step : Step) (a b : Outlet) → PathSo found (path_from first inside (drop i steps)) a b →
+pub path_leads : (found : Option (List ℕ)) (first : Bool) (inside : Inside) (steps : List Step) (i : ℕ) (step : Step) {prints : List ℕ → Type 0} → PathSo found (path_from first inside (drop i steps)) prints →
     slice_get steps i ≡ Some step → IsSome found → IsSome (stepped first inside step)
-path_leads found first inside steps i step a b h at some =
+path_leads found first inside steps i step h at some =
     leads_on found h.so (drop (i + 1) steps) (stepped first inside step) (ap (option_map (λ rest. h.so ++ rest)) (sym (left_is first inside steps i step at)) ∙ h.is) some
 
 some_map : {X Y : Type 0} (f g : X → Y) (o : Option X) → IsSome (option_map f o) → IsSome (option_map g o)
@@ -88,44 +76,28 @@ two_texts : (so text : List ℕ) (o : Option (List ℕ)) → option_map (λ rest
 two_texts so text None = refl
 two_texts so text (Some x) = ap Some (append_assoc so text x)
 
-goes_on : (found : Option (List ℕ)) (steps : List Step) (o : Option Stepped) (next : Inside) (a b c : Outlet) → PathSo found (behind steps o) a b → option_map (λ (s : Stepped). s.inside) o ≡ Some next →
-    Writes b c (step_text o) (Ok tt) → PathSo found (path_from false next steps) a c
-goes_on found steps None next a b c h to w = cc
-goes_on found steps (Some s) next a b c h to w =
-    let same : s.inside ≡ next = cc in
-    record {
-      so = h.so ++ s.text;
-      is = ap (λ n. option_map (λ rest. (h.so ++ s.text) ++ rest) (path_from false n steps)) (sym same) ∙ two_texts h.so s.text (path_from false s.inside steps) ∙ h.is;
-      wrote = writes_more a b c h.so s.text (Ok tt) h.wrote w;
-    }
+module _ {O : Type 0} {state : O → Object (List ℕ)} {a b c : Printer O} where
+  goes_on : (found : Option (List ℕ)) (steps : List Step) (o : Option Stepped) (next : Inside) → PathSo found (behind steps o) (Prints state a b) → option_map (λ (s : Stepped). s.inside) o ≡ Some next →
+      Prints state b c (step_text o) → PathSo found (path_from false next steps) (Prints state a c)
+  goes_on found steps None next h to w = cc
+  goes_on found steps (Some s) next h to w =
+      let same : s.inside ≡ next = cc in
+      record {
+        so = h.so ++ s.text;
+        is = ap (λ n. option_map (λ rest. (h.so ++ s.text) ++ rest) (path_from false n steps)) (sym same) ∙ two_texts h.so s.text (path_from false s.inside steps) ∙ h.is;
+        printed = then_prints h.printed w;
+      }
 
-pub path_more : (found : Option (List ℕ)) (first : Bool) (inside next : Inside) (steps : List Step) (i : ℕ) (step : Step) (a b c : Outlet) → PathSo found (path_from first inside (drop i steps)) a b →
-    slice_get steps i ≡ Some step → option_map (λ (s : Stepped). s.inside) (stepped first inside step) ≡ Some next → Writes b c (step_text (stepped first inside step)) (Ok tt) →
-    PathSo found (path_from false next (drop (i + 1) steps)) a c
-path_more found first inside next steps i step a b c h at to w =
-    goes_on found (drop (i + 1) steps) (stepped first inside step) next a b c (subst (λ o. PathSo found o a b) (left_is first inside steps i step at) h) to w
+  pub path_more : (found : Option (List ℕ)) (first : Bool) (inside next : Inside) (steps : List Step) (i : ℕ) (step : Step) → PathSo found (path_from first inside (drop i steps)) (Prints state a b) →
+      slice_get steps i ≡ Some step → option_map (λ (s : Stepped). s.inside) (stepped first inside step) ≡ Some next → Prints state b c (step_text (stepped first inside step)) →
+      PathSo found (path_from false next (drop (i + 1) steps)) (Prints state a c)
+  path_more found first inside next steps i step h at to w =
+      goes_on found (drop (i + 1) steps) (stepped first inside step) next (subst (λ o. PathSo found o (Prints state a b)) (left_is first inside steps i step at) h) to w
 
--- a step that fails leaves a front of the text
-stops : (found : Option (List ℕ)) (steps : List Step) (o : Option Stepped) (a b c : Outlet) (e : WriteFault) (r : Result Unit WriteFault) → PathSo found (behind steps o) a b → IsSome found →
-    Writes b c (step_text o) (Err e) → IsErr r → Writes a c (unwrap_or found []) r
-stops found steps None a b c e r h some w bad = absurd (none_some (List ℕ) (subst (λ (p : Option (List ℕ)). IsSome p) (sym h.is) some))
-stops found steps (Some s) a b c e r h some w bad = ends (path_from false s.inside steps) h.is
-  where
-    ends : (o : Option (List ℕ)) → option_map (λ rest. h.so ++ rest) (option_map (λ rest. s.text ++ rest) o) ≡ found → Writes a c (unwrap_or found []) r
-    ends None is = absurd (none_some (List ℕ) (subst (λ (p : Option (List ℕ)). IsSome p) (sym is) some))
-    ends (Some rest) is =
-        subst (λ p. Writes a c (unwrap_or p []) r) is
-        (writes_more a b c h.so (s.text ++ rest) r h.wrote (writes_part b c s.text rest e r w bad))
-
-pub path_stops : (found : Option (List ℕ)) (first : Bool) (inside : Inside) (steps : List Step) (i : ℕ) (step : Step) (a b c : Outlet) (e : WriteFault) (r : Result Unit WriteFault) →
-    PathSo found (path_from first inside (drop i steps)) a b → slice_get steps i ≡ Some step → IsSome found → Writes b c (step_text (stepped first inside step)) (Err e) → IsErr r → Writes a c (unwrap_or found []) r
-path_stops found first inside steps i step a b c e r h at some w bad =
-    stops found (drop (i + 1) steps) (stepped first inside step) a b c e r (subst (λ o. PathSo found o a b) (left_is first inside steps i step at) h) some w bad
-
--- behind the last step all of the text is written
-pub path_ends : (found : Option (List ℕ)) (first : Bool) (inside : Inside) (steps : List Step) (i : ℕ) (a b : Outlet) → PathSo found (path_from first inside (drop i steps)) a b → length steps ≤ i →
-    Writes a b (unwrap_or found []) (Ok tt)
-path_ends found first inside steps i a b h past =
+-- after the last step all of the text is printed
+pub path_ends : {O : Type 0} {state : O → Object (List ℕ)} {a b : Printer O} (found : Option (List ℕ)) (first : Bool) (inside : Inside) (steps : List Step) (i : ℕ) → PathSo found (path_from first inside (drop i steps)) (Prints state a b) →
+    length steps ≤ i → Prints state a b (unwrap_or found [])
+path_ends {state = state} {a} {b} found first inside steps i h past =
     let none : path_from first inside (drop i steps) ≡ Some [] = ap (path_from first inside) (all_dropped steps i past) in
     let is : Some (h.so ++ []) ≡ found = ap (option_map (λ rest. h.so ++ rest)) (sym none) ∙ h.is in
-    subst (λ o. Writes a b (unwrap_or o []) (Ok tt)) is (subst (λ t. Writes a b t (Ok tt)) (sym (append-nil h.so)) h.wrote)
+    reprinted (sym (append-nil h.so) ∙ ap (λ o. unwrap_or o []) is) h.printed

@@ -1,18 +1,17 @@
 -- The least number of bytes of an entry is small: no part ends behind the largest place.
-use Rattle.std.proofs.Common.{◌≡◌, ◌≤◌, ◌<◌, ◌+◌, ◌*◌, ◌&&◌, not, cond, ℕ, Bool, true, false, List, [], ◌∷◌, Option, Some, None, refl, sym, ap, ◌∙◌, subst, arith, length}
+use Rattle.std.proofs.Common.{◌≡◌, ◌≤◌, ◌<◌, ◌+◌, ◌&&◌, not, cond, ℕ, Bool, true, false, List, [], ◌∷◌, Option, Some, None, refl, sym, subst, arith, length}
 use Rattle.std.specs.Prelude.{slice_get}
 use Rattle.std.specs.List.{AllByRecursion}
 use Rattle.std.specs.Option.{option_map}
-use mathlib.Core.Former.{Count}
-use Rattle.sbe_types.specs.declared.kind.Kind.{Kind, Comp, Comp', Row_of-Member, end_of-Member, more_of-Member}
+use Rattle.sbe_types.specs.declared.kind.Kind.{Comp, Row_of-Member, end_of-Member, more_of-Member}
 use Rattle.sbe_types.specs.declared.kind.Member.{Member}
 use Rattle.sbe_types.specs.declared.schema.Field.{Field}
 use Rattle.sbe_types.specs.declared.schema.Level.{out-Level}
 use Rattle.sbe_types.specs.declared.schema.WireSchema.{WireSchema}
-use Rattle.sbe_types.specs.Places.{width, row_end, members_end, begin_of, end_past, is_const}
+use Rattle.sbe_types.specs.Places.{width, row_end, members_end, begin_of, is_const}
 use Rattle.sbe_wire.specs.Versions.{floor, floor_from, is_alive}
 use Rattle.schema_facts.specs.Levels.{Node, all_nodes, fields_at, fields_in}
-use Rattle.schema_facts.specs.Measured.{IsNarrow, IsNarrowRow, EndsWithin, AreNarrowFields, IsMeasured, IsMeasuredLevel, AreMeasured, HasDimension, largest}
+use Rattle.schema_facts.specs.Measured.{IsNarrow, IsNarrowRow, AreNarrowFields, IsMeasured, IsMeasuredLevel, AreMeasured, HasDimension, largest}
 use Rattle.schema_facts.proofs.KindDeclared.{all_at}
 use Rattle.layout_tables.specs.declared.rows.DimRow.{DimRow}
 use Rattle.layout_tables.specs.declared.rows.LevelRow.{LevelRow}

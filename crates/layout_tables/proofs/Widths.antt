@@ -1,5 +1,5 @@
 -- Members of a composite up to one of them.
-use Rattle.std.proofs.Common.{◌≡◌, ◌≤◌, ◌<◌, cond, ℕ, zero, suc, Bool, true, false, List, [], ◌∷◌, length, take, drop, Some, None, refl, ap, ◌∙◌, subst, arith}
+use Rattle.std.proofs.Common.{◌≡◌, ◌≤◌, ◌<◌, cond, ℕ, zero, suc, Bool, true, false, List, [], ◌∷◌, length, take, drop, Some, None, refl, subst, arith}
 use Rattle.std.specs.Prelude.{slice_get}
 use Rattle.std.specs.Option.{IsSome}
 use Rattle.sbe_types.specs.declared.kind.Member.{Member}

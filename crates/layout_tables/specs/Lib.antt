@@ -6,6 +6,5 @@ pub mod Parts
 pub mod Heads
 pub mod Least
 pub mod Tables
-pub mod Writes
 pub mod Walks
 pub mod Rows

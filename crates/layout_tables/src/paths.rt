@@ -1,15 +1,14 @@
 // The texts of paths.
-ghost use Rattle.std.specs.Prelude.{◌≡◌, ◌<◌, ◌++◌, Bool, true, length, slice_get, Some, IsSome, OnOk, OnErr};
+ghost use Rattle.std.specs.Prelude.{◌≡◌, ◌<◌, ◌++◌, Bool, true, length, slice_get, Some, IsSome};
 ghost use Rattle.std.specs.Option.{option_map};
-ghost use Rattle.std.specs.Io.KnownBytes.{Appends};
-ghost use Rattle.sbe_base.specs.Causes.{AppendsPart, HasCause};
 ghost use Rattle.layout_tables.specs.Paths.{IsPathOf, path_text, level_parts, kind_parts, member_part, parts_inside, stepped, bracketed, dot};
 ghost use Rattle.layout_tables.specs.Walks.{inside_of, step_text};
-ghost use Rattle.layout_tables.specs.Writes.{Writes, outlet_of};
+ghost use Rattle.printers.specs.Prints.{Prints};
 
 use crate::layout::Layout;
 use itoa::Buffer;
-use sbe_base::{Sink, WriteFault, write_all_to};
+use printers::Printer;
+use sbe_base::Sink;
 use sbe_types::{Kind, Level, Member, Path, Step};
 
 /// Where a path has come to.
@@ -62,32 +61,24 @@ fn level_part(level: &Level, i: usize) -> Place<'_>
     Place::Nothing
 }
 
-/// Appends bytes.
-fn put<O: Sink>(sink: &mut O, bytes: &[u8]) -> Result<(), WriteFault>
-    ensures { Writes (outlet_of (O.held sink.old) (O.faults sink.old)) (outlet_of (O.held sink.new) (O.faults sink.new)) bytes.now result }
-{
-    write_all_to(sink, bytes)
-}
-
-/// Appends a number in brackets.
-fn put_index<O: Sink>(sink: &mut O, i: u32) -> Result<(), WriteFault>
-    ensures { Writes (outlet_of (O.held sink.old) (O.faults sink.old)) (outlet_of (O.held sink.new) (O.faults sink.new)) (bracketed i) result }
+/// Prints a number in brackets.
+fn put_index<O: Sink>(printer: &mut Printer<'_, O>, i: u32)
+    ensures { Prints O.state printer.old printer.new (bracketed i) }
 {
     let mut buffer = Buffer::new();
-    put(sink, b"[")?;
-    put(sink, buffer.format(i).as_bytes())?;
-    put(sink, b"]")
+    printer.put(b"[");
+    printer.put(buffer.format(i).as_bytes());
+    printer.put(b"]");
 }
 
-/// Appends a name, and before it a dot unless it is the first.
-fn put_name<O: Sink>(sink: &mut O, first: bool, name: &[u8]) -> Result<(), WriteFault>
-    ensures { Writes (outlet_of (O.held sink.old) (O.faults sink.old)) (outlet_of (O.held sink.new) (O.faults sink.new)) (dot first ++ name.now) result }
+/// Prints a name, and before it a dot unless it is the first.
+fn put_name<O: Sink>(printer: &mut Printer<'_, O>, first: bool, name: &[u8])
+    ensures { Prints O.state printer.old printer.new (dot first ++ name.now) }
 {
-    if first {
-        return put(sink, name);
+    if !first {
+        printer.put(b".");
     }
-    put(sink, b".")?;
-    put(sink, name)
+    printer.put(name);
 }
 
 /// Member `i` of a composite. It needs a member in range.
@@ -140,45 +131,31 @@ fn place_behind<'a>(place: Place<'a>, step: Step) -> Place<'a>
     }
 }
 
-/// Appends the text of a step. It needs a step that leads somewhere.
-fn put_step<O: Sink>(
-    sink: &mut O,
-    first: bool,
-    place: Place<'_>,
-    step: Step,
-) -> Result<(), WriteFault>
+/// Prints the text of a step. It needs a step that leads somewhere.
+fn put_step<O: Sink>(printer: &mut Printer<'_, O>, first: bool, place: Place<'_>, step: Step)
     requires { IsSome (stepped first (inside_of place) step) }
-    ensures { Writes (outlet_of (O.held sink.old) (O.faults sink.old)) (outlet_of (O.held sink.new) (O.faults sink.new))
-        (step_text (stepped first (inside_of place.entry) step)) result }
+    ensures { Prints O.state printer.old printer.new (step_text (stepped first (inside_of place.entry) step)) }
 {
     match step {
-        Step::Part(i) => put_name(sink, first, part_name(place, i as usize)),
-        Step::Entry(i) | Step::Elem(i) => put_index(sink, i),
+        Step::Part(i) => put_name(printer, first, part_name(place, i as usize)),
+        Step::Entry(i) | Step::Elem(i) => put_index(printer, i),
     }
 }
 
 impl Layout {
-    /// Appends the text of a path to a sink, as `legs[2].subs[0].price.mantissa`. After a fault a front of it was
-    /// appended. It takes no memory. It needs a path of that template.
-    pub fn write_path<O: Sink>(
-        &self,
-        template: usize,
-        path: &Path,
-        sink: &mut O,
-    ) -> Result<(), WriteFault>
+    /// Prints the text of a path, as `legs[2].subs[0].price.mantissa`. It takes no memory. It needs a path of that
+    /// template.
+    pub fn put_path<O: Sink>(&self, printer: &mut Printer<'_, O>, template: usize, path: &Path)
         requires { IsPathOf self.now template path.now }
-        ensures ok { OnOk result (Appends (O.held sink.old) (O.held sink.new) (path_text self.now template path.now)) }
-        ensures part { OnErr result (AppendsPart (O.held sink.old) (O.held sink.new) (path_text self.now template path.now)) }
-        ensures cause { HasCause (O.faults sink.old) (O.faults sink.new) result }
+        ensures { Prints O.state printer.old printer.new (path_text self.now template path.now) }
     {
         let mut place = Place::Level(self.message(template));
         let mut first = true;
         for i in 0..path.len() {
             let step = path.step(i);
-            put_step(sink, first, place, step)?;
+            put_step(printer, first, place, step);
             place = place_behind(place, step);
             first = false;
         }
-        Ok(())
     }
 }

@@ -46,9 +46,7 @@ fn has_next(line: &[u8], at: usize, bytes: &[u8]) -> bool
 }
 
 impl<'a> Sink for SameSink<'a> {
-    ghost held = { λ sink. Some (take sink.at sink.line.now) };
-
-    ghost faults = { λ sink. sink.faults };
+    ghost state = { λ sink. record { told = Some (take sink.at sink.line.now); faults = sink.faults } };
 
     #[inline(always)]
     fn write(&mut self, bytes: &[u8]) -> Result<usize, Failed> {

@@ -3,7 +3,8 @@
 
 ghost use Rattle.std.specs.Prelude.{◌≡◌, ◌∷◌, ◌++◌, [], ◌+◌, ◌≢◌, ℕ, List, length, codes};
 ghost use Rattle.std.specs.List.{AllByRecursion};
-ghost use Rattle.open_framing.specs.declared.head.TheConstants.{SBE_LITTLE};
+ghost use Rattle.open_framing.specs.declared.head.TheConstants.{HEAD_BYTES, SBE_BIG, SBE_LITTLE, TAG_VALUE};
+ghost use Rattle.open_framing.specs.declared.line.TheConstants.{LINE_END, LONGEST_LINE};
 ghost use Rattle.open_framing.specs.declared.head.HeadErr.TheVariants.{LengthShort, LengthOver, Encoding};
 ghost use Rattle.open_framing.specs.Heads.{IsBytes};
 ghost use Rattle.open_framing.specs.Frames.{frame, frame_of, IsFrame, Item, Cut, CutEnd, cut_of, End, EndInside, HeadFault, InputLimit};
@@ -78,4 +79,14 @@ pub fn fault_rows()
 /// Three lines, the last of which lacks its end.
 pub fn line_row()
     ensures { lines.lines_of (codes "ab" ++ lines.line_end ∷ lines.line_end ∷ codes "cd") 16_777_216 ≡ (codes "ab" ∷ [] ∷ codes "cd" ∷ [], lines.End) }
+{}
+
+/// The sizes of heads and lines, and the encoding types.
+pub fn numbers()
+    ensures head { HEAD_BYTES ≡ 6 }
+    ensures big { SBE_BIG ≡ 0x5be0 }
+    ensures little { SBE_LITTLE ≡ 0xeb50 }
+    ensures tag_value { TAG_VALUE ≡ 0xf000 }
+    ensures line { LONGEST_LINE ≡ 1_048_576 }
+    ensures end { LINE_END ≡ 0x0a }
 {}

@@ -1,12 +1,10 @@
 -- How an answer is put into a draft, and written.
-use Rattle.std.specs.Prelude.{◌≡◌, ◌⊎◌, ℕ, List, [], Result, Ok, Err, ⊤}
-use Rattle.std.specs.Io.KnownBytes.{Appends}
-use Rattle.sbe_base.specs.Causes.{AppendsPart}
+use Rattle.std.specs.Prelude.{◌≡◌, ◌⊎◌, Result, Ok, Err, ⊤}
 use Rattle.lists.specs.declared.list.NoMem.{NoMem}
 use Rattle.sbe_base.specs.declared.status.Status.{Status}
 use Rattle.sbe_base.specs.declared.status.Status.TheVariants as status
 use Rattle.sbe_base.specs.declared.stream.WriteFault.{WriteFault}
-use Rattle.replies.specs.Outside.{Object, Sinks, Wrote, Breaks, Failed}
+use Rattle.replies.specs.Outside.{Sinks, Wrote, Breaks}
 use Rattle.replies.specs.Reply.{Written, Reply, written_of}
 use Rattle.replies.specs.declared.draft.Draft.{Draft}
 use Rattle.replies.specs.declared.verdict.Verdict.{Verdict}
@@ -25,14 +23,9 @@ abbrev pub WroteCalmly : Written → Sinks → Sinks → Type 0
 WroteCalmly written old new = Wrote old new written × (new.output.faults ≡ old.output.faults) × (new.notes.faults ≡ old.notes.faults)
 
 -- all of it is written, or a part
-abbrev pub Writes : Written → Sinks → Sinks → Result (Unit {0}) WriteFault → Type 0
-Writes written old new (Ok done) = WroteCalmly written old new
-Writes written old new (Err e) = Breaks old new written
-
--- a reply that notes nothing is written to the output, or it is written in part and a call failed
-abbrev pub Delivers : Reply → Object (List ℕ) → Object (List ℕ) → Result Verdict WriteFault → Type 0
-Delivers reply old new (Ok verdict) = Appends old.told new.told reply.output × (new.faults ≡ old.faults) × (reply.notes ≡ []) × (verdict ≡ reply.verdict)
-Delivers reply old new (Err e) = AppendsPart old.told new.told reply.output × Failed old new × (reply.notes ≡ [])
+abbrev pub WritesBoth : Written → Sinks → Sinks → Result (Unit {0}) WriteFault → Type 0
+WritesBoth written old new (Ok done) = WroteCalmly written old new
+WritesBoth written old new (Err e) = Breaks old new written
 
 -- a reply is written, or it is written in part and a call failed, or memory was wanting and nothing is written
 abbrev pub DeliversDraft : Reply → Sinks → Sinks → Result Verdict Status → Type 0

@@ -1,15 +1,11 @@
 -- What the outside tells at one time.
-use Rattle.std.specs.Prelude.{◌≡◌, ◌≤◌, ℕ, List, Option}
+use Rattle.std.specs.Prelude.{◌≡◌, ℕ, List, Option}
 use Rattle.std.specs.Io.KnownBytes.{Appends}
-use Rattle.sbe_base.specs.Causes.{AppendsPart, Rose}
+use Rattle.sbe_base.specs.Causes.{AppendsPart}
+use Rattle.sbe_base.specs.Objects.{Object, Failed}
 use Rattle.sbe_base.specs.declared.status.Status.{Status}
 use Rattle.sbe_base.specs.declared.status.Status.TheVariants as answer
 use Rattle.replies.specs.Reply.{Written}
-
--- what an object tells of its content, and how often it has failed
-pub record Object (T : Type 0) : Type 0 where
-  pub told : Option T
-  pub faults : ℕ
 
 -- where the answers and the notes go
 pub record Sinks : Type 0 where
@@ -31,11 +27,7 @@ pub record Desk : Type 0 where
   pub files : Object (List ℕ → Option (List ℕ))
   pub notes : Object (List ℕ)
 
--- the same from their parts
-abbrev pub object_of : {T : Type 0} → Option T → ℕ → Object T
-object_of told faults = record { told = told; faults = faults }
-
--- Output and notes together.
+-- output and notes together
 abbrev pub sinks_of : Object (List ℕ) → Object (List ℕ) → Sinks
 sinks_of output notes = record { output = output; notes = notes }
 
@@ -55,11 +47,6 @@ desk_of files notes = record { files = files; notes = notes }
 pub record Wrote (old new : Sinks) (written : Written) : Type 0 where
   pub output : Appends old.output.told new.output.told written.output
   pub notes : Appends old.notes.told new.notes.told written.notes
-
--- a call failed: the count rose, or stands at its last value
-pub record Failed {T : Type 0} (old new : Object T) : Type 0 where
-  pub rose : Rose old.faults new.faults
-  pub later : old.faults ≤ new.faults
 
 -- an answer is written in part, the output first
 pub data Breaks (old new : Sinks) (written : Written) : Type 0 where

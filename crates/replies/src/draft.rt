@@ -1,7 +1,7 @@
 ghost use Rattle.std.specs.Prelude.{◌≡◌, []};
-ghost use Rattle.replies.specs.Outside.{object_of, sinks_of};
+ghost use Rattle.replies.specs.Outside.{sinks_of};
 ghost use Rattle.replies.specs.Reply.{Reply};
-ghost use Rattle.replies.specs.Drafts.{drafted, Drafts, Writes, DeliversDraft};
+ghost use Rattle.replies.specs.Drafts.{drafted, Drafts, WritesBoth, DeliversDraft};
 
 use crate::verdict::Verdict;
 use lists::NoMem;
@@ -45,8 +45,8 @@ pub fn deliver<O: Sink, N: Sink>(
     notes: &mut N,
 ) -> Result<Verdict, Status>
     ensures { (reply : Reply) → Drafts reply draft.now put → DeliversDraft reply
-        (sinks_of (object_of (O.held output.old) (O.faults output.old)) (object_of (N.held notes.old) (N.faults notes.old)))
-        (sinks_of (object_of (O.held output.new) (O.faults output.new)) (object_of (N.held notes.new) (N.faults notes.new)))
+        (sinks_of (O.state output.old) (N.state notes.old))
+        (sinks_of (O.state output.new) (N.state notes.new))
         result }
 {
     let Ok(verdict) = put else {
@@ -64,9 +64,9 @@ fn write_draft<O: Sink, N: Sink>(
     output: &mut O,
     notes: &mut N,
 ) -> Result<(), WriteFault>
-    ensures { Writes (drafted draft.now)
-        (sinks_of (object_of (O.held output.old) (O.faults output.old)) (object_of (N.held notes.old) (N.faults notes.old)))
-        (sinks_of (object_of (O.held output.new) (O.faults output.new)) (object_of (N.held notes.new) (N.faults notes.new)))
+    ensures { WritesBoth (drafted draft.now)
+        (sinks_of (O.state output.old) (N.state notes.old))
+        (sinks_of (O.state output.new) (N.state notes.new))
         result }
 {
     match write_all_to(output, draft.output.as_slice()) {

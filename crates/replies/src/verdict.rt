@@ -5,8 +5,5 @@ pub enum Verdict {
     Refused,
     Translated,
     /// Written anew in another version of its schema: so many of its parts are left out, and so many filled in.
-    Regraded {
-        dropped: u64,
-        filled: u64,
-    },
+    Regraded { dropped: u64, filled: u64 },
 }

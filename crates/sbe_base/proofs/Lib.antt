@@ -2,3 +2,4 @@ pub mod Known
 pub mod Names
 mod Passing
 pub mod Pieces
+pub mod Written

@@ -1,4 +1,6 @@
 pub mod Causes
+pub mod Objects
+pub mod Writes
 pub mod Loads
 pub mod Status
 pub mod Calls

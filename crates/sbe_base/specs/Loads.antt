@@ -1,5 +1,5 @@
 -- What loading a file answers. Own profile.
-use Rattle.std.specs.Prelude.{◌≡◌, ◌<◌, ◌≤◌, ℕ, List, length, Option, Some, None, Result, Ok, Err, ⊤}
+use Rattle.std.specs.Prelude.{◌≡◌, ◌<◌, ◌≤◌, ℕ, List, length, Option, Some, None, Result, Ok, Err, ⊤, IsSomeAnd}
 use Rattle.sbe_base.specs.Causes.{Rose}
 use Rattle.sbe_base.specs.declared.files.LoadErr.{LoadErr}
 use Rattle.sbe_base.specs.declared.files.LoadErr.TheVariants.{Failed, Absent, TooLong, Memory}
@@ -21,6 +21,14 @@ Loads (Some look) name limit result into = LoadsFrom (look name) limit result in
 abbrev pub LoadsRest : Option (List ℕ) → ℕ → Result (Unit {0}) LoadErr → List ℕ → Type 0
 LoadsRest None limit result into = ⊤
 LoadsRest (Some left) limit result into = LoadsFrom (Some left) limit result into
+
+-- there is a file, and it has at most so many bytes
+abbrev pub MayLoad : Option (List ℕ) → ℕ → Type 0
+MayLoad file limit = IsSomeAnd file (λ bytes. length bytes ≤ limit)
+
+-- a load is out of memory only for a file that may be loaded, where the contents are told
+abbrev pub OutOfMemory : Option (List ℕ → Option (List ℕ)) → List ℕ → ℕ → Result (Unit {0}) LoadErr → Type 0
+OutOfMemory told name limit result = (look : List ℕ → Option (List ℕ)) → told ≡ Some look → result ≡ Err Memory → MayLoad (look name) limit
 
 -- the count of faults never falls; it rose at a failure, and every other answer leaves it
 abbrev pub CausedLoad : ℕ → ℕ → Result (Unit {0}) LoadErr → Type 0

@@ -1,5 +1,5 @@
 -- What the objects in memory hold. Own profile.
-use Rattle.std.specs.Prelude.{◌≡◌, ◌≢◌, ◌<◌, ◌≤◌, ℕ, Bool, true, false, List, length, Option, Some, Result, Ok, Err, option_map, find, ◌⊎◌, IsSomeAnd}
+use Rattle.std.specs.Prelude.{◌≡◌, ◌≢◌, ◌<◌, ℕ, Bool, true, false, List, length, Option, Some, Result, Ok, Err, option_map, find, ◌⊎◌}
 use Rattle.std.specs.Str.{bytes_eq}
 use Rattle.sbe_base.specs.Calls.{CallLog, IsListed}
 use Rattle.sbe_base.specs.declared.files.LoadErr.{LoadErr}
@@ -36,10 +36,6 @@ pub record Replaces (old new : FilesState) (name bytes : List ℕ) : Type 0 wher
   pub here : found name new.files ≡ Some bytes
   pub elsewhere : (other : List ℕ) → other ≢ name → found other new.files ≡ found other old.files
   pub calls : new.calls ≡ old.calls
-
--- there is a file, and it has at most so many bytes
-abbrev pub MayLoad : Option (List ℕ) → ℕ → Type 0
-MayLoad file limit = IsSomeAnd file (λ bytes. length bytes ≤ limit)
 
 -- whether a load is answered by a failure
 abbrev pub is_failed : Result (Unit {0}) LoadErr → Bool

@@ -23,9 +23,7 @@ impl<R: Read + Drop> StdSource<R> {
 }
 
 impl<R: Read + Drop> Source for StdSource<R> {
-    ghost left = { λ source. R.remaining source.inner };
-
-    ghost faults = { λ source. source.faults };
+    ghost state = { λ source. record { told = R.remaining source.inner; faults = source.faults } };
 
     fn read(&mut self, buf: &mut [u8]) -> Result<usize, Failed> {
         match read_retried(&mut self.inner, buf) {
@@ -57,9 +55,7 @@ impl<R: Read + Drop> BufferedSource<R> {
 }
 
 impl<R: Read + Drop> Source for BufferedSource<R> {
-    ghost left = { λ buffered. reader_remaining R.remaining buffered.source.inner };
-
-    ghost faults = { λ buffered. buffered.source.faults };
+    ghost state = { λ buffered. record { told = reader_remaining R.remaining buffered.source.inner; faults = buffered.source.faults } };
 
     ghost read_ahead = { λ buffered. reader_buffer buffered.source.inner };
 
@@ -98,9 +94,7 @@ impl<W: Write + Drop> StdSink<W> {
 }
 
 impl<W: Write + Drop> Sink for StdSink<W> {
-    ghost held = { λ sink. W.contents sink.inner };
-
-    ghost faults = { λ sink. sink.faults };
+    ghost state = { λ sink. record { told = W.contents sink.inner; faults = sink.faults } };
 
     fn write(&mut self, bytes: &[u8]) -> Result<usize, Failed> {
         match write_retried(&mut self.inner, bytes) {

@@ -1,21 +1,23 @@
-ghost use Rattle.std.specs.Prelude.{◌≡◌, ◌≤◌, [], length, None, OnOk};
+ghost use Rattle.std.specs.Prelude.{◌≡◌, ◌≢◌, ◌≤◌, [], length, None, Err, OnOk, IfOk, IfErr};
+ghost use Rattle.std.specs.IoError.{error_kind};
 ghost use Rattle.sbe_base.specs.Adapters.{WrapsRuntime};
 ghost use Rattle.sbe_base.specs.Loads.{LoadsRest};
 
 use crate::retry::read_retried;
 use crate::{Files, LoadErr};
 use std::alloc::Global;
-use std::io::{ErrorKind, Read};
+use std::io::{self, ErrorKind, Read};
 use std::{fs, rt};
 
 /// How many bytes one read asks for at most.
 const PIECE: usize = 4096;
 
-/// The files of the file system, by their paths, with a count of their failures. It tells no contents.
+/// The files of the file system, by their paths, with counts of the loads and of their failures. It tells no contents.
 #[derive(Drop)]
 pub struct DirFiles<R: rt::Files + Drop> {
     rt: R,
     faults: u64,
+    loads: u64,
 }
 
 impl<R: rt::Files + Drop> DirFiles<R> {
@@ -23,14 +25,18 @@ impl<R: rt::Files + Drop> DirFiles<R> {
     pub fn new(rt: R) -> DirFiles<R>
         ensures { WrapsRuntime rt result }
     {
-        DirFiles { rt, faults: 0 }
+        DirFiles {
+            rt,
+            faults: 0,
+            loads: 0,
+        }
     }
 }
 
 impl<R: rt::Files + Drop> Files for DirFiles<R> {
-    ghost contents = { λ files. None };
+    ghost state = { λ files. record { told = None; faults = files.faults } };
 
-    ghost faults = { λ files. files.faults };
+    ghost load_count = { λ files. files.loads };
 
     fn load(
         &mut self,
@@ -40,7 +46,8 @@ impl<R: rt::Files + Drop> Files for DirFiles<R> {
         into: &mut Vec<u8>,
     ) -> Result<(), LoadErr> {
         into.clear();
-        match load_file(&self.rt, name, limit, into) {
+        self.loads = self.loads.saturating_add(1);
+        match load_opened(fs::open(&self.rt, name), limit, into) {
             Ok(()) => Ok(()),
             Err(e) => {
                 into.clear();
@@ -53,17 +60,20 @@ impl<R: rt::Files + Drop> Files for DirFiles<R> {
     }
 }
 
-/// Appends the bytes of the file to an empty buffer.
-fn load_file<R: rt::Files>(
-    rt: &R,
-    name: &str,
+/// Appends the bytes of the file that was opened to an empty buffer. It is absent exactly where opening it says that
+/// nothing has its name.
+fn load_opened<R: Read + Drop>(
+    opened: io::Result<R>,
     limit: usize,
     into: &mut Vec<u8>,
 ) -> Result<(), LoadErr>
     requires { into.old.items ≡ [] }
-    ensures { OnOk result (length into.new.items ≤ limit) }
+    ensures within { OnOk result (length into.new.items ≤ limit) }
+    ensures whole { IfOk opened (λ file. LoadsRest (R.remaining file) limit result into.new.items) }
+    ensures absent { IfErr opened (λ e. error_kind e ≡ ErrorKind.NotFound → result ≡ Err LoadErr.Absent) }
+    ensures failed { IfErr opened (λ e. error_kind e ≢ ErrorKind.NotFound → result ≡ Err LoadErr.Failed) }
 {
-    match fs::open(rt, name) {
+    match opened {
         Ok(mut file) => read_whole(&mut file, limit, into),
         Err(e) if e.kind() == ErrorKind::NotFound => Err(LoadErr::Absent),
         Err(_) => Err(LoadErr::Failed),

@@ -1,5 +1,7 @@
 ghost use Rattle.std.specs.Prelude.{◌≡◌, ◌≤◌, [], ℕ, List, Option, length, OnOk, OnErr};
-ghost use Rattle.sbe_base.specs.Loads.{Loads, CausedLoad};
+ghost use Rattle.sbe_base.specs.Loads.{CausedLoad, Loads, OutOfMemory};
+ghost use Rattle.sbe_base.specs.Objects.{Object};
+ghost use Rattle.sbe_base.specs.Causes.{one_more};
 
 use std::alloc::Global;
 use thiserror::Error;
@@ -23,11 +25,11 @@ pub enum LoadErr {
 
 /// Where files are.
 pub trait Files {
-    /// The bytes of the file of each name, where it tells them.
-    ghost contents: { Self → Option (List ℕ → Option (List ℕ)) };
+    /// The bytes of the file of each name, where it tells them, and how often it has failed.
+    ghost state: { Self → Object (List ℕ → Option (List ℕ)) };
 
-    /// How often it has failed.
-    ghost faults: { Self → ℕ };
+    /// How many files were asked for. The count stays at the last number of 64 bits.
+    ghost load_count: { Self → ℕ };
 
     /// Replaces `into` by the bytes of the file of that name, of which there may be at most `limit`.
     /// After a refusal `into` is empty.
@@ -38,9 +40,11 @@ pub trait Files {
         limit: usize,
         into: &mut Vec<u8>,
     ) -> Result<(), LoadErr>
-        ensures kept { contents self.new ≡ contents self.old }
-        ensures loads { Loads (contents self.old) name.now limit result into.new.items }
+        ensures kept { (state self.new).told ≡ (state self.old).told }
+        ensures loads { Loads (state self.old).told name.now limit result into.new.items }
         ensures within { OnOk result (length into.new.items ≤ limit) }
         ensures empty { OnErr result (into.new.items ≡ []) }
-        ensures cause { CausedLoad (faults self.old) (faults self.new) result };
+        ensures cause { CausedLoad (state self.old).faults (state self.new).faults result }
+        ensures memory { OutOfMemory (state self.old).told name.now limit result }
+        ensures count { load_count self.new ≡ one_more (load_count self.old) };
 }

@@ -1,7 +1,7 @@
 ghost use Rattle.std.specs.Prelude.{◌≡◌, ◌≤◌, ◌↔◌, Some, [], length, IfOk, OnOk, OnErr, position};
-ghost use Rattle.sbe_base.specs.Calls.{IsListed, no_calls, one_call};
-ghost use Rattle.sbe_base.specs.Loads.{LoadsFrom, CausedLoad};
-ghost use Rattle.sbe_base.specs.Memory.{found, Replaces, MayLoad, is_failed};
+ghost use Rattle.sbe_base.specs.Calls.{IsListed, next_number, no_calls, one_call};
+ghost use Rattle.sbe_base.specs.Loads.{CausedLoad, LoadsFrom, MayLoad};
+ghost use Rattle.sbe_base.specs.Memory.{found, Replaces, is_failed};
 ghost use Rattle.std.specs.Str.{bytes_eq};
 
 use crate::calls::Calls;
@@ -64,9 +64,9 @@ impl MemFiles {
 }
 
 impl Files for MemFiles {
-    ghost contents = { λ files. Some (λ name. found name files.files) };
+    ghost state = { λ files. record { told = Some (λ name. found name files.files); faults = files.calls.faults } };
 
-    ghost faults = { λ files. files.calls.faults };
+    ghost load_count = { λ files. files.calls.made };
 
     fn load(
         &mut self,
@@ -80,9 +80,10 @@ impl Files for MemFiles {
         ensures within { OnOk result (length into.new.items ≤ limit) }
         ensures empty { OnErr result (into.new.items ≡ []) }
         ensures cause { CausedLoad self.old.calls.faults self.new.calls.faults result }
-
-        // It fails exactly at the listed calls, and memory is wanting only for a file that may be loaded.
         ensures memory { result ≡ Err LoadErr.Memory → MayLoad (found name.now self.old.files) limit }
+        ensures count { self.new.calls.made ≡ next_number self.old.calls }
+
+        // It fails exactly at the listed calls.
         ensures fails { (result ≡ Err LoadErr.Failed) ↔ IsListed self.old.calls }
         ensures counted { self.new.calls ≡ one_call self.old.calls (is_failed result) }
     {

@@ -62,9 +62,7 @@ impl MemSource {
 }
 
 impl Source for MemSource {
-    ghost left = { λ source. Some source.left };
-
-    ghost faults = { λ source. source.calls.faults };
+    ghost state = { λ source. record { told = Some source.left; faults = source.calls.faults } };
 
     fn read(&mut self, buf: &mut [u8]) -> Result<usize, Failed>
         ensures bound { ReadsAtMost result buf.new }
@@ -139,9 +137,7 @@ impl MemSink {
 }
 
 impl Sink for MemSink {
-    ghost held = { λ sink. Some sink.held };
-
-    ghost faults = { λ sink. sink.calls.faults };
+    ghost state = { λ sink. record { told = Some sink.held; faults = sink.calls.faults } };
 
     fn write(&mut self, bytes: &[u8]) -> Result<usize, Failed>
         ensures bound { WritesAtMost result bytes.now }

@@ -1,17 +1,49 @@
 ghost use Rattle.std.specs.Prelude.{◌≡◌, OnOk, OnErr};
+ghost use Rattle.std.specs.Io.Buffered.{writer_contents};
 
 use crate::Status;
 use crate::retry::write_retried;
 use std::alloc::Global;
-use std::cell::{Cell, RefCell};
+use std::cell::RefCell;
 use std::io::{self, BufWriter, ErrorKind, Read, Write};
+
+/// A writer behind a buffer. What is written is kept until the buffer is full or it is flushed. Once a write to the
+/// writer has failed, each later write and flush fails.
+#[derive(Drop)]
+struct KeptWriter<W: Write + Drop> {
+    writer: BufWriter<W>,
+    failed: bool,
+}
+
+impl<W: Write + Drop> Write for KeptWriter<W> {
+    ghost contents = { λ kept. writer_contents W.contents kept.writer };
+
+    fn write(&mut self, bytes: &[u8]) -> io::Result<usize> {
+        if !self.failed {
+            if let Ok(count) = write_retried(&mut self.writer, bytes) {
+                return Ok(count);
+            }
+        }
+        self.failed = true;
+        Err(io::Error::from(ErrorKind::BrokenPipe))
+    }
+
+    fn flush(&mut self) -> io::Result<()> {
+        if !self.failed {
+            if let Ok(()) = self.writer.flush() {
+                return Ok(());
+            }
+        }
+        self.failed = true;
+        Err(io::Error::from(ErrorKind::BrokenPipe))
+    }
+}
 
 /// A writer behind a buffer, for several hands. What is written is kept until the buffer is full or someone flushes.
 /// Once a write to the writer has failed, each later write and flush fails.
 #[derive(Drop)]
 pub struct SharedWriter<W: Write + Drop> {
-    writer: RefCell<BufWriter<W>>,
-    failed: Cell<bool>,
+    kept: RefCell<KeptWriter<W>>,
 }
 
 impl<W: Write + Drop> SharedWriter<W> {
@@ -21,36 +53,29 @@ impl<W: Write + Drop> SharedWriter<W> {
     ///
     /// Of the kind `OutOfMemory`, for want of memory.
     pub fn new(alloc: Global, capacity: usize, inner: W) -> io::Result<SharedWriter<W>> {
+        let writer = BufWriter::with_capacity(alloc, capacity, inner)?;
         Ok(SharedWriter {
-            writer: RefCell::new(BufWriter::with_capacity(alloc, capacity, inner)?),
-            failed: Cell::new(false),
+            kept: RefCell::new(KeptWriter {
+                writer,
+                failed: false,
+            }),
         })
     }
 }
 
 impl<W: Write + Drop> Write for &SharedWriter<W> {
     fn write(&mut self, bytes: &[u8]) -> io::Result<usize> {
-        if !self.failed.get() {
-            if let Ok(mut writer) = self.writer.try_borrow_mut() {
-                if let Ok(count) = write_retried(&mut *writer, bytes) {
-                    return Ok(count);
-                }
-            }
+        match self.kept.try_borrow_mut() {
+            Ok(mut kept) => kept.write(bytes),
+            Err(_) => Err(io::Error::from(ErrorKind::BrokenPipe)),
         }
-        self.failed.set(true);
-        Err(io::Error::from(ErrorKind::BrokenPipe))
     }
 
     fn flush(&mut self) -> io::Result<()> {
-        if !self.failed.get() {
-            if let Ok(mut writer) = self.writer.try_borrow_mut() {
-                if let Ok(()) = writer.flush() {
-                    return Ok(());
-                }
-            }
+        match self.kept.try_borrow_mut() {
+            Ok(mut kept) => kept.flush(),
+            Err(_) => Err(io::Error::from(ErrorKind::BrokenPipe)),
         }
-        self.failed.set(true);
-        Err(io::Error::from(ErrorKind::BrokenPipe))
     }
 }
 

@@ -1,7 +1,9 @@
-ghost use Rattle.std.specs.Prelude.{◌≡◌, ◌<◌, ◌≤◌, ℕ, List, [], Option, length, take, IfOk, IsTrue, false, OnOk, OnErr};
+ghost use Rattle.std.specs.Prelude.{◌≡◌, ◌<◌, ◌≤◌, ℕ, List, [], length, take, IfOk, IsTrue, false};
 ghost use Rattle.std.specs.Io.{ReadsAtMost, StartsWith, WritesAtMost};
-ghost use Rattle.std.specs.Io.KnownBytes.{Consumes, ReadConsumes, WriteAppends, Appends};
-ghost use Rattle.sbe_base.specs.Causes.{HasCause, AppendsPart};
+ghost use Rattle.std.specs.Io.KnownBytes.{Consumes, ReadConsumes, WriteAppends};
+ghost use Rattle.sbe_base.specs.Causes.{HasCause};
+ghost use Rattle.sbe_base.specs.Objects.{Object};
+ghost use Rattle.sbe_base.specs.Writes.{Writes};
 
 use thiserror::Error;
 
@@ -17,11 +19,8 @@ pub struct WriteFault;
 
 /// Where bytes come from.
 pub trait Source {
-    /// The bytes still to come, where it tells them.
-    ghost left: { Self → Option (List ℕ) };
-
-    /// How often it has failed.
-    ghost faults: { Self → ℕ };
+    /// The bytes still to come, where it tells them, and how often it has failed.
+    ghost state: { Self → Object (List ℕ) };
 
     /// The bytes that it has read ahead, which come next.
     ghost read_ahead: { Self → List ℕ } = { λ source. [] };
@@ -30,8 +29,8 @@ pub trait Source {
     /// answers 0 only at the end. After `Failed` nothing was taken.
     fn read(&mut self, buf: &mut [u8]) -> Result<usize, Failed>
         ensures bound { ReadsAtMost result buf.new }
-        ensures bytes { ReadConsumes (left self.old) (left self.new) result buf.new }
-        ensures cause { HasCause (faults self.old) (faults self.new) result };
+        ensures bytes { ReadConsumes (state self.old).told (state self.new).told result buf.new }
+        ensures cause { HasCause (state self.old).faults (state self.new).faults result };
 
     /// The bytes that it has read ahead, or a front of them. Nothing is asked for.
     fn ahead(&self) -> &[u8]
@@ -44,9 +43,9 @@ pub trait Source {
     /// Nothing is asked for.
     fn pass(&mut self, n: usize) -> bool
         ensures bound { IsTrue result → n ≤ length (read_ahead self.old) }
-        ensures bytes { IsTrue result → Consumes (left self.old) (left self.new) (take n (read_ahead self.old)) }
+        ensures bytes { IsTrue result → Consumes (state self.old).told (state self.new).told (take n (read_ahead self.old)) }
         ensures stays { result ≡ false → self.new ≡ self.old }
-        ensures cause { faults self.new ≡ faults self.old }
+        ensures cause { (state self.new).faults ≡ (state self.old).faults }
     {
         let _none = n;
         false
@@ -55,26 +54,21 @@ pub trait Source {
 
 /// Where bytes go.
 pub trait Sink {
-    /// The bytes taken so far, where it tells them.
-    ghost held: { Self → Option (List ℕ) };
-
-    /// How often it has failed.
-    ghost faults: { Self → ℕ };
+    /// The bytes taken so far, where it tells them, and how often it has failed.
+    ghost state: { Self → Object (List ℕ) };
 
     /// Appends a front of the bytes, and answers how many. For a piece that isn't empty it never answers 0.
     /// After `Failed` nothing was appended.
     fn write(&mut self, bytes: &[u8]) -> Result<usize, Failed>
         ensures bound { WritesAtMost result bytes.now }
         ensures some { IfOk result (λ n. 0 < length bytes.now → 0 < n) }
-        ensures bytes { WriteAppends (held self.old) (held self.new) result bytes.now }
-        ensures cause { HasCause (faults self.old) (faults self.new) result };
+        ensures bytes { WriteAppends (state self.old).told (state self.new).told result bytes.now }
+        ensures cause { HasCause (state self.old).faults (state self.new).faults result };
 }
 
 /// Appends all bytes. After a fault a front of them was appended.
 pub fn write_all_to<O: Sink>(sink: &mut O, bytes: &[u8]) -> Result<(), WriteFault>
-    ensures ok { OnOk result (Appends (O.held sink.old) (O.held sink.new) bytes.now) }
-    ensures part { OnErr result (AppendsPart (O.held sink.old) (O.held sink.new) bytes.now) }
-    ensures cause { HasCause (O.faults sink.old) (O.faults sink.new) result }
+    ensures { Writes (O.state sink.old) (O.state sink.new) bytes.now result }
 {
     let mut done = 0;
     while done < bytes.len() {

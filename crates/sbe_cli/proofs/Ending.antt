@@ -10,7 +10,8 @@ use Rattle.command_steps.specs.Ends.{Outcome}
 use Rattle.sbe_cli.specs.Report.{CommandReport, Report, only_noted}
 use Rattle.sbe_cli.specs.Stops.{unopened_line, usage_line}
 use Rattle.schema_files.specs.Refusals.{refusal_line, refusal_status}
-use Rattle.replies.specs.Outside.{Object, Desk, Streams, Outside, Failed, Told, noted, failed}
+use Rattle.sbe_base.specs.Objects.{Object, Failed}
+use Rattle.replies.specs.Outside.{Desk, Streams, Outside, Told, noted, failed}
 use Rattle.command_steps.specs.Steps.{IsReported, Drains}
 use Rattle.sbe_cli.specs.Jobs.{answering_of}
 use Rattle.sbe_cli.specs.Opens.{PumpState, Opens, JudgedAs, Declines, refuses, fails, wants}

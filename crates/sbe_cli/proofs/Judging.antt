@@ -16,7 +16,6 @@ use Rattle.command_steps.specs.Splits.{is_read}
 use Rattle.command_steps.proofs.Folding.{AnswersOnce}
 use Rattle.check_command.proofs.Checked.{check_answers}
 use Rattle.sbe_types.specs.declared.schema.WireSchema.{WireSchema}
-use Rattle.sbe_base.specs.declared.status.Limits.{Limits}
 use Rattle.dump_lines.specs.declared.schemas.Schemas.{Schemas}
 use Rattle.check_command.specs.Check.{check_files}
 use Rattle.dump_command.specs.Dump.{dump_files}

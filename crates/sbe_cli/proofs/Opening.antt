@@ -2,7 +2,8 @@
 use Rattle.std.proofs.Common.{◌≡◌, ℕ, Option, Err, ap, ◌∙◌}
 use Rattle.sbe_base.specs.declared.status.Status.{Status}
 use Rattle.sbe_cli.specs.Jobs.{LoadsJob}
-use Rattle.replies.specs.Outside.{Object, Desk, Told}
+use Rattle.sbe_base.specs.Objects.{Object}
+use Rattle.replies.specs.Outside.{Desk, Told}
 use Rattle.sbe_cli.specs.Opens.{Declines, refuses}
 use Rattle.sbe_cli.specs.Stops.{unopened_line, unopened_status}
 use Rattle.schema_files.specs.declared.files.RefusedFile.{RefusedFile}

@@ -5,7 +5,8 @@ use Rattle.sbe_base.specs.declared.status.Status.TheVariants as status
 use Rattle.command_steps.specs.Steps.{Moment, opened}
 use Rattle.sbe_cli.specs.Jobs.{Job, IsReadAs, IsReady, Judges, HasFile}
 use Rattle.sbe_cli.specs.Stops.{unopened_line, unopened_status}
-use Rattle.replies.specs.Outside.{Desk, Failed, Told}
+use Rattle.sbe_base.specs.Objects.{Failed}
+use Rattle.replies.specs.Outside.{Desk, Told}
 use Rattle.schema_files.specs.declared.files.FileRole.{FileRole}
 use Rattle.schema_files.specs.declared.files.RefusedFile.{RefusedFile}
 use Rattle.sbe_cli.specs.declared.unopened.Unopened.TheVariants as unopened

@@ -13,7 +13,8 @@ use Rattle.command_steps.specs.Ends.{Outcome, stop_line}
 use Rattle.sbe_cli.specs.Report.{Report}
 use Rattle.sbe_cli.specs.Jobs.{Job, answering_of, reading_of, Judges, HasFile, IsReadAs, IsReady}
 use Rattle.sbe_cli.specs.Stops.{unopened_line}
-use Rattle.replies.specs.Outside.{Desk, Sinks, Streams, Outside, Wrote, Breaks, Failed, Calm}
+use Rattle.sbe_base.specs.Objects.{Failed}
+use Rattle.replies.specs.Outside.{Desk, Sinks, Streams, Outside, Wrote, Breaks, Calm}
 use Rattle.command_steps.specs.Steps.{Drains, IsReported, IsStepStatus}
 use Rattle.sbe_cli.specs.Opens.{JudgedAs, Declines}
 use Rattle.schema_files.specs.declared.files.FileRole.{FileRole}

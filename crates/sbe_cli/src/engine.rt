@@ -1,5 +1,5 @@
 ghost use Rattle.std.specs.Prelude.{◌≡◌, map, string_bytes};
-ghost use Rattle.replies.specs.Outside.{object_of, streams_of, outside_of};
+ghost use Rattle.replies.specs.Outside.{streams_of, outside_of};
 ghost use Rattle.command_words.specs.Words.{HasLimits};
 ghost use Rattle.sbe_cli.specs.Runs.{Runs, CarriesOut};
 ghost use Rattle.command_steps.specs.Steps.{Drains};
@@ -23,10 +23,10 @@ pub fn run<F: Files, I: Source, O: Sink, N: Sink>(
     notes: &mut N,
 ) -> Status
     ensures { Runs (map (λ word. string_bytes word) words.now)
-        (outside_of (object_of (F.contents files.old) (F.faults files.old))
-        (streams_of (object_of (I.left input.old) (I.faults input.old)) (object_of (O.held output.old) (O.faults output.old)) (object_of (N.held notes.old) (N.faults notes.old))))
-        (outside_of (object_of (F.contents files.new) (F.faults files.new))
-        (streams_of (object_of (I.left input.new) (I.faults input.new)) (object_of (O.held output.new) (O.faults output.new)) (object_of (N.held notes.new) (N.faults notes.new))))
+        (outside_of (F.state files.old)
+        (streams_of (I.state input.old) (O.state output.old) (N.state notes.old)))
+        (outside_of (F.state files.new)
+        (streams_of (I.state input.new) (O.state output.new) (N.state notes.new)))
         result }
 {
     match read_words(alloc, words) {
@@ -47,10 +47,10 @@ fn carry_out<F: Files, I: Source, O: Sink, N: Sink>(
 ) -> Status
     requires { HasLimits command }
     ensures { CarriesOut command
-        (outside_of (object_of (F.contents files.old) (F.faults files.old))
-        (streams_of (object_of (I.left input.old) (I.faults input.old)) (object_of (O.held output.old) (O.faults output.old)) (object_of (N.held notes.old) (N.faults notes.old))))
-        (outside_of (object_of (F.contents files.new) (F.faults files.new))
-        (streams_of (object_of (I.left input.new) (I.faults input.new)) (object_of (O.held output.new) (O.faults output.new)) (object_of (N.held notes.new) (N.faults notes.new))))
+        (outside_of (F.state files.old)
+        (streams_of (I.state input.old) (O.state output.old) (N.state notes.old)))
+        (outside_of (F.state files.new)
+        (streams_of (I.state input.new) (O.state output.new) (N.state notes.new)))
         result }
 {
     match Pump::open(alloc, command, files, notes) {
@@ -68,8 +68,8 @@ fn drain<I: Source, O: Sink, N: Sink>(
 ) -> Status
     requires { pump.old ≡ opened_for pump.old.job }
     ensures { Drains (answering_of pump.old.job)
-        (streams_of (object_of (I.left input.old) (I.faults input.old)) (object_of (O.held output.old) (O.faults output.old)) (object_of (N.held notes.old) (N.faults notes.old)))
-        (streams_of (object_of (I.left input.new) (I.faults input.new)) (object_of (O.held output.new) (O.faults output.new)) (object_of (N.held notes.new) (N.faults notes.new)))
+        (streams_of (I.state input.old) (O.state output.old) (N.state notes.old))
+        (streams_of (I.state input.new) (O.state output.new) (N.state notes.new))
         result }
 {
     'steps: loop {

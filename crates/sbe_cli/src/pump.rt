@@ -1,5 +1,5 @@
 ghost use Rattle.std.specs.Prelude.{◌≡◌, IfOk};
-ghost use Rattle.replies.specs.Outside.{object_of, streams_of, desk_of};
+ghost use Rattle.replies.specs.Outside.{streams_of, desk_of};
 ghost use Rattle.schema_files.specs.Files.{JobCause};
 ghost use Rattle.command_words.specs.Words.{HasLimits};
 ghost use Rattle.command_steps.specs.Replies.{none_kept, counted_by};
@@ -70,8 +70,8 @@ impl Pump {
     ) -> Result<Pump, Status>
         requires { HasLimits command }
         ensures { Opens command
-            (desk_of (object_of (F.contents files.old) (F.faults files.old)) (object_of (N.held notes.old) (N.faults notes.old)))
-            (desk_of (object_of (F.contents files.new) (F.faults files.new)) (object_of (N.held notes.new) (N.faults notes.new)))
+            (desk_of (F.state files.old) (N.state notes.old))
+            (desk_of (F.state files.new) (N.state notes.new))
             result }
     {
         match Work::open(alloc, command, files) {
@@ -91,8 +91,8 @@ impl Pump {
         notes: &mut N,
     ) -> Step
         ensures steps { Steps (answering_of self.old.job) self.old.at self.new.at
-            (streams_of (object_of (I.left input.old) (I.faults input.old)) (object_of (O.held output.old) (O.faults output.old)) (object_of (N.held notes.old) (N.faults notes.old)))
-            (streams_of (object_of (I.left input.new) (I.faults input.new)) (object_of (O.held output.new) (O.faults output.new)) (object_of (N.held notes.new) (N.faults notes.new)))
+            (streams_of (I.state input.old) (O.state output.old) (N.state notes.old))
+            (streams_of (I.state input.new) (O.state output.new) (N.state notes.new))
             result }
         ensures job { self.new.job ≡ self.old.job }
     {
@@ -113,9 +113,9 @@ impl Work {
     /// The work of a command, whose files are loaded and judged. Nothing is done yet.
     fn open<F: Files>(alloc: Global, command: Command, files: &mut F) -> Result<Work, JobStop>
         requires { HasLimits command }
-        ensures kept { F.contents files.new ≡ F.contents files.old }
-        ensures loads { LoadsJob (F.contents files.old) command (made_so job_of result) }
-        ensures cause { JobCause (F.faults files.old) (F.faults files.new) result }
+        ensures kept { (F.state files.new).told ≡ (F.state files.old).told }
+        ensures loads { LoadsJob (F.state files.old).told command (made_so job_of result) }
+        ensures cause { JobCause (F.state files.old).faults (F.state files.new).faults result }
         ensures opened { IfOk result (λ work. IsOpened work) }
     {
         match command.form {
@@ -155,8 +155,8 @@ impl Work {
         requires sound { IsSoundWork self.old }
         requires stands { StandsSo self.old kept.now }
         ensures answers { Answers (answering_of (job_of self.old)) (running kept.now (ahead_of self.old)) (ahead_of self.new)
-            (streams_of (object_of (I.left input.old) (I.faults input.old)) (object_of (O.held output.old) (O.faults output.old)) (object_of (N.held notes.old) (N.faults notes.old)))
-            (streams_of (object_of (I.left input.new) (I.faults input.new)) (object_of (O.held output.new) (O.faults output.new)) (object_of (N.held notes.new) (N.faults notes.new)))
+            (streams_of (I.state input.old) (O.state output.old) (N.state notes.old))
+            (streams_of (I.state input.new) (O.state output.new) (N.state notes.new))
             result }
         ensures job { job_of self.new ≡ job_of self.old }
         ensures sound { IsSoundWork self.new }

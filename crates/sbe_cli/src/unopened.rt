@@ -1,12 +1,13 @@
 ghost use Rattle.std.specs.Prelude.{◌≡◌};
-ghost use Rattle.json_values.specs.Writes.{output, Writes};
-ghost use Rattle.replies.specs.Outside.{Told, object_of};
+ghost use Rattle.sbe_base.specs.Writes.{Writes};
+ghost use Rattle.printers.specs.Prints.{Prints};
+ghost use Rattle.replies.specs.Outside.{Told};
 ghost use Rattle.sbe_cli.specs.Stops.{unopened_line, unopened_status};
 ghost use Rattle.sbe_cli.specs.declared.unopened.Unopened.TheVariants as unopened;
 
+use printers::{Chunk, Printer};
 use sbe_base::{Sink, Status, WriteFault};
 use schema_files::{FileRole, RefusedFile, put_refusal, put_role, refusal_status};
-use json_values::Chunk;
 
 /// Why a run ends before its items.
 #[derive(Debug, Drop)]
@@ -35,36 +36,41 @@ impl Unopened {
 /// Notes why the run ends, and answers its status. It takes no memory.
 #[inline(never)]
 pub fn tell<N: Sink>(why: &Unopened, notes: &mut N) -> Status
-    ensures { Told (unopened_line why.now) (unopened_status why.now) (object_of (N.held notes.old) (N.faults notes.old)) (object_of (N.held notes.new) (N.faults notes.new)) result }
+    ensures { Told (unopened_line why.now) (unopened_status why.now) (N.state notes.old) (N.state notes.new) result }
 {
-    let mut chunk = Chunk::new();
-    put_unopened(&mut chunk, notes, why);
-    match chunk.finish(notes) {
+    match note(why, notes) {
         Ok(()) => why.status(),
         Err(WriteFault) => Status::WriteFault,
     }
 }
 
 /// Writes the line that it is noted by.
-fn put_unopened<N: Sink>(chunk: &mut Chunk, notes: &mut N, why: &Unopened)
-    ensures { Writes (output (N.held notes.old) (N.faults notes.old) chunk.old)
-        (output (N.held notes.new) (N.faults notes.new) chunk.new) (unopened_line why.now) }
+fn note<N: Sink>(why: &Unopened, notes: &mut N) -> Result<(), WriteFault>
+    ensures { Writes (N.state notes.old) (N.state notes.new) (unopened_line why.now) result }
+{
+    let mut chunk = Chunk::new();
+    let mut printer = Printer::new(notes, &mut chunk);
+    put_unopened(&mut printer, why);
+    printer.finish()
+}
+
+/// Prints the line that it is noted by.
+fn put_unopened<N: Sink>(printer: &mut Printer<'_, N>, why: &Unopened)
+    ensures { Prints N.state printer.old printer.new (unopened_line why.now) }
 {
     match why {
-        Unopened::Usage => chunk.put(
-            notes,
+        Unopened::Usage => printer.put(
             b"{\"usage\":\"sbe check compat dump build fixcheck tofix tosbe selftest\"}\n",
         ),
-        Unopened::FileFault(role) => put_file_fault(chunk, notes, *role),
-        Unopened::Refused(file) => put_refusal(chunk, notes, file),
+        Unopened::FileFault(role) => put_file_fault(printer, *role),
+        Unopened::Refused(file) => put_refusal(printer, file),
     }
 }
 
-fn put_file_fault<N: Sink>(chunk: &mut Chunk, notes: &mut N, role: FileRole)
-    ensures { Writes (output (N.held notes.old) (N.faults notes.old) chunk.old)
-        (output (N.held notes.new) (N.faults notes.new) chunk.new) (unopened_line (unopened.FileFault role)) }
+fn put_file_fault<N: Sink>(printer: &mut Printer<'_, N>, role: FileRole)
+    ensures { Prints N.state printer.old printer.new (unopened_line (unopened.FileFault role)) }
 {
-    chunk.put(notes, b"{\"fault\":\"File\",\"file\":\"");
-    put_role(chunk, notes, role);
-    chunk.put(notes, b"\"}\n");
+    printer.put(b"{\"fault\":\"File\",\"file\":\"");
+    put_role(printer, role);
+    printer.put(b"\"}\n");
 }

@@ -2,6 +2,7 @@
 
 ghost use Rattle.std.specs.Prelude.{◌≡◌, ◌↔◌, ℕ, ℤ, Bool, List, Some, None, length};
 ghost use Rattle.byte_digits.specs.Digits.{IsBytes};
+ghost use Rattle.sbe_types.specs.declared.limits.TheConstants.{LENGTH_LIMIT, MEMBER_LIMIT, MESSAGE_LIMIT, NAME_LIMIT, PART_LIMIT, PLACE_LIMIT, TYPE_LIMIT, VALUE_LIMIT};
 ghost use Rattle.sbe_types.specs.declared.kind.Order.{Order};
 ghost use Rattle.sbe_types.specs.declared.kind.Primitive.{Primitive};
 ghost use Rattle.sbe_types.specs.declared.kind.Kind.{Kind, Leaf};
@@ -46,4 +47,16 @@ pub fn faults_of_worked_leaves()
     ensures ended { leaf_bad Little four ended_bytes ≡ None }
     ensures broken { leaf_bad Little four broken_bytes ≡ broken_fault }
     ensures large { leaf_bad Little two large_bytes ≡ large_fault }
+{}
+
+/// The limits of schemas.
+pub fn limits()
+    ensures name { NAME_LIMIT ≡ 64 }
+    ensures primitives { LENGTH_LIMIT ≡ 65_535 }
+    ensures place { PLACE_LIMIT ≡ 1_048_576 }
+    ensures members { MEMBER_LIMIT ≡ 256 }
+    ensures values { VALUE_LIMIT ≡ 1024 }
+    ensures parts { PART_LIMIT ≡ 256 }
+    ensures types { TYPE_LIMIT ≡ 1024 }
+    ensures messages { MESSAGE_LIMIT ≡ 512 }
 {}

@@ -2,8 +2,9 @@ ghost use Rattle.std.specs.Prelude.{◌≡◌, ◌++◌, map, flat_map, IfOk};
 ghost use Rattle.sbe_types.specs.InForm.{IsInForm};
 ghost use Rattle.schema_rules.specs.Judging.{Gives};
 ghost use Rattle.schema_rules.specs.Names.{types_in, messages_in};
-ghost use Rattle.schema_rules.specs.Resolved.{resolved_message};
+ghost use Rattle.schema_rules.specs.Resolved.{resolved, resolved_message};
 ghost use Rattle.schema_rules.specs.Checked.{checked_of};
+ghost use Rattle.schema_laws.specs.Questions.{judged_by, questions};
 ghost use Rattle.schema_check.specs.Reach.{AreShortMessages};
 
 use crate::checked::Checked;
@@ -16,12 +17,18 @@ use std::alloc::Global;
 use type_facts::Declarations;
 use type_kinds::Resolver;
 
-/// Checks a schema whose names and numbers keep their forms, and gives it with every type name
-/// resolved. Its errors are the first rule that an element breaks, with the element's path, and want
-/// of memory.
+/// Checks a schema whose names and numbers keep their forms, and returns it with every type name
+/// resolved.
+///
+/// # Errors
+///
+/// `Refused` with the first broken rule of the list of all questions that are asked of the schema, and
+/// the path of the element that breaks it. `Memory` when out of memory.
+#[tactic(auto, using(schema_laws::proofs::Questions::answer_is))]
 pub fn check(alloc: Global, schema: Schema) -> Result<Checked, CheckErr>
     requires form { IsInForm schema }
-    ensures { Gives result (checked_of schema) }
+    ensures first { Gives result (judged_by (questions schema) (resolved schema)) }
+    ensures judged { Gives result (checked_of schema) }
 {
     let resolved = resolve_schema(alloc, schema)?;
     Ok(Checked::new(resolved))

@@ -20,7 +20,7 @@ use Rattle.schema_files.specs.declared.files.FileRefusal.TheVariants.{TooLong, S
 use Rattle.schema_files.specs.declared.files.FileRole.TheVariants as role
 use Rattle.schema_files.specs.declared.files.FileRole.{FileRole}
 use Rattle.schema_files.specs.declared.files.RefusedFile.{RefusedFile}
-use Rattle.schema_files.specs.declared.files.TheConstants.{SCHEMA_BYTES}
+use Rattle.json_elements.specs.declared.file.TheConstants.{FILE_LIMIT}
 use Rattle.schema_files.proofs.Forms.{form_decided}
 
 -- ---- a file's schema is a checked one
@@ -41,7 +41,7 @@ bytes_checked bytes schema h = by (schema_of bytes) refl h
 
 pub file_checked : (file : Option (List ℕ)) (schema : WireSchema) → file_schema file ≡ Ok schema → IsChecked schema
 file_checked None schema h = cc
-file_checked (Some bytes) schema h = by (nat_lt SCHEMA_BYTES (length bytes)) h
+file_checked (Some bytes) schema h = by (nat_lt FILE_LIMIT (length bytes)) h
   where
     by : (t : Bool) → cond t (Err TooLong) (schema_in bytes) ≡ Ok schema → IsChecked schema
     by true e = cc

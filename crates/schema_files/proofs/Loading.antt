@@ -1,49 +1,100 @@
 -- Files are loaded, and judged.
-use Rattle.std.proofs.Common.{◌≡◌, ℕ, suc, ◌+◌, ◌≤◌, ◌<◌, Bool, true, false, cond, List, [], ◌∷◌, length, drop, Option, Some, Result, Ok, Err, refl, sym, ap, ◌∙◌, subst, arith}
+use Rattle.std.proofs.Common.{◌≡◌, ℕ, zero, suc, ◌+◌, ◌≤◌, ◌<◌, Bool, true, false, cond, List, [], ◌∷◌, length, drop, Option, Some, None, Result, Ok, Err, refl, sym, ap, ◌∙◌, subst, arith}
 use Rattle.std.proofs.lemmas.Bool.Decides.{nat_tests}
 use Rattle.std.specs.Prelude.{nat_lt}
-use Rattle.sbe_base.specs.Loads.{Loads as LoadsBytes}
+use Rattle.json_elements.specs.Reading.{Reading}
+use Rattle.sbe_base.specs.Causes.{one_more}
+use Rattle.sbe_base.specs.Loads.{Loads as LoadsBytes, MayLoad, OutOfMemory}
+use Rattle.sbe_base.specs.declared.files.LoadErr.TheVariants.{Memory}
+use Rattle.sbe_schema.specs.Schemas.{schema_of}
+use Rattle.sbe_types.specs.declared.tree.Schema.{Schema}
+use Rattle.schema_rules.specs.Judging.{Judged}
+use Rattle.schema_rules.specs.Checked.{checked_of}
 use Rattle.sbe_types.specs.declared.schema.WireSchema.{WireSchema}
 use Rattle.dump_lines.specs.declared.schemas.Schemas.{Schemas}
-use Rattle.schema_files.specs.Judged.{schema_in, file_schema, refused_as, alone, with_one, JoinsFrom, GoesOn, JudgesMore}
-use Rattle.schema_files.specs.Files.{Reads, LoadsAs, LoadsChecked, stop_of, JoinsAs, LoadsJoining, LoadsMore, LoadsSchemas, FailsAt}
+use Rattle.schema_files.specs.Judged.{in_order, tree_in_order, schema_in, file_schema, refused_as, alone, with_one, JoinsFrom, GoesOn, JudgesMore}
+use Rattle.schema_files.specs.Files.{Reads, IsRead, after_loads, loads_up_to, NamesLast, LoadsAs, LoadsChecked, stop_of, JoinsAs, LoadsJoining, LoadsMore, LoadsSchemas, FailsAt}
 use Rattle.schema_files.specs.declared.files.FileRefusal.{FileRefusal}
 use Rattle.schema_files.specs.declared.files.FileRefusal.TheVariants.{TooLong}
+use Rattle.schema_files.specs.declared.files.FileRole.{FileRole}
 use Rattle.schema_files.specs.declared.files.FileRole.TheVariants as role
 use Rattle.schema_files.specs.declared.files.RefusedFile.{RefusedFile}
 use Rattle.schema_files.specs.declared.files.LoadStop.{LoadStop}
 use Rattle.schema_files.specs.declared.files.LoadStop.TheVariants.{Refused, Fault, NoMemory}
 use Rattle.schema_files.specs.declared.files.JobStop.{JobStop}
 use Rattle.schema_files.specs.declared.files.JobStop.TheVariants as stop
-use Rattle.schema_files.specs.declared.files.TheConstants.{SCHEMA_BYTES}
+use Rattle.json_elements.specs.declared.file.TheConstants.{FILE_LIMIT}
 
 -- ---- a schema that is in order
 
 -- a file that is there, and isn't too long
-pub short_file : (file : Option (List ℕ)) (bytes : List ℕ) → file ≡ Some bytes → length bytes ≤ SCHEMA_BYTES → file_schema file ≡ schema_in bytes
-short_file file bytes there within = ap file_schema there ∙ by (nat_lt SCHEMA_BYTES (length bytes)) refl
+pub short_file : (file : Option (List ℕ)) (bytes : List ℕ) → file ≡ Some bytes → length bytes ≤ FILE_LIMIT → file_schema file ≡ schema_in bytes
+short_file file bytes there within = ap file_schema there ∙ by (nat_lt FILE_LIMIT (length bytes)) refl
   where
-    by : (t : Bool) → nat_lt SCHEMA_BYTES (length bytes) ≡ t → cond t (Err TooLong) (schema_in bytes) ≡ schema_in bytes
-    by true e = let over : SCHEMA_BYTES < length bytes = grind (arith, nat_tests) in absurd (omega (arith, over, within))
+    by : (t : Bool) → nat_lt FILE_LIMIT (length bytes) ≡ t → cond t (Err TooLong) (schema_in bytes) ≡ schema_in bytes
+    by true e = let over : FILE_LIMIT < length bytes = grind (arith, nat_tests) in absurd (omega (arith, over, within))
     by false e = refl
 
-pub long_file : (file : Option (List ℕ)) (bytes : List ℕ) → file ≡ Some bytes → SCHEMA_BYTES < length bytes → file_schema file ≡ Err TooLong
-long_file file bytes there over = ap file_schema there ∙ by (nat_lt SCHEMA_BYTES (length bytes)) refl
+pub long_file : (file : Option (List ℕ)) (bytes : List ℕ) → file ≡ Some bytes → FILE_LIMIT < length bytes → file_schema file ≡ Err TooLong
+long_file file bytes there over = ap file_schema there ∙ by (nat_lt FILE_LIMIT (length bytes)) refl
   where
-    by : (t : Bool) → nat_lt SCHEMA_BYTES (length bytes) ≡ t → cond t (Err TooLong) (schema_in bytes) ≡ Err TooLong
+    by : (t : Bool) → nat_lt FILE_LIMIT (length bytes) ≡ t → cond t (Err TooLong) (schema_in bytes) ≡ Err TooLong
     by true e = refl
-    by false e = let within : length bytes ≤ SCHEMA_BYTES = grind (arith, nat_tests) in absurd (omega (arith, over, within))
+    by false e = let within : length bytes ≤ FILE_LIMIT = grind (arith, nat_tests) in absurd (omega (arith, over, within))
 
-read_as : (judged : Result WireSchema FileRefusal) (r : Result WireSchema LoadStop) → Reads judged r → LoadsAs judged r
-read_as judged (Ok schema) h = h
-read_as judged (Err (Refused refusal)) h = h
-read_as judged (Err Fault) h = tt
-read_as judged (Err NoMemory) h = tt
+found_read : (judged : Judged WireSchema) → IsRead (in_order judged)
+found_read (Ok schema) = tt
+found_read (Err broken) = tt
 
-pub checked_loaded : (told : Option (List ℕ → Option (List ℕ))) (name bytes : List ℕ) (r : Result WireSchema LoadStop) → LoadsBytes told name SCHEMA_BYTES (Ok tt) bytes → Reads (schema_in bytes) r → LoadsChecked told name r
+tree_read : (tree : Reading Schema) → IsRead (tree_in_order tree)
+tree_read (Ok tree) = found_read (checked_of tree)
+tree_read (Err unread) = tt
+
+read_as : (bytes : List ℕ) (r : Result WireSchema LoadStop) → Reads (schema_in bytes) r → LoadsAs (schema_in bytes) r
+read_as bytes (Ok schema) h = h
+read_as bytes (Err (Refused refusal)) h = h
+read_as bytes (Err Fault) h = tt
+read_as bytes (Err NoMemory) h = tree_read (schema_of bytes)
+
+pub checked_loaded : (told : Option (List ℕ → Option (List ℕ))) (name bytes : List ℕ) (r : Result WireSchema LoadStop) → LoadsBytes told name FILE_LIMIT (Ok tt) bytes → Reads (schema_in bytes) r → LoadsChecked told name r
 checked_loaded told name bytes r h k contents same =
-    let there = subst (λ t. LoadsBytes t name SCHEMA_BYTES (Ok tt) bytes) same h in
-    subst (λ (judged : Result WireSchema FileRefusal). LoadsAs judged r) (sym (short_file (contents name) bytes there.0 there.1)) (read_as (schema_in bytes) r k)
+    let there = subst (λ t. LoadsBytes t name FILE_LIMIT (Ok tt) bytes) same h in
+    subst (λ (judged : Result WireSchema FileRefusal). LoadsAs judged r) (sym (short_file (contents name) bytes there.0 there.1)) (read_as bytes r k)
+
+-- a file that may be loaded is read
+may_load : (file : Option (List ℕ)) → MayLoad file FILE_LIMIT → IsRead (file_schema file)
+may_load None h = h
+may_load (Some bytes) h = subst IsRead (sym (short_file (Some bytes) bytes refl h)) (tree_read (schema_of bytes))
+
+-- a load is out of memory only for a file that is read
+pub short_loaded : (told : Option (List ℕ → Option (List ℕ))) (name : List ℕ) → OutOfMemory told name FILE_LIMIT (Err Memory) → LoadsChecked told name (Err NoMemory)
+short_loaded told name h contents same = may_load (contents name) (h contents same refl)
+
+-- ---- which file it was
+
+-- so many loads after one more are one more than so many
+loads_after_one : (n before : ℕ) → after_loads n (one_more before) ≡ after_loads (suc n) before
+loads_after_one zero before = refl
+loads_after_one (suc n) before = ap one_more (loads_after_one n before)
+
+pub loads_more : (i first here now : ℕ) → here ≡ after_loads i first → now ≡ one_more here → now ≡ after_loads (i + 1) first
+loads_more i first here now counted next =
+    let number : suc i ≡ i + 1 = omega arith in
+    next ∙ ap one_more counted ∙ ap (λ n. after_loads n first) number
+
+-- a stop at the file in that role, as many loads after the first as its role says
+pub named_last : (T : Type 0) (at : FileRole) (before now : ℕ) (why : LoadStop) → now ≡ after_loads (loads_up_to at) before → NamesLast {T = T} before now (Err (stop_of at why))
+named_last T at before now (Refused why) h = h
+named_last T at before now Fault h = h
+named_last T at before now NoMemory h = tt
+
+-- the same of a further file, which is loaded after the first and those before it
+pub also_named : (T : Type 0) (i first here now : ℕ) (why : LoadStop) → here ≡ after_loads i first → now ≡ one_more here →
+    (before : ℕ) → first ≡ one_more before → NamesLast {T = T} before now (Err (stop_of (role.Also (i + 1)) why))
+also_named T i first here now why counted next before same =
+    let number : suc i ≡ i + 1 = omega arith in
+    named_last T (role.Also (i + 1)) before now why
+    (next ∙ ap one_more (counted ∙ ap (after_loads i) same ∙ loads_after_one i before) ∙ ap (λ n. after_loads (suc n) before) number)
 
 -- ---- several schemas
 

@@ -1,16 +1,28 @@
 -- What loading a file answers.
-use Rattle.std.specs.Prelude.{◌≡◌, ◌≤◌, ℕ, List, Option, Some, Result, Ok, Err, ⊤}
-use Rattle.sbe_base.specs.Causes.{Rose}
+use Rattle.std.specs.Prelude.{◌≡◌, ◌≤◌, ℕ, zero, suc, List, Option, Some, Result, Ok, Err, ⊤}
+use Rattle.sbe_base.specs.Causes.{Rose, one_more}
 use Rattle.sbe_types.specs.declared.schema.WireSchema.{WireSchema}
 use Rattle.schema_files.specs.Judged.{file_schema, refused_as, IsWithin, JoinsFrom, JudgesSchemas, JudgesMore}
 use Rattle.schema_files.specs.declared.files.FileRefusal.{FileRefusal}
+use Rattle.schema_files.specs.declared.files.FileRefusal.TheVariants as file
 use Rattle.schema_files.specs.declared.files.LoadStop.{LoadStop}
 use Rattle.schema_files.specs.declared.files.LoadStop.TheVariants.{Refused, Fault, NoMemory}
 use Rattle.schema_files.specs.declared.files.FileRole.{FileRole}
+use Rattle.schema_files.specs.declared.files.FileRole.TheVariants as role
 use Rattle.schema_files.specs.declared.files.RefusedFile.{RefusedFile}
 use Rattle.schema_files.specs.declared.files.JobStop.{JobStop}
 use Rattle.schema_files.specs.declared.files.JobStop.TheVariants as stop
 use Rattle.dump_lines.specs.declared.schemas.Schemas.{Schemas}
+
+-- the file is there, and isn't too long
+abbrev pub IsRead : Result WireSchema FileRefusal → Type 0
+IsRead (Ok schema) = ⊤
+IsRead (Err file.Absent) = ⊥
+IsRead (Err file.TooLong) = ⊥
+IsRead (Err (file.Unread cause path)) = ⊤
+IsRead (Err (file.Broken rule path)) = ⊤
+IsRead (Err file.SameId) = ⊤
+IsRead (Err file.FormDiffers) = ⊤
 
 -- what bytes are judged as, unless memory was wanting
 abbrev pub Reads : Result WireSchema FileRefusal → Result WireSchema LoadStop → Type 0
@@ -19,12 +31,12 @@ Reads judged (Err (Refused refusal)) = judged ≡ Err refusal
 Reads judged (Err Fault) = ⊥
 Reads judged (Err NoMemory) = ⊤
 
--- the same of a file, unless the files failed
+-- the same of a file, unless the files failed; out of memory only for a file that is read
 abbrev pub LoadsAs : Result WireSchema FileRefusal → Result WireSchema LoadStop → Type 0
 LoadsAs judged (Ok schema) = judged ≡ Ok schema
 LoadsAs judged (Err (Refused refusal)) = judged ≡ Err refusal
 LoadsAs judged (Err Fault) = ⊤
-LoadsAs judged (Err NoMemory) = ⊤
+LoadsAs judged (Err NoMemory) = IsRead judged
 
 -- the same of a name, where the files tell what they hold
 abbrev pub LoadsChecked : Option (List ℕ → Option (List ℕ)) → List ℕ → Result WireSchema LoadStop → Type 0
@@ -49,6 +61,27 @@ JobCause before now (Ok x) = now ≡ before
 JobCause before now (Err (stop.Fault role)) = (before ≤ now) × Rose before now
 JobCause before now (Err (stop.Refused file)) = now ≡ before
 JobCause before now (Err stop.NoMemory) = now ≡ before
+
+-- ---- which file it was
+
+-- how many loads of a command it takes up to the file in that role
+abbrev pub loads_up_to : FileRole → ℕ
+loads_up_to role.Schema = 1
+loads_up_to (role.Also n) = suc n
+loads_up_to role.Old = 1
+loads_up_to role.New = 2
+
+-- the count of loads after so many more
+abbrev pub after_loads : ℕ → ℕ → ℕ
+after_loads zero before = before
+after_loads (suc n) before = one_more (after_loads n before)
+
+-- a stop that names a file names the one that was loaded last
+abbrev pub NamesLast : {T : Type 0} → ℕ → ℕ → Result T JobStop → Type 0
+NamesLast before now (Ok x) = ⊤
+NamesLast before now (Err (stop.Refused refused)) = now ≡ after_loads (loads_up_to refused.role) before
+NamesLast before now (Err (stop.Fault role)) = now ≡ after_loads (loads_up_to role) before
+NamesLast before now (Err stop.NoMemory) = ⊤
 
 -- ---- several schemas
 

@@ -15,7 +15,7 @@ use Rattle.schema_files.specs.declared.files.FileRefusal.TheVariants.{Absent, To
 use Rattle.schema_files.specs.declared.files.FileRole.{FileRole}
 use Rattle.schema_files.specs.declared.files.FileRole.TheVariants as role
 use Rattle.schema_files.specs.declared.files.RefusedFile.{RefusedFile}
-use Rattle.schema_files.specs.declared.files.TheConstants.{SCHEMA_BYTES}
+use Rattle.json_elements.specs.declared.file.TheConstants.{FILE_LIMIT}
 
 -- ---- one file
 
@@ -36,7 +36,7 @@ schema_in bytes = tree_in_order (schema_of bytes)
 -- The schema of a file, which is there and isn't too long.
 abbrev pub file_schema : Option (List ℕ) → Result WireSchema FileRefusal
 file_schema None = Err Absent
-file_schema (Some bytes) = if nat_lt SCHEMA_BYTES (length bytes) then Err TooLong else schema_in bytes
+file_schema (Some bytes) = if nat_lt FILE_LIMIT (length bytes) then Err TooLong else schema_in bytes
 
 -- a file that is refused so
 abbrev pub refused_as : FileRole → FileRefusal → RefusedFile

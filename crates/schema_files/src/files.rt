@@ -5,9 +5,6 @@ use json_elements::Cause;
 use lists::Text;
 use schema_check::CCode;
 
-/// The most bytes of a schema's file.
-pub const SCHEMA_BYTES: usize = 1_048_576;
-
 /// What a file of the words is for.
 #[derive(Clone, Copy, Debug, PartialEq, Eq)]
 pub enum FileRole {

@@ -6,7 +6,7 @@ mod refusal;
 mod schema_file;
 mod schemas;
 
-pub use files::{FileRefusal, FileRole, JobStop, LoadStop, RefusedFile, SCHEMA_BYTES};
+pub use files::{FileRefusal, FileRole, JobStop, LoadStop, RefusedFile};
 pub use refusal::{put_refusal, put_role, refusal_status};
 pub use schema_file::load_checked;
 pub use schemas::load_schemas;

@@ -1,13 +1,14 @@
 //! How a refused file is noted.
 
 ghost use Rattle.std.specs.Prelude.{◌≡◌};
-ghost use Rattle.json_values.specs.Writes.{output, Writes};
+ghost use Rattle.printers.specs.Prints.{Prints};
 ghost use Rattle.schema_files.specs.Refusals.{cause_code, rule_code, refused_file, refusal_line, refusal_status, role_name, why_line};
 ghost use Rattle.schema_files.specs.declared.files.FileRefusal.TheVariants as file;
 
 use crate::files::{FileRefusal, FileRole, RefusedFile};
 use json_elements::Cause;
-use json_values::{Chunk, put_count, put_text};
+use json_values::{put_count, put_text};
+use printers::Printer;
 use sbe_base::{Sink, Status};
 use schema_check::CCode;
 
@@ -25,62 +26,58 @@ pub fn refusal_status(refusal: &FileRefusal) -> Status
     }
 }
 
-/// Writes the line that a refused file is noted by.
-pub fn put_refusal<N: Sink>(chunk: &mut Chunk, notes: &mut N, file: &RefusedFile)
-    ensures { Writes (output (N.held notes.old) (N.faults notes.old) chunk.old)
-        (output (N.held notes.new) (N.faults notes.new) chunk.new) (refusal_line file.now) }
+/// Prints the line that a refused file is noted by.
+pub fn put_refusal<N: Sink>(printer: &mut Printer<'_, N>, file: &RefusedFile)
+    ensures { Prints N.state printer.old printer.new (refusal_line file.now) }
 {
     let role = file.role;
     match &file.why {
-        FileRefusal::Absent => put_absent(chunk, notes, role),
-        FileRefusal::TooLong => put_refused(chunk, notes, role, "S06", &[]),
+        FileRefusal::Absent => put_absent(printer, role),
+        FileRefusal::TooLong => put_refused(printer, role, "S06", &[]),
         FileRefusal::Unread(cause, path) => {
-            put_refused(chunk, notes, role, cause_code(*cause), path.as_slice())
+            put_refused(printer, role, cause_code(*cause), path.as_slice())
         }
         FileRefusal::Broken(rule, path) => {
-            put_refused(chunk, notes, role, rule_code(*rule), path.as_slice())
+            put_refused(printer, role, rule_code(*rule), path.as_slice())
         }
-        FileRefusal::SameId => put_refused(chunk, notes, role, "X01", &[]),
-        FileRefusal::FormDiffers => put_refused(chunk, notes, role, "X02", &[]),
+        FileRefusal::SameId => put_refused(printer, role, "X01", &[]),
+        FileRefusal::FormDiffers => put_refused(printer, role, "X02", &[]),
     }
 }
 
-/// Writes the name of a file by its role.
-pub fn put_role<N: Sink>(chunk: &mut Chunk, notes: &mut N, role: FileRole)
-    ensures { Writes (output (N.held notes.old) (N.faults notes.old) chunk.old)
-        (output (N.held notes.new) (N.faults notes.new) chunk.new) (role_name role) }
+/// Prints the name of a file by its role.
+pub fn put_role<N: Sink>(printer: &mut Printer<'_, N>, role: FileRole)
+    ensures { Prints N.state printer.old printer.new (role_name role) }
 {
     match role {
-        FileRole::Schema => chunk.put(notes, b"schema"),
+        FileRole::Schema => printer.put(b"schema"),
         FileRole::Also(number) => {
-            chunk.put(notes, b"also");
-            put_count(chunk, notes, number as u64);
+            printer.put(b"also");
+            put_count(printer, number as u64);
         }
-        FileRole::Old => chunk.put(notes, b"old"),
-        FileRole::New => chunk.put(notes, b"new"),
+        FileRole::Old => printer.put(b"old"),
+        FileRole::New => printer.put(b"new"),
     }
 }
 
-fn put_absent<N: Sink>(chunk: &mut Chunk, notes: &mut N, role: FileRole)
-    ensures { Writes (output (N.held notes.old) (N.faults notes.old) chunk.old)
-        (output (N.held notes.new) (N.faults notes.new) chunk.new) (why_line role file.Absent) }
+fn put_absent<N: Sink>(printer: &mut Printer<'_, N>, role: FileRole)
+    ensures { Prints N.state printer.old printer.new (why_line role file.Absent) }
 {
-    chunk.put(notes, b"{\"absent\":\"");
-    put_role(chunk, notes, role);
-    chunk.put(notes, b"\"}\n");
+    printer.put(b"{\"absent\":\"");
+    put_role(printer, role);
+    printer.put(b"\"}\n");
 }
 
-fn put_refused<N: Sink>(chunk: &mut Chunk, notes: &mut N, role: FileRole, code: &str, path: &[u8])
-    ensures { Writes (output (N.held notes.old) (N.faults notes.old) chunk.old)
-        (output (N.held notes.new) (N.faults notes.new) chunk.new) (refused_file role code.now path.now) }
+fn put_refused<N: Sink>(printer: &mut Printer<'_, N>, role: FileRole, code: &str, path: &[u8])
+    ensures { Prints N.state printer.old printer.new (refused_file role code.now path.now) }
 {
-    chunk.put(notes, b"{\"file\":\"");
-    put_role(chunk, notes, role);
-    chunk.put(notes, b"\",\"refused\":\"");
-    chunk.put(notes, code.as_bytes());
-    chunk.put(notes, b"\",\"path\":");
-    put_text(chunk, notes, path);
-    chunk.put(notes, b"}\n");
+    printer.put(b"{\"file\":\"");
+    put_role(printer, role);
+    printer.put(b"\",\"refused\":\"");
+    printer.put(code.as_bytes());
+    printer.put(b"\",\"path\":");
+    put_text(printer, path);
+    printer.put(b"}\n");
 }
 
 /// The code of why a file holds no schema.

@@ -1,8 +1,10 @@
 ghost use Rattle.std.specs.Prelude.{◌≡◌};
+ghost use Rattle.sbe_base.specs.Causes.{one_more};
 ghost use Rattle.schema_files.specs.Judged.{schema_in};
 ghost use Rattle.schema_files.specs.Files.{LoadCause, LoadsChecked, Reads};
 
-use crate::files::{FileRefusal, LoadStop, SCHEMA_BYTES};
+use crate::files::{FileRefusal, LoadStop};
+use json_elements::FILE_LIMIT;
 use sbe_base::{Files, LoadErr};
 use sbe_schema::{SchemaErr, read_schema};
 use schema_check::{CheckErr, Checked, check};
@@ -10,12 +12,13 @@ use std::alloc::Global;
 
 /// The schema of that file, which is in order.
 pub fn load_checked<F: Files>(alloc: Global, files: &mut F, name: &str) -> Result<Checked, LoadStop>
-    ensures kept { F.contents files.new ≡ F.contents files.old }
-    ensures loads { LoadsChecked (F.contents files.old) name.now result }
-    ensures cause { LoadCause (F.faults files.old) (F.faults files.new) result }
+    ensures kept { (F.state files.new).told ≡ (F.state files.old).told }
+    ensures loads { LoadsChecked (F.state files.old).told name.now result }
+    ensures cause { LoadCause (F.state files.old).faults (F.state files.new).faults result }
+    ensures count { F.load_count files.new ≡ one_more (F.load_count files.old) }
 {
     let mut bytes = Vec::new(alloc);
-    match files.load(alloc, name, SCHEMA_BYTES, &mut bytes) {
+    match files.load(alloc, name, FILE_LIMIT, &mut bytes) {
         Ok(()) => read_checked(alloc, bytes.as_slice()),
         Err(LoadErr::Failed) => Err(LoadStop::Fault),
         Err(LoadErr::Absent) => Err(LoadStop::Refused(FileRefusal::Absent)),

@@ -1,6 +1,7 @@
-ghost use Rattle.std.specs.Prelude.{◌≡◌, length, IfOk};
+ghost use Rattle.std.specs.Prelude.{◌≡◌, ℕ, length, IfOk};
 ghost use Rattle.dump_lines.specs.Dumped.{AreInOrder};
-ghost use Rattle.schema_files.specs.Files.{FailsAt, JobCause, LoadCause, LoadsJoining, LoadsMore, LoadsSchemas};
+ghost use Rattle.sbe_base.specs.Causes.{one_more};
+ghost use Rattle.schema_files.specs.Files.{FailsAt, JobCause, LoadCause, LoadsJoining, LoadsMore, LoadsSchemas, NamesLast};
 
 use crate::files::{FileRefusal, FileRole, JobStop, LoadStop};
 use crate::schema_file::load_checked;
@@ -19,11 +20,12 @@ pub fn load_schemas<F: Files>(
     also: &NameList,
     files: &mut F,
 ) -> Result<Schemas, JobStop>
-    ensures kept { F.contents files.new ≡ F.contents files.old }
-    ensures loads { LoadsSchemas (F.contents files.old) name.now also.now result }
+    ensures kept { (F.state files.new).told ≡ (F.state files.old).told }
+    ensures loads { LoadsSchemas (F.state files.old).told name.now also.now result }
     ensures order { IfOk result (λ schemas. AreInOrder schemas) }
     ensures fails { FailsAt (length also.now) result }
-    ensures cause { JobCause (F.faults files.old) (F.faults files.new) result }
+    ensures cause { JobCause (F.state files.old).faults (F.state files.new).faults result }
+    ensures names { NamesLast (F.load_count files.old) (F.load_count files.new) result }
 {
     let first = match load_checked(alloc, files, name) {
         Ok(first) => first,
@@ -46,11 +48,12 @@ fn load_also<F: Files>(
 ) -> Result<Schemas, JobStop>
     requires order { AreInOrder schemas }
     requires first { first.now ≡ schemas.first }
-    ensures kept { F.contents files.new ≡ F.contents files.old }
-    ensures loads { LoadsMore (F.contents files.old) schemas also.now result }
+    ensures kept { (F.state files.new).told ≡ (F.state files.old).told }
+    ensures loads { LoadsMore (F.state files.old).told schemas also.now result }
     ensures order { IfOk result (λ schemas. AreInOrder schemas) }
     ensures fails { FailsAt (length also.now) result }
-    ensures cause { JobCause (F.faults files.old) (F.faults files.new) result }
+    ensures cause { JobCause (F.state files.old).faults (F.state files.new).faults result }
+    ensures names { (before : ℕ) → F.load_count files.old ≡ one_more before → NamesLast before (F.load_count files.new) result }
 {
     let mut all = schemas;
     for i in 0..also.len() {
@@ -74,9 +77,10 @@ fn load_joining<F: Files>(
     files: &mut F,
 ) -> Result<Layout, LoadStop>
     requires { first.now ≡ schemas.now.first }
-    ensures kept { F.contents files.new ≡ F.contents files.old }
-    ensures loads { LoadsJoining (F.contents files.old) schemas.now name.now result }
-    ensures cause { LoadCause (F.faults files.old) (F.faults files.new) result }
+    ensures kept { (F.state files.new).told ≡ (F.state files.old).told }
+    ensures loads { LoadsJoining (F.state files.old).told schemas.now name.now result }
+    ensures cause { LoadCause (F.state files.old).faults (F.state files.new).faults result }
+    ensures count { F.load_count files.new ≡ one_more (F.load_count files.old) }
 {
     let checked = match load_checked(alloc, files, name) {
         Ok(checked) => checked,

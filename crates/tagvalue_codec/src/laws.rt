@@ -2,6 +2,8 @@
 ghost use Rattle.std.specs.Prelude.{◌≡◌, ℕ, List, [], ◌⊎◌, ◌++◌, ◌<◌, ◌≤◌, length};
 ghost use Rattle.tagvalue_codec.specs.declared.data_tags.Pair.{Pair};
 ghost use Rattle.tagvalue_codec.specs.declared.read.FixFault.{FixFault};
+ghost use Rattle.tagvalue_codec.specs.declared.room.TheConstants.{TEXT_LIMIT};
+ghost use Rattle.tagvalue_codec.specs.declared.table.TheConstants.{FIELD_LIMIT};
 ghost use Rattle.tagvalue_codec.specs.Fields.{Field, field_bytes};
 ghost use Rattle.tagvalue_codec.specs.Texts.{FixText, IsFirstFault, IsAt, Body, Free, most_between, text_over};
 
@@ -29,4 +31,10 @@ pub fn fields_or_fault()
 pub fn what_is_written_is_a_text()
     ensures { (tags : List Pair) (begin : List ℕ) (kind : Field) (others : List Field) (rest : List ℕ) → IsAt 8 (record { tag = 8; value = begin }) → IsAt 35 kind → Body tags Free others rest → length others ≤ most_between →
         length (field_bytes kind ++ rest) < 1000000000 → (fields : List Field) × FixText tags fields (text_over begin (field_bytes kind ++ rest)) }
+{}
+
+/// How many fields a table has room for at most, and how many bytes a writer.
+pub fn limits()
+    ensures fields { FIELD_LIMIT ≡ 4096 }
+    ensures bytes { TEXT_LIMIT ≡ 16_777_216 }
 {}

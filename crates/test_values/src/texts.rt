@@ -3,8 +3,9 @@
 use crate::leaves::{names_of, prim_of};
 use anyhow::{Result, bail};
 use json_values::{
-    Chunk, put_char, put_constant, put_count, put_enum, put_number, put_set, put_string, put_text,
+    put_char, put_constant, put_count, put_enum, put_number, put_set, put_string, put_text,
 };
+use printers::{Chunk, Printer};
 use row_tables::{Row, spelled};
 use sbe_base::MemSink;
 use sbe_types::{Bytes, ConstValue, Named};
@@ -33,25 +34,25 @@ pub fn told(alloc: Global, row: &Row) -> Result<Option<String>> {
     Ok(Some(text))
 }
 
-fn put(alloc: Global, row: &Row, chunk: &mut Chunk, out: &mut MemSink) -> Result<()> {
+fn put(alloc: Global, row: &Row, printer: &mut Printer<'_, MemSink>) -> Result<()> {
     match row.call() {
-        "put_text" => put_text(chunk, out, row.bytes(alloc, 0)?.as_slice()),
-        "put_string" => put_string(chunk, out, row.bytes(alloc, 0)?.as_slice()),
-        "put_char" => put_char(chunk, out, &row.number(0)?),
-        "put_number" => put_number(chunk, out, &row.number(0)?),
-        "put_count" => put_count(chunk, out, row.text(0)?.parse::<u64>()?),
-        "put_constant" => put_constant(chunk, out, &constant_of(alloc, row)?),
-        _ => put_listed(alloc, row, chunk, out)?,
+        "put_text" => put_text(printer, row.bytes(alloc, 0)?.as_slice()),
+        "put_string" => put_string(printer, row.bytes(alloc, 0)?.as_slice()),
+        "put_char" => put_char(printer, &row.number(0)?),
+        "put_number" => put_number(printer, &row.number(0)?),
+        "put_count" => put_count(printer, row.text(0)?.parse::<u64>()?),
+        "put_constant" => put_constant(printer, &constant_of(alloc, row)?),
+        _ => put_listed(alloc, row, printer)?,
     }
     Ok(())
 }
 
-fn put_listed(alloc: Global, row: &Row, chunk: &mut Chunk, out: &mut MemSink) -> Result<()> {
+fn put_listed(alloc: Global, row: &Row, printer: &mut Printer<'_, MemSink>) -> Result<()> {
     let names = names_of(alloc, row.text(0)?)?;
     if row.call() == "put_enum" {
-        put_enum(chunk, out, names.as_slice(), &row.number(1)?);
+        put_enum(printer, names.as_slice(), &row.number(1)?);
     } else {
-        put_set(chunk, out, names.as_slice(), row.text(1)?.parse::<u64>()?);
+        put_set(printer, names.as_slice(), row.text(1)?.parse::<u64>()?);
     }
     Ok(())
 }
@@ -76,8 +77,9 @@ fn constant_of(alloc: Global, row: &Row) -> Result<ConstValue> {
 fn one_put(alloc: Global, row: &Row) -> Result<String> {
     let mut out = MemSink::new(alloc, ROOM, &[])?;
     let mut chunk = Chunk::new();
-    put(alloc, row, &mut chunk, &mut out)?;
-    chunk.finish(&mut out)?;
+    let mut printer = Printer::new(&mut out, &mut chunk);
+    put(alloc, row, &mut printer)?;
+    printer.finish()?;
     spelled(alloc, out.bytes())
 }
 
@@ -86,9 +88,10 @@ fn digits_behind(alloc: Global, many: usize, number: &str) -> Result<String> {
     let before = vec![in alloc; b'x'; many]?;
     let mut out = MemSink::new(alloc, ROOM, &[])?;
     let mut chunk = Chunk::new();
-    chunk.put(&mut out, before.as_slice());
-    put_number(&mut chunk, &mut out, &number.parse::<i128>()?);
-    chunk.finish(&mut out)?;
+    let mut printer = Printer::new(&mut out, &mut chunk);
+    printer.put(before.as_slice());
+    put_number(&mut printer, &number.parse::<i128>()?);
+    printer.finish()?;
     match out.bytes().strip_prefix(before.as_slice()) {
         Some(digits) => spelled(alloc, digits),
         None => bail!("what was before is gone"),
@@ -110,12 +113,13 @@ fn numbers_behind(alloc: Global, many: &str, numbers: &str) -> Result<String> {
 fn digits_of(alloc: Global, number: &str) -> Result<String> {
     let mut out = MemSink::new(alloc, ROOM, &[])?;
     let mut chunk = Chunk::new();
-    put_number(&mut chunk, &mut out, &number.parse::<i128>()?);
+    let mut printer = Printer::new(&mut out, &mut chunk);
+    put_number(&mut printer, &number.parse::<i128>()?);
     if let Ok(count) = number.parse::<u64>() {
-        chunk.put(&mut out, b"=");
-        put_count(&mut chunk, &mut out, count);
+        printer.put(b"=");
+        put_count(&mut printer, count);
     }
-    chunk.finish(&mut out)?;
+    printer.finish()?;
     spelled(alloc, out.bytes())
 }
 
@@ -135,10 +139,11 @@ fn pieces_put(alloc: Global, row: &Row) -> Result<String> {
     let second = vec![in alloc; b'y'; row.size(1)?]?;
     let mut out = MemSink::new(alloc, ROOM, &[])?;
     let mut chunk = Chunk::new();
-    chunk.put(&mut out, first.as_slice());
-    chunk.put(&mut out, b"|");
-    chunk.put(&mut out, second.as_slice());
-    chunk.finish(&mut out)?;
+    let mut printer = Printer::new(&mut out, &mut chunk);
+    printer.put(first.as_slice());
+    printer.put(b"|");
+    printer.put(second.as_slice());
+    printer.finish()?;
     let wanted = [first.as_slice(), b"|", second.as_slice()].concat(alloc)?;
     if out.bytes() == wanted.as_slice() {
         return Ok(format!(in alloc; "whole")?);
@@ -149,10 +154,11 @@ fn pieces_put(alloc: Global, row: &Row) -> Result<String> {
 /// Whether so many pieces of ten bytes were written.
 fn tens_put(out: &mut MemSink, many: usize) -> bool {
     let mut chunk = Chunk::new();
+    let mut printer = Printer::new(out, &mut chunk);
     for _ in 0..many {
-        chunk.put(out, b"0123456789");
+        printer.put(b"0123456789");
     }
-    chunk.finish(out).is_ok()
+    printer.finish().is_ok()
 }
 
 /// So many pieces of ten bytes over a sink of which one call fails: whether they were written, and whether what stands

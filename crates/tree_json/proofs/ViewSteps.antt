@@ -15,12 +15,14 @@ use Rattle.flyweight_view.specs.ShownIn.{IsShownIn}
 use Rattle.json_values.specs.Values.{Entry, zipped, value_data}
 use Rattle.tree_json.specs.Lines.{field_entry}
 use Rattle.json_values.specs.Plain.{key_text, entry_text, entries_text, later_behind}
-use Rattle.json_fields.specs.Shown.{WritesShown}
-use Rattle.json_values.specs.Writes.{Output, Writes}
+use Rattle.json_fields.specs.Shown.{PrintsShown}
+use Rattle.sbe_base.specs.Objects.{Object}
+use Rattle.printers.specs.Prints.{Prints}
+use Rattle.printers.specs.declared.printer.Printer.{Printer}
 use Rattle.json_values.proofs.Entries.{entry_next}
 use Rattle.json_fields.proofs.FromBytes.{is_shown}
 use Rattle.json_fields.proofs.MembersShown.{entry_is, later_is}
-use Rattle.json_values.proofs.Written.{then_writes, retold, writes_nothing}
+use Rattle.printers.proofs.Printing.{then_prints, reprinted, prints_nothing}
 
 some_is : {A : Type 0} {x y : A} → ◌≡◌ {A = Option A} (Some x) (Some y) → x ≡ y
 some_is h = cc
@@ -103,8 +105,8 @@ absent_data : (f : Field) (v : Value) (o : Option Value) → o ≡ Some v → o 
 absent_data f v o h k = ap (value_data f.kind) (some_is (sym h ∙ k)) ∙ absent_is f.kind
 
 -- a field that is absent
-pub absent_written : {a : Output} (later : Bool) (f : Field) (v : Value) (o : Option Value) → o ≡ Some v → o ≡ Some value.Absent → Writes a a (entry_text later (field_entry f v))
-absent_written later f v o h k = retold (sym (ap (λ d. entry_text later (f.name, d)) (absent_data f v o h k))) writes_nothing
+pub absent_written : {O : Type 0} {state : O → Object (List ℕ)} {a : Printer O} (later : Bool) (f : Field) (v : Value) (o : Option Value) → o ≡ Some v → o ≡ Some value.Absent → Prints state a a (entry_text later (field_entry f v))
+absent_written later f v o h k = reprinted (sym (ap (λ d. entry_text later (f.name, d)) (absent_data f v o h k))) prints_nothing
 
 pub absent_later : (later : Bool) (f : Field) (v : Value) (o : Option Value) → o ≡ Some v → o ≡ Some value.Absent → later ≡ later_behind later (field_entry f v).1
 absent_later later f v o h k = sym (ap (later_behind later) (absent_data f v o h k))
@@ -115,12 +117,12 @@ module _ (later : Bool) (b : FieldBytes) (f : Field) (v : Value) where
   shown_as None s h = cc
   shown_as (Some w) s h = subst (λ u. (known : Bool) × Shows b.order known b.kind.now u b.bytes.now) (some_is h) s
 
-  pub field_written : {before key after : Output} (name : List ℕ) (o : Option Value) → f.name ≡ name → f.kind ≡ b.kind.now → IsShownIn b o → o ≡ Some v
-      → Writes before key (comma_if later ++ key_text name) → WritesShown b.order b.kind.now b.bytes.now key after → Writes before after (entry_text later (field_entry f v))
+  pub field_written : {O : Type 0} {state : O → Object (List ℕ)} {before key after : Printer O} (name : List ℕ) (o : Option Value) → f.name ≡ name → f.kind ≡ b.kind.now → IsShownIn b o → o ≡ Some v
+      → Prints state before key (comma_if later ++ key_text name) → PrintsShown b.order b.kind.now b.bytes.now (Prints state key after) → Prints state before after (entry_text later (field_entry f v))
   field_written name o named kind s h k w =
       let shows = shown_as o s h in
       let there = is_shown b.order shows.0 b.kind.now v b.bytes.now shows.1 in
-      retold (entry_is later name (value_data b.kind.now v) there.0 there.1 ∙ sym (ap₂ (λ n kind. entry_text later (n, value_data kind v)) named kind)) (then_writes k (w.text shows.0 v shows.1))
+      reprinted (entry_is later name (value_data b.kind.now v) there.0 there.1 ∙ sym (ap₂ (λ n kind. entry_text later (n, value_data kind v)) named kind)) (then_prints k (w.text shows.0 v shows.1))
 
   pub field_later : (o : Option Value) → f.kind ≡ b.kind.now → IsShownIn b o → o ≡ Some v → true ≡ later_behind later (field_entry f v).1
   field_later o kind s h =

@@ -12,7 +12,6 @@ use Rattle.flyweight_view.specs.Seen.{Seen}
 use Rattle.json_values.specs.Values.{Entry, listed, zipped, text_data}
 use Rattle.tree_json.specs.Lines.{field_entry, part_entry, group_entry, group_name, items_by, three_entries}
 use Rattle.json_values.specs.Plain.{plain_items, entries_text}
-use Rattle.json_values.specs.Writes.{Output, Writes}
 
 -- the object of a block
 abbrev pub seen_data : Seen → Data
@@ -55,14 +54,14 @@ entries_data es = array (items_by seen_data es)
 abbrev pub entries_entry : Group → Option (List Seen) → Entry
 entries_entry g entries = (group_name g, option_map entries_data entries)
 
--- the text of an object was written without its closing bracket
-pub record WritesOpen (text : List ℕ) (before after : Output) : Type 0 where
+-- the text of an object is printed without its closing bracket
+pub record PrintsOpen (text : List ℕ) (prints : List ℕ → Type 0) : Type 0 where
   pub done : List ℕ
-  pub written : Writes before after done
+  pub printed : prints done
   pub whole : done ++ codes "}" ≡ text
 
--- the front of a group's entries was written, behind the opening bracket: the text of those that are left makes it whole
-pub record WritesFront (later : Bool) (all left : List Seen) (before after : Output) : Type 0 where
+-- the front of a group's entries is printed, behind the opening bracket: the text of those that are left makes it whole
+pub record PrintsFront (later : Bool) (all left : List Seen) (prints : List ℕ → Type 0) : Type 0 where
   pub done : List ℕ
-  pub written : Writes before after done
+  pub printed : prints done
   pub whole : done ++ plain_items later (items_by seen_data left) ≡ plain_items false (items_by seen_data all)

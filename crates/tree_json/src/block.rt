@@ -13,120 +13,112 @@ ghost use Rattle.tree_json.specs.Deep.{deepest_in};
 ghost use Rattle.json_values.specs.Values.{zipped, text_data};
 ghost use Rattle.tree_json.specs.Lines.{field_entry, group_entry, items_by};
 ghost use Rattle.json_values.specs.Plain.{plain_text, plain_items, entry_text, entries_text, later_behind};
-ghost use Rattle.tree_json.specs.Views.{data_front, own_data, seen_data, seen_head, seen_front, entries_data, WritesFront};
-ghost use Rattle.json_values.specs.Writes.{output, Writes};
+ghost use Rattle.tree_json.specs.Views.{data_front, own_data, seen_data, seen_head, seen_front, entries_data, PrintsFront};
+ghost use Rattle.printers.specs.Prints.{Prints};
 
 use flyweight_view::{BlockView, EntriesView, TableBlock};
 use json_fields::{put_rows, put_shown};
-use json_values::{Chunk, put_comma, put_text};
+use json_values::{put_comma, put_key, put_text};
+use printers::Printer;
 use sbe_base::Sink;
 
-/// Writes the object of a message's root or of an entry, without the closing bracket.
+/// Prints the object of a message's root or of an entry, without the closing bracket.
 #[cycle(block)]
 #[inline(always)]
-pub(crate) fn put_front<O: Sink>(chunk: &mut Chunk, sink: &mut O, block: &BlockView<'_>)
-    ensures { Writes (output (O.held sink.old) (O.faults sink.old) chunk.old)
-        (output (O.held sink.new) (O.faults sink.new) chunk.new) (seen_front block.now) }
+pub(crate) fn put_front<O: Sink>(printer: &mut Printer<'_, O>, block: &BlockView<'_>)
+    ensures { Prints O.state printer.old printer.new (seen_front block.now) }
 {
-    put_head(chunk, sink, block);
+    put_head(printer, block);
     let (_, count, _) = block.counts();
     if count == 0 {
         return;
     }
     // A copy of its own, so that nothing is stored where there are no groups.
-    put_groups(chunk, sink, &block.again());
+    put_groups(printer, &block.again());
 }
 
-/// Writes the data and the fields of a block, and the opening of its groups; without groups the bracket behind them too.
+/// Prints the data and the fields of a block, and the opening of its groups; without groups the bracket behind them too.
 #[inline(always)]
-fn put_head<O: Sink>(chunk: &mut Chunk, sink: &mut O, block: &BlockView<'_>)
-    ensures { Writes (output (O.held sink.old) (O.faults sink.old) chunk.old)
-        (output (O.held sink.new) (O.faults sink.new) chunk.new) (seen_head block.now) }
+fn put_head<O: Sink>(printer: &mut Printer<'_, O>, block: &BlockView<'_>)
+    ensures { Prints O.state printer.old printer.new (seen_head block.now) }
 {
     match block.by_table() {
         Some(values) => {
-            put_own_data(chunk, sink, block);
-            put_rows(chunk, sink, values.table, values.bytes);
+            put_own_data(printer, block);
+            put_rows(printer, values.table, values.bytes);
         }
-        None => put_by_kinds(chunk, sink, &block.again()),
+        None => put_by_kinds(printer, &block.again()),
     }
 }
 
 /// The same, with each field by its kind.
 #[inline(never)]
-fn put_by_kinds<O: Sink>(chunk: &mut Chunk, sink: &mut O, block: &BlockView<'_>)
-    ensures { Writes (output (O.held sink.old) (O.faults sink.old) chunk.old)
-        (output (O.held sink.new) (O.faults sink.new) chunk.new) (seen_head block.now) }
+fn put_by_kinds<O: Sink>(printer: &mut Printer<'_, O>, block: &BlockView<'_>)
+    ensures { Prints O.state printer.old printer.new (seen_head block.now) }
 {
-    put_data(chunk, sink, block);
-    chunk.put(sink, b",\"fields\":{");
-    put_fields(chunk, sink, block);
-    put_opening(chunk, sink, block);
+    put_data(printer, block);
+    printer.put(b",\"fields\":{");
+    put_fields(printer, block);
+    put_opening(printer, block);
 }
 
-/// Writes the opening of a block's groups; without groups the bracket behind them too.
-fn put_opening<O: Sink>(chunk: &mut Chunk, sink: &mut O, block: &BlockView<'_>)
-    ensures { Writes (output (O.held sink.old) (O.faults sink.old) chunk.old)
-        (output (O.held sink.new) (O.faults sink.new) chunk.new) (text_behind block.now.groups) }
+/// Prints the opening of a block's groups; without groups the bracket behind them too.
+fn put_opening<O: Sink>(printer: &mut Printer<'_, O>, block: &BlockView<'_>)
+    ensures { Prints O.state printer.old printer.new (text_behind block.now.groups) }
 {
     let (_, count, _) = block.counts();
     if count == 0 {
-        chunk.put(sink, b",\"groups\":{}");
+        printer.put(b",\"groups\":{}");
         return;
     }
-    chunk.put(sink, b",\"groups\":{");
+    printer.put(b",\"groups\":{");
 }
 
 // ---- data parts
 
-/// Writes the data parts of a block, where it has some, behind its first bracket.
+/// Prints the data parts of a block, where it has some, behind its first bracket.
 #[inline(always)]
-fn put_own_data<O: Sink>(chunk: &mut Chunk, sink: &mut O, block: &BlockView<'_>)
-    ensures { Writes (output (O.held sink.old) (O.faults sink.old) chunk.old)
-        (output (O.held sink.new) (O.faults sink.new) chunk.new) (own_data block.now.parts (out-Block block.now.block).parts) }
+fn put_own_data<O: Sink>(printer: &mut Printer<'_, O>, block: &BlockView<'_>)
+    ensures { Prints O.state printer.old printer.new (own_data block.now.parts (out-Block block.now.block).parts) }
 {
     let (_, _, parts) = block.counts();
     if parts == 0 {
         return;
     }
     // A copy of its own, so that nothing is stored where there is no data.
-    put_data(chunk, sink, &block.again());
+    put_data(printer, &block.again());
 }
 
-/// Writes the data parts of a block that are there, from its first bracket to that behind them.
+/// Prints the data parts of a block that are there, from its first bracket to that behind them.
 #[inline(never)]
-fn put_data<O: Sink>(chunk: &mut Chunk, sink: &mut O, block: &BlockView<'_>)
-    ensures { Writes (output (O.held sink.old) (O.faults sink.old) chunk.old)
-        (output (O.held sink.new) (O.faults sink.new) chunk.new) (data_front block.now.parts (out-Block block.now.block).parts) }
+fn put_data<O: Sink>(printer: &mut Printer<'_, O>, block: &BlockView<'_>)
+    ensures { Prints O.state printer.old printer.new (data_front block.now.parts (out-Block block.now.block).parts) }
 {
     let (_, _, count) = block.counts();
-    chunk.put(sink, b"{\"data\":{");
+    printer.put(b"{\"data\":{");
     let mut parts = block.parts();
     let mut later = false;
     for i in 0..count {
-        later = put_part(chunk, sink, later, block.data_name(i), parts.next_part());
+        later = put_part(printer, later, block.data_name(i), parts.next_part());
     }
-    chunk.put(sink, b"}");
+    printer.put(b"}");
 }
 
-/// Writes a data part behind its name, unless it is absent, and tells whether a member stands now.
+/// Prints a data part behind its name, unless it is absent, and tells whether a member stands now.
 fn put_part<O: Sink>(
-    chunk: &mut Chunk,
-    sink: &mut O,
+    printer: &mut Printer<'_, O>,
     later: bool,
     name: &[u8],
     bytes: Option<&[u8]>,
 ) -> bool
     ensures later { result ≡ later_behind later (option_map text_data (option_map (λ b. b.now) bytes.entry)) }
-    ensures text { Writes (output (O.held sink.old) (O.faults sink.old) chunk.old)
-        (output (O.held sink.new) (O.faults sink.new) chunk.new)
-        (entry_text later (name.now, option_map text_data (option_map (λ b. b.now) bytes.entry))) }
+    ensures text { Prints O.state printer.old printer.new (entry_text later (name.now, option_map text_data (option_map (λ b. b.now) bytes.entry))) }
 {
     match bytes {
         None => later,
         Some(bytes) => {
-            chunk.put_key(sink, later, name);
-            put_text(chunk, sink, bytes);
+            put_key(printer, later, name);
+            put_text(printer, bytes);
             true
         }
     }
@@ -134,24 +126,21 @@ fn put_part<O: Sink>(
 
 // ---- fields
 
-/// Writes the fields of a block that are there, with the bracket behind them.
-fn put_fields<O: Sink>(chunk: &mut Chunk, sink: &mut O, block: &BlockView<'_>)
-    ensures { Writes (output (O.held sink.old) (O.faults sink.old) chunk.old)
-        (output (O.held sink.new) (O.faults sink.new) chunk.new)
-        (entries_text false (zipped field_entry block.now.fields (out-Block block.now.block).fields)) }
+/// Prints the fields of a block that are there, with the bracket behind them.
+fn put_fields<O: Sink>(printer: &mut Printer<'_, O>, block: &BlockView<'_>)
+    ensures { Prints O.state printer.old printer.new (entries_text false (zipped field_entry block.now.fields (out-Block block.now.block).fields)) }
 {
     let (count, _, _) = block.counts();
     let mut later = false;
     for i in 0..count {
-        later = put_field(chunk, sink, later, block, i);
+        later = put_field(printer, later, block, i);
     }
-    chunk.put(sink, b"}");
+    printer.put(b"}");
 }
 
-/// Writes field `i`, unless it is absent, and tells whether one stands now. It needs a field in range.
+/// Prints field `i`, unless it is absent, and tells whether one stands now. It needs a field in range.
 fn put_field<O: Sink>(
-    chunk: &mut Chunk,
-    sink: &mut O,
+    printer: &mut Printer<'_, O>,
     later: bool,
     block: &BlockView<'_>,
     i: usize,
@@ -161,14 +150,13 @@ fn put_field<O: Sink>(
     ensures later { (f : Field) (v : Value) → slice_get block.now.fields i ≡ Some f → slice_get (out-Block block.now.block).fields i ≡ Some v
         → result ≡ later_behind later (field_entry f v).1 }
     ensures text { (f : Field) (v : Value) → slice_get block.now.fields i ≡ Some f → slice_get (out-Block block.now.block).fields i ≡ Some v
-        → Writes (output (O.held sink.old) (O.faults sink.old) chunk.old)
-        (output (O.held sink.new) (O.faults sink.new) chunk.new) (entry_text later (field_entry f v)) }
+        → Prints O.state printer.old printer.new (entry_text later (field_entry f v)) }
 {
     match block.field(i) {
         None => later,
         Some(field) => {
-            chunk.put_key(sink, later, block.name(i));
-            put_shown(chunk, sink, field.order, field.kind, field.bytes);
+            put_key(printer, later, block.name(i));
+            put_shown(printer, field.order, field.kind, field.bytes);
             true
         }
     }
@@ -176,114 +164,104 @@ fn put_field<O: Sink>(
 
 // ---- groups
 
-/// Writes the groups of a block that are there, with the bracket behind them.
+/// Prints the groups of a block that are there, with the bracket behind them.
 #[cycle(block)]
 #[inline(never)]
-fn put_groups<O: Sink>(chunk: &mut Chunk, sink: &mut O, block: &BlockView<'_>)
-    ensures { Writes (output (O.held sink.old) (O.faults sink.old) chunk.old)
-        (output (O.held sink.new) (O.faults sink.new) chunk.new)
-        (entries_text false (zipped group_entry block.now.groups (out-Block block.now.block).groups)) }
+fn put_groups<O: Sink>(printer: &mut Printer<'_, O>, block: &BlockView<'_>)
+    ensures { Prints O.state printer.old printer.new (entries_text false (zipped group_entry block.now.groups (out-Block block.now.block).groups)) }
 {
     let (_, count, _) = block.counts();
     let mut groups = block.groups();
     let mut later = false;
     for i in 0..count {
-        later = put_group(chunk, sink, later, block.group_name(i), groups.next_group());
+        later = put_group(printer, later, block.group_name(i), groups.next_group());
     }
-    chunk.put(sink, b"}");
+    printer.put(b"}");
 }
 
-/// Writes a group behind its name, unless it is absent, and tells whether a member stands now.
+/// Prints a group behind its name, unless it is absent, and tells whether a member stands now.
 #[cycle(block)]
 fn put_group<O: Sink>(
-    chunk: &mut Chunk,
-    sink: &mut O,
+    printer: &mut Printer<'_, O>,
     later: bool,
     name: &[u8],
     entries: Option<EntriesView<'_>>,
 ) -> bool
     ensures later { result ≡ later_behind later (option_map entries_data entries.entry) }
-    ensures text { Writes (output (O.held sink.old) (O.faults sink.old) chunk.old)
-        (output (O.held sink.new) (O.faults sink.new) chunk.new)
-        (entry_text later (name.now, option_map entries_data entries.entry)) }
+    ensures text { Prints O.state printer.old printer.new (entry_text later (name.now, option_map entries_data entries.entry)) }
 {
     match entries {
         None => later,
         Some(entries) => {
-            chunk.put_key(sink, later, name);
-            put_entries(chunk, sink, entries);
+            put_key(printer, later, name);
+            put_entries(printer, entries);
             true
         }
     }
 }
 
-/// Writes the entries of a group, as an array.
+/// Prints the entries of a group, as an array.
 #[cycle(block)]
-fn put_entries<O: Sink>(chunk: &mut Chunk, sink: &mut O, entries: EntriesView<'_>)
-    ensures { Writes (output (O.held sink.old) (O.faults sink.old) chunk.old)
-        (output (O.held sink.new) (O.faults sink.new) chunk.new) (plain_text (entries_data entries.entry)) }
+fn put_entries<O: Sink>(printer: &mut Printer<'_, O>, entries: EntriesView<'_>)
+    ensures { Prints O.state printer.old printer.new (plain_text (entries_data entries.entry)) }
 {
-    chunk.put(sink, b"[");
+    printer.put(b"[");
     let mut entries = entries;
-    let later = put_flat_entries(chunk, sink, &mut entries);
+    let later = put_flat_entries(printer, &mut entries);
     if entries.len() == 0 {
-        chunk.put(sink, b"]");
+        printer.put(b"]");
         return;
     }
-    put_views(chunk, sink, later, entries);
+    put_views(printer, later, entries);
 }
 
-/// Writes the entries that are left behind others, by a view of each, and the closing bracket.
+/// Prints the entries that are left behind others, by a view of each, and the closing bracket.
 #[cycle(block)]
 #[inline(never)]
-fn put_views<O: Sink>(chunk: &mut Chunk, sink: &mut O, later: bool, entries: EntriesView<'_>)
-    ensures { Writes (output (O.held sink.old) (O.faults sink.old) chunk.old)
-        (output (O.held sink.new) (O.faults sink.new) chunk.new) (plain_items later (items_by seen_data entries.entry)) }
+fn put_views<O: Sink>(printer: &mut Printer<'_, O>, later: bool, entries: EntriesView<'_>)
+    ensures { Prints O.state printer.old printer.new (plain_items later (items_by seen_data entries.entry)) }
 {
     let mut later = later;
     for entry in entries {
-        put_entry(chunk, sink, later, &entry);
+        put_entry(printer, later, &entry);
         later = true;
     }
-    chunk.put(sink, b"]");
+    printer.put(b"]");
 }
 
-/// Writes the first of some entries, as far as a table shows them, and tells whether one stands now.
+/// Prints the first of some entries, as far as a table shows them, and tells whether one stands now.
 #[inline(always)]
-fn put_flat_entries<O: Sink>(chunk: &mut Chunk, sink: &mut O, entries: &mut EntriesView<'_>) -> bool
+fn put_flat_entries<O: Sink>(printer: &mut Printer<'_, O>, entries: &mut EntriesView<'_>) -> bool
     ensures low { deepest_in entries.new ≤ deepest_in entries.old }
-    ensures text { WritesFront result entries.old entries.new (output (O.held sink.old) (O.faults sink.old) chunk.old)
-        (output (O.held sink.new) (O.faults sink.new) chunk.new) }
+    ensures text { PrintsFront result entries.old entries.new (Prints O.state printer.old printer.new) }
 {
     let mut later = false;
     'entries: while let Some(block) = entries.next_table() {
-        put_flat_entry(chunk, sink, later, block);
+        put_flat_entry(printer, later, block);
         later = true;
     }
     later
 }
 
-/// Writes the object of an entry without groups and data by its table, behind a comma where another stands before.
+/// Prints the object of an entry without groups and data by its table, behind a comma where another stands before.
 #[inline(always)]
-fn put_flat_entry<O: Sink>(chunk: &mut Chunk, sink: &mut O, later: bool, block: TableBlock<'_>)
+fn put_flat_entry<O: Sink>(printer: &mut Printer<'_, O>, later: bool, block: TableBlock<'_>)
     requires table { IsTable block.table.now }
     requires fits { RowsFit (length block.bytes.now) block.table.now.rows.items }
     ensures { (s : Seen) → IsTableBlock block.entry s → length s.groups ≡ 0 → length s.parts ≡ 0
-        → Writes (output (O.held sink.old) (O.faults sink.old) chunk.old)
-        (output (O.held sink.new) (O.faults sink.new) chunk.new) (comma_if later ++ plain_text (seen_data s)) }
+        → Prints O.state printer.old printer.new (comma_if later ++ plain_text (seen_data s)) }
 {
-    put_comma(chunk, sink, later);
-    put_rows(chunk, sink, block.table, block.bytes);
-    chunk.put(sink, b"}");
+    put_comma(printer, later);
+    put_rows(printer, block.table, block.bytes);
+    printer.put(b"}");
 }
 
-/// Writes the object of an entry, behind a comma where another stands before.
+/// Prints the object of an entry, behind a comma where another stands before.
 #[cycle(block)]
-fn put_entry<O: Sink>(chunk: &mut Chunk, sink: &mut O, later: bool, entry: &BlockView<'_>)
-    ensures { Writes (output (O.held sink.old) (O.faults sink.old) chunk.old)
-        (output (O.held sink.new) (O.faults sink.new) chunk.new) (comma_if later ++ plain_text (seen_data entry.now)) }
+fn put_entry<O: Sink>(printer: &mut Printer<'_, O>, later: bool, entry: &BlockView<'_>)
+    ensures { Prints O.state printer.old printer.new (comma_if later ++ plain_text (seen_data entry.now)) }
 {
-    put_comma(chunk, sink, later);
-    put_front(chunk, sink, entry);
-    chunk.put(sink, b"}");
+    put_comma(printer, later);
+    put_front(printer, entry);
+    printer.put(b"}");
 }

@@ -182,6 +182,8 @@ impl<'b> TailW<'b> {
     pub fn group(&mut self, count: u32) -> Result<EntriesW<'_>, TailErr>
         requires state { AppendsParts self.old.layout.now self.old.buf.now }
         requires group { parts_done self.old.buf.now.frames < length (groups_at self.old.layout.now (level_of self.old.buf.now.frames)) }
+        ensures same_layout { IfOk result (λ e. e.layout.now ≡ self.old.layout.now) }
+        ensures depth { IfOk result (λ e. e.depth ≡ length e.buf.now.frames) }
         ensures ok { IfOk result (λ e. Groups self.old.layout.now count self.old.buf.now e.buf.now) }
         ensures ready { IfOk result (λ e. AppendsEntries e.layout.now e.buf.now) }
         ensures refused { IfErr result (GroupRefused self.old.layout.now (next_group self.old.layout.now self.old.buf.now.frames) count self.old.buf.now) }
@@ -257,6 +259,7 @@ impl<'b> EntriesW<'b> {
     pub fn entry(&mut self) -> Result<FieldsW<'_>, Full>
         requires state { AppendsEntries self.old.layout.now self.old.buf.now }
         requires some { 0 < entries_left self.old.buf.now.frames }
+        ensures same_layout { IfOk result (λ f. f.layout.now ≡ self.old.layout.now) }
         ensures ok { IfOk result (λ f. Opens self.old.layout.now self.old.buf.now f.buf.now) }
         ensures ready { IfOk result (λ f. SetsFields f.layout.now f.buf.now) }
         ensures full { IfErr result (λ f. IsFull self.old.buf.now (block_at self.old.layout.now (level_of self.old.buf.now.frames)) f) }

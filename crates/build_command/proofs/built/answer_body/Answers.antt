@@ -5,8 +5,8 @@ use Rattle.build_command.proofs.built.answer_body.Goals as goal
 
 pub returns-in-Ok : goal.returns-in-Ok
 returns-in-Ok g c = λ notes.
-    put_whole _ _ _ _ _ _ (body_is c.args.layout.now c.args.body.now c.encoding_of.result (c.encoding_of.ensures ∙ ap encoding_of c.order.ensures)) notes c.in-Ok.ensures
+    put_whole _ _ _ _ (body_is c.args.layout.now c.args.body.now c.encoding_of.result (c.encoding_of.ensures ∙ ap encoding_of c.order.ensures)) notes c.in-Ok.ensures
 
 pub returns-in-Err : goal.returns-in-Err
 returns-in-Err g c = λ notes.
-    put_part _ _ _ _ _ _ (body_is c.args.layout.now c.args.body.now c.encoding_of.result (c.encoding_of.ensures ∙ ap encoding_of c.order.ensures)) notes _ c.in-Err.ensures
+    put_part _ _ _ _ (body_is c.args.layout.now c.args.body.now c.encoding_of.result (c.encoding_of.ensures ∙ ap encoding_of c.order.ensures)) notes c.in-Err.ensures

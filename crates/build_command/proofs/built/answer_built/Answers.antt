@@ -4,7 +4,7 @@ use Rattle.std.specs.Option.{IsSome}
 use Rattle.sbe_types.specs.declared.schema.WireSchema.{WireSchema}
 use Rattle.line_reading.specs.Lines.{tree_of}
 use Rattle.line_values.specs.Refusals.{refusal}
-use Rattle.replies.specs.Outside.{Object}
+use Rattle.sbe_base.specs.Objects.{Object}
 use Rattle.build_command.proofs.Answering.{note_whole, note_part, empty_answered, unread_is, message_answered, printed_answered}
 use Rattle.line_facts.proofs.Templates.{template_there}
 use Rattle.printed_lines.specs.Bodies.{IsBodyOf}
@@ -19,7 +19,7 @@ returns-then-is_empty-clause-answers g c = λ limit at. empty_answered c.args.ta
 
 pub returns-then-body_of_line-clause-answers : goal.returns-then-body_of_line-clause-answers
 returns-then-body_of_line-clause-answers g c = λ limit at.
-    let notes : Object (List ℕ) = record { told = g.N.Sink.held c.args.notes.now; faults = g.N.Sink.faults c.args.notes.now } in
+    let notes : Object (List ℕ) = g.N.Sink.state c.args.notes.now in
     printed_answered c.args.target.now limit c.args.item c.args.line.now (sym c.is_empty.ensures ∙ c.if-is_empty.false) c.target.inside.layout c.args.space.now.buffer.limit c.body_of_line.new.draft c.bytes.result.now _ _ _
     (c.target.invariant ∙ c.target.view_is) at (subst (λ n. IsBodyOf c.target.inside.layout c.args.line.now n c.body_of_line.new.draft) c.limit.ensures.same (c.if-body_of_line.ensures.body refl)) c.bytes.ensures (c.answer_body.ensures notes)
 
@@ -32,19 +32,19 @@ returns-in-Ok-clause-answers g c = λ limit at.
 
 pub returns-in-Ok-put_unread-clause-answers : goal.returns-in-Ok-put_unread-clause-answers
 returns-in-Ok-put_unread-clause-answers g c = λ limit at.
-    let output : Object (List ℕ) = record { told = g.O.Sink.held c.args.output.now; faults = g.O.Sink.faults c.args.output.now } in
+    let output : Object (List ℕ) = g.O.Sink.state c.args.output.now in
     let read = subst (λ (s : WireSchema). tree_of s c.args.line.now ≡ Err (refusal c.in-Err-Refused.code c.in-Err-Refused.place)) c.target.view_is (rw c.in-Err-Refused.field-0-is at c.in-Err-Refused.ensures) in
     let shown : c.as_slice.result.now ≡ c.in-Err-Refused.place = rw c.in-Err-Refused.field-0-is at c.as_slice.ensures in
-    note_whole _ _ _ _ _ _ (unread_is c.args.target.now limit c.args.item c.args.line.now (sym c.is_empty.ensures ∙ c.if-is_empty.false) c.in-Err-Refused.code _ c.in-Err-Refused.place c.as_slice.result.now read c.in-Err-Refused.code-is shown) output
+    note_whole _ _ _ _ (unread_is c.args.target.now limit c.args.item c.args.line.now (sym c.is_empty.ensures ∙ c.if-is_empty.false) c.in-Err-Refused.code _ c.in-Err-Refused.place c.as_slice.result.now read c.in-Err-Refused.code-is shown) output
     c.in-Ok-put_unread.ensures
 
 pub returns-in-Err-Refused-clause-answers : goal.returns-in-Err-Refused-clause-answers
 returns-in-Err-Refused-clause-answers g c = λ limit at.
-    let output : Object (List ℕ) = record { told = g.O.Sink.held c.args.output.now; faults = g.O.Sink.faults c.args.output.now } in
+    let output : Object (List ℕ) = g.O.Sink.state c.args.output.now in
     let read = subst (λ (s : WireSchema). tree_of s c.args.line.now ≡ Err (refusal c.in-Err-Refused.code c.in-Err-Refused.place)) c.target.view_is (rw c.in-Err-Refused.field-0-is at c.in-Err-Refused.ensures) in
     let shown : c.as_slice.result.now ≡ c.in-Err-Refused.place = rw c.in-Err-Refused.field-0-is at c.as_slice.ensures in
-    note_part _ _ _ _ _ _ (unread_is c.args.target.now limit c.args.item c.args.line.now (sym c.is_empty.ensures ∙ c.if-is_empty.false) c.in-Err-Refused.code _ c.in-Err-Refused.place c.as_slice.result.now read c.in-Err-Refused.code-is shown) output
-    c.in-Err.field-0 c.in-Err.ensures
+    note_part _ _ _ _ (unread_is c.args.target.now limit c.args.item c.args.line.now (sym c.is_empty.ensures ∙ c.if-is_empty.false) c.in-Err-Refused.code _ c.in-Err-Refused.place c.as_slice.result.now read c.in-Err-Refused.code-is shown) output
+    c.in-Err.ensures
 
 pub returns-clause-answers : goal.returns-clause-answers
 returns-clause-answers g c = λ limit at. inr (refl, refl)

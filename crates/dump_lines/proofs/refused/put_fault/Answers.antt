@@ -1,5 +1,5 @@
 use Rattle.std.proofs.Common.{sym, ap, ap₂, subst}
-use Rattle.layout_tables.specs.Writes.{Writes, outlet_of}
+use Rattle.printers.proofs.Printing.{reprinted}
 use Rattle.dump_lines.specs.Refused.{IsWay, of_fault_in, refused_line}
 use Rattle.dump_lines.proofs.refused.put_fault.Goals as goal
 
@@ -11,7 +11,4 @@ put_refusal-requires g c =
 
 pub returns : goal.returns
 returns g c =
-    let Held = g.O.Sink.held in
-    let Faults = g.O.Sink.faults in
-    let line = ap₂ (λ t f. refused_line c.args.item (of_fault_in c.args.layout.now t f)) c.refusal.ensures.template c.refusal.ensures.fault in
-    subst (λ l. Writes (outlet_of (Held c.args.sink.now) (Faults c.args.sink.now)) (outlet_of (Held c.put_refusal.new.sink) (Faults c.put_refusal.new.sink)) l c.put_refusal.result) line c.put_refusal.ensures
+    reprinted (ap₂ (λ t f. refused_line c.args.item (of_fault_in c.args.layout.now t f)) c.refusal.ensures.template c.refusal.ensures.fault) c.put_refusal.ensures

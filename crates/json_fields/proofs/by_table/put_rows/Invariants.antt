@@ -1,6 +1,6 @@
 use Rattle.std.proofs.Common.{◌≡◌, ◌≤◌, drop, length}
 use Rattle.std.specs.List.{AllByRecursion}
-use Rattle.json_values.specs.Writes.{output}
+use Rattle.printers.specs.Prints.{Prints}
 use Rattle.flat_rows.specs.declared.rows.FlatRow.{FlatRow}
 use Rattle.flat_rows.specs.Tables.{slots_from, last_from, AreRows, RowsFit}
 use Rattle.json_fields.proofs.RowsText.{Goes}
@@ -14,5 +14,5 @@ invariant-loop-row g l =
       ends : AllByRecursion (λ (r : FlatRow). r.end ≤ length l.table.bytes.items) (drop l.row-index l.table.rows.items);
       last : last_from l.start l.table.bytes.items (drop l.row-index l.table.rows.items) ≡ last_from 0 l.table.bytes.items l.table.rows.items;
       goes : Goes (slots_from 0 l.table.bytes.items l.table.rows.items) (slots_from l.start l.table.bytes.items (drop l.row-index l.table.rows.items)) l.block
-          (output (g.O.Sink.held l.initial.sink) (g.O.Sink.faults l.initial.sink) l.initial.chunk) (output (g.O.Sink.held l.sink) (g.O.Sink.faults l.sink) l.chunk);
+          (Prints g.O.Sink.state l.initial.printer l.printer);
     }

@@ -1,5 +1,5 @@
 use Rattle.std.proofs.Common.{drop, length}
-use Rattle.json_values.specs.Writes.{output}
+use Rattle.printers.specs.Prints.{Prints}
 use Rattle.json_fields.proofs.MembersFit.{AreFit}
 use Rattle.json_fields.proofs.MembersShown.{Goes}
 use Rattle.json_fields.proofs.kinds.+kind.Given as goal
@@ -8,6 +8,6 @@ abbrev pub invariant-put_members-loop-member : goal.invariant-put_members-loop-m
 invariant-put_members-loop-member g l =
     record {
       fit : AreFit (length l.bytes) l.end (drop l.member-index l.fn.members);
-      goes : Goes l.order l.fn.members l.bytes (output (g.O.Sink.held l.initial.sink) (g.O.Sink.faults l.initial.sink) l.initial.chunk) (output (g.O.Sink.held l.sink) (g.O.Sink.faults l.sink) l.chunk)
+      goes : Goes l.order l.fn.members l.bytes (Prints g.O.Sink.state l.initial.printer l.printer)
           l.later l.end (drop l.member-index l.fn.members);
     }

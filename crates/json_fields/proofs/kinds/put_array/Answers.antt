@@ -5,13 +5,13 @@ use Rattle.std.proofs.lemmas.List.{take_rest}
 use Rattle.sbe_types.specs.Numbers.{number_of, prim_width}
 use Rattle.json_values.specs.Plain.{plain_items}
 use Rattle.json_fields.specs.Shown.{elements_shown}
-use Rattle.json_values.proofs.Written.{then_writes, retold, writes_nothing}
+use Rattle.printers.proofs.Printing.{then_prints, reprinted, prints_nothing}
 use Rattle.json_values.proofs.Entries.{goes_on, ends_so}
 use Rattle.json_fields.proofs.FromBytes.{elements_next, less_wide}
 use Rattle.json_fields.proofs.kinds.put_array.Goals as goal
 
 pub loop-left-init : goal.loop-left-init
-loop-left-init g c = record { long = c.requires; written = ([], writes_nothing, refl) }
+loop-left-init g c = record { long = c.requires; written = ([], prints_nothing, refl) }
 
 pub loop-left-preserved : goal.loop-left-preserved
 loop-left-preserved g c =
@@ -28,7 +28,7 @@ loop-left-preserved g c =
     let next = elements_next c.args.order leaf c.loop-left.later left rest _ (to_z w128 (of_z w128 c.get_num-number.result)) some number behind in
     record {
       long = ap length behind ∙ length-drop (prim_width leaf.prim) rest ∙ ap (λ n. n - prim_width leaf.prim) so_far.long ∙ less_wide (prim_width leaf.prim) left some;
-      written = (_, then_writes so_far.written.1 c.put_next.ensures, goes_on so_far.written.0 _ _ _ _ next so_far.written.2);
+      written = (_, then_prints so_far.written.1 c.put_next.ensures, goes_on so_far.written.0 _ _ _ _ next so_far.written.2);
     }
 
 pub returns : goal.returns
@@ -36,4 +36,4 @@ returns g c =
     let so_far = c.loop-left.invariant.written in
     let over : c.loop-left.left ≡ 0 = omega arith in
     let none = sym (ap (λ k. plain_items c.loop-left.later (elements_shown c.args.order c.args.leaf.now k c.loop-left.rest.now)) over) in
-    then_writes c.put.ensures (retold (ends_so so_far.0 _ _ _ none so_far.2) (then_writes so_far.1 c.put-2.ensures))
+    then_prints c.put.ensures (reprinted (ends_so so_far.0 _ _ _ none so_far.2) (then_prints so_far.1 c.put-2.ensures))

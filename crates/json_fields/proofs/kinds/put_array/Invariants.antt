@@ -2,7 +2,7 @@ use Rattle.std.proofs.Common.{◌≡◌, ◌*◌, ℕ, List, ◌++◌, length, f
 use Rattle.sbe_types.specs.Numbers.{prim_width}
 use Rattle.json_values.specs.Plain.{plain_items}
 use Rattle.json_fields.specs.Shown.{elements_shown}
-use Rattle.json_values.specs.Writes.{output, Writes}
+use Rattle.printers.specs.Prints.{Prints}
 use Rattle.json_fields.proofs.kinds.put_array.Given as goal
 
 abbrev pub invariant-loop-left : goal.invariant-loop-left
@@ -10,7 +10,7 @@ invariant-loop-left g l =
     record {
       long : length l.rest ≡ prim_width l.leaf.prim * l.left;
       written : (done : List ℕ)
-          × Writes (output (g.O.Sink.held l.initial.sink) (g.O.Sink.faults l.initial.sink) l.initial.chunk) (output (g.O.Sink.held l.sink) (g.O.Sink.faults l.sink) l.chunk) done
+          × Prints g.O.Sink.state l.initial.printer l.printer done
           × (done ++ plain_items l.later (elements_shown l.order l.leaf l.left l.rest) ≡ plain_items false (elements_shown l.order l.leaf l.leaf.length l.bytes));
     }
 

@@ -4,7 +4,7 @@ use Rattle.std.proofs.lemmas.Int.{to_z-of_z}
 use Rattle.sbe_types.specs.Shows.{ShowsLeaf}
 use Rattle.json_values.specs.Plain.{plain_text}
 use Rattle.json_fields.specs.Shown.{single_shown}
-use Rattle.json_values.proofs.Written.{retold}
+use Rattle.printers.proofs.Printing.{reprinted}
 use Rattle.json_fields.proofs.FromBytes.{single_written, text_written, array_written}
 use Rattle.json_fields.proofs.kinds.put_leaf.Goals as goal
 
@@ -12,7 +12,7 @@ pub returns-in-Number : goal.returns-in-Number
 returns-in-Number g c = λ v h.
     let fits : FitsSigned w128 c.get_num-number.result = search rules in
     let back = to_z-of_z w128 c.get_num-number.result fits in
-    let written = retold (ap (λ n. plain_text (single_shown c.args.leaf.now n)) (back ∙ c.get_num-number.ensures)) c.put_one.ensures in
+    let written = reprinted (ap (λ n. plain_text (single_shown c.args.leaf.now n)) (back ∙ c.get_num-number.ensures)) c.put_one.ensures in
     single_written c.args.order c.args.leaf.now c.args.bytes.now written v (subst (λ s. ShowsLeaf c.args.order s c.args.leaf.now v c.args.bytes.now) c.in-Number.is h)
 
 pub returns-in-RangedText : goal.returns-in-RangedText

@@ -1,6 +1,6 @@
-use Rattle.json_values.proofs.Written.{retold}
+use Rattle.printers.proofs.Printing.{reprinted}
 use Rattle.json_values.proofs.Plainly.{quoted_plain}
 use Rattle.json_values.proofs.texts.put_plain.Goals as goal
 
 pub returns : goal.returns
-returns g c = retold (quoted_plain c.args.bytes.now c.requires) c.put_in_quotes.ensures
+returns g c = reprinted (quoted_plain c.args.bytes.now c.requires) c.put_in_quotes.ensures

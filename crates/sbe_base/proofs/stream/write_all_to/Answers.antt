@@ -1,18 +1,14 @@
-use Rattle.std.proofs.Common.{sym, subst, rules, ◌∙◌}
-use Rattle.std.specs.Io.KnownBytes.{Appends}
-use Rattle.sbe_base.proofs.Known.{appends_more, front_more, appends_kept, part_of_front}
+use Rattle.std.proofs.Common.{rules}
+use Rattle.sbe_base.proofs.Written.{took_more, took_none}
 use Rattle.sbe_base.proofs.stream.write_all_to.Goals as goal
 
 pub loop-done-preserved : goal.loop-done-preserved
 loop-done-preserved g c =
-    let held = g.O.Sink.held in
     record {
       within = search rules;
-      bytes = subst (Appends (held c.args.sink.now) (held c.write.new.self)) (sym (front_more c.args.bytes.now c.loop-done.done c.in-Ok.n)) (appends_more (held c.args.sink.now) (held c.loop-done.sink) (held c.write.new.self) _ _ c.loop-done.invariant.bytes c.in-Ok.ensures.bytes);
-      later = c.in-Ok.ensures.cause.kept ∙ c.loop-done.invariant.later;
+      written = took_more c.args.bytes.now c.loop-done.done c.loop-done.invariant.written c.in-Ok.n c.in-Ok.ensures.bytes c.in-Ok.ensures.cause.kept;
     }
 
-pub returns-in-Err-clause-part : goal.returns-in-Err-clause-part
-returns-in-Err-clause-part g c =
-    let held = g.O.Sink.held in
-    part_of_front (held c.args.sink.now) (held c.write.new.self) c.args.bytes.now c.loop-done.done (appends_kept (held c.args.sink.now) (held c.loop-done.sink) (held c.write.new.self) _ c.loop-done.invariant.bytes c.in-Err.ensures.bytes)
+pub returns-in-Err : goal.returns-in-Err
+returns-in-Err g c =
+    took_none c.args.bytes.now c.loop-done.done c.loop-done.invariant.written c.in-Err.ensures.bytes c.in-Err.ensures.cause.later c.in-Err.ensures.cause.failed

@@ -9,7 +9,7 @@ use Rattle.json_values.specs.Values.{zipped}
 use Rattle.tree_json.specs.Lines.{group_name, group_entry, items_by}
 use Rattle.json_values.specs.Plain.{entry_text, entries_text, plain_items}
 use Rattle.tree_json.specs.Views.{entries_entry, entries_data, seen_data}
-use Rattle.json_values.proofs.Written.{then_writes, retold, writes_nothing}
+use Rattle.printers.proofs.Printing.{then_prints, reprinted, prints_nothing}
 use Rattle.json_values.proofs.Entries.{goes_on, ends_so, item_next}
 use Rattle.tree_json.proofs.Depth.{AreWithin, seen_within, first_within, some_deep}
 use Rattle.tree_json.proofs.Blocks.{front_closed}
@@ -22,21 +22,21 @@ pub put_front-returns-then-count-eq0 : goal.put_front-returns-then-count-eq0
 put_front-returns-then-count-eq0 g t c =
     let s = c.args.block.now in
     let none = no_groups s.groups (out-Block s.block).groups (omega (arith, c.if-count-eq0.true, ap (λ r. r.1) c.counts-count.ensures)) in
-    retold (front_is s) (then_writes c.put_head.ensures (retold none writes_nothing))
+    reprinted (front_is s) (then_prints c.put_head.ensures (reprinted none prints_nothing))
 
 pub put_front-returns : goal.put_front-returns
 put_front-returns g t c =
     let s = c.args.block.now in
     let some = some_groups s.groups (out-Block s.block).groups (omega (arith, c.if-count-eq0.false, ap (λ r. r.1) c.counts-count.ensures)) in
-    let groups = retold (ap (λ (b : Seen). entries_text false (zipped group_entry b.groups (out-Block b.block).groups)) c.again.ensures) c.put_groups.ensures in
-    retold (front_is s) (then_writes c.put_head.ensures (retold some groups))
+    let groups = reprinted (ap (λ (b : Seen). entries_text false (zipped group_entry b.groups (out-Block b.block).groups)) c.again.ensures) c.put_groups.ensures in
+    reprinted (front_is s) (then_prints c.put_head.ensures (reprinted some groups))
 
 pub put_front-put_groups-requires : goal.put_front-put_groups-requires
 put_front-put_groups-requires g t c = λ κs h. (omega (arith, ap (λ (b : Seen). deepest b.groups) c.again.ensures, c.decreases), h)
 
 pub put_entry-returns : goal.put_entry-returns
 put_entry-returns g t c =
-    retold (ap (λ r. comma_if c.args.later ++ r) (front_closed c.args.entry.now)) (then_writes c.put_comma.ensures (then_writes c.put_front.ensures c.put.ensures))
+    reprinted (ap (λ r. comma_if c.args.later ++ r) (front_closed c.args.entry.now)) (then_prints c.put_comma.ensures (then_prints c.put_front.ensures c.put.ensures))
 
 pub put_groups-loop-i-init : goal.put_groups-loop-i-init
 put_groups-loop-i-init g t c =
@@ -44,7 +44,7 @@ put_groups-loop-i-init g t c =
     record {
       count = omega (arith, c.groups-groups.ensures.count);
       within = subst (AreWithin (deepest groups)) (sym c.groups-groups.ensures.seen) (seen_within (deepest groups) groups (out-Block c.args.block.now.block).groups (omega arith));
-      written = ([], writes_nothing, refl);
+      written = ([], prints_nothing, refl);
     }
 
 pub put_groups-put_group-later-requires : goal.put_groups-put_group-later-requires
@@ -64,11 +64,11 @@ put_groups-loop-i-preserved g t c =
     let low = first_within (deepest groups) entries c.next_group.new.self c.loop-i.groups c.next_group.ensures some so_far.within in
     let group = part_of group_name (slice_get groups c.loop-i.i) c.group_name.result.now c.group_name.ensures in
     let next = view_next entries_entry later c.loop-i.i groups group.0 entries c.next_group.new.self c.loop-i.groups group.1 c.next_group.ensures in
-    let one = retold (ap (λ name. entry_text later (name, option_map entries_data entries)) (sym group.2)) c.put_group-later.ensures.text in
+    let one = reprinted (ap (λ name. entry_text later (name, option_map entries_data entries)) (sym group.2)) c.put_group-later.ensures.text in
     record {
       count = omega (arith, so_far.count, ap length c.next_group.ensures);
       within = low.1;
-      written = (_, then_writes so_far.written.1 one, rw c.put_group-later.ensures.later (goes_on so_far.written.0 _ _ _ _ next so_far.written.2));
+      written = (_, then_prints so_far.written.1 one, rw c.put_group-later.ensures.later (goes_on so_far.written.0 _ _ _ _ next so_far.written.2));
     }
 
 pub put_groups-returns : goal.put_groups-returns
@@ -78,7 +78,7 @@ put_groups-returns g t c =
     let values = (out-Block c.args.block.now.block).groups in
     let none = view_over entries_entry c.loop-i.later c.loop-i.i groups c.loop-i.groups (omega (arith, ap (λ r. r.1) c.counts-count.ensures)) in
     let whole = ap (λ vs. entries_text false (zipped entries_entry groups vs)) c.groups-groups.ensures.seen ∙ ap (entries_text false) (groups_are groups values) in
-    retold (ends_so so_far.0 _ _ _ none so_far.2 ∙ whole) (then_writes so_far.1 c.put.ensures)
+    reprinted (ends_so so_far.0 _ _ _ none so_far.2 ∙ whole) (then_prints so_far.1 c.put.ensures)
 
 pub put_entries-put_views-requires : goal.put_entries-put_views-requires
 put_entries-put_views-requires g t c = λ κs h. (omega (arith, c.put_flat_entries-later.ensures.low, c.decreases), h)
@@ -87,17 +87,17 @@ pub put_entries-returns-then-len-eq0 : goal.put_entries-returns-then-len-eq0
 put_entries-returns-then-len-eq0 g t c =
     let front = c.put_flat_entries-later.ensures.text in
     let none = none_left c.put_flat_entries-later.result c.put_flat_entries-later.new.entries (omega (arith, c.if-len-eq0.true, c.len.ensures)) in
-    then_writes c.put.ensures (retold (ap (λ l. front.done ++ l) none ∙ front.whole) (then_writes front.written c.put-then-len-eq0.ensures))
+    then_prints c.put.ensures (reprinted (ap (λ l. front.done ++ l) none ∙ front.whole) (then_prints front.printed c.put-then-len-eq0.ensures))
 
 pub put_entries-returns : goal.put_entries-returns
 put_entries-returns g t c =
     let front = c.put_flat_entries-later.ensures.text in
-    then_writes c.put.ensures (retold front.whole (then_writes front.written c.put_views.ensures))
+    then_prints c.put.ensures (reprinted front.whole (then_prints front.printed c.put_views.ensures))
 
 pub put_views-loop-entry-init : goal.put_views-loop-entry-init
 put_views-loop-entry-init g t c =
     let same = c.into_iter-entry-iterator.ensures.into_iter_gives in
-    record { low = omega (arith, ap deepest_in same); written = ([], writes_nothing, ap (λ es. plain_items c.args.later (items_by seen_data es)) same) }
+    record { low = omega (arith, ap deepest_in same); written = ([], prints_nothing, ap (λ es. plain_items c.args.later (items_by seen_data es)) same) }
 
 pub put_views-put_entry-requires : goal.put_views-put_entry-requires
 put_views-put_entry-requires g t c = λ κs h. (omega (arith, c.loop-entry.invariant.low, ap deepest_in c.in-Some.ensures.steps, c.decreases), h)
@@ -111,11 +111,11 @@ put_views-loop-entry-preserved g t c =
     let next = sym (ap (λ es. plain_items later (items_by seen_data es)) steps ∙ item_next later (seen_data c.in-Some.entry) (items_by seen_data rest)) in
     record {
       low = omega (arith, so_far.low, ap deepest_in steps);
-      written = (_, then_writes so_far.written.1 c.put_entry.ensures, goes_on so_far.written.0 _ _ _ _ next so_far.written.2);
+      written = (_, then_prints so_far.written.1 c.put_entry.ensures, goes_on so_far.written.0 _ _ _ _ next so_far.written.2);
     }
 
 pub put_views-returns : goal.put_views-returns
 put_views-returns g t c =
     let so_far = c.loop-entry.invariant.written in
     let none = sym (ap (λ es. plain_items c.loop-entry.later (items_by seen_data es)) c.in-None.ensures.steps.0) in
-    retold (ends_so so_far.0 _ _ _ none so_far.2) (then_writes so_far.1 c.put.ensures)
+    reprinted (ends_so so_far.0 _ _ _ none so_far.2) (then_prints so_far.1 c.put.ensures)

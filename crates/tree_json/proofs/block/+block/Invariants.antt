@@ -4,7 +4,7 @@ use Rattle.json_values.specs.Values.{zipped}
 use Rattle.tree_json.specs.Lines.{items_by}
 use Rattle.json_values.specs.Plain.{entries_text, plain_items}
 use Rattle.tree_json.specs.Views.{seen_data, entries_entry}
-use Rattle.json_values.specs.Writes.{output, Writes}
+use Rattle.printers.specs.Prints.{Prints}
 use Rattle.tree_json.proofs.Depth.{deepest_of, AreWithin}
 use Rattle.tree_json.proofs.block.+block.Given as goal
 
@@ -14,7 +14,7 @@ invariant-put_groups-loop-i g l =
       count : l.i + length l.groups ≡ length l.block.groups;
       within : AreWithin (deepest l.block.groups) l.groups;
       written : (done : List ℕ)
-          × Writes (output (g.O.Sink.held l.initial.sink) (g.O.Sink.faults l.initial.sink) l.initial.chunk) (output (g.O.Sink.held l.sink) (g.O.Sink.faults l.sink) l.chunk) done
+          × Prints g.O.Sink.state l.initial.printer l.printer done
           × (done ++ entries_text l.later (zipped entries_entry (drop l.i l.block.groups) l.groups) ≡ entries_text false (zipped entries_entry l.block.groups l.initial.groups));
     }
 
@@ -23,7 +23,7 @@ invariant-put_views-loop-entry g l =
     record {
       low : deepest_in l.entry-iterator ≤ deepest_in l.fn.entries;
       written : (done : List ℕ)
-          × Writes (output (g.O.Sink.held l.initial.sink) (g.O.Sink.faults l.initial.sink) l.initial.chunk) (output (g.O.Sink.held l.sink) (g.O.Sink.faults l.sink) l.chunk) done
+          × Prints g.O.Sink.state l.initial.printer l.printer done
           × (done ++ plain_items l.later (items_by seen_data l.entry-iterator) ≡ plain_items l.fn.later (items_by seen_data l.fn.entries));
     }
 

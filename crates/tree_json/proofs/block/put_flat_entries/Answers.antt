@@ -4,11 +4,11 @@ use Rattle.tree_json.specs.Lines.{items_by}
 use Rattle.json_values.specs.Plain.{plain_items}
 use Rattle.tree_json.specs.Views.{seen_data}
 use Rattle.json_values.proofs.Entries.{goes_on, item_next}
-use Rattle.json_values.proofs.Written.{then_writes, writes_nothing}
+use Rattle.printers.proofs.Printing.{then_prints, prints_nothing}
 use Rattle.tree_json.proofs.block.put_flat_entries.Goals as goal
 
 pub entries-init : goal.entries-init
-entries-init g c = record { low = omega arith; goes = record { done = []; written = writes_nothing; whole = refl } }
+entries-init g c = record { low = omega arith; goes = record { done = []; printed = prints_nothing; whole = refl } }
 
 pub put_flat_entry-requires-clause-table : goal.put_flat_entry-requires-clause-table
 put_flat_entry-requires-clause-table g c = c.in-Some.ensures.taken.table.table_is
@@ -28,7 +28,7 @@ entries-preserved g c =
       low = omega (arith, so_far.low, ap deepest_in taken.first);
       goes = record {
         done = _;
-        written = then_writes so_far.goes.written one;
+        printed = then_prints so_far.goes.printed one;
         whole = goes_on so_far.goes.done _ _ _ _ next so_far.goes.whole;
       };
     }

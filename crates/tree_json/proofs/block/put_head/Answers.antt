@@ -1,7 +1,7 @@
 use Rattle.std.proofs.Common.{ap}
 use Rattle.tree_json.specs.Views.{seen_head}
 use Rattle.tree_json.proofs.HeadText.{table_text, head_by_table}
-use Rattle.json_values.proofs.Written.{then_writes, retold}
+use Rattle.printers.proofs.Printing.{then_prints, reprinted}
 use Rattle.tree_json.proofs.block.put_head.Goals as goal
 
 pub put_rows-requires-clause-table : goal.put_rows-requires-clause-table
@@ -14,7 +14,7 @@ pub returns-in-Some : goal.returns-in-Some
 returns-in-Some g c =
     let s = c.args.block.now in
     let rows = c.put_rows.ensures c.in-Some.ensures.known _ (table_text c.in-Some.values s c.in-Some.ensures) in
-    retold (head_by_table s) (then_writes c.put_own_data.ensures rows)
+    reprinted (head_by_table s) (then_prints c.put_own_data.ensures rows)
 
 pub returns-in-None : goal.returns-in-None
-returns-in-None g c = retold (ap seen_head c.again.ensures) c.put_by_kinds.ensures
+returns-in-None g c = reprinted (ap seen_head c.again.ensures) c.put_by_kinds.ensures

@@ -3,14 +3,14 @@ use Rattle.sbe_types.specs.declared.message.Block.{out-Block}
 use Rattle.flyweight_view.specs.Seen.{Seen}
 use Rattle.tree_json.specs.Views.{data_front}
 use Rattle.tree_json.proofs.HeadText.{no_data, some_data}
-use Rattle.json_values.proofs.Written.{retold, writes_nothing}
+use Rattle.printers.proofs.Printing.{reprinted, prints_nothing}
 use Rattle.tree_json.proofs.block.put_own_data.Goals as goal
 
 pub returns-then-parts-eq0 : goal.returns-then-parts-eq0
 returns-then-parts-eq0 g c =
-    retold (no_data c.args.block.now.parts (out-Block c.args.block.now.block).parts (omega (arith, c.if-parts-eq0.true, ap (λ r. r.2) c.counts-parts.ensures))) writes_nothing
+    reprinted (no_data c.args.block.now.parts (out-Block c.args.block.now.block).parts (omega (arith, c.if-parts-eq0.true, ap (λ r. r.2) c.counts-parts.ensures))) prints_nothing
 
 pub returns : goal.returns
 returns g c =
-    retold (some_data c.args.block.now.parts (out-Block c.args.block.now.block).parts (omega (arith, c.if-parts-eq0.false, ap (λ r. r.2) c.counts-parts.ensures)))
-    (retold (ap (λ (s : Seen). data_front s.parts (out-Block s.block).parts) c.again.ensures) c.put_data.ensures)
+    reprinted (some_data c.args.block.now.parts (out-Block c.args.block.now.block).parts (omega (arith, c.if-parts-eq0.false, ap (λ r. r.2) c.counts-parts.ensures)))
+    (reprinted (ap (λ (s : Seen). data_front s.parts (out-Block s.block).parts) c.again.ensures) c.put_data.ensures)

@@ -5,7 +5,7 @@ use Rattle.sbe_types.specs.declared.schema.Level.{out-Level}
 use Rattle.tree_json.specs.Lines.{message_at}
 use Rattle.json_values.specs.Plain.{plain_text}
 use Rattle.tree_json.specs.Views.{seen_front}
-use Rattle.json_values.proofs.Written.{then_writes, retold}
+use Rattle.printers.proofs.Printing.{then_prints, reprinted}
 use Rattle.tree_json.proofs.Blocks.{message_is, name_between}
 use Rattle.tree_json.proofs.line.put_message.Goals as goal
 
@@ -16,12 +16,12 @@ returns g c =
     let between = λ (text : List ℕ). codes ",\"template\":\"" ++ (text ++ codes "\",\"version\":") in
     let front = seen_front c.root.result in
     let version = decimal c.version.result in
-    let named = retold (ap between (c.name.ensures ∙ sym c.requires)) c.put_between.ensures in
+    let named = reprinted (ap between (c.name.ensures ∙ sym c.requires)) c.put_between.ensures in
     let same : seen_front c.root.result ++ (codes ",\"template\":" ++ ((codes "\"" ++ (escape (out-Level level).name ++ codes "\"")) ++ (codes ",\"version\":" ++ (decimal c.version.result ++ codes "}")))) ≡ plain_text (message_at (Some level) c.args.view.now.message) =
     rw (c.root.ensures, c.version.ensures) (message_is level c.args.view.now.message) in
     record {
       done = front ++ (between name ++ version);
-      written = then_writes c.put_front.ensures (then_writes named c.put_count.ensures);
+      printed = then_prints c.put_front.ensures (then_prints named c.put_count.ensures);
       whole =
           append_assoc front (between name ++ version) (codes "}")
           ∙ ap (λ rest. front ++ rest) (append_assoc (between name) version (codes "}") ∙ name_between name (version ++ codes "}"))

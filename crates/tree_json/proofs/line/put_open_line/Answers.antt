@@ -14,6 +14,6 @@ returns g c =
     let open_text = c.put_message.ensures in
     record {
       done = open_text.done;
-      written = open_text.written;
+      printed = open_text.printed;
       whole = open_text.whole ∙ line_text schema c.args.view.now.level c.args.view.now.message plain c.schema-schema.ensures.level;
     }

@@ -8,8 +8,8 @@ use Rattle.frame_stream.proofs.lines.LineStream.take.Goals as goal
 
 pub returns-in-Ok-clause-takes : goal.returns-in-Ok-clause-takes
 returns-in-Ok-clause-takes g c = λ none.
-    let l = g.I.Source.left c.args.input.now in
-    let r = g.I.Source.left c.next_end.new.input in
+    let l = (g.I.Source.state c.args.input.now).told in
+    let r = (g.I.Source.state c.next_end.new.input).told in
     let s = c.self.inside in
     let n = c.next_end.new.self.held in
     let i = c.in-Ok.i in
@@ -18,8 +18,8 @@ returns-in-Ok-clause-takes g c = λ none.
 
 pub returns-in-Err-Dry-End-clause-takes : goal.returns-in-Err-Dry-End-clause-takes
 returns-in-Err-Dry-End-clause-takes g c = λ none.
-    let l = g.I.Source.left c.args.input.now in
-    let r = g.I.Source.left c.next_end.new.input in
+    let l = (g.I.Source.state c.args.input.now).told in
+    let r = (g.I.Source.state c.next_end.new.input).told in
     let s = c.self.inside in
     let n = c.next_end.new.self.held in
     let len = c.len-len.result in
@@ -29,8 +29,8 @@ returns-in-Err-Dry-End-clause-takes g c = λ none.
 
 pub returns-in-Err-Dry-Over-clause-takes : goal.returns-in-Err-Dry-Over-clause-takes
 returns-in-Err-Dry-Over-clause-takes g c = λ none.
-    let l = g.I.Source.left c.args.input.now in
-    let r = g.I.Source.left c.next_end.new.input in
+    let l = (g.I.Source.state c.args.input.now).told in
+    let r = (g.I.Source.state c.next_end.new.input).told in
     let s = c.self.inside in
     let n = c.next_end.new.self.held in
     let e = c.in-Err-Dry-Over in
@@ -39,8 +39,8 @@ returns-in-Err-Dry-Over-clause-takes g c = λ none.
 
 pub returns-in-Err-Full-clause-takes : goal.returns-in-Err-Full-clause-takes
 returns-in-Err-Full-clause-takes g c = λ none.
-    let l = g.I.Source.left c.args.input.now in
-    let r = g.I.Source.left c.next_end.new.input in
+    let l = (g.I.Source.state c.args.input.now).told in
+    let r = (g.I.Source.state c.next_end.new.input).told in
     let s = c.self.inside in
     let n = c.next_end.new.self.held in
     let e = c.in-Err-Full in

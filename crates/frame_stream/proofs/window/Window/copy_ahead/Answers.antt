@@ -27,7 +27,7 @@ returns-clause-moves g c done =
     let lent = front_lent c.args.n ahead c.ahead-ahead.result.now c.ahead-ahead.ensures (search rules) in
     let bytes = ap (take c.args.n) is ∙ c.copy_front.ensures.copied ∙ lent in
     let long : length (take c.args.n ahead) ≡ c.args.n = simp length-take (omega (arith, c.if-not-pass.ensures.bound done)) in
-    moves_ahead c.args.self.now.held _ (g.I.Source.left c.args.input.now) (g.I.Source.left c.pass.new.self) (take c.args.n ahead) c.requires.none bytes (omega (arith, long, ap (λ (k : WindowState). k.held.taken) c.self.view_is)) (search rules) (search rules)
+    moves_ahead c.args.self.now.held _ (g.I.Source.state c.args.input.now).told (g.I.Source.state c.pass.new.self).told (take c.args.n ahead) c.requires.none bytes (omega (arith, long, ap (λ (k : WindowState). k.held.taken) c.self.view_is)) (search rules) (search rules)
     (ap length is ∙ size ∙ ap (λ (k : WindowState). k.held.size) c.self.view_is) (omega (arith, long, c.requires.room)) (c.if-not-pass.ensures.bytes done)
 
 pub returns-clause-bytes : goal.returns-clause-bytes

@@ -5,7 +5,7 @@ use Rattle.frame_stream.proofs.window.Window.more_behind.Goals as goal
 
 pub returns-in-Err-clause-reads : goal.returns-in-Err-clause-reads
 returns-in-Err-clause-reads g c =
-    let left = g.I.Source.left in
+    let left = λ (o : _). (g.I.Source.state o).told in
     let w = c.self.inside in
     let read = c.in-Err.ensures in
     let new = c.read_within.new.buf in

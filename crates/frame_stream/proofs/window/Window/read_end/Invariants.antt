@@ -5,9 +5,9 @@ use Rattle.frame_stream.proofs.window.Window.read_end.Given as goal
 
 abbrev pub invariant-loop-self : goal.invariant-loop-self
 invariant-loop-self g l = record {
-  moved : Moves l.fn.self.held l.self.held (g.I.Source.left l.fn.input) (g.I.Source.left l.input) [];
+  moved : Moves l.fn.self.held l.self.held (g.I.Source.state l.fn.input).told (g.I.Source.state l.input).told [];
   none : before_end l.self.held.bytes ≡ None;
-  faults : g.I.Source.faults l.input ≡ g.I.Source.faults l.fn.input;
+  faults : (g.I.Source.state l.input).faults ≡ (g.I.Source.state l.fn.input).faults;
 }
 
 abbrev pub decreases-loop-self : goal.decreases-loop-self

@@ -5,7 +5,7 @@ use Rattle.frame_stream.proofs.window.Window.read_frame.Goals as goal
 
 pub returns-in-Ok-fill-clause-nexts : goal.returns-in-Ok-fill-clause-nexts
 returns-in-Ok-fill-clause-nexts g c =
-    let left = g.I.Source.left in
+    let left = λ (o : _). (g.I.Source.state o).told in
     let head = c.in-Ok-read_head.head in
     let begun = c.in-Ok.ensures.begins in
     let filled = c.in-Ok-fill.ensures in
@@ -14,7 +14,7 @@ returns-in-Ok-fill-clause-nexts g c =
 
 pub returns-in-Err-fill-clause-nexts : goal.returns-in-Err-fill-clause-nexts
 returns-in-Err-fill-clause-nexts g c =
-    let left = g.I.Source.left in
+    let left = λ (o : _). (g.I.Source.state o).told in
     let head = c.in-Ok-read_head.head in
     let begun = c.in-Ok.ensures.begins in
     let is : Ok head ≡ head_of c.begin_frame.new.self.held.bytes c.begin_frame.new.self.held.size = c.in-Ok-read_head.ensures ∙ ap (λ b. head_of b c.size.result) c.as_slice.ensures ∙ ap (head_of c.begin_frame.new.self.held.bytes) c.size.ensures in

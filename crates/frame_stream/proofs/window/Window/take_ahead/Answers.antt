@@ -5,7 +5,7 @@ use Rattle.frame_stream.proofs.window.Window.take_ahead.Goals as goal
 
 pub returns-then-copy_ahead-clause-nexts : goal.returns-then-copy_ahead-clause-nexts
 returns-then-copy_ahead-clause-nexts g c =
-    let left = g.I.Source.left in
+    let left = λ (o : _). (g.I.Source.state o).told in
     let head = c.in-Ok.head in
     let lent = c.ahead.result.now in
     let took = c.if-copy_ahead.ensures in

@@ -1,5 +1,6 @@
 use Rattle.std.proofs.Common.{rules, ◌≡◌, ◌<◌, ◌≤◌, ◌++◌, length, ◌∙◌, sym, ap, subst, Some}
-use Rattle.sbe_base.specs.Memory.{found, MayLoad}
+use Rattle.sbe_base.specs.Loads.{MayLoad}
+use Rattle.sbe_base.specs.Memory.{found}
 use Rattle.sbe_base.proofs.Names.{told_of, found_there, found_nowhere}
 use Rattle.sbe_base.proofs.mem_files.MemFilesFiles.load.Goals as goal
 

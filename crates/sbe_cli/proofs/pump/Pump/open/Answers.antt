@@ -5,8 +5,8 @@ use Rattle.sbe_cli.proofs.pump.Pump.open.Goals as goal
 
 pub returns-in-Err-Refused : goal.returns-in-Err-Refused
 returns-in-Err-Refused g c =
-    let before : Desk = record { files = record { told = g.F.Files.contents c.args.files.now; faults = g.F.Files.faults c.args.files.now }; notes = record { told = g.N.Sink.held c.args.notes.now; faults = g.N.Sink.faults c.args.notes.now } } in
-    let after : Desk = record { files = record { told = g.F.Files.contents c.open.new.files; faults = g.F.Files.faults c.open.new.files }; notes = record { told = g.N.Sink.held c.tell.new.notes; faults = g.N.Sink.faults c.tell.new.notes } } in
+    let before : Desk = record { files = g.F.Files.state c.args.files.now; notes = g.N.Sink.state c.args.notes.now } in
+    let after : Desk = record { files = g.F.Files.state c.open.new.files; notes = g.N.Sink.state c.tell.new.notes } in
     declined c.args.command before after c.in-Err-Refused.file c.tell.result (rw c.in-Err-Refused.field-0-is at c.in-Err-Refused.ensures.loads) (same_object before.files after.files c.in-Err-Refused.ensures.kept (rw c.in-Err-Refused.field-0-is at c.in-Err-Refused.ensures.cause)) c.tell.ensures
 
 pub returns-in-Err-Fault : goal.returns-in-Err-Fault

@@ -1,9 +1,0 @@
-use Rattle.std.proofs.Common.{ap, ◌∙◌}
-use Rattle.dump_lines.specs.Dumped.{encoding_of}
-use Rattle.dump_lines.proofs.Answered.{body_written}
-use Rattle.dump_command.proofs.dumped.put_dumped.Goals as goal
-
-pub returns-clause-answers : goal.returns-clause-answers
-returns-clause-answers g c =
-    body_written c.args.schemas.now c.args.item c.args.encoding c.args.body.now c.schema_for.result.now _ _ _ c.schema_for.ensures
-    (c.if-encoding-encoding_of.false ∙ c.encoding_of.ensures ∙ ap encoding_of c.order.ensures) (c.put_body.ensures.answers c.args.encoding)

@@ -1,0 +1,135 @@
+ghost use Rattle.std.specs.Prelude.{◌≡◌, ◌+◌, ◌≤◌, ◌++◌, [], codes, length, take};
+ghost use Rattle.printers.specs.declared.chunk.TheConstants.{CHUNK_BYTES};
+ghost use Rattle.printers.specs.Chunks.{nothing_gathered};
+
+use crate::places::{place, place_front};
+use std::marker::Model;
+
+/// How many bytes a chunk gathers.
+pub const CHUNK_BYTES: usize = 1_024;
+
+/// Bytes that wait to be written, and whether a write has failed. It takes no memory but its own.
+#[derive(Drop)]
+pub struct Chunk {
+    room: [u8; CHUNK_BYTES],
+    len: usize,
+    failed: bool,
+}
+
+impl Model for Chunk {
+    ghost use Rattle.std.specs.Prelude.{◌≡◌, ◌≤◌, take, length};
+    ghost use Rattle.printers.specs.declared.chunk.TheConstants.{CHUNK_BYTES};
+    ghost use Rattle.printers.specs.Chunks.{Gathered};
+
+    ghost Value = { Gathered };
+
+    ghost view = { λ chunk. record { bytes = take chunk.len chunk.room; failed = chunk.failed } };
+
+    ghost invariant = { λ chunk. (length chunk.room ≡ CHUNK_BYTES) × (chunk.len ≤ CHUNK_BYTES) };
+}
+
+impl Chunk {
+    /// A chunk that holds nothing.
+    pub fn new() -> Chunk
+        ensures { result ≡ nothing_gathered }
+    {
+        Chunk {
+            room: [0; CHUNK_BYTES],
+            len: 0,
+            failed: false,
+        }
+    }
+
+    /// How many bytes it holds.
+    #[inline(always)]
+    pub(crate) fn len(&self) -> usize
+        ensures count { result ≡ length self.now.bytes }
+        ensures fits { result ≤ CHUNK_BYTES }
+    {
+        self.len
+    }
+
+    /// Whether a write has failed.
+    #[inline(always)]
+    pub(crate) fn has_failed(&self) -> bool
+        ensures { result ≡ self.now.failed }
+    {
+        self.failed
+    }
+
+    /// Gathers bytes, for which it has room.
+    #[inline(always)]
+    pub(crate) fn add(&mut self, bytes: &[u8])
+        requires { length self.old.bytes + length bytes.now ≤ CHUNK_BYTES }
+        ensures { self.new ≡ record self.old { bytes = self.old.bytes ++ bytes.now } }
+    {
+        self.len = place(&mut self.room, self.len, bytes);
+    }
+
+    /// What it has gathered.
+    pub(crate) fn as_slice(&self) -> &[u8]
+        ensures { result.now ≡ self.now.bytes }
+    {
+        &self.room[..self.len]
+    }
+
+    /// Lets go of what it has gathered.
+    pub(crate) fn clear(&mut self, failed: bool)
+        ensures { self.new ≡ record { bytes = []; failed = failed } }
+    {
+        self.len = 0;
+        self.failed = failed;
+    }
+
+    /// Gathers the first `run` bytes of a lead. It has room for as many as are copied: so the way of the copy goes by no
+    /// number, and of what was copied behind them nothing is kept.
+    #[inline(always)]
+    pub(crate) fn add_lead<const N: usize>(&mut self, bytes: &[u8], run: usize)
+        requires run { run ≤ N }
+        requires enough { N ≤ length bytes.now }
+        requires room { length self.old.bytes + N ≤ CHUNK_BYTES }
+        ensures { self.new ≡ record self.old { bytes = self.old.bytes ++ take run bytes.now } }
+    {
+        let at = self.len;
+        place_front::<N>(&mut self.room, at, bytes);
+        self.len = at + run;
+    }
+
+    /// Gathers the first `run` bytes of a field between quotes. It has room for the whole field, which is copied: so the way
+    /// of the copy goes by the field, and not by the text in it.
+    #[inline(always)]
+    pub(crate) fn add_front_in_quotes(&mut self, field: &[u8], run: usize)
+        requires run { run ≤ length field.now }
+        requires room { length self.old.bytes + (length field.now + 2) ≤ CHUNK_BYTES }
+        ensures { self.new ≡ record self.old { bytes = self.old.bytes ++ (codes "\"" ++ (take run field.now ++ codes "\"")) } }
+    {
+        let at = place(&mut self.room, self.len, b"\"");
+        place(&mut self.room, at, field);
+        self.len = place(&mut self.room, at + run, b"\"");
+    }
+
+    /// Gathers the first `run` bytes of a few, all of which are copied, and others behind them. It has room for all.
+    #[inline(always)]
+    pub(crate) fn add_front(&mut self, front: &[u8], run: usize, behind: &[u8], last: &[u8])
+        requires run { run ≤ length front.now }
+        requires room { length self.old.bytes + (length front.now + (length behind.now + length last.now)) ≤ CHUNK_BYTES }
+        ensures { self.new ≡ record self.old { bytes = self.old.bytes ++ (take run front.now ++ (behind.now ++ last.now)) } }
+    {
+        let at = self.len;
+        place(&mut self.room, at, front);
+        let then = place(&mut self.room, at + run, behind);
+        self.len = place(&mut self.room, then, last);
+    }
+
+    /// Gathers bytes between others, for all of which it has room.
+    #[inline(always)]
+    #[tactic(auto, using(crate::proofs::Gathered::three_placed))]
+    pub(crate) fn add_between(&mut self, before: &[u8], bytes: &[u8], behind: &[u8])
+        requires { length self.old.bytes + (length before.now + (length bytes.now + length behind.now)) ≤ CHUNK_BYTES }
+        ensures { self.new ≡ record self.old { bytes = self.old.bytes ++ (before.now ++ (bytes.now ++ behind.now)) } }
+    {
+        let at = place(&mut self.room, self.len, before);
+        let then = place(&mut self.room, at, bytes);
+        self.len = place(&mut self.room, then, behind);
+    }
+}

@@ -1,0 +1,201 @@
+ghost use Rattle.std.specs.Prelude.{◌≡◌, ◌+◌, ◌≤◌, ◌++◌, [], codes, length, take};
+ghost use Rattle.sbe_base.specs.Objects.{Object};
+ghost use Rattle.sbe_base.specs.Writes.{Ends, Writes};
+ghost use Rattle.printers.specs.declared.chunk.TheConstants.{CHUNK_BYTES};
+ghost use Rattle.printers.specs.Prints.{Begins, Finishes, Prints};
+
+use crate::chunk::{CHUNK_BYTES, Chunk};
+use sbe_base::{Failed, Sink, WriteFault, write_all_to};
+
+/// How many bytes are copied of a lead, however few it has.
+const LEAD_BYTES: usize = 32;
+
+/// How many are copied of a lead that has no more than these.
+const SHORT_LEAD_BYTES: usize = 16;
+
+/// Prints to a sink by way of a chunk. It takes no memory. Once a write has failed, nothing more is written.
+#[derive(Drop)]
+pub struct Printer<'a, O> {
+    sink: &'a mut O,
+    chunk: &'a mut Chunk,
+}
+
+impl<'a, O: Sink> Printer<'a, O> {
+    /// A printer that has printed nothing. What the chunk held is let go.
+    #[inline(always)]
+    pub fn new(sink: &'a mut O, chunk: &'a mut Chunk) -> Printer<'a, O>
+        ensures same_reference { result.sink.ghost_name ≡ sink.entry.ghost_name }
+        ensures begins { Begins O.state (O.state sink.old) result }
+    {
+        chunk.clear(false);
+        Printer { sink, chunk }
+    }
+
+    /// Prints bytes: they are gathered, and go to the sink once there is no more room.
+    #[inline(always)]
+    pub fn put(&mut self, bytes: &[u8])
+        ensures { Prints O.state self.old self.new bytes.now }
+    {
+        if self.chunk.len() + bytes.len() <= CHUNK_BYTES {
+            self.chunk.add(bytes);
+        } else {
+            self.spill(bytes);
+        }
+    }
+
+    /// Writes what the chunk has gathered, and then bytes.
+    #[cold]
+    #[inline(never)]
+    fn spill(&mut self, bytes: &[u8])
+        ensures { Prints O.state self.old self.new bytes.now }
+    {
+        if self.chunk.has_failed() {
+            return;
+        }
+        let waiting = self.chunk.as_slice();
+        if has_fault(self.sink, waiting) {
+            self.chunk.clear(true);
+            return;
+        }
+        let failed = has_fault(self.sink, bytes);
+        self.chunk.clear(failed);
+    }
+
+    /// Prints the first `run` of bytes, which lead to a value.
+    #[inline(always)]
+    pub fn put_lead(&mut self, bytes: &[u8], run: usize)
+        requires { run ≤ length bytes.now }
+        ensures { Prints O.state self.old self.new (take run bytes.now) }
+    {
+        if run <= SHORT_LEAD_BYTES
+            && bytes.len() >= SHORT_LEAD_BYTES
+            && self.chunk.len() + SHORT_LEAD_BYTES <= CHUNK_BYTES
+        {
+            self.chunk.add_lead::<SHORT_LEAD_BYTES>(bytes, run);
+        } else if run <= LEAD_BYTES
+            && bytes.len() >= LEAD_BYTES
+            && self.chunk.len() + LEAD_BYTES <= CHUNK_BYTES
+        {
+            self.chunk.add_lead::<LEAD_BYTES>(bytes, run);
+        } else {
+            self.put_apart(&bytes[..run]);
+        }
+    }
+
+    /// Prints bytes between quotes.
+    #[inline(always)]
+    pub fn put_in_quotes(&mut self, bytes: &[u8])
+        ensures { Prints O.state self.old self.new (codes "\"" ++ (bytes.now ++ codes "\"")) }
+    {
+        self.put_between(b"\"", bytes, b"\"");
+    }
+
+    /// Prints the first `run` bytes of a field between quotes.
+    #[inline(always)]
+    pub fn put_front_in_quotes(&mut self, field: &[u8], run: usize)
+        requires { run ≤ length field.now }
+        ensures { Prints O.state self.old self.new (codes "\"" ++ (take run field.now ++ codes "\"")) }
+    {
+        if self.chunk.len() + (field.len() + 2) <= CHUNK_BYTES {
+            self.chunk.add_front_in_quotes(field, run);
+        } else {
+            self.put_each(b"\"", &field[..run], b"\"");
+        }
+    }
+
+    /// Prints the first `run` bytes of a few, and others after them.
+    #[inline(always)]
+    pub fn put_front(&mut self, front: &[u8], run: usize, behind: &[u8], last: &[u8])
+        requires run { run ≤ length front.now }
+        requires few { length front.now + (length behind.now + length last.now) ≤ CHUNK_BYTES }
+        ensures { Prints O.state self.old self.new (take run front.now ++ (behind.now ++ last.now)) }
+    {
+        if self.chunk.len() + (front.len() + (behind.len() + last.len())) <= CHUNK_BYTES {
+            self.chunk.add_front(front, run, behind, last);
+        } else {
+            self.put_each(&front[..run], behind, last);
+        }
+    }
+
+    /// Prints bytes between a few others.
+    #[inline(always)]
+    pub fn put_between(&mut self, before: &[u8], bytes: &[u8], behind: &[u8])
+        requires { length before.now + length behind.now ≤ CHUNK_BYTES }
+        ensures { Prints O.state self.old self.new (before.now ++ (bytes.now ++ behind.now)) }
+    {
+        if self.chunk.len() + (bytes.len() + (before.len() + behind.len())) <= CHUNK_BYTES {
+            self.chunk.add_between(before, bytes, behind);
+        } else {
+            self.put_each(before, bytes, behind);
+        }
+    }
+
+    /// Prints bytes by a call of its own: a lead that is long, or stands near an end.
+    #[inline(never)]
+    fn put_apart(&mut self, bytes: &[u8])
+        ensures { Prints O.state self.old self.new bytes.now }
+    {
+        self.put(bytes);
+    }
+
+    /// Prints bytes between others, piece by piece.
+    #[cold]
+    #[inline(never)]
+    fn put_each(&mut self, before: &[u8], bytes: &[u8], behind: &[u8])
+        ensures { Prints O.state self.old self.new (before.now ++ (bytes.now ++ behind.now)) }
+    {
+        self.put(before);
+        self.put(bytes);
+        self.put(behind);
+    }
+
+    /// Writes what is gathered, and tells whether a write has failed.
+    ///
+    /// # Errors
+    ///
+    /// Where a write failed, now or before; the sink then holds a front of what was printed.
+    #[inline(always)]
+    pub fn finish(self) -> Result<(), WriteFault>
+        ensures { Finishes O.state self.entry (O.state self.exit.0.now) result }
+    {
+        let Printer { sink, chunk } = self;
+        if chunk.has_failed() {
+            return Err(WriteFault);
+        }
+        write_whole(sink, chunk.as_slice())
+    }
+}
+
+/// Writes all bytes to the sink itself: by one call, where that takes them all. For no bytes it calls nothing.
+#[inline(always)]
+fn write_whole<O: Sink>(sink: &mut O, bytes: &[u8]) -> Result<(), WriteFault>
+    ensures { Writes (O.state sink.old) (O.state sink.new) bytes.now result }
+{
+    if bytes.is_empty() {
+        return Ok(());
+    }
+    match sink.write(bytes) {
+        Ok(n) if n == bytes.len() => Ok(()),
+        Ok(n) => write_rest(sink, &bytes[n..]),
+        Err(Failed) => Err(WriteFault),
+    }
+}
+
+/// Writes the bytes that one call didn't take.
+#[cold]
+#[inline(never)]
+fn write_rest<O: Sink>(sink: &mut O, bytes: &[u8]) -> Result<(), WriteFault>
+    ensures { Writes (O.state sink.old) (O.state sink.new) bytes.now result }
+{
+    write_all_to(sink, bytes)
+}
+
+/// Writes bytes to the sink itself, and tells whether that failed.
+fn has_fault<O: Sink>(sink: &mut O, bytes: &[u8]) -> bool
+    ensures { Ends result (O.state sink.old) (O.state sink.new) bytes.now }
+{
+    match write_all_to(sink, bytes) {
+        Ok(()) => false,
+        Err(WriteFault) => true,
+    }
+}
