@@ -17,6 +17,7 @@ EXAMPLES = [
     "  sbe dump feed.json < frames.bin",
     "  sbe dump feed.json --also orders.json < frames.bin",
     "  sbe build feed.json < lines.jsonl > frames.bin",
+    "  sbe fixcheck orders-map.json < texts.bin",
 ]
 USAGE = 2
 

@@ -20,7 +20,7 @@ use Rattle.line_values.specs.Refusals.{refusal}
 use Rattle.line_values.specs.declared.refusals.JCode.{JCode}
 use Rattle.line_reading.specs.Lines.{tree_of}
 use Rattle.dump_lines.specs.Dumped.{encoding_of}
-use Rattle.dump_lines.specs.Refused.{refused_line}
+use Rattle.refused_items.specs.Refused.{refused_line}
 use Rattle.sbe_base.specs.Objects.{Object}
 use Rattle.replies.specs.Outside.{Sinks, at_output, at_notes, sinks_of}
 use Rattle.replies.specs.Reply.{Reply}

@@ -8,7 +8,7 @@ use Rattle.sbe_wire.specs.Canonical.{canonical}
 use Rattle.schema_facts.specs.IsChecked.{IsChecked}
 use Rattle.line_values.specs.Refusals.{Refusal}
 use Rattle.line_reading.specs.Lines.{tree_of}
-use Rattle.dump_lines.specs.Refused.{refused_line}
+use Rattle.refused_items.specs.Refused.{refused_line}
 use Rattle.build_command.specs.Build.{IsBuilt, no_bytes, no_message, no_room, a_frame, body_limit, built_reply, read_reply, message_reply, frame_reply, refused_reply, of_misfit, unread_line}
 use Rattle.replies.specs.Reply.{Reply}
 use Rattle.build_command.proofs.Buildable.{body_there}

@@ -17,7 +17,7 @@ use Rattle.line_reading.specs.Lines.{tree_of}
 use Rattle.line_values.specs.declared.refusals.JCode.{JCode}
 use Rattle.line_values.specs.declared.refusals.JCode.TheVariants as unread
 use Rattle.dump_lines.specs.Dumped.{encoding_of}
-use Rattle.dump_lines.specs.Refused.{Refused as RefusedItem, refused_line, front_text}
+use Rattle.refused_items.specs.Refused.{Refused as RefusedItem, refused_line, front_text}
 use Rattle.replies.specs.Reply.{Reply}
 use Rattle.replies.specs.declared.verdict.Verdict.TheVariants.{Answered, Refused}
 

@@ -5,7 +5,7 @@ ghost use Rattle.sbe_wire.specs.Rows.Schemas.{schema7};
 ghost use Rattle.sbe_wire.specs.declared.codes.NCode.TheVariants as unfit;
 ghost use Rattle.line_values.specs.Refusals.{refusal};
 ghost use Rattle.line_values.specs.declared.refusals.JCode.TheVariants as unread;
-ghost use Rattle.dump_lines.specs.Refused.{refused_line};
+ghost use Rattle.refused_items.specs.Refused.{refused_line};
 ghost use Rattle.build_command.specs.Build.{of_misfit, unread_line};
 ghost use Rattle.build_command.specs.Rows.{unknown_template, one_byte_more};
 

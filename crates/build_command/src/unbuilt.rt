@@ -5,16 +5,16 @@ ghost use Rattle.layout_tables.specs.Paths.{IsPathOf};
 ghost use Rattle.printers.specs.Prints.{Prints};
 ghost use Rattle.sbe_base.specs.Writes.{Writes};
 ghost use Rattle.line_values.specs.Refusals.{refusal};
-ghost use Rattle.dump_lines.specs.Refused.{back_text, refused_line};
+ghost use Rattle.refused_items.specs.Refused.{back_text, refused_line};
 ghost use Rattle.tree_codec.specs.Sized.{sized_err};
 ghost use Rattle.build_command.specs.Build.{LeavesRoom, line_code, misfit_code, misfit_detail, of_misfit, unread_line};
 
-use dump_lines::{put_refused_back, put_refused_front, put_refused_number};
 use json_values::put_text;
 use layout_tables::Layout;
 use line_values::JCode;
 use open_framing::HEAD_BYTES;
 use printers::{Chunk, Printer};
+use refused_items::{put_refused_back, put_refused_front, put_refused_number};
 use sbe_base::{Sink, WriteFault};
 use sbe_wire::NCode;
 use tree_codec::EncodeErr;

@@ -36,9 +36,9 @@ pub record LoadsFiles {X : Type 0} (files : FilesOf X) (told : Option (List ℕ 
 
 -- ---- one file
 
--- the schema of the file in that role, or its refusal
-abbrev pub judged_in : FileRole → Result WireSchema FileRefusal → Result WireSchema RefusedFile
-judged_in at (Ok schema) = Ok schema
+-- what the file in that role holds, or its refusal
+abbrev pub judged_in : {X : Type 0} → FileRole → Result X FileRefusal → Result X RefusedFile
+judged_in at (Ok held) = Ok held
 judged_in at (Err why) = Err (refused_as at why)
 
 -- the file of that name, in that role, is judged so

@@ -135,6 +135,7 @@ input_use form.Check = record { reads = false; spares_memory = false }
 input_use form.Compat = record { reads = false; spares_memory = false }
 input_use form.Dump = record { reads = true; spares_memory = true }
 input_use form.Build = record { reads = true; spares_memory = false }
+input_use form.FixCheck = record { reads = true; spares_memory = true }
 
 -- whether a command takes anything of the input
 abbrev pub reads_input : Option Command → Bool

@@ -17,6 +17,8 @@ pub enum Form {
     Dump,
     /// `build S`
     Build,
+    /// `fixcheck M`
+    FixCheck,
 }
 
 /// What words of a form are: a command's word, names of files, and options in pairs.
@@ -41,11 +43,12 @@ impl Model for Row {
 }
 
 /// All forms, in the order in which they are tried: the form, its word, how many files it names, and its options.
-pub const FORMS: [(Form, &str, usize, &[&str]); 4] = [
+pub const FORMS: [(Form, &str, usize, &[&str]); 5] = [
     (Form::Check, "check", 1, &[]),
     (Form::Compat, "compat", 2, &[]),
     (Form::Dump, "dump", 1, &[MAX_FRAME, MAX_INPUT, ALSO]),
     (Form::Build, "build", 1, &[MAX_FRAME, MAX_INPUT]),
+    (Form::FixCheck, "fixcheck", 1, &[MAX_FRAME, MAX_INPUT]),
 ];
 
 impl Row {

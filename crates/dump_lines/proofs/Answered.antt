@@ -18,7 +18,8 @@ use Rattle.open_framing.specs.Frames.{Item}
 use Rattle.layout_tables.specs.Heads.{header_number}
 use Rattle.tree_json.specs.Lines.{message_at, line_of}
 use Rattle.dump_lines.specs.Chosen.{has_id, schema_with, schema_for}
-use Rattle.dump_lines.specs.Refused.{refused_line, of_encoding, of_fault, of_fault_in, message_meant, IsWay}
+use Rattle.refused_items.specs.Refused.{refused_line, of_encoding}
+use Rattle.dump_lines.specs.Refused.{of_fault, of_fault_in, message_meant, IsWay}
 use Rattle.dump_lines.specs.Dumped.{encoding_of, seen_line, before_message, behind_message, message_line, PrintsAnswer, IsDumped, other_encoding, a_message, a_fault, Answer, refusal, answer_by, body_answer, dumped, AreInOrder, IsAnswered, IsAnsweredOnce}
 use Rattle.dump_lines.specs.declared.schemas.Schemas.{Schemas}
 use Rattle.flyweight_view.specs.Seen.{SeenMessage}

@@ -18,7 +18,8 @@ use Rattle.serde_json.specs.Written.{compact_text}
 use Rattle.flyweight_view.specs.Seen.{SeenMessage}
 use Rattle.tree_json.specs.Lines.{line_of, message_at}
 use Rattle.dump_lines.specs.Chosen.{schema_for}
-use Rattle.dump_lines.specs.Refused.{refused_line, of_encoding, of_fault, message_meant, IsWay}
+use Rattle.refused_items.specs.Refused.{refused_line, of_encoding}
+use Rattle.dump_lines.specs.Refused.{of_fault, message_meant, IsWay}
 use Rattle.dump_lines.specs.declared.schemas.Schemas.{Schemas}
 
 -- the encoding type of frames whose messages have that byte order

@@ -9,6 +9,7 @@ Usage:
   sbe compat OLD NEW
   sbe dump SCHEMA [OPTION VALUE]..
   sbe build SCHEMA [OPTION VALUE]..
+  sbe fixcheck MAP [OPTION VALUE]..
   sbe --help | -h
   sbe --version
 
@@ -17,9 +18,12 @@ compat prints whether a reader of OLD and a reader of NEW understand each other'
 one way (NEW reads those of OLD), or not, with the first difference.
 dump reads SBE frames from standard input, and prints each message as a line of JSON.
 build reads such lines from standard input, and writes each message as an SBE frame.
-SCHEMA, OLD and NEW are files of message schemas. Their names don't begin with `--`.
+fixcheck reads frames of FIX tag-value texts from standard input, and prints a line of JSON for each
+text: its number, its type, and how many fields it has.
+SCHEMA, OLD and NEW are files of message schemas, MAP is a mapping file: a FIX Orchestra repository.
+Their names don't begin with `--`.
 
-Options of dump and build, in any order behind the file:
+Options of dump, build and fixcheck, in any order behind the file:
   --also SCHEMA      one more schema, for dump alone; a frame is read by the one whose id
                      it has (at most 15 times; the schema of a message is then printed)
   --max-frame BYTES  the most bytes of a frame, its head included
@@ -28,20 +32,22 @@ Options of dump and build, in any order behind the file:
                      (1 to 1099511627776, default 4294967296; at most once)
 
 Answers go to standard output, each before the next frame or line is waited for. Why a run
-ends early is noted on standard error, as a line of JSON; and why build refuses a line.
+ends early is noted on standard error, as a line of JSON; and why build refuses a line, and
+fixcheck a frame.
 
 Exit status:
-   0  the schemas are in order; the input was read to its end, and nothing was refused
+   0  the files are in order; the input was read to its end, and nothing was refused
    1  the input was read to its end, and at least one message was refused; or NEW doesn't extend OLD
    2  the words are no command
    3  a schema was refused
+   4  a mapping was refused
    5  the input is no row of whole frames, or a frame or line is longer than its limit
-   6  a schema's file could not be read
+   6  a file could not be read
    7  standard input could not be read
    8  standard output or standard error could not be written
    9  memory was wanting
   10  the input is longer than its limit
-  11  a schema's file is absent
+  11  a file is absent
 
 Examples:
   sbe check feed.json
@@ -49,6 +55,7 @@ Examples:
   sbe dump feed.json < frames.bin
   sbe dump feed.json --also orders.json < frames.bin
   sbe build feed.json < lines.jsonl > frames.bin
+  sbe fixcheck orders-map.json < texts.bin
 ";
 
 /// What `--version` prints.

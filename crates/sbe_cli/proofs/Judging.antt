@@ -24,7 +24,11 @@ use Rattle.compat_command.proofs.Compared.{compat_answers}
 use Rattle.dump_command.proofs.Replied.{dump_answers}
 use Rattle.build_command.specs.Builds.{Building, built_for, build_files}
 use Rattle.build_command.proofs.Replied.{build_answers, build_checked}
-use Rattle.sbe_cli.specs.Jobs.{Job, Check, Compat, Dump, Build, answering_of, reading_of, Makes, files_by, files_of, Judges, IsReadAs, IsReadSo, LoadsJob, making, made_so}
+use Rattle.tagvalue_codec.specs.declared.data_tags.Pair.{Pair as TagPair}
+use Rattle.map_files.specs.Maps.{file_map}
+use Rattle.fixcheck_command.specs.FixCheck.{tags_judged, fixcheck_files}
+use Rattle.fixcheck_command.proofs.Replied.{fixcheck_answers}
+use Rattle.sbe_cli.specs.Jobs.{Job, Check, Compat, Dump, Build, FixCheck, answering_of, reading_of, Makes, files_by, files_of, Judges, IsReadAs, IsReadSo, LoadsJob, making, made_so}
 
 -- ---- one judgement of the files
 
@@ -75,6 +79,8 @@ judging_by form.Dump command contents =
 judging_by form.Build command contents =
     computed (built_for command.limits.frame (judged_in role.Schema (file_schema (contents (file_at command 0))))) (λ building. Build building command.limits.input)
     (λ building h. build_answers building command.limits.input (build_checked (file_at command 0) command.limits.frame contents building h))
+judging_by form.FixCheck command contents =
+    computed (tags_judged (judged_in role.Map (file_map (contents (file_at command 0))))) (λ tags. FixCheck tags command.limits) (λ tags h. fixcheck_answers tags command.limits)
 
 pub judging : (command : Command) (contents : List ℕ → Option (List ℕ)) → IsJudging (Judges command contents)
 judging command contents = judging_by command.form command contents
@@ -136,3 +142,9 @@ module _ (told : Option (List ℕ → Option (List ℕ))) (command : Command) wh
   build_job name is named result h =
       job_by form.Build (build_files (file_at command 0) command.limits.frame) (λ building. Build building command.limits.input) is refl (λ building. (refl, refl)) result
       (subst (λ n. LoadsFiles (build_files n command.limits.frame) told result) named h)
+
+  pub fixcheck_job : (name : List ℕ) → command.form ≡ form.FixCheck → name ≡ file_at command 0 → (result : Result (List TagPair) JobStop) →
+      LoadsFiles (fixcheck_files name) told result → LoadsJob told command (made_so (λ tags. FixCheck tags command.limits) result)
+  fixcheck_job name is named result h =
+      job_by form.FixCheck (fixcheck_files (file_at command 0)) (λ tags. FixCheck tags command.limits) is refl (λ tags. (refl, refl)) result
+      (subst (λ n. LoadsFiles (fixcheck_files n) told result) named h)

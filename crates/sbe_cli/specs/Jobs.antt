@@ -17,6 +17,8 @@ use Rattle.check_command.specs.Check.{IsCheckReply, check_files}
 use Rattle.compat_command.specs.Compat.{Pair, IsCompatReply, compat_files}
 use Rattle.dump_command.specs.Dump.{IsDumpReply, dump_files}
 use Rattle.build_command.specs.Builds.{Building, IsBuildReply, build_files}
+use Rattle.tagvalue_codec.specs.declared.data_tags.Pair.{Pair as TagPair}
+use Rattle.fixcheck_command.specs.FixCheck.{IsFixCheckReply, fixcheck_files}
 
 -- a command whose files are accepted
 pub data Job : Type 0 where
@@ -24,6 +26,7 @@ pub data Job : Type 0 where
   Compat : Pair → Job
   Dump : Schemas → Limits → Job
   Build : Building → ℕ → Job
+  FixCheck : List TagPair → Limits → Job
 
 -- What each job takes of its input, and what it answers: one line a command.
 abbrev pub answering_of : Job → Answering
@@ -31,6 +34,7 @@ answering_of (Check schema) = by_whole (IsCheckReply schema)
 answering_of (Compat pair) = by_whole (IsCompatReply pair)
 answering_of (Dump schemas limits) = by_frames limits true no_line (IsDumpReply schemas)
 answering_of (Build building input) = by_lines input no_line (IsBuildReply building)
+answering_of (FixCheck tags limits) = by_frames limits true no_line (IsFixCheckReply tags)
 
 -- how a job reads its input
 abbrev pub reading_of : Job → Reading
@@ -57,6 +61,7 @@ files_by form.Check command = making (check_files (file_at command 0)) Check
 files_by form.Compat command = making (compat_files (file_at command 0) (file_at command 1)) Compat
 files_by form.Dump command = making (dump_files (file_at command 0) command.also) (λ schemas. Dump schemas command.limits)
 files_by form.Build command = making (build_files (file_at command 0) command.limits.frame) (λ building. Build building command.limits.input)
+files_by form.FixCheck command = making (fixcheck_files (file_at command 0)) (λ tags. FixCheck tags command.limits)
 
 -- what the files of a command are
 abbrev pub files_of : Command → FilesOf Job

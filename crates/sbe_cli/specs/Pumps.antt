@@ -10,7 +10,7 @@ use Rattle.command_steps.specs.Stands.{IsBounded, Stands, StandsLines, StandsOnc
 use Rattle.command_steps.specs.declared.kept.Kept.{Kept}
 use Rattle.command_steps.specs.declared.step.Step.{Step}
 use Rattle.command_steps.specs.declared.step.Step.TheVariants.{Ended}
-use Rattle.sbe_cli.specs.Jobs.{Job, Check, Compat, Dump, Build}
+use Rattle.sbe_cli.specs.Jobs.{Job, Check, Compat, Dump, Build, FixCheck}
 use Rattle.sbe_cli.specs.declared.pump.Work.{Work}
 use Rattle.sbe_cli.specs.declared.pump.Work.TheVariants as work
 
@@ -31,6 +31,7 @@ on_job (work.Check on) = record { job = Check on.command; feed = nothing }
 on_job (work.Compat on) = record { job = Compat on.command; feed = nothing }
 on_job (work.Dump on) = record { job = Dump on.command on.limits; feed = frames on.limits on.stream }
 on_job (work.Build on) = record { job = Build on.command on.limits.input; feed = lines on.limits on.stream }
+on_job (work.FixCheck on) = record { job = FixCheck on.command on.limits; feed = frames on.limits on.stream }
 
 -- the job of work
 abbrev pub job_of : Work → Job

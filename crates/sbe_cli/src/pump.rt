@@ -17,6 +17,7 @@ use command_steps::{FrameWork, Kept, LineWork, Step, Tally, WholeWork, count};
 use command_words::{Command, Form};
 use compat_command::{Comparer, load_compat};
 use dump_command::{Dumper, load_dump};
+use fixcheck_command::{FixChecker, load_fixcheck};
 use sbe_base::{Files, Sink, Source, Status};
 use schema_files::JobStop;
 use std::alloc::Global;
@@ -29,6 +30,7 @@ pub enum Work {
     Compat(WholeWork<Comparer>),
     Dump(FrameWork<Dumper>),
     Build(LineWork<Builder>),
+    FixCheck(FrameWork<FixChecker>),
 }
 
 /// One command on its way through its input.
@@ -141,6 +143,13 @@ impl Work {
                 },
                 Err(stop) => Err(stop),
             },
+            Form::FixCheck => match load_fixcheck(alloc, command.file(0), files) {
+                Ok(checker) => match FrameWork::open(alloc, checker, command.limits) {
+                    Ok(work) => Ok(Work::FixCheck(work)),
+                    Err(_) => Err(JobStop::NoMemory),
+                },
+                Err(stop) => Err(stop),
+            },
         }
     }
 
@@ -168,6 +177,7 @@ impl Work {
             Work::Compat(work) => work.answer_next(kept, input, output, notes),
             Work::Dump(work) => work.answer_next(kept, input, output, notes),
             Work::Build(work) => work.answer_next(kept, input, output, notes),
+            Work::FixCheck(work) => work.answer_next(kept, input, output, notes),
         }
     }
 }

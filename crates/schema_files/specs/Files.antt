@@ -23,6 +23,7 @@ IsRead (Err (file.Unread cause path)) = ⊤
 IsRead (Err (file.Broken rule path)) = ⊤
 IsRead (Err file.SameId) = ⊤
 IsRead (Err file.FormDiffers) = ⊤
+IsRead (Err (file.NoMap code path)) = ⊤
 
 -- what bytes are judged as, unless memory was wanting
 abbrev pub Reads : Result WireSchema FileRefusal → Result WireSchema LoadStop → Type 0
@@ -70,6 +71,7 @@ loads_up_to role.Schema = 1
 loads_up_to (role.Also n) = suc n
 loads_up_to role.Old = 1
 loads_up_to role.New = 2
+loads_up_to role.Map = 1
 
 -- the count of loads after so many more
 abbrev pub after_loads : ℕ → ℕ → ℕ

@@ -48,6 +48,7 @@ IsWithin many role.Schema = ⊤
 IsWithin many (role.Also n) = (1 ≤ n) × (n ≤ many)
 IsWithin many role.Old = ⊥
 IsWithin many role.New = ⊥
+IsWithin many role.Map = ⊥
 
 -- one of two files, the older or the newer
 abbrev pub IsOfTwo : FileRole → Type 0
@@ -55,6 +56,7 @@ IsOfTwo role.Schema = ⊥
 IsOfTwo (role.Also n) = ⊥
 IsOfTwo role.Old = ⊤
 IsOfTwo role.New = ⊤
+IsOfTwo role.Map = ⊥
 
 -- ---- several schemas
 

@@ -4,6 +4,8 @@ use Rattle.json_elements.specs.declared.refusal.Cause.{Cause}
 use Rattle.json_elements.specs.declared.refusal.Cause.TheVariants as cause
 use Rattle.json_values.specs.Values.{text_data}
 use Rattle.json_values.specs.Plain.{plain_text}
+use Rattle.map_types.specs.declared.codes.MCode.{MCode}
+use Rattle.map_types.specs.declared.codes.MCode.TheVariants as mapping
 use Rattle.schema_rules.specs.declared.codes.CCode.{CCode}
 use Rattle.schema_rules.specs.declared.codes.CCode.TheVariants as rule
 use Rattle.sbe_base.specs.declared.status.Status.{Status}
@@ -20,6 +22,7 @@ role_name role.Schema = codes "schema"
 role_name (role.Also n) = codes "also" ++ decimal n
 role_name role.Old = codes "old"
 role_name role.New = codes "new"
+role_name role.Map = codes "map"
 
 -- The line of a file that is refused with this code at this path.
 abbrev pub refused_file : FileRole → List ℕ → List ℕ → List ℕ
@@ -57,6 +60,19 @@ rule_code rule.Depth = codes "C17"
 rule_code rule.Width = codes "C18"
 rule_code rule.Presence = codes "C19"
 
+-- the code of why a file holds no mapping
+abbrev pub map_code : MCode → List ℕ
+map_code mapping.Xml = codes "M01"
+map_code mapping.NotJson = codes "M02"
+map_code mapping.Shape = codes "M03"
+map_code mapping.BadAttribute = codes "M04"
+map_code mapping.UnknownReference = codes "M05"
+map_code mapping.Duplicate = codes "M06"
+map_code mapping.Cycle = codes "M07"
+map_code mapping.AmbiguousTag = codes "M08"
+map_code mapping.Datatype = codes "M09"
+map_code mapping.Limit = codes "M10"
+
 -- The line of a file that is refused.
 abbrev pub why_line : FileRole → FileRefusal → List ℕ
 why_line role file.Absent = codes "{\"absent\":\"" ++ (role_name role ++ codes "\"}\n")
@@ -65,6 +81,7 @@ why_line role (file.Unread cause path) = refused_file role (cause_code cause) pa
 why_line role (file.Broken rule path) = refused_file role (rule_code rule) path
 why_line role file.SameId = refused_file role (codes "X01") []
 why_line role file.FormDiffers = refused_file role (codes "X02") []
+why_line role (file.NoMap code path) = refused_file role (map_code code) path
 
 -- the same of a file with its role
 abbrev pub refusal_line : RefusedFile → List ℕ
@@ -78,3 +95,4 @@ refusal_status (file.Unread cause path) = status.SchemaRefused
 refusal_status (file.Broken rule path) = status.SchemaRefused
 refusal_status file.SameId = status.SchemaRefused
 refusal_status file.FormDiffers = status.SchemaRefused
+refusal_status (file.NoMap code path) = status.MapRefused

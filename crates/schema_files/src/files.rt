@@ -3,6 +3,7 @@ ghost use Rattle.schema_files.specs.Files.{stop_of};
 
 use json_elements::Cause;
 use lists::Text;
+use map_types::MCode;
 use schema_check::CCode;
 
 /// What a file of the words is for.
@@ -16,6 +17,8 @@ pub enum FileRole {
     Old,
     /// The newer of them.
     New,
+    /// The mapping.
+    Map,
 }
 
 /// Why a file isn't taken.
@@ -33,6 +36,8 @@ pub enum FileRefusal {
     SameId,
     /// Its messages begin otherwise than those of the first schema.
     FormDiffers,
+    /// It holds no mapping, or one that breaks a rule: why, and where.
+    NoMap(MCode, Text),
 }
 
 /// A file that isn't taken.

@@ -1,4 +1,4 @@
-//! The files of schemas: they are loaded and judged in the order of the words, and a refused one is noted.
+//! The files of schemas: they are loaded and judged in the order of the words; and how a refused file is noted.
 #![tactic(auto)]
 
 mod files;

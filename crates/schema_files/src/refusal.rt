@@ -2,12 +2,13 @@
 
 ghost use Rattle.std.specs.Prelude.{◌≡◌};
 ghost use Rattle.printers.specs.Prints.{Prints};
-ghost use Rattle.schema_files.specs.Refusals.{cause_code, rule_code, refused_file, refusal_line, refusal_status, role_name, why_line};
+ghost use Rattle.schema_files.specs.Refusals.{cause_code, map_code, rule_code, refused_file, refusal_line, refusal_status, role_name, why_line};
 ghost use Rattle.schema_files.specs.declared.files.FileRefusal.TheVariants as file;
 
 use crate::files::{FileRefusal, FileRole, RefusedFile};
 use json_elements::Cause;
 use json_values::{put_count, put_text};
+use map_types::MCode;
 use printers::Printer;
 use sbe_base::{Sink, Status};
 use schema_check::CCode;
@@ -23,6 +24,7 @@ pub fn refusal_status(refusal: &FileRefusal) -> Status
         | FileRefusal::Broken(_, _)
         | FileRefusal::SameId
         | FileRefusal::FormDiffers => Status::SchemaRefused,
+        FileRefusal::NoMap(_, _) => Status::MapRefused,
     }
 }
 
@@ -42,6 +44,9 @@ pub fn put_refusal<N: Sink>(printer: &mut Printer<'_, N>, file: &RefusedFile)
         }
         FileRefusal::SameId => put_refused(printer, role, "X01", &[]),
         FileRefusal::FormDiffers => put_refused(printer, role, "X02", &[]),
+        FileRefusal::NoMap(code, path) => {
+            put_refused(printer, role, map_code(*code), path.as_slice())
+        }
     }
 }
 
@@ -57,6 +62,7 @@ pub fn put_role<N: Sink>(printer: &mut Printer<'_, N>, role: FileRole)
         }
         FileRole::Old => printer.put(b"old"),
         FileRole::New => printer.put(b"new"),
+        FileRole::Map => printer.put(b"map"),
     }
 }
 
@@ -91,6 +97,24 @@ fn cause_code(cause: Cause) -> &'static str
         Cause::Missing => "S04",
         Cause::BadAttribute => "S05",
         Cause::Limit => "S06",
+    }
+}
+
+/// The code of why a file holds no mapping.
+fn map_code(code: MCode) -> &'static str
+    ensures { result.now ≡ map_code code }
+{
+    match code {
+        MCode::Xml => "M01",
+        MCode::NotJson => "M02",
+        MCode::Shape => "M03",
+        MCode::BadAttribute => "M04",
+        MCode::UnknownReference => "M05",
+        MCode::Duplicate => "M06",
+        MCode::Cycle => "M07",
+        MCode::AmbiguousTag => "M08",
+        MCode::Datatype => "M09",
+        MCode::Limit => "M10",
     }
 }
 

@@ -38,6 +38,10 @@ fn command_text(alloc: Global, command: &Command) -> Result<String> {
             let limits = limits_text(alloc, command.limits)?;
             Ok(format!(in alloc; "build {file}, {}", limits.as_str())?)
         }
+        Form::FixCheck => {
+            let limits = limits_text(alloc, command.limits)?;
+            Ok(format!(in alloc; "fixcheck {file}, {}", limits.as_str())?)
+        }
     }
 }
 

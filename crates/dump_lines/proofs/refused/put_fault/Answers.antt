@@ -1,6 +1,7 @@
 use Rattle.std.proofs.Common.{sym, ap, ap₂, subst}
 use Rattle.printers.proofs.Printing.{reprinted}
-use Rattle.dump_lines.specs.Refused.{IsWay, of_fault_in, refused_line}
+use Rattle.refused_items.specs.Refused.{refused_line}
+use Rattle.dump_lines.specs.Refused.{IsWay, of_fault_in}
 use Rattle.dump_lines.proofs.refused.put_fault.Goals as goal
 
 pub put_refusal-requires : goal.put_refusal-requires

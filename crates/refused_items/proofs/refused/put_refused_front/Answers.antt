@@ -1,5 +1,5 @@
 use Rattle.printers.proofs.Printing.{then_prints}
-use Rattle.dump_lines.proofs.refused.put_refused_front.Goals as goal
+use Rattle.refused_items.proofs.refused.put_refused_front.Goals as goal
 
 pub returns : goal.returns
 returns g c =

@@ -1,6 +1,6 @@
 use Rattle.std.proofs.Common.{refl}
 use Rattle.hex.specs.Hex.{encode_with}
-use Rattle.dump_lines.proofs.refused.digits_of.Goals as goal
+use Rattle.refused_items.proofs.encoding.digits_of.Goals as goal
 
 pub returns : goal.returns
 unfolding encode_with

@@ -1,0 +1,8 @@
+//! The command `fixcheck`: the mapping of its file, and a line for each frame that is a tag-value text.
+#![tactic(auto)]
+
+mod answer;
+mod fixcheck;
+mod lines;
+
+pub use fixcheck::{FixChecker, load_fixcheck};
