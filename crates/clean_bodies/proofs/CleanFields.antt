@@ -12,6 +12,7 @@ use Rattle.sbe_types.specs.declared.message.Value.TheVariants as value
 use Rattle.sbe_types.specs.Places.{is_const, begin_of, end_past, fields_end}
 use Rattle.sbe_types.specs.Shows.{Shows}
 use Rattle.sbe_types.specs.Wire.{both, padded, wire_bytes}
+use Rattle.sbe_wire.specs.Versions.{own_mode}
 use Rattle.sbe_wire.specs.Canonical.{fields_bytes, block_bytes}
 use Rattle.sbe_wire.specs.Lays.{FieldsLay}
 use Rattle.sbe_wire.specs.Placed.{ArePlaced}
@@ -30,7 +31,7 @@ fields_grow e (f ∷ fs) placed =
 
 module _ (order : Order) (version : ℕ) where
   fields_clean : (e : ℕ) (fs : List Field) → ArePlaced e fs → AreWritableFields version fs
-      → (vs : List Value) (b : List ℕ) → IsBytes b → fields_end e fs ≤ length b → FieldsLay order true version e fs vs b
+      → (vs : List Value) (b : List ℕ) → IsBytes b → fields_end e fs ≤ length b → FieldsLay (own_mode order version) e fs vs b
       → AreCleanFields e fs b → fields_bytes order e fs vs ≡ Some (between e (fields_end e fs) b)
   fields_clean e [] placed writable [] b good within h clean = ap Some (sym (between_none e b))
   fields_clean e [] placed writable (v ∷ vs) b good within h clean = absurd h
@@ -57,7 +58,7 @@ module _ (order : Order) (version : ℕ) where
 
   -- the block of a level whose fields end within it
   pub block_clean : (fs : List Field) → ArePlaced 0 fs → AreWritableFields version fs → (vs : List Value) (b : List ℕ)
-      → IsBytes b → fields_end 0 fs ≤ length b → FieldsLay order true version 0 fs vs b → IsCleanBlock fs b
+      → IsBytes b → fields_end 0 fs ≤ length b → FieldsLay (own_mode order version) 0 fs vs b → IsCleanBlock fs b
       → block_bytes order (length b) fs vs ≡ Some b
   block_clean fs placed writable vs b good within h clean =
       let n = fields_end 0 fs in

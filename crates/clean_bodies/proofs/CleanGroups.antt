@@ -1,5 +1,5 @@
 -- A group whose dimension and entries are its canonical ones.
-use Rattle.std.proofs.Common.{◌≡◌, ℕ, ◌+◌, ◌≤◌, true, List, [], ◌++◌, length, take, drop, Some, sym, ap, ◌∙◌, subst, arith, append_assoc}
+use Rattle.std.proofs.Common.{◌≡◌, ℕ, ◌+◌, ◌≤◌, List, [], ◌++◌, length, take, drop, Some, sym, ap, ◌∙◌, subst, arith, append_assoc}
 use Rattle.std.specs.Prelude.{codes}
 use Rattle.std.proofs.lemmas.List.{take_at, take-append-drop, length-take-le}
 use Rattle.byte_digits.specs.Digits.{IsBytes}
@@ -13,6 +13,7 @@ use Rattle.sbe_types.specs.declared.message.Block.{Block, out-Block}
 use Rattle.sbe_types.specs.declared.message.GroupVal.{GroupVal, items_hidden-the_row-Block-1}
 use Rattle.sbe_types.specs.declared.message.GroupVal.TheVariants as groupval
 use Rattle.sbe_types.specs.Places.{fields_end, members_end}
+use Rattle.sbe_wire.specs.Versions.{own_mode, form_of, BlockForm}
 use Rattle.sbe_wire.specs.Canonical.{dimension_numbers, named_bytes, block_bytes, all_bytes, entries_in, entries_bytes, tail_bytes, group_bytes}
 use Rattle.sbe_wire.specs.Lays.{Joined, BlockLays, EntryLays, GroupLies, TailLays, GroupLays}
 use Rattle.sbe_wire.proofs.Levels.{placed_fields}
@@ -44,14 +45,17 @@ module _ (place : Place) (level : Level) where
   abbrev wide : ℕ
   wide = (out-Level level).block_length
 
+  abbrev form : BlockForm
+  form = form_of (own_mode order version) level
+
   abbrev TailIs : Block → List ℕ → Type 0
-  TailIs entry b = TailLays order true version level entry b
+  TailIs entry b = TailLays (own_mode order version) level entry b
 
   -- ---- an entry
 
   pub block_ends : IsGoodLevel version level → IsBytes body → (at : ℕ) → IsCleanBlock fields (take wide (drop at body))
       → (entry : Block) (f r : List ℕ) → length f ≡ wide → drop at body ≡ f ++ r
-      → BlockLays order true version fields (out-Block entry).fields f
+      → BlockLays (own_mode order version) fields (out-Block entry).fields f
       → Ends at (at + wide) f (block_bytes order wide fields (out-Block entry).fields)
   block_ends known good at clean entry f r long there h =
       let values = (out-Block entry).fields in
@@ -88,7 +92,7 @@ module _ (place : Place) (level : Level) where
 
     entries_end : (count at next : ℕ) → IsWritableDimension dim wide → IsBytes body → DimSays count at
         → Times (EntryStep place level) count (at + size) next → (entries : List Block) (front rest : List ℕ)
-        → drop at body ≡ front ++ rest → GroupLies TailIs order true version dim fields entries front
+        → drop at body ≡ front ++ rest → GroupLies TailIs form dim entries front
         → Ends at next front (entries_bytes order dim wide (entry_bytes order level) (Some entries))
     entries_end count at next writable good says steps entries front rest there h =
         let k : ℕ = h.0 in
@@ -108,7 +112,7 @@ module _ (place : Place) (level : Level) where
         ap (λ n. named_bytes order (dimension_numbers wide n) 0 dim) many
         ∙ named_are order (dimension_numbers wide count) head dim there_says bytes lays.wide in
         let each : Joined (EntryIs order version level) entries back =
-        subst (λ n. Joined (EntryLays TailIs order true version fields n) entries back) block h.5 in
+        subst (λ n. Joined (EntryLays TailIs form n) entries back) block h.5 in
         two_pieces body at (at + size) next front head back rest
         (named_bytes order (dimension_numbers wide (length entries)) 0 dim) (all_bytes (entry_bytes order level) entries)
         there h.3
@@ -120,11 +124,11 @@ module _ (place : Place) (level : Level) where
         → GroupStep place (Group' dim level) at next
     unfolding tail_bytes
     group_whole count at next known writable good says steps =
-        whole_of GroupVal (λ v b. GroupLays order true version (Group' dim level) v b) (λ v. group_bytes order (Group' dim level) v) body at next
+        whole_of GroupVal (λ v b. GroupLays (own_mode order version) (Group' dim level) v b) (λ v. group_bytes order (Group' dim level) v) body at next
         (λ v front rest there h.
         let lies =
         alive_from
-        ((entries : List Block) × (v ≡ groupval.Entries entries) × GroupLies TailIs order true version dim fields entries front)
+        ((entries : List Block) × (v ≡ groupval.Entries entries) × GroupLies TailIs form dim entries front)
         ((v ≡ groupval.Absent) × (front ≡ [])) version
         (out-Level level).since known h in
         let ends = entries_end count at next writable good says steps lies.0 front rest there lies.2 in

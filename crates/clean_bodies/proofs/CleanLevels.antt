@@ -1,5 +1,5 @@
 -- The groups and the data of a level, one behind another.
-use Rattle.std.proofs.Common.{◌≡◌, ℕ, ◌+◌, true, List, [], ◌∷◌, ◌++◌, length, drop, Some, sym, ap, subst, arith}
+use Rattle.std.proofs.Common.{◌≡◌, ℕ, ◌+◌, List, [], ◌∷◌, ◌++◌, length, drop, Some, sym, ap, subst, arith}
 use Rattle.std.specs.List.{All, AllByRecursion}
 use Rattle.std.proofs.lemmas.List.Elements.{All-from_recursion}
 use denote.Hole.Carrier as carrier
@@ -13,6 +13,7 @@ use Rattle.sbe_types.specs.declared.schema.Level.{Level, Level', out-Level, Row_
 use Rattle.sbe_types.specs.declared.message.Block.{Block, out-Block}
 use Rattle.sbe_types.specs.declared.message.GroupVal.{GroupVal}
 use Rattle.sbe_types.specs.Places.{members_end}
+use Rattle.sbe_wire.specs.Versions.{own_mode}
 use Rattle.sbe_wire.specs.Canonical.{parts_bytes, tail_bytes, groups_bytes, group_bytes}
 use Rattle.sbe_wire.specs.Lays.{TailLays, GroupsLay}
 use Rattle.sbe_wire.specs.Placed.{ArePlacedGroups}
@@ -36,7 +37,7 @@ module _ (place : Place) where
 
   groups_end : {n : _} (row : Row_of-Group n) (at next : ℕ)
       → Chain Group (GroupStep place) (items-the_row-Group _ row) at next → (vs : List GroupVal) (front rest : List ℕ)
-      → drop at body ≡ front ++ rest → GroupsLay order true version row vs front
+      → drop at body ≡ front ++ rest → GroupsLay (own_mode order version) row vs front
       → Ends at next front (groups_bytes order row vs)
   unfolding tail_bytes
   groups_end end_of-Group at next chain [] front rest there h = (omega (arith, chain, ap length h), ap Some (sym h))
@@ -54,7 +55,7 @@ module _ (place : Place) where
       let level : Level = Level' name id semantic since block_length fields n row parts in
       let chain : Chain Group (GroupStep place) (items-the_row-Group _ row) at mid =
       subst (λ gs. Chain Group (GroupStep place) gs at mid) (items_shown-the_row-Group-0 n row) first in
-      whole_of Block (λ entry b. TailLays order true version level entry b) (tail_bytes order level) body at next
+      whole_of Block (λ entry b. TailLays (own_mode order version) level entry b) (tail_bytes order level) body at next
       (λ block front rest there h.
       two_pieces body at mid next front h.0 h.1 rest (groups_bytes order row (out-Block block).groups)
       (parts_bytes order parts (out-Block block).parts) there h.2

@@ -1,5 +1,5 @@
 -- A message whose body is its canonical one.
-use Rattle.std.proofs.Common.{◌≡◌, ℕ, true, List, [], ◌++◌, length, take, drop, Option, Some, sym, ap, ◌∙◌, subst, arith, append_assoc, append-nil, length-append}
+use Rattle.std.proofs.Common.{◌≡◌, ℕ, List, [], ◌++◌, length, take, drop, Option, Some, sym, ap, ◌∙◌, subst, arith, append_assoc, append-nil, length-append}
 use Rattle.std.specs.Prelude.{codes}
 use Rattle.std.proofs.lemmas.List.{take_at, drop_at}
 use Rattle.byte_digits.specs.Digits.{IsBytes}
@@ -12,10 +12,10 @@ use Rattle.sbe_types.specs.Places.{members_end}
 use Rattle.sbe_types.specs.Wire.{both}
 use Rattle.sbe_wire.specs.Canonical.{header_numbers, named_bytes, canonical}
 use Rattle.sbe_wire.specs.Lays.{BlockLays, TailLays}
-use Rattle.sbe_wire.specs.Versions.{is_known}
+use Rattle.sbe_wire.specs.Versions.{own_mode}
 use Rattle.writing_laws.specs.Writable.{HasNamed}
 use Rattle.writing_laws.proofs.MessageWritten.{canonical_is}
-use Rattle.writing_laws.proofs.Own.{known_own, acting_own}
+use Rattle.writing_laws.proofs.Own.{known_own, mode_own}
 use Rattle.clean_bodies.specs.Bodies.{IsCanonicalRoot}
 use Rattle.clean_bodies.specs.Good.{IsGoodLevel}
 use Rattle.clean_bodies.specs.Says.{SayNumbers}
@@ -52,14 +52,13 @@ module _ (schema : WireSchema) (level : Level) (body : List ℕ) where
       let same : h.0 ≡ level = some_level (sym h.5 ∙ at) in
       let head = h.7 in
       let is_ours = known_own schema m.version own in
-      let acts = acting_own schema m.version own in
-      let block_lays : BlockLays order true version (out-Level level).fields (out-Block m.block).fields block =
-      subst (λ l. BlockLays order true version (out-Level l).fields (out-Block m.block).fields block) same
-      (subst (λ k. BlockLays order k version (out-Level h.0).fields (out-Block m.block).fields block) is_ours
-      (subst (λ v. BlockLays order (is_known schema m.version) v (out-Level h.0).fields (out-Block m.block).fields block) acts h.8)) in
-      let tail_lays : TailLays order true version level m.block tail =
-      subst (λ l. TailLays order true version l m.block tail) same
-      (subst (λ k. TailLays order k version h.0 m.block tail) is_ours (subst (λ v. TailLays order (is_known schema m.version) v h.0 m.block tail) acts h.9)) in
+      let mode = own_mode order version in
+      let same_mode = mode_own schema m.version own in
+      let block_lays : BlockLays mode (out-Level level).fields (out-Block m.block).fields block =
+      subst (λ l. BlockLays mode (out-Level l).fields (out-Block m.block).fields block) same
+      (subst (λ o. BlockLays o (out-Level h.0).fields (out-Block m.block).fields block) same_mode h.8) in
+      let tail_lays : TailLays mode level m.block tail =
+      subst (λ l. TailLays mode l m.block tail) same (subst (λ o. TailLays o h.0 m.block tail) same_mode h.9) in
       let nothing : rest ≡ [] = h.10 is_ours in
       let split : body ≡ header ++ (block ++ (tail ++ rest)) =
       h.6 ∙ append_assoc (header ++ block) tail rest ∙ append_assoc header block (tail ++ rest) in
@@ -76,8 +75,8 @@ module _ (schema : WireSchema) (level : Level) (body : List ℕ) where
       let back_is : drop wide (block ++ tail) ≡ tail = drop_at block tail wide long in
       let entry : EntryIs order version level m.block (block ++ tail) = (
         omega (arith, long, length-append block tail),
-        subst (BlockLays order true version (out-Level level).fields (out-Block m.block).fields) (sym front_is) block_lays,
-        subst (TailLays order true version level m.block) (sym back_is) tail_lays,
+        subst (BlockLays mode (out-Level level).fields (out-Block m.block).fields) (sym front_is) block_lays,
+        subst (TailLays mode level m.block) (sym back_is) tail_lays,
       ) in
       let own_entry = whole.is m.block (block ++ tail) rest (behind ∙ sym (append_assoc block tail rest)) entry in
       canonical_is schema m level at

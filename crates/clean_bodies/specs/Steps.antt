@@ -1,5 +1,5 @@
 -- Parts of a body that are whole, at the schema's own version: whatever lies there has these canonical bytes.
-use Rattle.std.specs.Prelude.{ℕ, true, Option, List}
+use Rattle.std.specs.Prelude.{ℕ, Option, List}
 use Rattle.sbe_types.specs.declared.kind.Order.{Order}
 use Rattle.sbe_types.specs.declared.schema.DataField.{DataField}
 use Rattle.sbe_types.specs.declared.schema.Group.{Group}
@@ -8,6 +8,7 @@ use Rattle.sbe_types.specs.declared.message.DataVal.{DataVal}
 use Rattle.sbe_types.specs.declared.message.Block.{Block, out-Block}
 use Rattle.sbe_types.specs.declared.message.GroupVal.{GroupVal}
 use Rattle.sbe_types.specs.Wire.{both}
+use Rattle.sbe_wire.specs.Versions.{own_mode, form_of}
 use Rattle.sbe_wire.specs.Canonical.{part_bytes, block_bytes, tail_bytes, group_bytes}
 use Rattle.sbe_wire.specs.Lays.{DataLays, EntryLays, TailLays, GroupLays}
 use Rattle.clean_bodies.specs.Whole.{IsWhole}
@@ -24,7 +25,7 @@ PartStep p part at next = IsWhole DataVal (DataLays p.order p.version part) (par
 
 -- the groups and the data of a level are whole
 abbrev pub TailStep : Place → Level → ℕ → ℕ → Type 0
-TailStep p level at next = IsWhole Block (λ entry b. TailLays p.order true p.version level entry b) (tail_bytes p.order level) p.body at next
+TailStep p level at next = IsWhole Block (λ entry b. TailLays (own_mode p.order p.version) level entry b) (tail_bytes p.order level) p.body at next
 
 -- the canonical bytes of a block of the declared length, and of the groups and data behind it
 abbrev pub entry_bytes : Order → Level → Block → Option (List ℕ)
@@ -33,7 +34,8 @@ entry_bytes order level entry = both (block_bytes order (out-Level level).block_
 -- an entry is lying there, with a block of the declared length
 abbrev pub EntryIs : Order → ℕ → Level → Block → List ℕ → Type 0
 EntryIs order version level entry b =
-    EntryLays (λ entry b. TailLays order true version level entry b) order true version (out-Level level).fields (out-Level level).block_length entry b
+    let mode = own_mode order version in
+    EntryLays (λ entry b. TailLays mode level entry b) (form_of mode level) (out-Level level).block_length entry b
 
 -- an entry, or the root, is whole
 abbrev pub EntryStep : Place → Level → ℕ → ℕ → Type 0
@@ -41,4 +43,4 @@ EntryStep p level at next = IsWhole Block (EntryIs p.order p.version level) (ent
 
 -- a group is whole
 abbrev pub GroupStep : Place → Group → ℕ → ℕ → Type 0
-GroupStep p g at next = IsWhole GroupVal (λ v b. GroupLays p.order true p.version g v b) (λ v. group_bytes p.order g v) p.body at next
+GroupStep p g at next = IsWhole GroupVal (λ v b. GroupLays (own_mode p.order p.version) g v b) (λ v. group_bytes p.order g v) p.body at next

@@ -1,6 +1,6 @@
 //! Laws of the definitions, as functions without a body.
 
-ghost use Rattle.std.specs.Prelude.{◌≡◌, ◌≤◌, ℕ, List, Some, length, true, codes, take};
+ghost use Rattle.std.specs.Prelude.{◌≡◌, ◌≤◌, ℕ, List, Some, length, codes, take};
 ghost use Rattle.byte_digits.specs.Digits.{IsBytes};
 ghost use Rattle.sbe_types.specs.declared.kind.Order.{Order};
 ghost use Rattle.sbe_types.specs.declared.schema.DataField.{DataField};
@@ -10,6 +10,7 @@ ghost use Rattle.sbe_types.specs.declared.schema.Level.{Level, out-Level};
 ghost use Rattle.sbe_types.specs.declared.schema.WireSchema.{WireSchema};
 ghost use Rattle.sbe_types.specs.declared.message.Value.{Value};
 ghost use Rattle.sbe_types.specs.Places.{fields_end, members_end};
+ghost use Rattle.sbe_wire.specs.Versions.{own_mode};
 ghost use Rattle.sbe_wire.specs.Canonical.{block_bytes, header_numbers};
 ghost use Rattle.sbe_wire.specs.Lays.{FieldsLay};
 ghost use Rattle.sbe_wire.specs.Placed.{ArePlaced};
@@ -24,7 +25,7 @@ ghost use Rattle.clean_bodies.specs.Whole.{Chain};
 /// A clean block is the canonical one of the values that lie in it.
 pub fn clean_blocks_are_canonical()
     ensures { (order : Order) (version : ℕ) (fields : List Field) → ArePlaced 0 fields → AreWritableFields version fields → (values : List Value) (b : List ℕ)
-        → IsBytes b → fields_end 0 fields ≤ length b → FieldsLay order true version 0 fields values b → IsCleanBlock fields b
+        → IsBytes b → fields_end 0 fields ≤ length b → FieldsLay (own_mode order version) 0 fields values b → IsCleanBlock fields b
         → block_bytes order (length b) fields values ≡ Some b }
 {}
 

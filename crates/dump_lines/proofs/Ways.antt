@@ -22,11 +22,11 @@ use Rattle.sbe_types.specs.declared.schema.Group.{Group, Group', out-Group}
 use Rattle.sbe_types.specs.declared.schema.Level.{Level, Level', out-Level, Row_of-Group, end_of-Group, more_of-Group, items-the_row-Group, items_shown-the_row-Group-0}
 use Rattle.sbe_types.specs.declared.schema.WireSchema.{WireSchema}
 use Rattle.sbe_types.specs.declared.message.GroupVal.{GroupVal}
+use Rattle.sbe_wire.specs.declared.mode.Mode.{Mode}
 use Rattle.sbe_wire.specs.declared.codes.FCode.{FCode}
-use Rattle.sbe_wire.specs.Faults.{Fault, fault_at, shifted, under, ElementsFault, LeafFault, KindFault, RowFault, FieldsFault, BlockFault, DataFault, EachFault, TimesFault, DimensionFault, EntryFault, TailFault, GroupsFault, GroupFault, Heading, HeadingLays, HeadingFault, message_named}
+use Rattle.sbe_wire.specs.Faults.{Fault, fault_at, shifted, under, ElementsFault, LeafFault, KindFault, RowFault, Place, next_place, FieldsFault, BlockFault, DataFault, EachFault, TimesFault, DimensionFault, EntryFault, TailFault, GroupsFault, GroupFault, Heading, HeadingLays, HeadingFault, message_named}
 use Rattle.sbe_wire.specs.Lays.{DataLays, GroupsLay}
-use Rattle.sbe_types.specs.Places.{end_past}
-use Rattle.sbe_wire.specs.Versions.{acting, is_known}
+use Rattle.sbe_wire.specs.Versions.{form_of, mode_of}
 use Rattle.sbe_wire.proofs.Messages.{named_is}
 use Rattle.layout_tables.specs.Heads.{header_width}
 use Rattle.layout_tables.specs.Paths.{Inside, in_level, in_group, in_kind, in_nothing, NamedPart, field_part, group_part, data_part, member_part, level_parts, parts_inside, to_part, path_from, IsPathOf}
@@ -150,18 +150,20 @@ mutual
 
 -- ---- a block
 
-fields_lead : (order : Order) (known : Bool) (version : ℕ) (inside : Inside) (e i : ℕ) (fields : List Field) (fault : Fault) (b : List ℕ) → Behind (parts_inside inside) i (map field_part fields) →
-    FieldsFault order known version e i fields fault b → Leads inside fault.path
-fields_lead order known version inside e i [] fault b stand h = absurd h
-fields_lead order known version inside e i (field ∷ fields) fault b stand h = elim h [
-  | inl x ↦ moved inside fault _ _ x.1.2 (part_leads inside i (field_part field) x.1.0.path (first_is (parts_inside inside) i (field_part field) (map field_part fields) stand) (kind_leads order known field.kind x.1.0 _ x.1.1))
-  | inr x ↦ fields_lead order known version inside (end_past e field.offset field.kind) (suc i) fields fault b (next_are (parts_inside inside) i (field_part field) (map field_part fields) stand) x.2
-]
+fields_lead : (mode : Mode) (inside : Inside) (place : Place) (fields : List Field) (fault : Fault) (b : List ℕ) → Behind (parts_inside inside) place.index (map field_part fields) →
+    FieldsFault mode place fields fault b → Leads inside fault.path
+fields_lead mode inside place [] fault b stand h = absurd h
+fields_lead mode inside place (field ∷ fields) fault b stand h =
+    let i = place.index in
+    elim h [
+      | inl x ↦ moved inside fault _ _ x.1.2 (part_leads inside i (field_part field) x.1.0.path (first_is (parts_inside inside) i (field_part field) (map field_part fields) stand) (kind_leads mode.order mode.known field.kind x.1.0 _ x.1.1))
+      | inr x ↦ fields_lead mode inside (next_place place field) fields fault b (next_are (parts_inside inside) i (field_part field) (map field_part fields) stand) x.2
+    ]
 
-block_leads : (order : Order) (known : Bool) (version : ℕ) (level : Level) (k : ℕ) (fault : Fault) (b : List ℕ) → BlockFault order known version (out-Level level).fields k fault b → Leads (in_level level) fault.path
-block_leads order known version level k fault b h = elim h [
+block_leads : (mode : Mode) (level : Level) (k : ℕ) (fault : Fault) (b : List ℕ) → BlockFault mode (out-Level level).fields k fault b → Leads (in_level level) fault.path
+block_leads mode level k fault b h = elim h [
   | inl x ↦ at_fault (in_level level) fault _ _ _ x.1
-  | inr x ↦ fields_lead order known version (in_level level) 0 0 (out-Level level).fields fault _ (fields_stand level) x.1
+  | inr x ↦ fields_lead mode (in_level level) (record { end = 0; index = 0 }) (out-Level level).fields fault _ (fields_stand level) x.1
 ]
 
 -- ---- data, and entries
@@ -195,50 +197,50 @@ dimension_leads inside order dim least fault b h = elim h [
   | inr x ↦ elim x.1 [ inl y ↦ at_fault inside fault _ _ _ y.1 | inr y ↦ at_fault inside fault _ _ _ y.3 ]
 ]
 
-block_or_tail : (order : Order) (known : Bool) (version : ℕ) (level : Level) (k : ℕ) → ((f : Fault) (b : List ℕ) → TailFault order known version level f b → Leads (in_level level) f.path) → (fault : Fault) (b : List ℕ) →
-    EntryFault (TailFault order known version level) order known version (out-Level level).fields k fault b → Leads (in_level level) fault.path
-block_or_tail order known version level k leads fault b h = elim h [
-  | inl x ↦ block_leads order known version level k fault b x
+block_or_tail : (mode : Mode) (level : Level) (k : ℕ) → ((f : Fault) (b : List ℕ) → TailFault mode level f b → Leads (in_level level) f.path) → (fault : Fault) (b : List ℕ) →
+    EntryFault (TailFault mode level) (form_of mode level) k fault b → Leads (in_level level) fault.path
+block_or_tail mode level k leads fault b h = elim h [
+  | inl x ↦ block_leads mode level k fault b x
   | inr x ↦ moved (in_level level) fault x.1 _ x.5 (leads x.1 _ x.4)
 ]
 
 -- as many groups lie as there are
-groups_many : (order : Order) (known : Bool) (version : ℕ) {n : _} (row : Row_of-Group n) (vs : List GroupVal) (b : List ℕ) → GroupsLay order known version row vs b → length vs ≡ length (items-the_row-Group n row)
-groups_many order known version end_of-Group [] b h = refl
-groups_many order known version end_of-Group (v ∷ vs) b h = absurd h
-groups_many order known version (more_of-Group g rest) [] b h = absurd h
-groups_many order known version (more_of-Group g rest) (v ∷ vs) b h = ap suc (groups_many order known version rest vs h.1 h.4)
+groups_many : (mode : Mode) {n : _} (row : Row_of-Group n) (vs : List GroupVal) (b : List ℕ) → GroupsLay mode row vs b → length vs ≡ length (items-the_row-Group n row)
+groups_many mode end_of-Group [] b h = refl
+groups_many mode end_of-Group (v ∷ vs) b h = absurd h
+groups_many mode (more_of-Group g rest) [] b h = absurd h
+groups_many mode (more_of-Group g rest) (v ∷ vs) b h = ap suc (groups_many mode rest vs h.1 h.4)
 
 -- ---- groups
 
 mutual
   unfolding levels.out-Level groups_of.out-Group carrier.out
 
-  tail_leads : (order : Order) (known : Bool) (version : ℕ) (level : Level) (fault : Fault) (b : List ℕ) → TailFault order known version level fault b → Leads (in_level level) fault.path
-  tail_leads order known version (Level' name id semantic since block_length fields n groups parts) fault b h =
+  tail_leads : (mode : Mode) (level : Level) (fault : Fault) (b : List ℕ) → TailFault mode level fault b → Leads (in_level level) fault.path
+  tail_leads mode (Level' name id semantic since block_length fields n groups parts) fault b h =
       let level = Level' name id semantic since block_length fields n groups parts in
       let same = items_shown-the_row-Group-0 n groups in
       elim h [
-        | inl x ↦ groups_lead order known version (in_level level) (length fields) groups fault b
+        | inl x ↦ groups_lead mode (in_level level) (length fields) groups fault b
             (subst (λ gs. Behind (level_parts level) (length fields) (map group_part gs)) same (groups_stand level)) x
-        | inr x ↦ moved (in_level level) fault x.3 _ x.7 (parts_lead order version (in_level level) (length fields + length x.0) parts x.3 x.2
-            (subst (λ m. Behind (level_parts level) (length fields + m) (map data_part parts)) (ap length same ∙ sym (groups_many order known version groups x.0 x.1 x.5)) (data_stand level)) x.6)
+        | inr x ↦ moved (in_level level) fault x.3 _ x.7 (parts_lead mode.order mode.version (in_level level) (length fields + length x.0) parts x.3 x.2
+            (subst (λ m. Behind (level_parts level) (length fields + m) (map data_part parts)) (ap length same ∙ sym (groups_many mode groups x.0 x.1 x.5)) (data_stand level)) x.6)
       ]
 
-  groups_lead : (order : Order) (known : Bool) (version : ℕ) (inside : Inside) (i : ℕ) {n : _} (row : Row_of-Group n) (fault : Fault) (b : List ℕ) → Behind (parts_inside inside) i (map group_part (items-the_row-Group _ row)) →
-      GroupsFault order known version i row fault b → Leads inside fault.path
-  groups_lead order known version inside i end_of-Group fault b stand h = absurd h
-  groups_lead order known version inside i (more_of-Group g rest) fault b stand h = elim h [
+  groups_lead : (mode : Mode) (inside : Inside) (i : ℕ) {n : _} (row : Row_of-Group n) (fault : Fault) (b : List ℕ) → Behind (parts_inside inside) i (map group_part (items-the_row-Group _ row)) →
+      GroupsFault mode i row fault b → Leads inside fault.path
+  groups_lead mode inside i end_of-Group fault b stand h = absurd h
+  groups_lead mode inside i (more_of-Group g rest) fault b stand h = elim h [
     | inl x ↦ stepped_so inside fault x.0 (Part i) x.2
-        (part_leads inside i (group_part g) x.0.path (first_is (parts_inside inside) i (group_part g) (map group_part (items-the_row-Group _ rest)) stand) (group_leads order known version g x.0 b x.1))
-    | inr x ↦ moved inside fault x.3 _ x.7 (groups_lead order known version inside (suc i) rest x.3 x.2 (next_are (parts_inside inside) i (group_part g) (map group_part (items-the_row-Group _ rest)) stand) x.6)
+        (part_leads inside i (group_part g) x.0.path (first_is (parts_inside inside) i (group_part g) (map group_part (items-the_row-Group _ rest)) stand) (group_leads mode g x.0 b x.1))
+    | inr x ↦ moved inside fault x.3 _ x.7 (groups_lead mode inside (suc i) rest x.3 x.2 (next_are (parts_inside inside) i (group_part g) (map group_part (items-the_row-Group _ rest)) stand) x.6)
   ]
 
-  group_leads : (order : Order) (known : Bool) (version : ℕ) (g : Group) (fault : Fault) (b : List ℕ) → GroupFault order known version g fault b → Leads (in_group (out-Group g).level) fault.path
-  group_leads order known version (Group' dim level) fault b h = elim h.1 [
-    | inl x ↦ dimension_leads (in_group level) order dim _ fault b x
+  group_leads : (mode : Mode) (g : Group) (fault : Fault) (b : List ℕ) → GroupFault mode g fault b → Leads (in_group (out-Group g).level) fault.path
+  group_leads mode (Group' dim level) fault b h = elim h.1 [
+    | inl x ↦ dimension_leads (in_group level) mode.order dim _ fault b x
     | inr x ↦ moved (in_group level) fault x.3 _ x.7
-        (times_lead _ _ level (block_or_tail order known version level x.0.0 (tail_leads order known version level)) 0 x.0.1 x.3 x.2 x.6)
+        (times_lead _ _ level (block_or_tail mode level x.0.0 (tail_leads mode level)) 0 x.0.1 x.3 x.2 x.6)
   ]
 
 -- ---- a body
@@ -305,11 +307,10 @@ faults_have_ways schema fault body h = elim h [
   | inr x ↦
       let heading = x.0 in
       let level = heading.level in
-      let known = is_known schema heading.version in
-      let version = acting schema heading.version in
+      let mode = mode_of schema heading.version in
       let lays = x.5.0 in
       let leads : Leads (in_level level) (x.3).path = elim x.6 [
-        | inl y ↦ block_or_tail schema.order known version level heading.block (tail_leads schema.order known version level) x.3 x.2 y
+        | inl y ↦ block_or_tail mode level heading.block (tail_leads mode level) x.3 x.2 y
         | inr y ↦ moved (in_level level) x.3 y.3 _ y.7 (at_fault (in_level level) y.3 _ _ _ y.6.2)
       ] in
       let meant = ap (message_meant schema) x.4 ∙ meant_is schema heading x.1 x.2 lays in

@@ -8,6 +8,7 @@ use Rattle.sbe_types.specs.declared.message.Value.TheVariants as value
 use Rattle.sbe_types.specs.declared.schema.Field.{Field}
 use Rattle.sbe_types.specs.Places.{width, row_end, is_const, begin_of, end_past, fields_end}
 use Rattle.sbe_types.specs.Shows.{Shows, MembersShow}
+use Rattle.sbe_wire.specs.declared.mode.Mode.{Mode}
 use Rattle.sbe_wire.specs.Lays.{FieldLays, FieldsLay, BlockLays}
 use Rattle.sbe_wire.specs.Placed.{IsPlacedKind, IsPlacedRow, ArePlaced}
 use Rattle.sbe_wire.specs.Versions.{floor}
@@ -45,26 +46,6 @@ module _ (order : Order) (known : Bool) (b : List ℕ) where
         let more = members_show rest true at next w ps placed.2 ends fits one.1 in
         (one.0.0 ∷ more.0, (subst (Shows order known kind one.0.0) (sym (kind_inside at p w kind b within)) one.0.1, more.1), more.2)
 
-  fields_show : (version e : ℕ) (later : Bool) (fs : List Field) → ArePlaced e fs → AllAlive version fs → fields_end e fs ≤ length b →
-      AllShow order known (field_pieces later e fs) b → (vs : List Value) × FieldsLay order known version e fs vs b
-  fields_show version e later [] placed alive ends h = ([], tt)
-  fields_show version e later (f ∷ fs) placed alive ends h =
-      let p = begin_of e f.offset in
-      let next = end_past e f.offset f.kind in
-      let grows : next ≤ fields_end next fs = fields_grow next fs placed.2 in
-      let within : is_const f.kind ≡ false → p + width f.kind ≤ length b = λ c. subst (λ (t : Bool). cond t e (p + width f.kind) ≤ length b) c (omega (arith, grows, ends)) in
-      let one = kind_shows f.kind p (field_pieces true next fs) placed.1 within h in
-      let more = fields_show version next true fs placed.2 alive.1 ends one.1 in
-      let here : FieldLays order known version e f one.0.0 b =
-      subst (λ t. MatchBool t (Shows order known f.kind one.0.0 (take (width f.kind) (drop p b))) (one.0.0 ≡ value.Absent)) (sym alive.0) one.0.1 in
-      (one.0.0 ∷ more.0, (here, more.1))
-
-  pub pieces_block : (version : ℕ) (fs : List Field) → ArePlaced 0 fs → AllAlive version fs → floor version fs ≤ length b → AllShow order known (pieces_of fs) b →
-      (vs : List Value) × BlockLays order known version fs vs b
-  pieces_block version fs placed alive reaches h =
-      let all = fields_show version 0 false fs placed alive (omega (arith, reaches, floor_is version 0 0 fs alive refl)) h in
-      (all.0, (reaches, all.1))
-
   -- ---- with one literal before each value
 
   last_shows : (ss : List Slot) (s : Slot) → SlotsShow order known (ss ++ s ∷ []) b → SlotsShow order known ss b × ShowsSome order known s.kind (bytes_there s.kind s.place b)
@@ -79,14 +60,35 @@ module _ (order : Order) (known : Bool) (b : List ℕ) where
       let two = last_shows j.slots (record { before = j.last; kind = kind; place = place }) rest.0 in
       (two.0, (two.1, rest.1))
 
+module _ (mode : Mode) (b : List ℕ) where
+  fields_show : (e : ℕ) (later : Bool) (fs : List Field) → ArePlaced e fs → AllAlive mode.version fs → fields_end e fs ≤ length b →
+      AllShow mode.order mode.known (field_pieces later e fs) b → (vs : List Value) × FieldsLay mode e fs vs b
+  fields_show e later [] placed alive ends h = ([], tt)
+  fields_show e later (f ∷ fs) placed alive ends h =
+      let p = begin_of e f.offset in
+      let next = end_past e f.offset f.kind in
+      let grows : next ≤ fields_end next fs = fields_grow next fs placed.2 in
+      let within : is_const f.kind ≡ false → p + width f.kind ≤ length b = λ c. subst (λ (t : Bool). cond t e (p + width f.kind) ≤ length b) c (omega (arith, grows, ends)) in
+      let one = kind_shows mode.order mode.known b f.kind p (field_pieces true next fs) placed.1 within h in
+      let more = fields_show next true fs placed.2 alive.1 ends one.1 in
+      let here : FieldLays mode e f one.0.0 b =
+      subst (λ t. MatchBool t (Shows mode.order mode.known f.kind one.0.0 (take (width f.kind) (drop p b))) (one.0.0 ≡ value.Absent)) (sym alive.0) one.0.1 in
+      (one.0.0 ∷ more.0, (here, more.1))
+
+  pub pieces_block : (fs : List Field) → ArePlaced 0 fs → AllAlive mode.version fs → floor mode.version fs ≤ length b → AllShow mode.order mode.known (pieces_of fs) b →
+      (vs : List Value) × BlockLays mode fs vs b
+  pieces_block fs placed alive reaches h =
+      let all = fields_show 0 false fs placed alive (omega (arith, reaches, floor_is mode.version 0 0 fs alive refl)) h in
+      (all.0, (reaches, all.1))
+
 -- the first of some pieces
 front_shows : (order : Order) (known : Bool) (b : List ℕ) (ps qs : List Piece) → AllShow order known (ps ++ qs) b → AllShow order known ps b
 front_shows order known b [] qs h = tt
 front_shows order known b (literal bytes ∷ ps) qs h = front_shows order known b ps qs h
 front_shows order known b (shown kind place ∷ ps) qs h = (h.0, front_shows order known b ps qs h.1)
 
-pub joined_block : (order : Order) (known : Bool) (version : ℕ) (before behind : List ℕ) (fs : List Field) (b : List ℕ) → ArePlaced 0 fs → AllAlive version fs → floor version fs ≤ length b →
-    SlotsShow order known (joined (pieces_between before behind fs)).slots b → (vs : List Value) × BlockLays order known version fs vs b
-joined_block order known version before behind fs b placed alive reaches h =
-    let all = (joined_show order known b (pieces_between before behind fs) nothing_joined h).1 in
-    pieces_block order known b version fs placed alive reaches (front_shows order known b (pieces_of fs) (literal behind ∷ []) all)
+pub joined_block : (mode : Mode) (before behind : List ℕ) (fs : List Field) (b : List ℕ) → ArePlaced 0 fs → AllAlive mode.version fs → floor mode.version fs ≤ length b →
+    SlotsShow mode.order mode.known (joined (pieces_between before behind fs)).slots b → (vs : List Value) × BlockLays mode fs vs b
+joined_block mode before behind fs b placed alive reaches h =
+    let all = (joined_show mode.order mode.known b (pieces_between before behind fs) nothing_joined h).1 in
+    pieces_block mode b fs placed alive reaches (front_shows mode.order mode.known b (pieces_of fs) (literal behind ∷ []) all)

@@ -1,9 +1,9 @@
 //! Laws of pieces.
 
-ghost use Rattle.std.specs.Prelude.{◌≡◌, ◌≤◌, ℕ, Bool, List, length};
-ghost use Rattle.sbe_types.specs.declared.kind.Order.{Order};
+ghost use Rattle.std.specs.Prelude.{◌≡◌, ◌≤◌, ℕ, List, length};
 ghost use Rattle.sbe_types.specs.declared.message.Value.{Value};
 ghost use Rattle.sbe_types.specs.declared.schema.Field.{Field};
+ghost use Rattle.sbe_wire.specs.declared.mode.Mode.{Mode};
 ghost use Rattle.sbe_wire.specs.Lays.{BlockLays};
 ghost use Rattle.sbe_wire.specs.Placed.{ArePlaced};
 ghost use Rattle.sbe_wire.specs.Versions.{floor};
@@ -14,9 +14,9 @@ ghost use Rattle.flat_rows.specs.Tables.{stands_for, IsTable, RowsFit};
 
 /// Where the bytes of each value show one, and all fields stand, the bytes are a block of the fields.
 pub fn pieces_that_show_are_a_block()
-    ensures { (order : Order) (known : Bool) (version : ℕ) (before behind : List ℕ) (fields : List Field) (block : List ℕ) → ArePlaced 0 fields → AllAlive version fields
-        → floor version fields ≤ length block → SlotsShow order known (joined (pieces_between before behind fields)).slots block
-        → (vs : List Value) × BlockLays order known version fields vs block }
+    ensures { (mode : Mode) (before behind : List ℕ) (fields : List Field) (block : List ℕ) → ArePlaced 0 fields → AllAlive mode.version fields
+        → floor mode.version fields ≤ length block → SlotsShow mode.order mode.known (joined (pieces_between before behind fields)).slots block
+        → (vs : List Value) × BlockLays mode fields vs block }
 {}
 
 /// Where all fields stand, the values of their table lie in each block that reaches the floor.

@@ -21,7 +21,7 @@ use Rattle.schema_facts.specs.InOrder.{IsLeafInOrder, IsShapeOf}
 use Rattle.sbe_wire.specs.declared.codes.FCode.TheVariants as code
 use Rattle.sbe_wire.specs.Faults.{Fault}
 use Rattle.sbe_wire.specs.Reading.{inside, value_read}
-use Rattle.flyweight_view.specs.declared.mode.Mode.{Mode}
+use Rattle.sbe_wire.specs.declared.mode.Mode.{Mode}
 use Rattle.flyweight_view.specs.Told.{piece, settled}
 use Rattle.flyweight_view.specs.Kinds.{answered, leaf_answer, leaf_told, kind_told, part_told}
 use Rattle.flyweight_view.proofs.KindTold.{leaf_is, enum_is}

@@ -19,7 +19,7 @@ use Rattle.layout_tables.specs.declared.rows.LevelRow.{LevelRow}
 use Rattle.layout_tables.specs.Flats.{text_before, text_behind, IsFlat}
 use Rattle.layout_tables.specs.Rowed.{RowFor, FieldsAre, newest_of}
 use Rattle.flyweight_view.specs.declared.by_table.TableBlock.{TableBlock}
-use Rattle.flyweight_view.specs.declared.mode.Mode.{Mode}
+use Rattle.sbe_wire.specs.declared.mode.Mode.{Mode}
 use Rattle.flyweight_view.specs.declared.plan.Plan.{Plan}
 use Rattle.flyweight_view.specs.declared.plan.Plan.TheVariants as plan
 use Rattle.flyweight_view.specs.declared.plan.Span.{Span}
@@ -61,8 +61,8 @@ block_fits version k level row is newest =
 fields_good : (mode : Mode) (before behind : List ℕ) (fields : List Field) (rows : List FieldRow) (at : ℕ) (block : List ℕ) → ArePlaced 0 fields → FieldsAre 0 fields rows → AllAlive mode.version fields →
     floor mode.version fields ≤ length block → SlotsShow mode.order mode.known (joined (pieces_between before behind fields)).slots block → fields_told mode (piece at block) 0 fields rows ≡ Ok tt
 fields_good mode before behind fields rows at block placed are alive reaches shows =
-    let found = joined_block mode.order mode.known mode.version before behind fields block placed alive reaches shows in
-    let read = (fields_judges mode.order mode.known mode.version 0 0 0 fields (omega arith) placed).complete block found.0 found.1.1 in
+    let found = joined_block mode before behind fields block placed alive reaches shows in
+    let read = (fields_judges mode 0 0 0 fields (omega arith) placed).complete block found.0 found.1.1 in
     sym (fields_are mode (piece at block) 0 0 fields rows are) ∙ ap (settled at) read
 
 pub block_good : (mode : Mode) (level : Level) (row : LevelRow) (at : ℕ) (block : List ℕ) → IsBlockRow mode.version (length block) level row → ShowsEach mode row block →
@@ -102,8 +102,8 @@ shown_by s p level row b seen is fields groups parts lent =
       version = s.mode.version;
       known = s.mode.known;
       alive = subst (AllAlive s.mode.version) (sym fields) alive;
-      lay = subst (λ o. FieldsLay o s.mode.known s.mode.version 0 (fields_of p) (values_at s p) b.bytes.now) lent.order
-          (subst (λ bs. FieldsLay s.mode.order s.mode.known s.mode.version 0 (fields_of p) (values_at s p) bs) (sym lent.bytes_are) shown);
+      lay = subst (λ o. FieldsLay (record { order = o; known = s.mode.known; version = s.mode.version }) 0 (fields_of p) (values_at s p) b.bytes.now) lent.order
+          (subst (λ bs. FieldsLay s.mode 0 (fields_of p) (values_at s p) bs) (sym lent.bytes_are) shown);
     }
 
 pub level_shown : (s : Span) (p : Plan) (row : LevelRow) → IsSeen s p → RowOf p row → (b : TableBlock) → IsRowBlock s row b → IsTableBlock b (seen_at s p)

@@ -12,7 +12,7 @@ use Rattle.sbe_types.specs.declared.schema.WireSchema.{WireSchema}
 use Rattle.sbe_wire.specs.declared.codes.FCode.TheVariants as code
 use Rattle.sbe_wire.specs.Faults.{Fault, fault_at, shifted, message_named, Heading}
 use Rattle.sbe_wire.specs.Reading.{◌>>=◌, later, and_then, and_judged, heading_of, root_read, headed, rest_judged, message_of, message_judged, floor_judged}
-use Rattle.sbe_wire.specs.Versions.{acting, floor}
+use Rattle.sbe_wire.specs.Versions.{acting, floor, mode_of}
 use Rattle.schema_facts.specs.Levels.{Node, nodes, nodes_from, node, root_of, level_at}
 use Rattle.layout_tables.specs.Heads.{header_width}
 use Rattle.layout_tables.proofs.Items.{get_behind}
@@ -20,9 +20,9 @@ use Rattle.layout_tables.proofs.Nodes.{nodes_open}
 use Rattle.flyweight_view.specs.Read.{read_message}
 use Rattle.sbe_wire.proofs.Combine.{err_is}
 use Rattle.flyweight_view.specs.declared.header.Start.{Start}
-use Rattle.flyweight_view.specs.declared.mode.Mode.{Mode}
+use Rattle.sbe_wire.specs.declared.mode.Mode.{Mode}
 use Rattle.flyweight_view.specs.Cursor.{placed, entries_read}
-use Rattle.flyweight_view.specs.Heads.{head_number, head_place, found_told, named_told, template_told, mode_of, rest_told, root_told, message_told}
+use Rattle.flyweight_view.specs.Heads.{head_number, head_place, found_told, named_told, template_told, rest_told, root_told, message_told}
 use Rattle.flyweight_view.proofs.Cursor.{EndOf}
 use Rattle.flyweight_view.proofs.Walks.{entry_leaves, tail_leaves}
 

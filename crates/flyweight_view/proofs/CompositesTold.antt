@@ -6,11 +6,11 @@ use Rattle.std.specs.Prelude.{map, nat_le, slice_get, pos, ⊤}
 use Rattle.std.specs.Option.{IsSome}
 use Rattle.sbe_types.specs.declared.kind.Kind.{Kind, Comp, items_hidden-the_row-Member-0}
 use Rattle.sbe_types.specs.declared.kind.Member.{Member}
-use Rattle.sbe_types.specs.declared.kind.Order.{Order}
 use Rattle.sbe_types.specs.declared.message.Block.{Block}
 use Rattle.sbe_types.specs.declared.message.Value.{Value, items_hidden-the_row-Value-0}
 use Rattle.sbe_types.specs.declared.schema.Field.{Field}
 use Rattle.sbe_types.specs.Shows.{Shows}
+use Rattle.sbe_wire.specs.declared.mode.Mode.{Mode}
 use Rattle.sbe_wire.specs.declared.codes.FCode.TheVariants as code
 use Rattle.sbe_wire.specs.Faults.{fault_at}
 use Rattle.sbe_wire.specs.Lays.{FieldsLay}
@@ -37,16 +37,16 @@ use Rattle.flyweight_view.proofs.SlotsTold.{ValueOf, none_there}
 abbrev pub fields_only : List Value → Block
 fields_only values = record { fields = values; groups = []; parts = [] }
 
-only_block : (order : Order) (known : Bool) (version : ℕ) (fields : List Field) (k : ℕ) (b : List ℕ) (values : List Value) → nat_le k (length b) ≡ true → fields_read order known version 0 0 fields (take k b) ≡ Ok values →
-    block_read order known version fields k b ≡ Ok (values, drop k b)
-only_block order known version fields k b values long read =
-    ap (λ t. and_judged (fields_read order known version 0 0 fields) (cond t (Ok (take k b, drop k b)) (Err (fault_at code.Truncated 0 (pos k))))) long
+only_block : (mode : Mode) (fields : List Field) (k : ℕ) (b : List ℕ) (values : List Value) → nat_le k (length b) ≡ true → fields_read mode 0 0 fields (take k b) ≡ Ok values →
+    block_read mode fields k b ≡ Ok (values, drop k b)
+only_block mode fields k b values long read =
+    ap (λ t. and_judged (fields_read mode 0 0 fields) (cond t (Ok (take k b, drop k b)) (Err (fault_at code.Truncated 0 (pos k))))) long
     ∙ ap (λ r. r >>= (λ y. Ok (y, drop k b))) read
 
-only_entry : (order : Order) (known : Bool) (version : ℕ) (fields : List Field) (k : ℕ) (b : List ℕ) (values : List Value) → nat_le k (length b) ≡ true → fields_read order known version 0 0 fields (take k b) ≡ Ok values →
-    entry_read (nothing ([], [])) order known version fields k b ≡ Ok (fields_only values, drop k b)
-only_entry order known version fields k b values long read =
-    ap (λ r. and_then b r (λ vs. then_read (nothing ([], [])) (λ t. nothing (block_made vs t)))) (only_block order known version fields k b values long read)
+only_entry : (mode : Mode) (fields : List Field) (k : ℕ) (b : List ℕ) (values : List Value) → nat_le k (length b) ≡ true → fields_read mode 0 0 fields (take k b) ≡ Ok values →
+    entry_read (nothing ([], [])) mode fields k b ≡ Ok (fields_only values, drop k b)
+only_entry mode fields k b values long read =
+    ap (λ r. and_then b r (λ vs. then_read (nothing ([], [])) (λ t. nothing (block_made vs t)))) (only_block mode fields k b values long read)
 
 -- ---- the block of a composite's members
 
@@ -60,19 +60,19 @@ module _ (s : Span) (ms : List Member) (v : Value) (from : s.at ≡ 0) (all : s.
   reaches : floor s.mode.version (map member_field ms) ≤ s.size
   reaches = omega (arith, members_reach s.mode.version 0 0 ms behind (omega arith), width_comp ms, shows.0, all)
 
-  lie : FieldsLay s.mode.order s.mode.known s.mode.version 0 (map member_field ms) shows.1.0 s.body.now
+  lie : FieldsLay s.mode 0 (map member_field ms) shows.1.0 s.body.now
   lie =
       let row = row_in (Comp ms) in
-      subst (λ l. FieldsLay s.mode.order s.mode.known s.mode.version 0 (map member_field l) shows.1.0 s.body.now) (items_hidden-the_row-Member-0 ms)
-      (members_lie s.mode.order s.mode.known s.mode.version 0 row.0 row.1 shows.1.0 s.body.now shows.1.2)
+      subst (λ l. FieldsLay s.mode 0 (map member_field l) shows.1.0 s.body.now) (items_hidden-the_row-Member-0 ms)
+      (members_lie s.mode 0 row.0 row.1 shows.1.0 s.body.now shows.1.2)
 
-  told : entry_read (nothing ([], [])) s.mode.order s.mode.known s.mode.version (map member_field ms) s.size (drop s.at s.body.now) ≡ Ok (fields_only shows.1.0, drop s.size (drop s.at s.body.now))
+  told : entry_read (nothing ([], [])) s.mode (map member_field ms) s.size (drop s.at s.body.now) ≡ Ok (fields_only shows.1.0, drop s.size (drop s.at s.body.now))
   told =
       let whole : drop s.at s.body.now ≡ s.body.now = ap (λ n. drop n s.body.now) from in
       let bytes : take s.size (drop s.at s.body.now) ≡ s.body.now = ap (take s.size) whole ∙ ap (λ n. take n s.body.now) all ∙ take-length s.body.now in
-      let read = (fields_judges s.mode.order s.mode.known s.mode.version 0 0 0 (map member_field ms) (omega arith) placed).complete s.body.now shows.1.0 lie in
-      only_entry s.mode.order s.mode.known s.mode.version (map member_field ms) s.size (drop s.at s.body.now) shows.1.0 (le-leb s.size (length (drop s.at s.body.now)) (omega (arith, all, ap length whole)))
-      (ap (fields_read s.mode.order s.mode.known s.mode.version 0 0 (map member_field ms)) bytes ∙ read)
+      let read = (fields_judges s.mode 0 0 0 (map member_field ms) (omega arith) placed).complete s.body.now shows.1.0 lie in
+      only_entry s.mode (map member_field ms) s.size (drop s.at s.body.now) shows.1.0 (le-leb s.size (length (drop s.at s.body.now)) (omega (arith, all, ap length whole)))
+      (ap (fields_read s.mode 0 0 (map member_field ms)) bytes ∙ read)
 
   members_plan : IsMembersPlan ms s.size
   members_plan = record { order = order; wide = all ∙ shows.0 }

@@ -16,7 +16,7 @@ use Rattle.sbe_wire.proofs.Blocks.{reach, reach_within, floor_reaches}
 use Rattle.layout_tables.specs.declared.rows.FieldRow.{FieldRow}
 use Rattle.layout_tables.specs.Rowed.{FieldIs, FieldsAre}
 use Rattle.layout_tables.proofs.Items.{drop_is}
-use Rattle.flyweight_view.specs.declared.mode.Mode.{Mode}
+use Rattle.sbe_wire.specs.declared.mode.Mode.{Mode}
 use Rattle.flyweight_view.specs.Told.{Piece, piece, settled}
 use Rattle.flyweight_view.specs.Kinds.{part_told, IsReady}
 use Rattle.flyweight_view.specs.Fields.{field_told, fields_told, IsFieldRow, AreFieldRows}
@@ -57,13 +57,13 @@ module _ (mode : Mode) (b : Piece) where
   field_by e i f r true true is a c = fixed_is f.kind (begin_of e f.offset) i (take (width f.kind) (drop (begin_of e f.offset) b.bytes)) c
   field_by e i f r true false is a c = moving_is e i f r is c
 
-  field_is : (e i : ℕ) (f : Field) (r : FieldRow) → FieldIs e f r → settled b.at (field_read mode.order mode.known mode.version e i f b.bytes) ≡ field_told mode b i f r
+  field_is : (e i : ℕ) (f : Field) (r : FieldRow) → FieldIs e f r → settled b.at (field_read mode e i f b.bytes) ≡ field_told mode b i f r
   field_is e i f r is =
       field_by e i f r (is_alive mode.version f.since) (is_const f.kind) is refl refl
       ∙ ap (λ s. cond (is_alive mode.version s && not (is_const f.kind)) (by_row i f r) (Ok tt)) (sym is.since)
       ∙ ap (λ t. cond (is_alive mode.version r.since && not t) (by_row i f r) (Ok tt)) (sym is.constant)
 
-  pub fields_are : (e i : ℕ) (fs : List Field) (rs : List FieldRow) → FieldsAre e fs rs → settled b.at (fields_read mode.order mode.known mode.version e i fs b.bytes) ≡ fields_told mode b i fs rs
+  pub fields_are : (e i : ℕ) (fs : List Field) (rs : List FieldRow) → FieldsAre e fs rs → settled b.at (fields_read mode e i fs b.bytes) ≡ fields_told mode b i fs rs
   unfolding fields_read
   fields_are e i [] [] h = refl
   fields_are e i [] (r ∷ rs) h = absurd h
@@ -71,7 +71,7 @@ module _ (mode : Mode) (b : Piece) where
   fields_are e i (f ∷ fs) (r ∷ rs) h =
       let next = end_past e f.offset f.kind in
       let step : suc i ≡ i + 1 = omega arith in
-      settled_two b.at (field_read mode.order mode.known mode.version e i f b.bytes) (λ v. fields_read mode.order mode.known mode.version next (suc i) fs b.bytes) (fields_told mode b (i + 1) fs rs)
+      settled_two b.at (field_read mode e i f b.bytes) (λ v. fields_read mode next (suc i) fs b.bytes) (fields_told mode b (i + 1) fs rs)
       (λ v. fields_are next (suc i) fs rs h.1 ∙ ap (λ k. fields_told mode b k fs rs) step)
       ∙ ap (λ r. r >>= (λ _. fields_told mode b (i + 1) fs rs)) (field_is e i f r h.0)
 

@@ -27,7 +27,7 @@ use Rattle.layout_tables.proofs.Nodes.{flat_more}
 use Rattle.layout_tables.proofs.GroupWalk.{GroupsFrom, groups_begin, group_is, here}
 use Rattle.group_codec.specs.declared.dim.Dim.{Dim}
 use Rattle.flyweight_view.specs.declared.layer.Layer.{Layer}
-use Rattle.flyweight_view.specs.declared.mode.Mode.{Mode}
+use Rattle.sbe_wire.specs.declared.mode.Mode.{Mode}
 use Rattle.flyweight_view.specs.Cursor.{entries_read, dim_told}
 use Rattle.flyweight_view.specs.Groups.{groups_by, group_entered}
 use Rattle.flyweight_view.specs.Layers.{blocks_read, blocks_at, entries_seen, LieThere}

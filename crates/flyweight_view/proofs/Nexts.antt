@@ -10,7 +10,7 @@ use Rattle.sbe_wire.specs.Reading.{Reader, times_read, tail_read}
 use Rattle.sbe_wire.proofs.Combine.{ok_is}
 use Rattle.group_codec.specs.declared.dim.Dim.{Dim}
 use Rattle.flyweight_view.specs.declared.layer.Layer.{Layer}
-use Rattle.flyweight_view.specs.declared.mode.Mode.{Mode}
+use Rattle.sbe_wire.specs.declared.mode.Mode.{Mode}
 use Rattle.flyweight_view.specs.declared.plan.Plan.TheVariants as plan
 use Rattle.flyweight_view.specs.Cursor.{entries_read}
 use Rattle.flyweight_view.specs.Layers.{blocks_at, entries_seen, IsLayer, LieThere}
@@ -65,7 +65,7 @@ module _ (l : Layer) (d : Dim) (lie : LieThere l d) where
     pub first_seen : IsLayer l → IsSeen (record { mode = l.mode; body = l.body; at = d.after; size = d.block }) (plan.Level l.layout l.number l.level)
     first_seen layer =
         let schema = l.layout.now in
-        let parts = entry_parts (tail_read l.mode.order l.mode.known l.mode.version l.level.now) l.mode.order l.mode.known l.mode.version (out-Level l.level.now).fields d.block here (next.x, next.rest) next.first in
+        let parts = entry_parts (tail_read l.mode l.level.now) l.mode (out-Level l.level.now).fields d.block here (next.x, next.rest) next.first in
         record {
           plan_is = layer;
           placed = (level_ready schema l.number l.level.now layer.ready layer.level_is).placed;

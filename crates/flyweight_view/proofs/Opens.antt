@@ -28,7 +28,7 @@ use Rattle.layout_tables.specs.Rowed.{RowFor, DimIs, part_row}
 use Rattle.layout_tables.proofs.Items.{drop_is}
 use Rattle.layout_tables.proofs.GroupWalk.{GroupsFrom, groups_go, here}
 use Rattle.group_codec.proofs.DimRows.{row_dim}
-use Rattle.flyweight_view.specs.declared.mode.Mode.{Mode}
+use Rattle.sbe_wire.specs.declared.mode.Mode.{Mode}
 use Rattle.flyweight_view.specs.Cursor.{skim, entries_read, groups_told, steps_told, parts_told, data_told, dim_told}
 use Rattle.flyweight_view.specs.Fields.{fields_told}
 use Rattle.flyweight_view.specs.Ready.{IsReadySchema}
@@ -68,7 +68,7 @@ all_next P xs i x h is all = subst (AllByRecursion P) (drop_is xs i x h is) all
 
 module _ (schema : WireSchema) (n : ℕ) (row : LevelRow) (level : Level) (ready : IsReadySchema schema) (is : RowFor schema n row) (there : level_at schema n ≡ Some level) (mode : Mode) (body : List ℕ) (at : ℕ) (near : at ≤ length body) where
   abbrev behind_fields : ℕ → Result ℕ Fault
-  behind_fields k = settled at (fields_read mode.order mode.known mode.version 0 0 (out-Level level).fields (take k (drop at body))) >>= (λ _. skim (tail_read mode.order mode.known mode.version level) body (at + k))
+  behind_fields k = settled at (fields_read mode 0 0 (out-Level level).fields (take k (drop at body))) >>= (λ _. skim (tail_read mode level) body (at + k))
 
   pub entry_short : (k : ℕ) → length body - at < k → Err (fault_at code.Truncated at (pos k)) ≡ skim (entries_read mode level k) body at
   entry_short k short =
@@ -77,9 +77,9 @@ module _ (schema : WireSchema) (n : ℕ) (row : LevelRow) (level : Level) (ready
 
   pub entry_told : (k : ℕ) (rows : List FieldRow) (fields : List Field) (slice : List ℕ) (r : Result Unit Fault) → k ≤ length body - at → rows ≡ row.fields.items → fields ≡ (out-Level level).fields → slice ≡ take k (drop at body) →
       r ≡ fields_told mode (piece at slice) 0 fields rows →
-      (r >>= (λ _. skim (tail_read mode.order mode.known mode.version level) body (at + k))) ≡ skim (entries_read mode level k) body at
+      (r >>= (λ _. skim (tail_read mode level) body (at + k))) ≡ skim (entries_read mode level k) body at
   entry_told k rows fields slice r fits same same_fields part told =
-      let tail = skim (tail_read mode.order mode.known mode.version level) body (at + k) in
+      let tail = skim (tail_read mode level) body (at + k) in
       let rows_told : r ≡ fields_told mode (piece at (take k (drop at body))) 0 (out-Level level).fields row.fields.items =
       told ∙ ap (λ rs. fields_told mode (piece at slice) 0 fields rs) same ∙ ap (λ fs. fields_told mode (piece at slice) 0 fs row.fields.items) same_fields
       ∙ ap (λ b. fields_told mode (piece at b) 0 (out-Level level).fields row.fields.items) part in
@@ -90,7 +90,7 @@ module _ (schema : WireSchema) (n : ℕ) (row : LevelRow) (level : Level) (ready
 
   pub tail_told : (first : ℕ) (rows : List PartRow) (next : ℕ) → first ≡ length (out-Level level).fields + length (out-Level level).groups → rows ≡ row.parts.items →
       Ok next ≡ groups_told mode (length (out-Level level).fields) (out-Level level).groups body at →
-      parts_told mode first rows body next ≡ skim (tail_read mode.order mode.known mode.version level) body at
+      parts_told mode first rows body next ≡ skim (tail_read mode level) body at
   tail_told first rows next begins same went =
       ap (λ k. parts_told mode k rows body next) begins
       ∙ ap (λ rs. parts_told mode (length (out-Level level).fields + length (out-Level level).groups) rs body next) (same ∙ row_parts schema n row level is there)
@@ -98,13 +98,13 @@ module _ (schema : WireSchema) (n : ℕ) (row : LevelRow) (level : Level) (ready
       ∙ sym (tail_walked mode level body at near)
 
 pub tail_refused : (mode : Mode) (level : Level) (body : List ℕ) (at : ℕ) (f : Fault) → at ≤ length body → Err f ≡ groups_told mode (length (out-Level level).fields) (out-Level level).groups body at →
-    Err f ≡ skim (tail_read mode.order mode.known mode.version level) body at
+    Err f ≡ skim (tail_read mode level) body at
 tail_refused mode level body at f near went =
     ap (λ r. r >>= (λ m. parts_told mode (length (out-Level level).fields + length (out-Level level).groups) (map part_row (out-Level level).parts) body m)) went
     ∙ sym (tail_walked mode level body at near)
 
 -- a level without groups and data ends where its block does
-pub tail_flat : (mode : Mode) (level : Level) (body : List ℕ) (at : ℕ) → at ≤ length body → (out-Level level).groups ≡ [] → (out-Level level).parts ≡ [] → Ok at ≡ skim (tail_read mode.order mode.known mode.version level) body at
+pub tail_flat : (mode : Mode) (level : Level) (body : List ℕ) (at : ℕ) → at ≤ length body → (out-Level level).groups ≡ [] → (out-Level level).parts ≡ [] → Ok at ≡ skim (tail_read mode level) body at
 tail_flat mode level body at near no_groups no_parts =
     let fields = length (out-Level level).fields in
     sym (tail_walked mode level body at near
@@ -113,7 +113,7 @@ tail_flat mode level body at near no_groups no_parts =
 
 -- ---- a group
 
-open_group : (mode : Mode) (g : Group) → group_read mode.order mode.known mode.version g ≡ group_read mode.order mode.known mode.version (Group' (out-Group g).dim (out-Group g).level)
+open_group : (mode : Mode) (g : Group) → group_read mode g ≡ group_read mode (Group' (out-Group g).dim (out-Group g).level)
 unfolding groups_of.out-Group carrier.out
 open_group mode (Group' dim level) = refl
 
@@ -124,17 +124,17 @@ module _ (mode : Mode) (g : Group) (body : List ℕ) (at : ℕ) (near : at ≤ l
   abbrev behind : ℕ × ℕ → Result ℕ Fault
   behind d = steps_told (skim (entries_read mode level d.0) body) 0 d.1 (at + members_end 0 (out-Group g).dim)
 
-  group_opens : skim (group_read mode.order mode.known mode.version g) body at
+  group_opens : skim (group_read mode g) body at
       ≡ cond (is_alive mode.version (out-Level level).since) (dim_told mode.order (out-Group g).dim (floor mode.version (out-Level level).fields) body at >>= behind) (Ok at)
   group_opens = ap (λ p. skim p body at) (open_group mode g) ∙ group_walked mode (out-Group g).dim level body at near
 
-  pub group_dead : (since : ℕ) → since ≡ (out-Level level).since → mode.version < since → Ok at ≡ skim (group_read mode.order mode.known mode.version g) body at
+  pub group_dead : (since : ℕ) → since ≡ (out-Level level).since → mode.version < since → Ok at ≡ skim (group_read mode g) body at
   group_dead since is dead =
       let below : is_alive mode.version (out-Level level).since ≡ false = grind (arith, nat_tests) in
       sym (group_opens ∙ ap (λ t. cond t (dim_told mode.order (out-Group g).dim (floor mode.version (out-Level level).fields) body at >>= behind) (Ok at)) below)
 
   pub group_told : (since least : ℕ) (r : Result (ℕ × ℕ) Fault) → since ≡ (out-Level level).since → since ≤ mode.version → least ≡ floor mode.version (out-Level level).fields →
-      r ≡ dim_told mode.order (out-Group g).dim least body at → (r >>= behind) ≡ skim (group_read mode.order mode.known mode.version g) body at
+      r ≡ dim_told mode.order (out-Group g).dim least body at → (r >>= behind) ≡ skim (group_read mode g) body at
   group_told since least r is alive floors told =
       let here : is_alive mode.version (out-Level level).since ≡ true = le-leb (out-Level level).since mode.version (omega arith) in
       ap (λ t. t >>= behind) (told ∙ ap (λ k. dim_told mode.order (out-Group g).dim k body at) floors)
@@ -143,11 +143,11 @@ module _ (mode : Mode) (g : Group) (body : List ℕ) (at : ℕ) (near : at ≤ l
 -- ---- the groups of a level
 
 pub groups_next : (mode : Mode) (first i : ℕ) (gs : List Group) (g : Group) (body : List ℕ) (at : ℕ) → i < length gs → g ≡ get_or gs i g →
-    groups_told mode (first + i) (drop i gs) body at ≡ (inside (way.Part (first + i)) (skim (group_read mode.order mode.known mode.version g) body at) >>= (λ next. groups_told mode (first + (i + 1)) (drop (i + 1) gs) body next))
+    groups_told mode (first + i) (drop i gs) body at ≡ (inside (way.Part (first + i)) (skim (group_read mode g) body at) >>= (λ next. groups_told mode (first + (i + 1)) (drop (i + 1) gs) body next))
 groups_next mode first i gs g body at h is =
     let next : first + i + 1 ≡ first + (i + 1) = omega arith in
     ap (λ l. groups_told mode (first + i) l body at) (drop_is gs i g h is)
-    ∙ ap (λ k. inside (way.Part (first + i)) (skim (group_read mode.order mode.known mode.version g) body at) >>= (λ n. groups_told mode k (drop (i + 1) gs) body n)) next
+    ∙ ap (λ k. inside (way.Part (first + i)) (skim (group_read mode g) body at) >>= (λ n. groups_told mode k (drop (i + 1) gs) body n)) next
 
 level_of : (schema : WireSchema) (n : ℕ) (level : Level) (this : Node) → level_at schema n ≡ Some level → slice_get (all_nodes schema) n ≡ Some this → this.level ≡ level
 level_of schema n level this there at =

@@ -22,7 +22,7 @@ use Rattle.var_data.specs.declared.data.DataErr.TheVariants as bad
 use Rattle.var_data.specs.Ranges.{data_range}
 use Rattle.layout_tables.proofs.Items.{drop_at, all_dropped, long_map}
 use Rattle.flyweight_view.specs.declared.layer.Layer.{Layer}
-use Rattle.flyweight_view.specs.declared.mode.Mode.{Mode}
+use Rattle.sbe_wire.specs.declared.mode.Mode.{Mode}
 use Rattle.flyweight_view.specs.Cursor.{placed, range_answer}
 use Rattle.flyweight_view.specs.Layers.{IsLayer}
 use Rattle.flyweight_view.specs.Lefts.{items_of, rest_of}

@@ -9,12 +9,12 @@ use Rattle.sbe_types.specs.declared.schema.Level.{Level, out-Level}
 use Rattle.sbe_types.specs.declared.schema.WireSchema.{WireSchema}
 use Rattle.sbe_wire.specs.Faults.{Fault, message_named, Heading, floor_in}
 use Rattle.sbe_wire.specs.Reading.{◌>>=◌, and_then, and_judged, heading_of, message_judged, root_read, message_of, headed}
-use Rattle.sbe_wire.specs.Versions.{acting, floor}
+use Rattle.sbe_wire.specs.Versions.{acting, floor, mode_of}
 use Rattle.sbe_wire.proofs.Combine.{ok_is, bind_ok, later_ok}
 use Rattle.layout_tables.specs.Heads.{header_width}
-use Rattle.flyweight_view.specs.declared.mode.Mode.{Mode}
+use Rattle.sbe_wire.specs.declared.mode.Mode.{Mode}
 use Rattle.flyweight_view.specs.Cursor.{entries_read}
-use Rattle.flyweight_view.specs.Heads.{head_number, mode_of}
+use Rattle.flyweight_view.specs.Heads.{head_number}
 use Rattle.flyweight_view.specs.Planned.{block_of as block_read}
 use Rattle.flyweight_view.specs.Read.{message_in, IsRead}
 use Rattle.flyweight_view.proofs.Bodies.{by_header, named_at}

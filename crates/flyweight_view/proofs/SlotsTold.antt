@@ -13,6 +13,7 @@ use Rattle.sbe_types.specs.declared.message.Value.{Value}
 use Rattle.sbe_types.specs.declared.message.Value.TheVariants as value
 use Rattle.sbe_types.specs.Places.{width, is_const, begin_of, end_past, members_end, member_place, field_place, bytes_at}
 use Rattle.sbe_types.specs.Shows.{Shows}
+use Rattle.sbe_wire.specs.declared.mode.Mode.{Mode}
 use Rattle.sbe_wire.specs.Faults.{Fault}
 use Rattle.sbe_wire.specs.Lays.{FieldsLay}
 use Rattle.sbe_wire.specs.Reading.{Reader, and_then, and_judged, nothing, fields_read, Tail, block_of as block_made, entry_read}
@@ -48,23 +49,23 @@ judged_bytes true k b q f x h =
 judged_bytes false k b q f x h = cc
 
 -- the fields of an entry that is read
-entry_fields : (tail : Reader Tail) (order : Order) (known : Bool) (version : ℕ) (fields : List Field) (k : ℕ) (b : List ℕ) (r : Block × List ℕ) → entry_read tail order known version fields k b ≡ Ok r →
-    fields_read order known version 0 0 fields (take k b) ≡ Ok (out-Block r.0).fields
-entry_fields tail order known version fields k b r h =
+entry_fields : (tail : Reader Tail) (mode : Mode) (fields : List Field) (k : ℕ) (b : List ℕ) (r : Block × List ℕ) → entry_read tail mode fields k b ≡ Ok r →
+    fields_read mode 0 0 fields (take k b) ≡ Ok (out-Block r.0).fields
+entry_fields tail mode fields k b r h =
     let one = step_ok b _ _ r h in
     let two = step_ok one.0.1 (tail one.0.1) (λ t. nothing (block_made one.0.0 t)) r one.2 in
     let block : block_made one.0.0 two.0.0 ≡ r.0 = ap (λ (z : Block × List ℕ). z.0) (ok_is two.2) in
-    let read = judged_bytes (nat_le k (length b)) k b (fields_read order known version 0 0 fields) _ one.0 one.1 in
+    let read = judged_bytes (nat_le k (length b)) k b (fields_read mode 0 0 fields) _ one.0 one.1 in
     read ∙ ap (λ (x : Block). Ok (out-Block x).fields) block
 
 module _ (s : Span) (p : Plan) (seen : IsSeen s p) where
   pub long_bytes : length (bytes_of s) ≡ s.size
   long_bytes = let near = seen.near in simp (length-take, length-drop) (omega arith)
 
-  pub fields_lie : FieldsLay s.mode.order s.mode.known s.mode.version 0 (fields_of p) (values_at s p) (bytes_of s)
+  pub fields_lie : FieldsLay s.mode 0 (fields_of p) (values_at s p) (bytes_of s)
   fields_lie =
-      let read = entry_fields (tail_of s.mode p) s.mode.order s.mode.known s.mode.version (fields_of p) s.size (drop s.at s.body.now) (block_of (block_told s p), seen.reads.0) seen.reads.1 in
-      (fields_judges s.mode.order s.mode.known s.mode.version 0 0 0 (fields_of p) (omega arith) seen.placed).sound (bytes_of s) (values_at s p) (omega (arith, seen.reaches, long_bytes)) read
+      let read = entry_fields (tail_of s.mode p) s.mode (fields_of p) s.size (drop s.at s.body.now) (block_of (block_told s p), seen.reads.0) seen.reads.1 in
+      (fields_judges s.mode 0 0 0 (fields_of p) (omega arith) seen.placed).sound (bytes_of s) (values_at s p) (omega (arith, seen.reaches, long_bytes)) read
 
   item_there : {X : Type 0} (xs : List X) (i : ℕ) → i < length xs → (x : X) × (slice_get xs i ≡ Some x)
   item_there [] i h = absurd (omega (arith, h))
@@ -90,7 +91,7 @@ module _ (s : Span) (p : Plan) (seen : IsSeen s p) where
   -- the value of a field by its slot
   pub slot_value : (i : ℕ) (slot : Slot) → SlotIs s (fields_of p) i slot → (v : Value) × (slice_get (values_at s p) i ≡ Some v) × SlotShows s.mode slot v
   slot_value i slot is =
-      let each = each_from s.mode.order s.mode.known s.mode.version (bytes_of s) 0 (fields_of p) (values_at s p) fields_lie in
+      let each = each_from s.mode (bytes_of s) 0 (fields_of p) (values_at s p) fields_lie in
       let found = item_there (values_at s p) i (omega (arith, each.0, within (fields_of p) i is.field is.there)) in
       let lies = each.1 i is.field found.0 is.there found.1 in (
         found.0,

@@ -5,7 +5,6 @@ use Rattle.std.proofs.lemmas.Bool.{leb-true}
 use Rattle.std.proofs.lemmas.List.{drop-drop}
 use denote.Hole.Carrier as carrier
 use Rattle.sbe_types.specs.declared.schema.Level as levels
-use Rattle.sbe_types.specs.declared.kind.Order.{Order}
 use Rattle.sbe_types.specs.declared.path.Step.TheVariants as way
 use Rattle.sbe_types.specs.declared.schema.Field.{Field}
 use Rattle.sbe_types.specs.declared.schema.Group.{Group}
@@ -16,7 +15,7 @@ use Rattle.sbe_types.specs.declared.message.GroupVal.{GroupVal}
 use Rattle.sbe_wire.specs.Faults.{Fault}
 use Rattle.sbe_wire.specs.Reading.{Reader, then_read, nothing, and_judged, times_read, each_read, fields_read, block_read, Tail, block_of as block_made, entry_read, tail_read, groups_read}
 use Rattle.sbe_wire.proofs.Combine.{ok_is, bind_ok}
-use Rattle.flyweight_view.specs.declared.mode.Mode.{Mode}
+use Rattle.sbe_wire.specs.declared.mode.Mode.{Mode}
 use Rattle.flyweight_view.specs.Cursor.{entries_read}
 use Rattle.flyweight_view.specs.Groups.{groups_by}
 use Rattle.flyweight_view.specs.Lefts.{rest_of}
@@ -39,12 +38,12 @@ pub record EntryParts (tail : Reader Tail) (k : ℕ) (b : List ℕ) (r : Block �
   pub groups : (out-Block r.0).groups ≡ t.0
   pub parts : (out-Block r.0).parts ≡ t.1
 
-pub entry_parts : (tail : Reader Tail) (order : Order) (known : Bool) (version : ℕ) (fields : List Field) (k : ℕ) (b : List ℕ) (r : Block × List ℕ) → entry_read tail order known version fields k b ≡ Ok r → EntryParts tail k b r
-entry_parts tail order known version fields k b r h =
-    let one = step_ok b (block_read order known version fields k b) (λ values. then_read tail (λ t. nothing (block_made values t))) r h in
+pub entry_parts : (tail : Reader Tail) (mode : Mode) (fields : List Field) (k : ℕ) (b : List ℕ) (r : Block × List ℕ) → entry_read tail mode fields k b ≡ Ok r → EntryParts tail k b r
+entry_parts tail mode fields k b r h =
+    let one = step_ok b (block_read mode fields k b) (λ values. then_read tail (λ t. nothing (block_made values t))) r h in
     let two = step_ok one.0.1 (tail one.0.1) (λ t. nothing (block_made one.0.0 t)) r one.2 in
     let last = ok_is two.2 in
-    let bytes = judged_rest (nat_le k (length b)) k b (fields_read order known version 0 0 fields) _ one.0 one.1 in
+    let bytes = judged_rest (nat_le k (length b)) k b (fields_read mode 0 0 fields) _ one.0 one.1 in
     record {
       fits = leb-true k (length b) bytes.0;
       t = two.0.0;
@@ -62,23 +61,23 @@ module _ (mode : Mode) where
     pub groups : each_read (groups_by mode) 0 (out-Level level).groups b ≡ Ok (t.0, middle)
     pub parts : each_read (parts_by mode) 0 (out-Level level).parts middle ≡ Ok (t.1, last)
 
-  groups_each : (i : ℕ) {n : _} (row : Row_of-Group n) (b : List ℕ) (r : List GroupVal × List ℕ) → groups_read mode.order mode.known mode.version i row b ≡ Ok r → each_read (groups_by mode) i (items-the_row-Group _ row) b ≡ Ok r
+  groups_each : (i : ℕ) {n : _} (row : Row_of-Group n) (b : List ℕ) (r : List GroupVal × List ℕ) → groups_read mode i row b ≡ Ok r → each_read (groups_by mode) i (items-the_row-Group _ row) b ≡ Ok r
   unfolding groups_read each_read
   groups_each i end_of-Group b r h = h
   groups_each i (more_of-Group g rest) b r h =
-      let c = cons_ok (way.Part i) (groups_by mode g) (groups_read mode.order mode.known mode.version (suc i) rest) b r h in
+      let c = cons_ok (way.Part i) (groups_by mode g) (groups_read mode (suc i) rest) b r h in
       cons_made (way.Part i) (groups_by mode g) (each_read (groups_by mode) (suc i) (items-the_row-Group _ rest)) b c.rest r.1 c.x c.xs c.first (groups_each (suc i) rest c.rest (c.xs, r.1) c.others)
       ∙ ap (λ (l : List GroupVal). Ok (l, r.1)) (sym c.whole)
 
   made_is : (gs : List GroupVal) (ds : List DataVal) (rest last : List ℕ) (t : Tail) → ◌≡◌ {A = Result (Tail × List ℕ) Fault} (Ok ((gs, ds), rest)) (Ok (t, last)) → ◌≡◌ {A = Tail × List ℕ} ((gs, ds), rest) (t, last)
   made_is gs ds rest last t h = ok_is h
 
-  pub tail_parts : (level : Level) (b : List ℕ) (t : Tail) (last : List ℕ) → tail_read mode.order mode.known mode.version level b ≡ Ok (t, last) → TailParts level b t last
+  pub tail_parts : (level : Level) (b : List ℕ) (t : Tail) (last : List ℕ) → tail_read mode level b ≡ Ok (t, last) → TailParts level b t last
   unfolding tail_read levels.out-Level carrier.out
   tail_parts (Level' name id semantic since block_length fields n groups parts) b t last h =
       let items = items-the_row-Group _ groups in
       let after : List GroupVal → Reader (List DataVal) = λ gs. each_read (parts_by mode) (length fields + length gs) parts in
-      let one = step_ok b (groups_read mode.order mode.known mode.version (length fields) groups b) (λ gs. then_read (after gs) (λ ds. nothing (gs, ds))) (t, last) h in
+      let one = step_ok b (groups_read mode (length fields) groups b) (λ gs. then_read (after gs) (λ ds. nothing (gs, ds))) (t, last) h in
       let two = step_ok one.0.1 (after one.0.0 one.0.1) (λ ds. nothing (one.0.0, ds)) (t, last) one.2 in
       let whole = made_is one.0.0 two.0.0 two.0.1 last t two.2 in
       record {
@@ -104,7 +103,7 @@ module _ (mode : Mode) where
 
   pub flat_entry : (level : Level) (k : ℕ) (body : List ℕ) (at : ℕ) (r : Block × List ℕ) → IsFlat level → at ≤ length body → entries_read mode level k (drop at body) ≡ Ok r → (r.1 ≡ drop (at + k) body) × (at + k ≤ length body)
   flat_entry level k body at r flat near h =
-      let e = entry_parts (tail_read mode.order mode.known mode.version level) mode.order mode.known mode.version (out-Level level).fields k (drop at body) r h in
+      let e = entry_parts (tail_read mode level) mode (out-Level level).fields k (drop at body) r h in
       let t = tail_parts level (drop k (drop at body)) e.t r.1 e.reads in
       let one = no_items (groups_by mode) (out-Level level).groups (drop k (drop at body)) e.t.0 t.middle flat.groups t.groups in
       let two = no_items (parts_by mode) (out-Level level).parts t.middle e.t.1 r.1 flat.parts t.parts in

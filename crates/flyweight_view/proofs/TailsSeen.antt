@@ -47,7 +47,7 @@ module _ (s : Span) (p : Plan) (seen : IsSeen s p) where
   rest = seen.reads.0
 
   entry : EntryParts (tail_of s.mode p) s.size (drop s.at s.body.now) (block, rest)
-  entry = entry_parts (tail_of s.mode p) s.mode.order s.mode.known s.mode.version (fields_of p) s.size (drop s.at s.body.now) (block, rest) seen.reads.1
+  entry = entry_parts (tail_of s.mode p) s.mode (fields_of p) s.size (drop s.at s.body.now) (block, rest) seen.reads.1
 
   tail_is : entry.t ≡ (groups, parts)
   tail_is = ap (λ (gs : List GroupVal). (gs, entry.t.1)) (sym entry.groups) ∙ ap (λ (ds : List DataVal). (groups, ds)) (sym entry.parts)

@@ -25,7 +25,7 @@ use Rattle.sbe_wire.specs.Reading.{Reader, ◌>>=◌, later, inside, and_then, t
 use Rattle.layout_tables.specs.Rowed.{part_row}
 use Rattle.var_data.specs.declared.data.DataErr.TheVariants as bad
 use Rattle.var_data.specs.Ranges.{data_range, range_behind}
-use Rattle.flyweight_view.specs.declared.mode.Mode.{Mode}
+use Rattle.sbe_wire.specs.declared.mode.Mode.{Mode}
 use Rattle.flyweight_view.specs.Told.{settled}
 use Rattle.flyweight_view.specs.Cursor.{placed, skim, steps_told, groups_told, parts_told, data_told, range_answer, dim_told, entries_read}
 use Rattle.sbe_wire.proofs.Combine.{later_ok}
@@ -51,12 +51,12 @@ data_leaves order version part = record {
 
 module _ (mode : Mode) where
   abbrev tails : Level → Reader Tail
-  tails level = tail_read mode.order mode.known mode.version level
+  tails level = tail_read mode level
 
   pub entry_leaves : (level : Level) (k : ℕ) → Leaves (tails level) → Leaves (entries_read mode level k)
   entry_leaves level k h =
-      leaves_then (block_read mode.order mode.known mode.version (out-Level level).fields k) (λ values. then_read (tails level) (λ t. nothing (block_of values t)))
-      (leaves_judged (bytes_read k) (fields_read mode.order mode.known mode.version 0 0 (out-Level level).fields) (leaves_bytes k))
+      leaves_then (block_read mode (out-Level level).fields k) (λ values. then_read (tails level) (λ t. nothing (block_of values t)))
+      (leaves_judged (bytes_read k) (fields_read mode 0 0 (out-Level level).fields) (leaves_bytes k))
       (λ values. leaves_then (tails level) (λ t. nothing (block_of values t)) h (λ t. leaves_nothing (block_of values t)))
 
   abbrev group_behind : Level → ℕ × ℕ → Reader GroupVal
@@ -65,19 +65,19 @@ module _ (mode : Mode) where
   mutual
     unfolding tail_read groups_read group_read
 
-    pub tail_leaves : (level : Level) → Leaves (tail_read mode.order mode.known mode.version level)
+    pub tail_leaves : (level : Level) → Leaves (tail_read mode level)
     tail_leaves (Level' name id semantic since block_length fields n groups parts) =
         let parts_read : List GroupVal → Reader (List DataVal) = λ gs. each_read (data_read mode.order mode.version) (length fields + length gs) parts in
-        leaves_then (groups_read mode.order mode.known mode.version (length fields) groups) (λ gs. then_read (parts_read gs) (λ ds. nothing (gs, ds)))
+        leaves_then (groups_read mode (length fields) groups) (λ gs. then_read (parts_read gs) (λ ds. nothing (gs, ds)))
         (groups_leave (length fields) groups) (λ gs. leaves_then (parts_read gs) (λ ds. nothing (gs, ds)) (leaves_each (data_read mode.order mode.version) (length fields + length gs) parts (λ part. data_leaves mode.order mode.version part)) (λ ds. leaves_nothing (gs, ds)))
 
-    pub groups_leave : (i : ℕ) {n : _} (row : Row_of-Group n) → Leaves (groups_read mode.order mode.known mode.version i row)
+    pub groups_leave : (i : ℕ) {n : _} (row : Row_of-Group n) → Leaves (groups_read mode i row)
     groups_leave i end_of-Group = leaves_nothing {X = List GroupVal} []
     groups_leave i (more_of-Group g rest) =
-        leaves_then (read_in (way.Part i) (group_read mode.order mode.known mode.version g)) (λ v. then_read (groups_read mode.order mode.known mode.version (suc i) rest) (λ vs. nothing (v ∷ vs)))
-        (leaves_in (way.Part i) (group_read mode.order mode.known mode.version g) (group_leaves g)) (λ v. leaves_then (groups_read mode.order mode.known mode.version (suc i) rest) (λ vs. nothing (v ∷ vs)) (groups_leave (suc i) rest) (λ vs. leaves_nothing (v ∷ vs)))
+        leaves_then (read_in (way.Part i) (group_read mode g)) (λ v. then_read (groups_read mode (suc i) rest) (λ vs. nothing (v ∷ vs)))
+        (leaves_in (way.Part i) (group_read mode g) (group_leaves g)) (λ v. leaves_then (groups_read mode (suc i) rest) (λ vs. nothing (v ∷ vs)) (groups_leave (suc i) rest) (λ vs. leaves_nothing (v ∷ vs)))
 
-    pub group_leaves : (g : Group) → Leaves (group_read mode.order mode.known mode.version g)
+    pub group_leaves : (g : Group) → Leaves (group_read mode g)
     group_leaves (Group' dim level) =
         let dims : Reader (ℕ × ℕ) = dimension_read mode.order dim (floor mode.version (out-Level level).fields) in
         record {
@@ -190,17 +190,17 @@ module _ (mode : Mode) where
   pub entry_walked : (level : Level) (k : ℕ) (body : List ℕ) (at : ℕ) → at ≤ length body →
       skim (entries_read mode level k) body at
       ≡ cond (nat_le k (length body - at))
-      (settled at (fields_read mode.order mode.known mode.version 0 0 (out-Level level).fields (take k (drop at body))) >>= (λ _. skim (tail_read mode.order mode.known mode.version level) body (at + k)))
+      (settled at (fields_read mode 0 0 (out-Level level).fields (take k (drop at body))) >>= (λ _. skim (tail_read mode level) body (at + k)))
       (Err (fault_at code.Truncated at (pos k)))
   entry_walked level k body at h =
       let fields = (out-Level level).fields in
-      let tail : Reader Tail = tail_read mode.order mode.known mode.version level in
-      skim_judged k (fields_read mode.order mode.known mode.version 0 0 fields) (λ values. then_read tail (λ t. nothing (block_of values t))) (λ _. skim tail body (at + k)) body at h
+      let tail : Reader Tail = tail_read mode level in
+      skim_judged k (fields_read mode 0 0 fields) (λ values. then_read tail (λ t. nothing (block_of values t))) (λ _. skim tail body (at + k)) body at h
       (λ values near. skim_made tail (λ t. block_of values t) body (at + k) near (tail_leaves mode level))
-      ∙ ap (λ r. cond (nat_le k (length body - at)) r (Err (fault_at code.Truncated at (pos k)))) (later_settled at (fields_read mode.order mode.known mode.version 0 0 fields (take k (drop at body))) (skim tail body (at + k)))
+      ∙ ap (λ r. cond (nat_le k (length body - at)) r (Err (fault_at code.Truncated at (pos k)))) (later_settled at (fields_read mode 0 0 fields (take k (drop at body))) (skim tail body (at + k)))
 
   pub group_walked : (dim : List Member) (level : Level) (body : List ℕ) (at : ℕ) → at ≤ length body →
-      skim (group_read mode.order mode.known mode.version (Group' dim level)) body at
+      skim (group_read mode (Group' dim level)) body at
       ≡ cond (is_alive mode.version (out-Level level).since)
       (dim_told mode.order dim (floor mode.version (out-Level level).fields) body at >>= (λ d. steps_told (skim (entries_read mode level d.0) body) 0 d.1 (at + members_end 0 dim)))
       (Ok at)
@@ -218,29 +218,29 @@ module _ (mode : Mode) where
       ∙ times_walked (entries_read mode level d.0) 0 d.1 body (at + w) near leaves)
       ∙ cond_bind (nat_le w (length body - at)) (later at (dimension_of mode.order dim least (take w (drop at body)))) (fault_at code.Truncated at (pos w)) (λ d. behind d (at + w)))
 
-  groups_walked : (i : ℕ) {n : _} (row : Row_of-Group n) (body : List ℕ) (at : ℕ) → at ≤ length body → skim (groups_read mode.order mode.known mode.version i row) body at ≡ groups_told mode i (items-the_row-Group _ row) body at
+  groups_walked : (i : ℕ) {n : _} (row : Row_of-Group n) (body : List ℕ) (at : ℕ) → at ≤ length body → skim (groups_read mode i row) body at ≡ groups_told mode i (items-the_row-Group _ row) body at
   unfolding groups_read
   groups_walked i end_of-Group body at h = skim_nothing {X = List GroupVal} [] body at h
   groups_walked i (more_of-Group g rest) body at h =
       let next_i : suc i ≡ i + 1 = omega arith in
       let next : ℕ → Result ℕ Fault = λ n. groups_told mode (i + 1) (items-the_row-Group _ rest) body n in
-      skim_then (read_in (way.Part i) (group_read mode.order mode.known mode.version g)) (λ v. then_read (groups_read mode.order mode.known mode.version (suc i) rest) (λ vs. nothing (v ∷ vs))) next body at h
-      (leaves_in (way.Part i) (group_read mode.order mode.known mode.version g) (group_leaves mode g))
-      (λ v n near e. skim_made (groups_read mode.order mode.known mode.version (suc i) rest) (λ vs. v ∷ vs) body n near (groups_leave mode (suc i) rest)
+      skim_then (read_in (way.Part i) (group_read mode g)) (λ v. then_read (groups_read mode (suc i) rest) (λ vs. nothing (v ∷ vs))) next body at h
+      (leaves_in (way.Part i) (group_read mode g) (group_leaves mode g))
+      (λ v n near e. skim_made (groups_read mode (suc i) rest) (λ vs. v ∷ vs) body n near (groups_leave mode (suc i) rest)
       ∙ groups_walked (suc i) rest body n near ∙ ap (λ k. groups_told mode k (items-the_row-Group _ rest) body n) next_i)
-      ∙ ap (λ r. r >>= next) (placed_inside (length body) at (way.Part i) (group_read mode.order mode.known mode.version g (drop at body)))
+      ∙ ap (λ r. r >>= next) (placed_inside (length body) at (way.Part i) (group_read mode g (drop at body)))
 
   -- as many groups are read as there are
-  groups_many : (i : ℕ) {n : _} (row : Row_of-Group n) (b : List ℕ) (gs : List GroupVal) (left : List ℕ) → groups_read mode.order mode.known mode.version i row b ≡ Ok (gs, left) → length gs ≡ length (items-the_row-Group _ row)
+  groups_many : (i : ℕ) {n : _} (row : Row_of-Group n) (b : List ℕ) (gs : List GroupVal) (left : List ℕ) → groups_read mode i row b ≡ Ok (gs, left) → length gs ≡ length (items-the_row-Group _ row)
   unfolding groups_read
   groups_many i end_of-Group b gs left h = ap length (sym (fst_is h))
   groups_many i (more_of-Group g rest) b gs left h =
-      let one = step_ok b (read_in (way.Part i) (group_read mode.order mode.known mode.version g) b) (λ v. then_read (groups_read mode.order mode.known mode.version (suc i) rest) (λ vs. nothing (v ∷ vs))) (gs, left) h in
-      let two = step_ok one.0.1 (groups_read mode.order mode.known mode.version (suc i) rest one.0.1) (λ vs. nothing (one.0.0 ∷ vs)) (gs, left) one.2 in
+      let one = step_ok b (read_in (way.Part i) (group_read mode g) b) (λ v. then_read (groups_read mode (suc i) rest) (λ vs. nothing (v ∷ vs))) (gs, left) h in
+      let two = step_ok one.0.1 (groups_read mode (suc i) rest one.0.1) (λ vs. nothing (one.0.0 ∷ vs)) (gs, left) one.2 in
       ap length (sym (fst_is two.2)) ∙ ap suc (groups_many (suc i) rest one.0.1 two.0.0 two.0.1 two.1)
 
   pub tail_walked : (level : Level) (body : List ℕ) (at : ℕ) → at ≤ length body →
-      skim (tail_read mode.order mode.known mode.version level) body at
+      skim (tail_read mode level) body at
       ≡ (groups_told mode (length (out-Level level).fields) (out-Level level).groups body at
       >>= (λ next. parts_told mode (length (out-Level level).fields + length (out-Level level).groups) (map part_row (out-Level level).parts) body next))
   unfolding tail_read levels.out-Level carrier.out
@@ -249,7 +249,7 @@ module _ (mode : Mode) where
       let items = items-the_row-Group _ groups in
       let all : ℕ → Reader (List DataVal) = λ k. each_read (data_read mode.order mode.version) k parts in
       let next : ℕ → ℕ → Result ℕ Fault = λ k n. parts_told mode (length fields + k) (map part_row parts) body n in
-      skim_then (groups_read mode.order mode.known mode.version (length fields) groups) (λ gs. then_read (parts_read gs) (λ ds. nothing (gs, ds))) (next (length items)) body at h
+      skim_then (groups_read mode (length fields) groups) (λ gs. then_read (parts_read gs) (λ ds. nothing (gs, ds))) (next (length items)) body at h
       (groups_leave mode (length fields) groups)
       (λ gs n near e. skim_made (parts_read gs) (λ ds. (gs, ds)) body n near (leaves_each (data_read mode.order mode.version) (length fields + length gs) parts (λ part. data_leaves mode.order mode.version part))
       ∙ parts_walked (length fields + length gs) parts body n near

@@ -14,7 +14,7 @@ use Rattle.layout_tables.specs.declared.rows.LevelRow.{LevelRow}
 use Rattle.layout_tables.specs.Flats.{text_before, text_behind, IsFlat}
 use Rattle.layout_tables.specs.Rowed.{FieldsAre, newest_of}
 use Rattle.flyweight_view.specs.declared.by_table.TableBlock.{TableBlock}
-use Rattle.flyweight_view.specs.declared.mode.Mode.{Mode}
+use Rattle.sbe_wire.specs.declared.mode.Mode.{Mode}
 use Rattle.flyweight_view.specs.declared.plan.Span.{Span}
 use Rattle.flyweight_view.specs.Fields.{AreFieldRows}
 use Rattle.flyweight_view.specs.Planned.{bytes_of}
@@ -52,7 +52,7 @@ pub record IsTableBlock (b : TableBlock) (s : Seen) : Type 0 where
   pub version : ℕ
   pub known : Bool
   pub alive : AllAlive version s.fields
-  pub lay : FieldsLay Little known version 0 s.fields (out-Block s.block).fields b.bytes.now
+  pub lay : FieldsLay (record { order = Little; known = known; version = version }) 0 s.fields (out-Block s.block).fields b.bytes.now
 
 -- the first of some entries is taken: the block is its own, and it has neither groups nor data
 pub record TakesTable (b : TableBlock) (before after : List Seen) : Type 0 where

@@ -16,7 +16,7 @@ use Rattle.group_codec.specs.declared.dim.Dim.{Dim}
 use Rattle.var_data.specs.declared.data.DataErr.{DataErr}
 use Rattle.var_data.specs.declared.data.DataErr.TheVariants as bad
 use Rattle.var_data.specs.Ranges.{data_range}
-use Rattle.flyweight_view.specs.declared.mode.Mode.{Mode}
+use Rattle.sbe_wire.specs.declared.mode.Mode.{Mode}
 use Rattle.flyweight_view.specs.declared.found.Found.{Found}
 use Rattle.flyweight_view.specs.Told.{fault_of}
 
@@ -33,13 +33,13 @@ skim p body at = placed (length body) at (p (drop at body))
 
 -- the reader of a level's entries
 abbrev pub entries_read : Mode → Level → ℕ → Reader Block
-entries_read mode level k = entry_read (tail_read mode.order mode.known mode.version level) mode.order mode.known mode.version (out-Level level).fields k
+entries_read mode level k = entry_read (tail_read mode level) mode (out-Level level).fields k
 
 -- what groups that are counted from i do at a place of the body
 abbrev pub groups_told : Mode → ℕ → List Group → List ℕ → ℕ → Result ℕ Fault
 groups_told mode i [] body at = Ok at
 groups_told mode i (g ∷ gs) body at =
-    inside (way.Part i) (skim (group_read mode.order mode.known mode.version g) body at) >>= (λ next. groups_told mode (i + 1) gs body next)
+    inside (way.Part i) (skim (group_read mode g) body at) >>= (λ next. groups_told mode (i + 1) gs body next)
 
 -- n steps, counted from i
 abbrev pub steps_told : (ℕ → Result ℕ Fault) → ℕ → ℕ → ℕ → Result ℕ Fault

@@ -6,7 +6,7 @@ use Rattle.sbe_wire.specs.Faults.{Fault}
 use Rattle.sbe_wire.specs.Reading.{◌>>=◌}
 use Rattle.sbe_wire.specs.Versions.{is_alive}
 use Rattle.layout_tables.specs.declared.rows.FieldRow.{FieldRow}
-use Rattle.flyweight_view.specs.declared.mode.Mode.{Mode}
+use Rattle.sbe_wire.specs.declared.mode.Mode.{Mode}
 use Rattle.flyweight_view.specs.Told.{Piece, piece}
 use Rattle.flyweight_view.specs.Kinds.{part_told, IsReady}
 

@@ -11,14 +11,14 @@ use Rattle.group_codec.specs.declared.dim.Dim.{Dim}
 use Rattle.flyweight_view.specs.declared.groups.GroupsView.TheInside.{Inside}
 use Rattle.flyweight_view.specs.declared.groups.Spot.{Spot}
 use Rattle.flyweight_view.specs.declared.layer.Layer.{Layer}
-use Rattle.flyweight_view.specs.declared.mode.Mode.{Mode}
+use Rattle.sbe_wire.specs.declared.mode.Mode.{Mode}
 use Rattle.flyweight_view.specs.Layers.{IsLayer, blocks_read}
 use Rattle.flyweight_view.specs.Lefts.{items_of, groups_seen}
 use Rattle.flyweight_view.specs.Seen.{Seen}
 
 -- the reader of a group
 abbrev pub groups_by : Mode → Group → Reader GroupVal
-groups_by mode = group_read mode.order mode.known mode.version
+groups_by mode = group_read mode
 
 -- what is read of a group at a place of the body, by its dimension; without one it is absent
 abbrev pub group_entered : Layer → ℕ → Option Dim → Result (GroupVal × List ℕ) Fault

@@ -6,11 +6,10 @@ use Rattle.sbe_wire.specs.declared.codes.FCode.TheVariants as code
 use Rattle.sbe_wire.specs.Faults.{Fault, fault_at, message_named}
 use Rattle.sbe_wire.specs.Named.{number_named, place_named}
 use Rattle.sbe_wire.specs.Reading.{◌>>=◌}
-use Rattle.sbe_wire.specs.Versions.{acting, is_known, floor}
+use Rattle.sbe_wire.specs.Versions.{acting, floor, mode_of}
 use Rattle.layout_tables.specs.Heads.{header_width}
 use Rattle.flyweight_view.specs.declared.found.Found.{Found}
 use Rattle.flyweight_view.specs.declared.header.Start.{Start}
-use Rattle.flyweight_view.specs.declared.mode.Mode.{Mode}
 use Rattle.flyweight_view.specs.Told.{fault_of}
 use Rattle.flyweight_view.specs.Cursor.{skim, entries_read}
 
@@ -46,10 +45,6 @@ template_told schema body =
     else Err (fault_at code.ShortHeader 0 (pos (length body)))
 
 -- ---- the message
-
--- how the values of a message of that version are read
-abbrev pub mode_of : WireSchema → ℕ → Mode
-mode_of schema version = record { order = schema.order; known = is_known schema version; version = acting schema version }
 
 -- the block length and the version in a body's header
 abbrev pub start_in : WireSchema → List ℕ → Start

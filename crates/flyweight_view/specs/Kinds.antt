@@ -16,7 +16,7 @@ use Rattle.sbe_wire.specs.declared.codes.FCode.TheVariants as code
 use Rattle.sbe_wire.specs.Faults.{Fault, fault_at}
 use Rattle.sbe_wire.specs.Reading.{◌>>=◌, inside, leaf_read, value_read}
 use Rattle.schema_facts.specs.InOrder.{IsKindInOrder}
-use Rattle.flyweight_view.specs.declared.mode.Mode.{Mode}
+use Rattle.sbe_wire.specs.declared.mode.Mode.{Mode}
 use Rattle.flyweight_view.specs.Told.{Piece, piece, settled}
 
 -- a number that shows a value, or the fault with this code

@@ -7,7 +7,7 @@ use Rattle.sbe_types.specs.declared.schema.Level.{out-Level}
 use Rattle.sbe_wire.specs.Faults.{Fault}
 use Rattle.sbe_wire.specs.Reading.{Reader, each_read, data_read}
 use Rattle.flyweight_view.specs.declared.layer.Layer.{Layer}
-use Rattle.flyweight_view.specs.declared.mode.Mode.{Mode}
+use Rattle.sbe_wire.specs.declared.mode.Mode.{Mode}
 use Rattle.flyweight_view.specs.declared.parts.PartsView.TheInside.{Inside}
 use Rattle.flyweight_view.specs.Layers.{IsLayer}
 use Rattle.flyweight_view.specs.Lefts.{items_of}

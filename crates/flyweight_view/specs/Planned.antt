@@ -16,7 +16,7 @@ use Rattle.sbe_wire.specs.Placed.{ArePlaced}
 use Rattle.sbe_wire.specs.Versions.{floor}
 use Rattle.schema_facts.specs.InOrder.{IsKindInOrder}
 use Rattle.schema_facts.specs.Levels.{level_at}
-use Rattle.flyweight_view.specs.declared.mode.Mode.{Mode}
+use Rattle.sbe_wire.specs.declared.mode.Mode.{Mode}
 use Rattle.flyweight_view.specs.declared.plan.Plan.{Plan}
 use Rattle.flyweight_view.specs.declared.plan.Plan.TheVariants as plan
 use Rattle.flyweight_view.specs.declared.plan.Span.{Span}
@@ -40,12 +40,12 @@ parts_of (plan.Members members) = []
 
 -- the reader of a block's groups and data; a composite has none
 abbrev pub tail_of : Mode → Plan → Reader Tail
-tail_of mode (plan.Level layout number level) = tail_read mode.order mode.known mode.version level.now
+tail_of mode (plan.Level layout number level) = tail_read mode level.now
 tail_of mode (plan.Members members) = nothing ([], [])
 
 -- the block that is read, and the bytes behind it
 abbrev pub block_told : Span → Plan → Result (Block × List ℕ) Fault
-block_told s p = entry_read (tail_of s.mode p) s.mode.order s.mode.known s.mode.version (fields_of p) s.size (drop s.at s.body.now)
+block_told s p = entry_read (tail_of s.mode p) s.mode (fields_of p) s.size (drop s.at s.body.now)
 
 -- a block that was read; one without anything where none was
 abbrev pub block_of : Result (Block × List ℕ) Fault → Block

@@ -7,7 +7,7 @@ use Rattle.sbe_types.specs.Places.{width, field_place, bytes_at}
 use Rattle.sbe_types.specs.Shows.{Shows}
 use Rattle.sbe_wire.specs.Versions.{is_alive}
 use Rattle.schema_facts.specs.InOrder.{IsKindInOrder}
-use Rattle.flyweight_view.specs.declared.mode.Mode.{Mode}
+use Rattle.sbe_wire.specs.declared.mode.Mode.{Mode}
 use Rattle.flyweight_view.specs.declared.plan.Slot.{Slot}
 use Rattle.flyweight_view.specs.declared.plan.Span.{Span}
 use Rattle.flyweight_view.specs.Planned.{bytes_of}

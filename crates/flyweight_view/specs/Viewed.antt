@@ -4,7 +4,8 @@ use Rattle.sbe_wire.specs.Faults.{Fault}
 use Rattle.schema_facts.specs.Levels.{root_of}
 use Rattle.flyweight_view.specs.declared.view.MsgView.TheInside.{Inside}
 use Rattle.flyweight_view.specs.declared.view.Refusal.{Refusal}
-use Rattle.flyweight_view.specs.Heads.{mode_of, start_in}
+use Rattle.flyweight_view.specs.Heads.{start_in}
+use Rattle.sbe_wire.specs.Versions.{mode_of}
 use Rattle.flyweight_view.specs.Read.{message_in, IsRead}
 use Rattle.flyweight_view.specs.Seen.{SeenMessage}
 

@@ -9,11 +9,11 @@ ghost use Rattle.flyweight_view.specs.Told.{judged, piece};
 
 use crate::fields::judge_fields;
 use crate::found::Found;
-use crate::mode::Mode;
 use crate::plan::{Plan, Span};
 use flat_rows::{FlatRows, shows_all};
 use layout_tables::LevelRow;
 use sbe_types::{Level, Order};
+use sbe_wire::Mode;
 
 /// The bytes of a block, and the table of its values. Numbers have the lowest byte first.
 #[derive(Clone, Copy)]

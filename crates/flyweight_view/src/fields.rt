@@ -7,9 +7,9 @@ ghost use Rattle.flyweight_view.specs.Fields.{field_told, fields_told, AreFieldR
 use crate::found::Found;
 use crate::kinds::judge_part;
 use crate::looks::shows_at_once;
-use crate::mode::Mode;
 use layout_tables::FieldRow;
 use sbe_types::Field;
+use sbe_wire::Mode;
 
 /// Judges the fields of a block that begins at a place of the body. Where one shows no value, `out` tells the
 /// first fault.

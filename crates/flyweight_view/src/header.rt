@@ -1,11 +1,11 @@
 // The header of a body, and the message behind it.
 ghost use Rattle.std.specs.Prelude.{◌≡◌, ◌≤◌, ◌<◌, ◌^◌, Some, IfSome, IfNone, length, slice_get};
 ghost use Rattle.sbe_types.specs.declared.schema.Level.{Level, out-Level};
-ghost use Rattle.sbe_wire.specs.Versions.{acting, floor};
+ghost use Rattle.sbe_wire.specs.Versions.{acting, floor, mode_of};
 ghost use Rattle.schema_facts.specs.Levels.{level_at, root_of};
 ghost use Rattle.layout_tables.specs.Heads.{header_width};
 ghost use Rattle.std.specs.Option.{option_map};
-ghost use Rattle.flyweight_view.specs.Heads.{message_from, mode_of, rest_told, start_in, start_told, start_went, template_told};
+ghost use Rattle.flyweight_view.specs.Heads.{message_from, rest_told, start_in, start_told, start_went, template_told};
 ghost use Rattle.flyweight_view.specs.Read.{message_in, IsRead};
 ghost use Rattle.flyweight_view.specs.Ready.{IsReadySchema};
 ghost use Rattle.flyweight_view.specs.Seen.{seen_level};
@@ -14,12 +14,11 @@ ghost use Rattle.flyweight_view.specs.Told.{went};
 use crate::block::BlockView;
 use crate::found::Found;
 use crate::head_numbers::numbers_in;
-use crate::mode::Mode;
 use crate::plan::{Plan, Span};
 use crate::walk::walk_root;
 use layout_tables::Layout;
 use sbe_types::Level;
-use sbe_wire::FCode;
+use sbe_wire::{FCode, Mode};
 
 /// What a header says of the message behind it.
 #[derive(Clone, Copy)]

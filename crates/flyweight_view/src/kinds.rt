@@ -12,14 +12,13 @@ ghost use Rattle.flyweight_view.specs.Kinds.{answered, kind_told, leaf_answer, l
 
 use crate::found::Found;
 use crate::looks::{shows_at_once, shows_leaf};
-use crate::mode::Mode;
 use crate::numbers::{set_number, shows_enum, shows_set};
 use flat_rows::{begin_of, end_behind};
 use sbe_types::{
     Kind, Leaf, LeafCause, LeafFault, LeafShape, List, Member, NamedList, Order, Prim, Step,
     get_num, leaf_judge,
 };
-use sbe_wire::FCode;
+use sbe_wire::{FCode, Mode};
 
 /// Judges the bytes of part `i` of a block or composite, which begin at a place of the body.
 #[cycle(kind)]

@@ -1,7 +1,7 @@
 // The levels whose blocks lie in a body.
-use crate::mode::Mode;
 use layout_tables::Layout;
 use sbe_types::Level;
+use sbe_wire::Mode;
 
 /// A level whose blocks lie in a body, with its number, and how their values are read.
 #[derive(Clone, Copy)]

@@ -14,7 +14,6 @@ mod kinds;
 mod last_refusal;
 mod layer;
 mod looks;
-mod mode;
 mod numbers;
 mod parts;
 mod plan;

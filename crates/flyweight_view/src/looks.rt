@@ -12,9 +12,9 @@ ghost use Rattle.schema_facts.specs.InOrder.{IsLeafInOrder};
 ghost use Rattle.flyweight_view.specs.Told.{piece};
 ghost use Rattle.flyweight_view.specs.Kinds.{kind_told, IsReady};
 
-use crate::mode::Mode;
 use crate::numbers::shows_enum;
 use sbe_types::{Kind, Leaf, LeafShape, NamedList, Order, get_num};
+use sbe_wire::Mode;
 
 /// Whether one look shows that bytes are a value of a kind.
 #[inline(always)]

@@ -13,10 +13,10 @@ ghost use Rattle.flyweight_view.specs.Seen.{bytes_in};
 use crate::ends::groups_end;
 use crate::groups::Spot;
 use crate::layer::Layer;
-use crate::mode::Mode;
 use crate::plan::{Plan, Span};
 use crate::walk::first_child;
 use sbe_types::DataField;
+use sbe_wire::Mode;
 use std::marker::Model;
 use var_data::standing_data;
 

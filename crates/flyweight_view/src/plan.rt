@@ -11,10 +11,10 @@ ghost use Rattle.flyweight_view.specs.Planned.{bytes_of, fields_of, groups_of, p
 ghost use Rattle.flyweight_view.specs.Seen.{member_field};
 ghost use Rattle.flyweight_view.specs.Slots.{SlotIs};
 
-use crate::mode::Mode;
 use flat_rows::width_of;
 use layout_tables::{FieldRow, Layout, member_place};
 use sbe_types::{Field, Kind, Level, List, Member};
+use sbe_wire::Mode;
 
 /// Where a block lies in a body, and how its values are read.
 #[derive(Clone, Copy)]

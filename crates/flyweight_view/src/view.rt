@@ -11,10 +11,9 @@ ghost use Rattle.flyweight_view.specs.Viewed.{refused};
 use crate::block::BlockView;
 use crate::header::{Start, find_template, mode_of, root_of, walk_message};
 use crate::last_refusal::LastRefusal;
-use crate::mode::Mode;
 use layout_tables::Layout;
 use sbe_types::{Level, Path};
-use sbe_wire::FCode;
+use sbe_wire::{FCode, Mode};
 use std::marker::Model;
 
 /// Why a body is no message: its first faulty part in wire order.

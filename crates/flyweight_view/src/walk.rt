@@ -25,11 +25,10 @@ use crate::by_table::{judge_block, shows_each};
 use crate::ends::is_flat;
 use crate::found::Found;
 use crate::layer::Layer;
-use crate::mode::Mode;
 use group_codec::{Dim, DimErr, read_dim_row};
 use layout_tables::{DimRow, Layout, LevelRow, PartRow};
 use sbe_types::{Group, Level, Order, Step};
-use sbe_wire::FCode;
+use sbe_wire::{FCode, Mode};
 use var_data::{DataErr, read_data_of};
 
 /// Walks a block of so many bytes at a place of the body, and then the groups and the data of its level. Answers
@@ -155,7 +154,7 @@ fn walk_tail(
     requires level { level_at layout.now n ≡ Some level.now }
     requires shallow { groups_deep level.now ≤ most_groups }
     requires at { at ≤ length body.now }
-    ensures told { went result out.new ≡ skim (tail_read mode.order mode.known mode.version level.now) body.now at }
+    ensures told { went result out.new ≡ skim (tail_read mode level.now) body.now at }
     ensures within { IfSome result (λ next. next ≤ length body.now) }
     ensures low { IfNone result (length out.new.path ≤ 2 * groups_deep level.now + 6) }
 {
@@ -237,7 +236,7 @@ fn walk_group(
     requires dim { dim_at layout.now n ≡ Some (out-Group group.now).dim }
     requires shallow { groups_deep (out-Group group.now).level ≤ most_groups }
     requires at { at ≤ length body.now }
-    ensures told { went result out.new ≡ skim (group_read mode.order mode.known mode.version group.now) body.now at }
+    ensures told { went result out.new ≡ skim (group_read mode group.now) body.now at }
     ensures within { IfSome result (λ next. next ≤ length body.now) }
     ensures low { IfNone result (length out.new.path ≤ 2 * groups_deep (out-Group group.now).level + 7) }
 {

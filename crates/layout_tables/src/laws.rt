@@ -1,14 +1,15 @@
 //! Laws of the least number of bytes that an entry has, and of the places and names of parts.
 
-ghost use Rattle.std.specs.Prelude.{◌≡◌, ◌≤◌, ◌<◌, ◌+◌, ℕ, Bool, List, Some, length, slice_get, false};
+ghost use Rattle.std.specs.Prelude.{◌≡◌, ◌≤◌, ◌<◌, ◌+◌, ℕ, List, Some, length, slice_get, false};
 ghost use Rattle.sbe_types.specs.declared.kind.Kind.{Kind};
-ghost use Rattle.sbe_types.specs.declared.kind.Order.{Order};
 ghost use Rattle.sbe_types.specs.declared.message.Block.{Block};
 ghost use Rattle.sbe_types.specs.declared.message.Msg.{Msg};
 ghost use Rattle.sbe_types.specs.declared.schema.Field.{Field};
 ghost use Rattle.sbe_types.specs.declared.schema.Level.{Level, out-Level};
 ghost use Rattle.sbe_types.specs.declared.schema.WireSchema.{WireSchema};
 ghost use Rattle.sbe_types.specs.Places.{field_place, is_const};
+ghost use Rattle.sbe_wire.specs.Versions.{form_of};
+ghost use Rattle.sbe_wire.specs.declared.mode.Mode.{Mode};
 ghost use Rattle.sbe_wire.specs.Lays.{EntryLays, Lays, TailLays};
 ghost use Rattle.schema_facts.specs.Counted.{count_in};
 ghost use Rattle.schema_facts.specs.Entries.{entry_least};
@@ -22,9 +23,9 @@ ghost use Rattle.std.specs.Option.{option_map, IsSome};
 /// No entry that lays out has fewer bytes than the floor of its block, the dimensions of its groups and
 /// the length numbers of its data take.
 pub fn no_entry_is_shorter()
-    ensures { (order : Order) (known : Bool) (version : ℕ) (level : Level) (k : ℕ) (entry : Block) (b : List ℕ)
-        → EntryLays (λ e bytes. TailLays order known version level e bytes) order known version (out-Level level).fields k entry b
-        → entry_least version level ≤ length b }
+    ensures { (mode : Mode) (level : Level) (k : ℕ) (entry : Block) (b : List ℕ)
+        → EntryLays (λ e bytes. TailLays mode level e bytes) (form_of mode level) k entry b
+        → entry_least mode.version level ≤ length b }
 {}
 
 /// A message of a schema in order has at most as many entries in all as its body has bytes.

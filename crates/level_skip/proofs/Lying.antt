@@ -2,7 +2,6 @@
 use Rattle.std.proofs.Common.{◌≡◌, ◌≤◌, ℕ, zero, suc, ◌+◌, ◌-◌, Bool, true, false, cond, List, [], ◌∷◌, ◌++◌, length, take, Result, Some, Ok, Err, refl, ap, ◌∙◌, arith, length-take, length-append}
 use Rattle.std.specs.Prelude.{map, pos}
 use Rattle.std.proofs.lemmas.Bool.{le-leb}
-use Rattle.sbe_types.specs.declared.kind.Order.{Order}
 use Rattle.sbe_types.specs.declared.path.Step.{Step}
 use Rattle.sbe_types.specs.declared.path.Step.TheVariants as way
 use Rattle.sbe_types.specs.declared.message.Block.{Block}
@@ -11,11 +10,12 @@ use Rattle.sbe_types.specs.declared.message.GroupVal.{GroupVal}
 use Rattle.sbe_types.specs.declared.message.GroupVal.TheVariants as groupval
 use Rattle.sbe_types.specs.declared.schema.Group.{Group, Group'}
 use Rattle.sbe_types.specs.declared.schema.Level.{Level, Level', out-Level, Row_of-Group, end_of-Group, more_of-Group}
+use Rattle.sbe_wire.specs.declared.mode.Mode.{Mode}
 use Rattle.sbe_wire.specs.declared.codes.FCode.TheVariants as code
 use Rattle.sbe_wire.specs.Faults.{Fault, fault_at, TailFault}
 use Rattle.sbe_wire.specs.Lays.{EntryLays, TailLays}
 use Rattle.sbe_wire.specs.Placed.{IsPlacedLevel}
-use Rattle.sbe_wire.specs.Versions.{is_alive, floor}
+use Rattle.sbe_wire.specs.Versions.{is_alive, floor, form_of}
 use Rattle.sbe_wire.specs.Reading.{Reader, ◌>>=◌, later, inside, and_then, then_read, nothing, and_judged, read_judged, bytes_read, read_in, times_read, each_read, fields_read, block_read, data_read, dimension_read, Tail, block_of, entry_read, tail_read, groups_read, group_read}
 use Rattle.std.proofs.Math.Seq.{drop-append_seam}
 use Rattle.std.specs.Result.{result_ok}
@@ -116,67 +116,67 @@ follows_alive false p q x h = follows_nothing no_value x
 
 -- ---- levels
 
-module _ (order : Order) (known : Bool) (version : ℕ) where
-  entry_follows : (level : Level) (k : ℕ) → Follows no_value (tail_read order known version level) (tail_passed order version level) →
-      Follows no_value (entry_read (tail_read order known version level) order known version (out-Level level).fields k) (entry_passed (tail_passed order version level) k)
+module _ (mode : Mode) where
+  entry_follows : (level : Level) (k : ℕ) → Follows no_value (tail_read mode level) (tail_passed mode.order mode.version level) →
+      Follows no_value (entry_read (tail_read mode level) mode (out-Level level).fields k) (entry_passed (tail_passed mode.order mode.version level) k)
   entry_follows level k h =
       let fields = (out-Level level).fields in
-      let tail : Reader Tail = tail_read order known version level in
-      follows_then no_value no_value (block_read order known version fields k) (passed (bytes_read k)) (λ values. then_read tail (λ t. nothing (block_of values t))) (λ _. tail_passed order version level)
-      (follows_judged (bytes_read k) (fields_read order known version 0 0 fields) (passed (bytes_read k)) (follows_passed itself (bytes_read k) (bytes_read k) (follows_self (bytes_read k))))
-      (λ values. follows_made (λ t. block_of values t) tail (tail_passed order version level) h)
+      let tail : Reader Tail = tail_read mode level in
+      follows_then no_value no_value (block_read mode fields k) (passed (bytes_read k)) (λ values. then_read tail (λ t. nothing (block_of values t))) (λ _. tail_passed mode.order mode.version level)
+      (follows_judged (bytes_read k) (fields_read mode 0 0 fields) (passed (bytes_read k)) (follows_passed itself (bytes_read k) (bytes_read k) (follows_self (bytes_read k))))
+      (λ values. follows_made (λ t. block_of values t) tail (tail_passed mode.order mode.version level) h)
 
   mutual
     unfolding tail_read groups_read group_read tail_passed groups_passed group_passed
 
-    pub tail_follows : (level : Level) → Follows no_value (tail_read order known version level) (tail_passed order version level)
+    pub tail_follows : (level : Level) → Follows no_value (tail_read mode level) (tail_passed mode.order mode.version level)
     tail_follows (Level' name id semantic since block_length fields n groups parts) =
-        let all_parts : ℕ → Reader (List DataVal) = λ i. each_read (data_read order version) i parts in
-        follows_then no_value no_value (groups_read order known version (length fields) groups) (groups_passed order version groups)
+        let all_parts : ℕ → Reader (List DataVal) = λ i. each_read (data_read mode.order mode.version) i parts in
+        follows_then no_value no_value (groups_read mode (length fields) groups) (groups_passed mode.order mode.version groups)
         (λ gs. then_read (all_parts (length fields + length gs)) (λ ds. nothing (gs, ds))) (λ _. passed (all_parts 0))
         (groups_follow (length fields) groups)
-        (λ gs. follows_made (λ ds. (gs, ds)) (all_parts (length fields + length gs)) (passed (all_parts 0)) (follows_passed itself (all_parts (length fields + length gs)) (all_parts 0) (follows_each (data_read order version) (length fields + length gs) 0 parts)))
+        (λ gs. follows_made (λ ds. (gs, ds)) (all_parts (length fields + length gs)) (passed (all_parts 0)) (follows_passed itself (all_parts (length fields + length gs)) (all_parts 0) (follows_each (data_read mode.order mode.version) (length fields + length gs) 0 parts)))
 
-    groups_follow : (i : ℕ) {n : _} (row : Row_of-Group n) → Follows no_value (groups_read order known version i row) (groups_passed order version row)
+    groups_follow : (i : ℕ) {n : _} (row : Row_of-Group n) → Follows no_value (groups_read mode i row) (groups_passed mode.order mode.version row)
     groups_follow i end_of-Group = follows_nothing {X = List GroupVal} no_value []
     groups_follow i (more_of-Group g rest) =
-        follows_then no_value no_value (read_in (way.Part i) (group_read order known version g)) (group_passed order version g)
-        (λ v. then_read (groups_read order known version (suc i) rest) (λ vs. nothing (v ∷ vs))) (λ _. groups_passed order version rest)
-        (follows_out no_value (way.Part i) (group_read order known version g) (group_passed order version g) (group_follows g))
-        (λ v. follows_made (λ vs. v ∷ vs) (groups_read order known version (suc i) rest) (groups_passed order version rest) (groups_follow (suc i) rest))
+        follows_then no_value no_value (read_in (way.Part i) (group_read mode g)) (group_passed mode.order mode.version g)
+        (λ v. then_read (groups_read mode (suc i) rest) (λ vs. nothing (v ∷ vs))) (λ _. groups_passed mode.order mode.version rest)
+        (follows_out no_value (way.Part i) (group_read mode g) (group_passed mode.order mode.version g) (group_follows g))
+        (λ v. follows_made (λ vs. v ∷ vs) (groups_read mode (suc i) rest) (groups_passed mode.order mode.version rest) (groups_follow (suc i) rest))
 
-    group_follows : (g : Group) → Follows no_value (group_read order known version g) (group_passed order version g)
+    group_follows : (g : Group) → Follows no_value (group_read mode g) (group_passed mode.order mode.version g)
     group_follows (Group' dim level) =
         let fields = (out-Level level).fields in
-        let dims : Reader (ℕ × ℕ) = dimension_read order dim (floor version fields) in
-        let entries : ℕ × ℕ → Reader (List Block) = λ d. times_read (entry_read (tail_read order known version level) order known version fields d.0) 0 d.1 in
-        let skips : ℕ × ℕ → Reader (List Unit) = λ d. times_read (entry_passed (tail_passed order version level) d.0) 0 d.1 in
-        follows_alive (is_alive version (out-Level level).since) (then_read dims (λ d. then_read (entries d) (λ es. nothing (groupval.Entries es)))) (then_read dims (λ d. passed (skips d))) groupval.Absent
+        let dims : Reader (ℕ × ℕ) = dimension_read mode.order dim (floor mode.version fields) in
+        let entries : ℕ × ℕ → Reader (List Block) = λ d. times_read (entry_read (tail_read mode level) mode fields d.0) 0 d.1 in
+        let skips : ℕ × ℕ → Reader (List Unit) = λ d. times_read (entry_passed (tail_passed mode.order mode.version level) d.0) 0 d.1 in
+        follows_alive (is_alive mode.version (out-Level level).since) (then_read dims (λ d. then_read (entries d) (λ es. nothing (groupval.Entries es)))) (then_read dims (λ d. passed (skips d))) groupval.Absent
         (follows_then itself no_value dims dims (λ d. then_read (entries d) (λ es. nothing (groupval.Entries es))) (λ d. passed (skips d)) (follows_self dims)
         (λ d. follows_made groupval.Entries (entries d) (passed (skips d)) (follows_passed (map no_value) (entries d) (skips d)
-        (follows_times (entry_read (tail_read order known version level) order known version fields d.0) (entry_passed (tail_passed order version level) d.0) 0 d.1 (entry_follows level d.0 (tail_follows level))))))
+        (follows_times (entry_read (tail_read mode level) mode fields d.0) (entry_passed (tail_passed mode.order mode.version level) d.0) 0 d.1 (entry_follows level d.0 (tail_follows level))))))
 
   -- ---- an entry that lies
 
   pub entry_passes : (level : Level) (k : ℕ) (entry : Block) (front rest : List ℕ) → IsPlacedLevel level →
-      EntryLays (λ e b. TailLays order known version level e b) order known version (out-Level level).fields k entry front → level_passed order version level k (front ++ rest) ≡ Ok (tt, rest)
+      EntryLays (λ e b. TailLays mode level e b) (form_of mode level) k entry front → level_passed mode.order mode.version level k (front ++ rest) ≡ Ok (tt, rest)
   entry_passes level k entry front rest placed lies =
       let fields = (out-Level level).fields in
-      let tail : Reader Unit = tail_passed order version level in
-      let met : floor version fields ≤ length (take k front) = lies.1.0 in
+      let tail : Reader Unit = tail_passed mode.order mode.version level in
+      let met : floor mode.version fields ≤ length (take k front) = lies.1.0 in
       let short : length (take k front) ≤ k = simp length-take (omega arith) in
-      let enough : floor version fields ≤ k = omega (arith, met, short) in
-      let reads = entry_reads order known version (tail_read order known version level) (λ e b. TailLays order known version level e b) (TailFault order known version level) fields k
-      (ignores order known version level) enough (placed_fields level placed) (tail_reads order known version level placed) in
-      ap (λ t. cond t (entry_passed tail k (front ++ rest)) (Err (fault_at code.BlockShort 0 (pos k)))) (le-leb (floor version fields) k enough)
+      let enough : floor mode.version fields ≤ k = omega (arith, met, short) in
+      let reads = entry_reads mode (tail_read mode level) (λ e b. TailLays mode level e b) (TailFault mode level) fields k
+      (ignores mode level) enough (placed_fields level placed) (tail_reads mode level placed) in
+      ap (λ t. cond t (entry_passed tail k (front ++ rest)) (Err (fault_at code.BlockShort 0 (pos k)))) (le-leb (floor mode.version fields) k enough)
       ∙ (entry_follows level k (tail_follows level)).same (front ++ rest) entry rest (reads.complete entry front rest lies)
 
   pub entry_ends : (level : Level) (k : ℕ) (entry : Block) (before front rest : List ℕ) → IsPlacedLevel level →
-      EntryLays (λ e b. TailLays order known version level e b) order known version (out-Level level).fields k entry front →
-      behind (level_passed order version level k) (before ++ (front ++ rest)) (length before) ≡ Some (length before + length front)
+      EntryLays (λ e b. TailLays mode level e b) (form_of mode level) k entry front →
+      behind (level_passed mode.order mode.version level k) (before ++ (front ++ rest)) (length before) ≡ Some (length before + length front)
   entry_ends level k entry before front rest is_placed lies =
       let n = length (before ++ (front ++ rest)) in
       let end : n - length rest ≡ length before + length front = omega (arith, length-append before (front ++ rest), length-append front rest) in
-      ap (λ b. result_ok (placed n (length before) (level_passed order version level k b))) (drop-append_seam before (front ++ rest))
+      ap (λ b. result_ok (placed n (length before) (level_passed mode.order mode.version level k b))) (drop-append_seam before (front ++ rest))
       ∙ ap (λ r. result_ok (placed n (length before) r)) (entry_passes level k entry front rest is_placed lies)
       ∙ ap Some end

@@ -28,7 +28,8 @@ use Rattle.sbe_types.specs.Places.{width, is_const, begin_of, end_past}
 use Rattle.sbe_types.specs.Shown.{is_null, is_optional, admits}
 use Rattle.sbe_types.specs.Shows.{Shows, MembersShow, ShowsLeaf, ShowsText, is_empty}
 use Rattle.sbe_types.specs.Wire.{member_values}
-use Rattle.sbe_wire.specs.Versions.{is_known, acting, is_alive}
+use Rattle.sbe_wire.specs.declared.mode.Mode.{Mode}
+use Rattle.sbe_wire.specs.Versions.{is_alive, form_of, mode_of}
 use Rattle.sbe_wire.specs.Lays.{Joined, JoinedBoth, FieldsLay, DataLies, DataLays, EntryLays, GroupLies, TailLays, GroupsLay, GroupLays}
 use Rattle.sbe_wire.specs.Fits.{EachFits}
 use Rattle.tree_json.specs.Lines.{entries_in}
@@ -107,14 +108,14 @@ field_by : (t : Bool) (kind : Kind) (v : Value) (P : Type 0) → HasByteConstant
 field_by true kind v P constants shows h = shows h
 field_by false kind v P constants shows h = subst (HasBytes kind) (sym h) (absent_bytes kind constants)
 
-fields_bytes : (order : Order) (known : Bool) (version e : ℕ) (fs : List Field) (vs : List Value) (b : List ℕ) → AllByRecursion IsByteField fs → IsBytes b → FieldsLay order known version e fs vs b → FieldsHaveBytes fs vs
-fields_bytes order known version e [] vs b constants good h = tt
-fields_bytes order known version e (f ∷ fs) [] b constants good h = absurd h
-fields_bytes order known version e (f ∷ fs) (v ∷ vs) b constants good h =
+fields_bytes : (mode : Mode) (e : ℕ) (fs : List Field) (vs : List Value) (b : List ℕ) → AllByRecursion IsByteField fs → IsBytes b → FieldsLay mode e fs vs b → FieldsHaveBytes fs vs
+fields_bytes mode e [] vs b constants good h = tt
+fields_bytes mode e (f ∷ fs) [] b constants good h = absurd h
+fields_bytes mode e (f ∷ fs) (v ∷ vs) b constants good h =
     let slice : List ℕ = take (width f.kind) (drop (begin_of e f.offset) b) in
     let bytes : IsBytes slice = IsBytes-take (width f.kind) (drop (begin_of e f.offset) b) (IsBytes-drop (begin_of e f.offset) b good) in (
-      field_by (is_alive version f.since) f.kind v (Shows order known f.kind v slice) constants.0 (λ shows. kind_bytes order known f.kind constants.0 v slice bytes shows) h.0,
-      fields_bytes order known version (end_past e f.offset f.kind) fs vs b constants.1 good h.1,
+      field_by (is_alive mode.version f.since) f.kind v (Shows mode.order mode.known f.kind v slice) constants.0 (λ shows. kind_bytes mode.order mode.known f.kind constants.0 v slice bytes shows) h.0,
+      fields_bytes mode (end_past e f.offset f.kind) fs vs b constants.1 good h.1,
     )
 
 part_by : (t : Bool) (order : Order) (p : DataField) (v : DataVal) (b : List ℕ) → IsBytes b
@@ -146,15 +147,15 @@ byte_fields : (level : Level) → IsByteLevel level → AllByRecursion IsByteFie
 unfolding levels.out-Level carrier.out
 byte_fields (Level' name id semantic since block_length fields n groups parts) h = h.0
 
-module _ (order : Order) (known : Bool) (version : ℕ) where
+module _ (mode : Mode) where
   -- the bytes of each entry's tail, where its fields are made of bytes
   abbrev Below : Level → Type 0
   Below level =
-      (entry : Block) (b : List ℕ) → IsBytes b → FieldsHaveBytes (out-Level level).fields (out-Block entry).fields → TailLays order known version level entry b → BlockHasBytes level entry
+      (entry : Block) (b : List ℕ) → IsBytes b → FieldsHaveBytes (out-Level level).fields (out-Block entry).fields → TailLays mode level entry b → BlockHasBytes level entry
 
   group_by : (t : Bool) (dim : _) (level : Level) → IsByteLevel level → Below level → (v : GroupVal) (b : List ℕ) → IsBytes b
       → MatchBool t
-      ((entries : List Block) × (v ≡ groupval.Entries entries) × GroupLies (λ entry e. TailLays order known version level entry e) order known version dim (out-Level level).fields entries b)
+      ((entries : List Block) × (v ≡ groupval.Entries entries) × GroupLies (λ entry e. TailLays mode level entry e) (form_of mode level) dim entries b)
       ((v ≡ groupval.Absent) × (b ≡ [])) → EachThere (λ entry. BlockHasBytes level entry) (entries_in v)
   group_by false dim level constants below v b good h = subst (λ x. EachThere (λ entry. BlockHasBytes level entry) (entries_in x)) (sym h.0) tt
   group_by true dim level constants below v b good h =
@@ -163,9 +164,9 @@ module _ (order : Order) (known : Bool) (version : ℕ) where
       let whole : IsBytes (group.1 ++ group.2) = subst IsBytes group.3 good in
       let there : entries_in v ≡ Some entries = ap entries_in h.1 ∙ ap Some (items_hidden-the_row-Block-1 entries) in
       subst (EachThere (λ entry. BlockHasBytes level entry)) (sym there)
-      (each_bytes (EntryLays (λ entry e. TailLays order known version level entry e) order known version (out-Level level).fields group.0) (λ entry. BlockHasBytes level entry)
+      (each_bytes (EntryLays (λ entry e. TailLays mode level entry e) (form_of mode level) group.0) (λ entry. BlockHasBytes level entry)
       (λ entry e ok here. below entry (drop group.0 e) (IsBytes-drop group.0 e ok)
-      (fields_bytes order known version 0 (out-Level level).fields (out-Block entry).fields (take group.0 e) (byte_fields level constants) (IsBytes-take group.0 e ok) here.1.1)
+      (fields_bytes mode 0 (out-Level level).fields (out-Block entry).fields (take group.0 e) (byte_fields level constants) (IsBytes-take group.0 e ok) here.1.1)
       here.2)
       entries group.2 (IsBytes-back group.1 group.2 whole) group.5)
 
@@ -175,18 +176,18 @@ module _ (order : Order) (known : Bool) (version : ℕ) where
     level_bytes : (level : Level) → IsByteLevel level → Below level
     level_bytes (Level' name id semantic since block_length fields n groups parts) constants block b good own h =
         let whole : IsBytes (h.0 ++ h.1) = subst IsBytes h.2 good in
-        (own, groups_bytes groups constants.1 (out-Block block).groups h.0 (IsBytes-front h.0 h.1 whole) h.3, parts_bytes order version parts (out-Block block).parts h.1 (IsBytes-back h.0 h.1 whole) h.4)
+        (own, groups_bytes groups constants.1 (out-Block block).groups h.0 (IsBytes-front h.0 h.1 whole) h.3, parts_bytes mode.order mode.version parts (out-Block block).parts h.1 (IsBytes-back h.0 h.1 whole) h.4)
 
-    groups_bytes : {n : _} (groups : Row_of-Group n) → AreByteGroups groups → (vs : List GroupVal) (b : List ℕ) → IsBytes b → GroupsLay order known version groups vs b → GroupsHaveBytes groups vs
+    groups_bytes : {n : _} (groups : Row_of-Group n) → AreByteGroups groups → (vs : List GroupVal) (b : List ℕ) → IsBytes b → GroupsLay mode groups vs b → GroupsHaveBytes groups vs
     groups_bytes end_of-Group constants vs b good h = tt
     groups_bytes (more_of-Group g rest) constants [] b good h = absurd h
     groups_bytes (more_of-Group g rest) constants (v ∷ vs) b good h =
         let whole : IsBytes (h.0 ++ h.1) = subst IsBytes h.2 good in
         (group_bytes g constants.0 v h.0 (IsBytes-front h.0 h.1 whole) h.3, groups_bytes rest constants.1 vs h.1 (IsBytes-back h.0 h.1 whole) h.4)
 
-    group_bytes : (g : Group) → IsByteGroup g → (v : GroupVal) (b : List ℕ) → IsBytes b → GroupLays order known version g v b → GroupHasBytes g v
+    group_bytes : (g : Group) → IsByteGroup g → (v : GroupVal) (b : List ℕ) → IsBytes b → GroupLays mode g v b → GroupHasBytes g v
     group_bytes (Group' dim level) constants v b good h =
-        group_by (is_alive version (out-Level level).since) dim level constants (λ entry e ok own here. level_bytes level constants entry e ok own here) v b good h
+        group_by (is_alive mode.version (out-Level level).since) dim level constants (λ entry e ok own here. level_bytes level constants entry e ok own here) v b good h
 
 -- ---- a message
 
@@ -199,13 +200,12 @@ lies_in_bytes schema m body level at constants good h =
     let block = h.2 in
     let tail = h.3 in
     let rest = h.4 in
-    let known = is_known schema m.version in
-    let version = acting schema m.version in
+    let mode = mode_of schema m.version in
     let same : h.0 ≡ level = some_level (sym h.5 ∙ at) in
     let whole : IsBytes (header ++ block ++ tail ++ rest) = subst IsBytes h.6 good in
     let front : IsBytes (header ++ block ++ tail) = IsBytes-front (header ++ block ++ tail) rest whole in
     let tail_good : IsBytes tail = IsBytes-back (header ++ block) tail front in
     let block_good : IsBytes block = IsBytes-back header block (IsBytes-front (header ++ block) tail front) in
     let own_constants : IsByteLevel h.0 = subst IsByteLevel (sym same) constants in
-    let own = fields_bytes schema.order known version 0 (out-Level h.0).fields (out-Block m.block).fields block (byte_fields h.0 own_constants) block_good h.8.1 in
-    subst (λ l. BlockHasBytes l m.block) same (level_bytes schema.order known version h.0 own_constants m.block tail tail_good own h.9)
+    let own = fields_bytes mode 0 (out-Level h.0).fields (out-Block m.block).fields block (byte_fields h.0 own_constants) block_good h.8.1 in
+    subst (λ l. BlockHasBytes l m.block) same (level_bytes mode h.0 own_constants m.block tail tail_good own h.9)

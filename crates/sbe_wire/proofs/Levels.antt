@@ -1,10 +1,9 @@
 -- What is read of a level's groups and data is what lies there, by induction on the schema.
-use Rattle.std.proofs.Common.{◌≡◌, ◌⊎◌, inl, inr, ℕ, suc, ◌+◌, ◌≤◌, ◌<◌, Bool, List, [], ◌∷◌, length, take, Ok, refl, sym, subst, arith, length-take}
+use Rattle.std.proofs.Common.{◌≡◌, ◌⊎◌, inl, inr, ℕ, suc, ◌+◌, ◌≤◌, ◌<◌, List, [], ◌∷◌, length, take, Ok, refl, sym, subst, arith, length-take}
 use mathlib.Core.Former as former
 use denote.Hole.Carrier as carrier
 use Rattle.lists.specs.formers.list.List as lists
 use Rattle.sbe_types.specs.declared.schema.Level as levels
-use Rattle.sbe_types.specs.declared.kind.Order.{Order}
 use Rattle.sbe_types.specs.declared.kind.Member.{Member}
 use Rattle.sbe_types.specs.declared.path.Step.TheVariants as way
 use Rattle.sbe_types.specs.declared.schema.Field.{Field}
@@ -16,7 +15,8 @@ use Rattle.sbe_types.specs.declared.message.DataVal.{DataVal}
 use Rattle.sbe_types.specs.declared.message.Block.{Block}
 use Rattle.sbe_types.specs.declared.message.GroupVal.{GroupVal}
 use Rattle.sbe_types.specs.declared.message.GroupVal.TheVariants as groupval
-use Rattle.sbe_wire.specs.Versions.{is_alive, floor}
+use Rattle.sbe_wire.specs.declared.mode.Mode.{Mode}
+use Rattle.sbe_wire.specs.Versions.{is_alive, floor, BlockForm, form_of}
 use Rattle.sbe_wire.specs.Lays.{Joined, JoinedBoth, DataLays, DimensionLays, EntryLays, GroupLies, TailLays, GroupsLay, GroupLays}
 use Rattle.sbe_wire.specs.Faults.{Fault, FaultAfter, Under, TimesFault, EachFault, DataFault, DimensionFault, DimensionGood, EntryFault, TailFault, GroupsFault, GroupFault}
 use Rattle.sbe_wire.specs.Reading.{Reader, then_read, nothing, read_in, times_read, each_read, data_read, dimension_read, Tail, block_of, entry_read, tail_read, groups_read, group_read}
@@ -34,19 +34,19 @@ pub placed_fields : (level : Level) → IsPlacedLevel level → ArePlaced 0 (out
 unfolding levels.out-Level carrier.out
 placed_fields (Level' name id semantic since block_length fields n groups parts) h = h.0
 
-module _ (order : Order) (known : Bool) (version : ℕ) where
+module _ (mode : Mode) where
   -- the groups and data of a level, without its fields
   abbrev pub TailIs : Level → Tail → List ℕ → Type 0
-  TailIs level t b = TailLays order known version level (block_of [] t) b
+  TailIs level t b = TailLays mode level (block_of [] t) b
 
   abbrev pub ReadsTail : Level → Type 0
-  ReadsTail level = Reads (tail_read order known version level) (TailIs level) (TailFault order known version level)
+  ReadsTail level = Reads (tail_read mode level) (TailIs level) (TailFault mode level)
 
   abbrev ReadsGroups : ℕ → {n : _} → Row_of-Group n → Type 0
-  ReadsGroups i groups = Reads (groups_read order known version i groups) (GroupsLay order known version groups) (GroupsFault order known version i groups)
+  ReadsGroups i groups = Reads (groups_read mode i groups) (GroupsLay mode groups) (GroupsFault mode i groups)
 
   abbrev ReadsGroup : Group → Type 0
-  ReadsGroup g = Reads (group_read order known version g) (GroupLays order known version g) (GroupFault order known version g)
+  ReadsGroup g = Reads (group_read mode g) (GroupLays mode g) (GroupFault mode g)
 
   -- ---- a tail: groups, and then data
 
@@ -55,7 +55,7 @@ module _ (order : Order) (known : Bool) (version : ℕ) where
     this = Level' name id semantic since block_length fields n groups parts
 
     abbrev Two : Tail → List ℕ → Type 0
-    Two = After (GroupsLay order known version groups) (λ gs. MadeOf (λ (ds : List DataVal). (gs, ds)) (JoinedBoth (DataLays order version) parts))
+    Two = After (GroupsLay mode groups) (λ gs. MadeOf (λ (ds : List DataVal). (gs, ds)) (JoinedBoth (DataLays mode.order mode.version) parts))
 
     two_to : (t : Tail) (b : List ℕ) → Two t b → TailIs this t b
     two_to t b h =
@@ -68,55 +68,55 @@ module _ (order : Order) (known : Bool) (version : ℕ) where
     of_tail : ReadsGroups (length fields) groups → ReadsTail this
     unfolding tail_read
     of_tail here =
-        restated (tail_read order known version this) Two (TailIs this)
-        (FaultAfter (GroupsFault order known version (length fields) groups) (GroupsLay order known version groups) (λ vs. EachFault (DataFault order version) (DataLays order version) (length fields + length vs) parts))
-        (TailFault order known version this)
+        restated (tail_read mode this) Two (TailIs this)
+        (FaultAfter (GroupsFault mode (length fields) groups) (GroupsLay mode groups) (λ vs. EachFault (DataFault mode.order mode.version) (DataLays mode.order mode.version) (length fields + length vs) parts))
+        (TailFault mode this)
         two_to two_from (λ f b h. h) (λ f b h. h)
-        (after (groups_read order known version (length fields) groups) (λ gs. then_read (each_read (data_read order version) (length fields + length gs) parts) (λ ds. nothing (gs, ds)))
-        (GroupsLay order known version groups) (GroupsFault order known version (length fields) groups)
-        (λ gs. MadeOf (λ (ds : List DataVal). (gs, ds)) (JoinedBoth (DataLays order version) parts)) (λ vs. EachFault (DataFault order version) (DataLays order version) (length fields + length vs) parts)
+        (after (groups_read mode (length fields) groups) (λ gs. then_read (each_read (data_read mode.order mode.version) (length fields + length gs) parts) (λ ds. nothing (gs, ds)))
+        (GroupsLay mode groups) (GroupsFault mode (length fields) groups)
+        (λ gs. MadeOf (λ (ds : List DataVal). (gs, ds)) (JoinedBoth (DataLays mode.order mode.version) parts)) (λ vs. EachFault (DataFault mode.order mode.version) (DataLays mode.order mode.version) (length fields + length vs) parts)
         here
-        (λ gs front h. made (each_read (data_read order version) (length fields + length gs) parts) (λ (ds : List DataVal). (gs, ds)) (JoinedBoth (DataLays order version) parts) (EachFault (DataFault order version) (DataLays order version) (length fields + length gs) parts)
-        (each (data_read order version) (DataLays order version) (DataFault order version) (λ part. data_reads order part version) (length fields + length gs) parts)))
+        (λ gs front h. made (each_read (data_read mode.order mode.version) (length fields + length gs) parts) (λ (ds : List DataVal). (gs, ds)) (JoinedBoth (DataLays mode.order mode.version) parts) (EachFault (DataFault mode.order mode.version) (DataLays mode.order mode.version) (length fields + length gs) parts)
+        (each (data_read mode.order mode.version) (DataLays mode.order mode.version) (DataFault mode.order mode.version) (λ part. data_reads mode.order part mode.version) (length fields + length gs) parts)))
 
   -- ---- groups
 
   no_groups : (i : ℕ) → ReadsGroups i end_of-Group
   unfolding groups_read
   no_groups i =
-      restated (λ b. Ok ([], b)) (λ (vs : List GroupVal) b. (vs ≡ []) × (b ≡ [])) (GroupsLay order known version end_of-Group) (λ _ _. ⊥) (GroupsFault order known version i end_of-Group)
-      (λ vs b h. subst (λ vs. GroupsLay order known version end_of-Group vs b) (sym h.0) h.1) none (λ f b h. h) (λ f b h. h) none_read
+      restated (λ b. Ok ([], b)) (λ (vs : List GroupVal) b. (vs ≡ []) × (b ≡ [])) (GroupsLay mode end_of-Group) (λ _ _. ⊥) (GroupsFault mode i end_of-Group)
+      (λ vs b h. subst (λ vs. GroupsLay mode end_of-Group vs b) (sym h.0) h.1) none (λ f b h. h) (λ f b h. h) none_read
     where
-      none : (vs : List GroupVal) (b : List ℕ) → GroupsLay order known version end_of-Group vs b → (vs ≡ []) × (b ≡ [])
+      none : (vs : List GroupVal) (b : List ℕ) → GroupsLay mode end_of-Group vs b → (vs ≡ []) × (b ≡ [])
       none [] b h = (refl, h)
       none (v ∷ vs) b h = absurd h
 
   module _ (i : ℕ) (g : Group) {n : _} (rest : Row_of-Group n) where
     abbrev Cons : List GroupVal → List ℕ → Type 0
-    Cons = After (GroupLays order known version g) (λ v. MadeOf (λ vs. v ∷ vs) (GroupsLay order known version rest))
+    Cons = After (GroupLays mode g) (λ v. MadeOf (λ vs. v ∷ vs) (GroupsLay mode rest))
 
-    cons_to : (vs : List GroupVal) (b : List ℕ) → Cons vs b → GroupsLay order known version (more_of-Group g rest) vs b
+    cons_to : (vs : List GroupVal) (b : List ℕ) → Cons vs b → GroupsLay mode (more_of-Group g rest) vs b
     cons_to vs b h =
-        let whole : GroupsLay order known version (more_of-Group g rest) (h.0 ∷ h.5.0) b = (h.1, h.2, h.3, h.4, h.5.2) in
-        subst (λ vs. GroupsLay order known version (more_of-Group g rest) vs b) (sym h.5.1) whole
+        let whole : GroupsLay mode (more_of-Group g rest) (h.0 ∷ h.5.0) b = (h.1, h.2, h.3, h.4, h.5.2) in
+        subst (λ vs. GroupsLay mode (more_of-Group g rest) vs b) (sym h.5.1) whole
 
-    cons_from : (vs : List GroupVal) (b : List ℕ) → GroupsLay order known version (more_of-Group g rest) vs b → Cons vs b
+    cons_from : (vs : List GroupVal) (b : List ℕ) → GroupsLay mode (more_of-Group g rest) vs b → Cons vs b
     cons_from [] b h = absurd h
     cons_from (v ∷ vs) b h = (v, h.0, h.1, h.2, h.3, (vs, refl, h.4))
 
     one_more : ReadsGroup g → ReadsGroups (suc i) rest → ReadsGroups i (more_of-Group g rest)
     unfolding groups_read
     one_more here there =
-        restated (groups_read order known version i (more_of-Group g rest)) Cons (GroupsLay order known version (more_of-Group g rest))
-        (FaultAfter (Under (way.Part i) (GroupFault order known version g)) (GroupLays order known version g) (λ _. GroupsFault order known version (suc i) rest)) (GroupsFault order known version i (more_of-Group g rest))
+        restated (groups_read mode i (more_of-Group g rest)) Cons (GroupsLay mode (more_of-Group g rest))
+        (FaultAfter (Under (way.Part i) (GroupFault mode g)) (GroupLays mode g) (λ _. GroupsFault mode (suc i) rest)) (GroupsFault mode i (more_of-Group g rest))
         cons_to cons_from (λ f b h. h) (λ f b h. h)
-        (after (read_in (way.Part i) (group_read order known version g)) (λ v. then_read (groups_read order known version (suc i) rest) (λ vs. nothing (v ∷ vs)))
-        (GroupLays order known version g) (Under (way.Part i) (GroupFault order known version g)) (λ v. MadeOf (λ vs. v ∷ vs) (GroupsLay order known version rest)) (λ _. GroupsFault order known version (suc i) rest)
-        (stepped (way.Part i) (group_read order known version g) (GroupLays order known version g) (GroupFault order known version g) here)
-        (λ v front h. made (groups_read order known version (suc i) rest) (λ vs. v ∷ vs) (GroupsLay order known version rest) (GroupsFault order known version (suc i) rest) there))
+        (after (read_in (way.Part i) (group_read mode g)) (λ v. then_read (groups_read mode (suc i) rest) (λ vs. nothing (v ∷ vs)))
+        (GroupLays mode g) (Under (way.Part i) (GroupFault mode g)) (λ v. MadeOf (λ vs. v ∷ vs) (GroupsLay mode rest)) (λ _. GroupsFault mode (suc i) rest)
+        (stepped (way.Part i) (group_read mode g) (GroupLays mode g) (GroupFault mode g) here)
+        (λ v front h. made (groups_read mode (suc i) rest) (λ vs. v ∷ vs) (GroupsLay mode rest) (GroupsFault mode (suc i) rest) there))
 
   -- the tail says nothing of the fields
-  pub ignores : (l : Level) (x y : List Value) (t : Tail) (b : List ℕ) → TailLays order known version l (block_of x t) b → TailLays order known version l (block_of y t) b
+  pub ignores : (l : Level) (x y : List Value) (t : Tail) (b : List ℕ) → TailLays mode l (block_of x t) b → TailLays mode l (block_of y t) b
   ignores (Level' name id semantic since block_length fs n groups parts) x y t b h = h
 
   -- ---- a group
@@ -126,32 +126,35 @@ module _ (order : Order) (known : Bool) (version : ℕ) where
     fields = (out-Level level).fields
 
     abbrev least : ℕ
-    least = floor version fields
+    least = floor mode.version fields
+
+    abbrev form : BlockForm
+    form = form_of mode level
 
     abbrev EntryIs : ℕ → Block → List ℕ → Type 0
-    EntryIs k = EntryLays (λ entry e. TailLays order known version level entry e) order known version fields k
+    EntryIs k = EntryLays (λ entry e. TailLays mode level entry e) form k
 
     abbrev EntryBad : ℕ → Fault → List ℕ → Type 0
-    EntryBad k = EntryFault (TailFault order known version level) order known version fields k
+    EntryBad k = EntryFault (TailFault mode level) form k
 
     abbrev entries : ℕ → ℕ → Reader (List Block)
-    entries k n = times_read (entry_read (tail_read order known version level) order known version fields k) 0 n
+    entries k n = times_read (entry_read (tail_read mode level) mode fields k) 0 n
 
     abbrev alive_read : Reader GroupVal
-    alive_read = then_read (dimension_read order dim least) (λ d. then_read (entries d.0 d.1) (λ es. nothing (groupval.Entries es)))
+    alive_read = then_read (dimension_read mode.order dim least) (λ d. then_read (entries d.0 d.1) (λ es. nothing (groupval.Entries es)))
 
     abbrev Alike : GroupVal → List ℕ → Type 0
-    Alike = After (DimensionGood order dim least) (λ d. MadeOf groupval.Entries (Times (EntryIs d.0) d.1))
+    Alike = After (DimensionGood mode.order dim least) (λ d. MadeOf groupval.Entries (Times (EntryIs d.0) d.1))
 
     abbrev AliveIs : GroupVal → List ℕ → Type 0
-    AliveIs v b = (es : List Block) × (v ≡ groupval.Entries es) × GroupLies (λ entry e. TailLays order known version level entry e) order known version dim fields es b
+    AliveIs v b = (es : List Block) × (v ≡ groupval.Entries es) × GroupLies (λ entry e. TailLays mode level entry e) form dim es b
 
     abbrev AliveBad : Fault → List ℕ → Type 0
-    AliveBad = FaultAfter (DimensionFault order dim least) (DimensionGood order dim least) (λ d. TimesFault (EntryBad d.0) (EntryIs d.0) 0 d.1)
+    AliveBad = FaultAfter (DimensionFault mode.order dim least) (DimensionGood mode.order dim least) (λ d. TimesFault (EntryBad d.0) (EntryIs d.0) 0 d.1)
 
     alive_to : (v : GroupVal) (b : List ℕ) → Alike v b → AliveIs v b
     alive_to v b h =
-        let counted : DimensionLays order dim h.0.0 (length h.5.0) h.1 = subst (λ n. DimensionLays order dim h.0.0 n h.1) (sym h.5.2.0) h.4.0 in
+        let counted : DimensionLays mode.order dim h.0.0 (length h.5.0) h.1 = subst (λ n. DimensionLays mode.order dim h.0.0 n h.1) (sym h.5.2.0) h.4.0 in
         (h.5.0, h.5.1, (h.0.0, h.1, h.2, h.3, counted, h.5.2.1))
 
     -- where an entry lies, the block length reaches the floor
@@ -167,24 +170,24 @@ module _ (order : Order) (known : Bool) (version : ℕ) where
         let lies = h.2 in
         ((lies.0, length h.0), lies.1, lies.2, lies.3, (lies.4, reaches lies.0 h.0 lies.2 lies.5), (h.0, h.1, (refl, lies.5)))
 
-    entry_of : IsPlacedLevel level → ReadsTail level → (k : ℕ) → least ≤ k → Reads (entry_read (tail_read order known version level) order known version fields k) (EntryIs k) (EntryBad k)
+    entry_of : IsPlacedLevel level → ReadsTail level → (k : ℕ) → least ≤ k → Reads (entry_read (tail_read mode level) mode fields k) (EntryIs k) (EntryBad k)
     entry_of placed reads k enough =
-        entry_reads order known version (tail_read order known version level) (λ entry e. TailLays order known version level entry e) (TailFault order known version level) fields k
+        entry_reads mode (tail_read mode level) (λ entry e. TailLays mode level entry e) (TailFault mode level) fields k
         (ignores level) enough (placed_fields level placed) reads
 
-    some_entry : (d : ℕ × ℕ) (front : List ℕ) → DimensionGood order dim least d front → 0 < d.1 → least ≤ d.0
+    some_entry : (d : ℕ × ℕ) (front : List ℕ) → DimensionGood mode.order dim least d front → 0 < d.1 → least ≤ d.0
     some_entry d front h some = elim h.1 [ inl e ↦ omega (arith, e, some) | inr e ↦ e ]
 
     of_group : IsPlacedLevel level → ReadsTail level → ReadsGroup (Group' dim level)
     unfolding group_read
     of_group placed reads =
-        choice (is_alive version (out-Level level).since) alive_read groupval.Absent AliveIs AliveBad
+        choice (is_alive mode.version (out-Level level).since) alive_read groupval.Absent AliveIs AliveBad
         (restated alive_read Alike AliveIs AliveBad AliveBad alive_to alive_from (λ f b h. h) (λ f b h. h)
-        (after (dimension_read order dim least) (λ d. then_read (entries d.0 d.1) (λ es. nothing (groupval.Entries es)))
-        (DimensionGood order dim least) (DimensionFault order dim least) (λ d. MadeOf groupval.Entries (Times (EntryIs d.0) d.1)) (λ d. TimesFault (EntryBad d.0) (EntryIs d.0) 0 d.1)
-        (dimension_reads order dim least)
+        (after (dimension_read mode.order dim least) (λ d. then_read (entries d.0 d.1) (λ es. nothing (groupval.Entries es)))
+        (DimensionGood mode.order dim least) (DimensionFault mode.order dim least) (λ d. MadeOf groupval.Entries (Times (EntryIs d.0) d.1)) (λ d. TimesFault (EntryBad d.0) (EntryIs d.0) 0 d.1)
+        (dimension_reads mode.order dim least)
         (λ d front h. made (entries d.0 d.1) groupval.Entries (Times (EntryIs d.0) d.1) (TimesFault (EntryBad d.0) (EntryIs d.0) 0 d.1)
-        (times (entry_read (tail_read order known version level) order known version fields d.0) (EntryIs d.0) (EntryBad d.0) 0 d.1
+        (times (entry_read (tail_read mode level) mode fields d.0) (EntryIs d.0) (EntryBad d.0) 0 d.1
         (λ some. entry_of placed reads d.0 (some_entry d front h some))))))
 
   mutual

@@ -11,7 +11,7 @@ use Rattle.sbe_types.specs.declared.message.Block.{Block, out-Block}
 use Rattle.sbe_types.specs.declared.message.Msg.{Msg}
 use Rattle.sbe_types.specs.Places.{members_end}
 use Rattle.sbe_wire.specs.declared.codes.FCode.TheVariants as code
-use Rattle.sbe_wire.specs.Versions.{acting, is_known}
+use Rattle.sbe_wire.specs.Versions.{is_known, mode_of, form_of}
 use Rattle.sbe_wire.specs.Named.{number_named, place_named}
 use Rattle.sbe_wire.specs.Lays.{HeaderLays, BlockLays, EntryLays, TailLays, Lays}
 use Rattle.sbe_wire.specs.Faults.{Fault, fault_at, FaultAfter, EntryFault, TailFault, message_named, Heading, floor_in, HeadingLays, HeadingRefused, HeadingFault, HeadingGood, TrailingFault, FirstFault}
@@ -234,10 +234,10 @@ module _ (schema : WireSchema) where
   -- ---- the root, and the whole body
 
   abbrev Root : Heading → Block → List ℕ → Type 0
-  Root h = EntryLays (λ entry e. TailLays schema.order (is_known schema h.version) (acting schema h.version) h.level entry e) schema.order (is_known schema h.version) (acting schema h.version) (out-Level h.level).fields h.block
+  Root h = EntryLays (λ entry e. TailLays (mode_of schema h.version) h.level entry e) (form_of (mode_of schema h.version) h.level) h.block
 
   abbrev RootBad : Heading → Fault → List ℕ → Type 0
-  RootBad h = EntryFault (TailFault schema.order (is_known schema h.version) (acting schema h.version) h.level) schema.order (is_known schema h.version) (acting schema h.version) (out-Level h.level).fields h.block
+  RootBad h = EntryFault (TailFault (mode_of schema h.version) h.level) (form_of (mode_of schema h.version) h.level) h.block
 
   abbrev Ends : Heading → Block → Msg → List ℕ → Type 0
   Ends h block = RestIs (is_known schema h.version) (headed h block)
@@ -248,14 +248,13 @@ module _ (schema : WireSchema) where
   root_judges : IsPlaced schema → (h : Heading) (head : List ℕ) → HeadingGood schema h head →
       Judges All (root_read schema h) (After (Root h) (Ends h)) (FaultAfter (RootBad h) (Root h) (λ block. TrailingFault (is_known schema h.version)))
   root_judges placed h head good =
-      let known = is_known schema h.version in
-      let version = acting schema h.version in
+      let mode = mode_of schema h.version in
       let level = placed_level placed h head good in
-      at_end (entry_read (tail_read schema.order known version h.level) schema.order known version (out-Level h.level).fields h.block) (λ block. rest_judged known (headed h block))
-      (Root h) (RootBad h) (Ends h) (λ block. TrailingFault known)
-      (entry_reads schema.order known version (tail_read schema.order known version h.level) (λ entry e. TailLays schema.order known version h.level entry e) (TailFault schema.order known version h.level) (out-Level h.level).fields h.block
-      (ignores schema.order known version h.level) good.1 (placed_fields h.level level) (tail_reads schema.order known version h.level level))
-      (λ block front lies. rest_judges known (headed h block))
+      at_end (entry_read (tail_read mode h.level) mode (out-Level h.level).fields h.block) (λ block. rest_judged mode.known (headed h block))
+      (Root h) (RootBad h) (Ends h) (λ block. TrailingFault mode.known)
+      (entry_reads mode (tail_read mode h.level) (λ entry e. TailLays mode h.level entry e) (TailFault mode h.level) (out-Level h.level).fields h.block
+      (ignores mode h.level) good.1 (placed_fields h.level level) (tail_reads mode h.level level))
+      (λ block front lies. rest_judges mode.known (headed h block))
 
   abbrev Whole : Msg → List ℕ → Type 0
   Whole = After (HeadingGood schema) (λ h. After (Root h) (Ends h))
@@ -303,8 +302,8 @@ module _ (schema : WireSchema) where
       let back : drop (length block) (block ++ tail) ≡ tail = drop-append_seam block tail in
       let root : Root heading m.block (block ++ tail) = (
         omega (arith, length-append block tail),
-        subst (BlockLays schema.order (is_known schema m.version) (acting schema m.version) (out-Level level).fields (out-Block m.block).fields) (sym front) h.8,
-        subst (TailLays schema.order (is_known schema m.version) (acting schema m.version) level m.block) (sym back) h.9,
+        subst (BlockLays (mode_of schema m.version) (out-Level level).fields (out-Block m.block).fields) (sym front) h.8,
+        subst (TailLays (mode_of schema m.version) level m.block) (sym back) h.9,
       ) in (
         heading,
         header,

@@ -2,7 +2,6 @@
 use Rattle.std.proofs.Common.{◌≡◌, inl, inr, ℕ, zero, suc, ◌+◌, ◌≤◌, Bool, true, false, cond, List, [], ◌∷◌, length, Option, None, Some, refl, sym, ap, ◌∙◌, subst, arith}
 use Rattle.std.specs.Prelude.{◌⊎◌, not, ◌&&◌, slice_get}
 use Rattle.std.specs.Bool.{MatchBool}
-use Rattle.sbe_types.specs.declared.kind.Order.{Order}
 use Rattle.sbe_types.specs.declared.kind.Kind.{Kind, Leaf, Enum, Set, Const, Comp'}
 use Rattle.sbe_types.specs.declared.schema.Field.{Field}
 use Rattle.sbe_types.specs.declared.message.Value.{Value}
@@ -10,28 +9,29 @@ use Rattle.sbe_types.specs.declared.message.Value.TheVariants as value
 use Rattle.sbe_types.specs.Places.{width, is_const, begin_of, end_past, place_of, field_place, bytes_at}
 use Rattle.sbe_types.specs.Shows.{Shows}
 use Rattle.sbe_types.proofs.PlaceLemmas.{bytes_at_place}
+use Rattle.sbe_wire.specs.declared.mode.Mode.{Mode}
 use Rattle.sbe_wire.specs.Versions.{is_alive, floor_from}
 use Rattle.sbe_wire.specs.Lays.{FieldLays, FieldsLay}
 use Rattle.sbe_wire.specs.Placed.{ArePlaced}
 use Rattle.sbe_wire.proofs.Blocks.{reach, reach_within, floor_reaches}
 
-module _ (order : Order) (known : Bool) (version : ℕ) (b : List ℕ) where
+module _ (mode : Mode) (b : List ℕ) where
   -- a field's value by the bytes at a place
   abbrev pub LiesAt : Option ℕ → Field → Value → Type 0
-  LiesAt place f v = MatchBool (is_alive version f.since) (Shows order known f.kind v (bytes_at place (width f.kind) b)) (v ≡ value.Absent)
+  LiesAt place f v = MatchBool (is_alive mode.version f.since) (Shows mode.order mode.known f.kind v (bytes_at place (width f.kind) b)) (v ≡ value.Absent)
 
   abbrev pub EachFrom : ℕ → List Field → List Value → Type 0
   EachFrom e fields values =
       (length values ≡ length fields)
       × ((i : ℕ) (f : Field) (v : Value) → slice_get fields i ≡ Some f → slice_get values i ≡ Some v → LiesAt (field_place e fields i) f v)
 
-  at_place : (e : ℕ) (f : Field) (v : Value) → FieldLays order known version e f v b → LiesAt (place_of e f.offset f.kind) f v
+  at_place : (e : ℕ) (f : Field) (v : Value) → FieldLays mode e f v b → LiesAt (place_of e f.offset f.kind) f v
   at_place e f v h = rw (bytes_at_place e f.offset f.kind b) h
 
-  from_place : (e : ℕ) (f : Field) (v : Value) → LiesAt (place_of e f.offset f.kind) f v → FieldLays order known version e f v b
+  from_place : (e : ℕ) (f : Field) (v : Value) → LiesAt (place_of e f.offset f.kind) f v → FieldLays mode e f v b
   from_place e f v h = rw (bytes_at_place e f.offset f.kind b) at h
 
-  each_more : (e : ℕ) (first : Field) (fields : List Field) (v : Value) (values : List Value) → FieldLays order known version e first v b →
+  each_more : (e : ℕ) (first : Field) (fields : List Field) (v : Value) (values : List Value) → FieldLays mode e first v b →
       EachFrom (end_past e first.offset first.kind) fields values → EachFrom e (first ∷ fields) (v ∷ values)
   each_more e first fields v values h later = (ap suc later.0, each)
     where
@@ -42,13 +42,13 @@ module _ (order : Order) (known : Bool) (version : ℕ) (b : List ℕ) where
           subst (λ f. LiesAt (place_of e first.offset first.kind) f w) same (subst (λ w. LiesAt (place_of e first.offset first.kind) first w) shown (at_place e first v h))
       each (suc i) f w is there = later.1 i f w is there
 
-  pub each_from : (e : ℕ) (fields : List Field) (values : List Value) → FieldsLay order known version e fields values b → EachFrom e fields values
+  pub each_from : (e : ℕ) (fields : List Field) (values : List Value) → FieldsLay mode e fields values b → EachFrom e fields values
   each_from e [] [] h = (refl, λ i f v is there. cc)
   each_from e [] (v ∷ vs) h = absurd h
   each_from e (f ∷ fs) [] h = absurd h
   each_from e (f ∷ fs) (v ∷ vs) h = each_more e f fs v vs h.0 (each_from (end_past e f.offset f.kind) fs vs h.1)
 
-  pub each_back : (e : ℕ) (fields : List Field) (values : List Value) → EachFrom e fields values → FieldsLay order known version e fields values b
+  pub each_back : (e : ℕ) (fields : List Field) (values : List Value) → EachFrom e fields values → FieldsLay mode e fields values b
   each_back e [] [] h = tt
   each_back e [] (v ∷ vs) h = absurd (omega (arith, h.0))
   each_back e (f ∷ fs) [] h = absurd (omega (arith, h.0))

@@ -23,7 +23,8 @@ use Rattle.sbe_types.specs.Shown.{shown, shown_element, admits}
 use Rattle.sbe_types.specs.Shows.{Shows, is_text_byte}
 use Rattle.sbe_wire.specs.declared.codes.FCode.{FCode}
 use Rattle.sbe_wire.specs.declared.codes.FCode.TheVariants as code
-use Rattle.sbe_wire.specs.Versions.{acting, is_known, is_alive, floor}
+use Rattle.sbe_wire.specs.declared.mode.Mode.{Mode}
+use Rattle.sbe_wire.specs.Versions.{acting, is_alive, floor, mode_of, BlockForm, form_of}
 use Rattle.sbe_wire.specs.Named.{number_named, place_named, is_admitted}
 use Rattle.sbe_wire.specs.Lays.{FieldLays, BlockLays, DataLays, DimensionLays, EntryLays, TailLays, GroupsLay, GroupLays, HeaderLays}
 
@@ -124,23 +125,33 @@ abbrev mutual
 
 -- ---- a block
 
--- a field that is alive shows no value
-abbrev pub FieldFault : Order → Bool → ℕ → ℕ → ℕ → Field → Fault → List ℕ → Type 0
-FieldFault order known version e i field fault b =
-    IsTrue (is_alive version field.since)
-    × ((f : Fault) × KindFault order known field.kind f (take (width field.kind) (drop (begin_of e field.offset) b)) × (fault ≡ shifted (begin_of e field.offset) (under (way.Part i) f)))
+-- where a field comes: the end of the fields before it, and how many they are
+pub record Place : Type 0 where
+  pub end : ℕ
+  pub index : ℕ
 
--- the first fault of fields that are counted from i, behind fields that end at e
-abbrev pub FieldsFault : Order → Bool → ℕ → ℕ → ℕ → List Field → Fault → List ℕ → Type 0
-FieldsFault order known version e i [] fault b = ⊥
-FieldsFault order known version e i (field ∷ fields) fault b =
-    FieldFault order known version e i field fault b
-    ⊎ ((v : Value) × FieldLays order known version e field v b × FieldsFault order known version (end_past e field.offset field.kind) (suc i) fields fault b)
+-- a field that is alive shows no value
+abbrev pub FieldFault : Mode → Place → Field → Fault → List ℕ → Type 0
+FieldFault mode place field fault b =
+    IsTrue (is_alive mode.version field.since)
+    × ((f : Fault) × KindFault mode.order mode.known field.kind f (take (width field.kind) (drop (begin_of place.end field.offset) b))
+    × (fault ≡ shifted (begin_of place.end field.offset) (under (way.Part place.index) f)))
+
+-- the place after a field
+abbrev pub next_place : Place → Field → Place
+next_place place field = record { end = end_past place.end field.offset field.kind; index = suc place.index }
+
+-- the first fault of fields from a place on
+abbrev pub FieldsFault : Mode → Place → List Field → Fault → List ℕ → Type 0
+FieldsFault mode place [] fault b = ⊥
+FieldsFault mode place (field ∷ fields) fault b =
+    FieldFault mode place field fault b
+    ⊎ ((v : Value) × FieldLays mode place.end field v b × FieldsFault mode (next_place place field) fields fault b)
 
 -- a block of k bytes is cut off, or a field of it shows no value
-abbrev pub BlockFault : Order → Bool → ℕ → List Field → ℕ → Fault → List ℕ → Type 0
-BlockFault order known version fields k fault b =
-    TooShort k fault b ⊎ ((k ≤ length b) × FieldsFault order known version 0 0 fields fault (take k b))
+abbrev pub BlockFault : Mode → List Field → ℕ → Fault → List ℕ → Type 0
+BlockFault mode fields k fault b =
+    TooShort k fault b ⊎ ((k ≤ length b) × FieldsFault mode (record { end = 0; index = 0 }) fields fault (take k b))
 
 -- ---- data and groups
 
@@ -173,10 +184,10 @@ DimensionFault order dim least fault b =
     ⊎ ((members_end 0 dim ≤ length b) × DimensionRefused order dim least fault (take (members_end 0 dim) b))
 
 -- a fault of the block, or the block lays out and the tail has a fault
-abbrev pub EntryFault : (Fault → List ℕ → Type 0) → Order → Bool → ℕ → List Field → ℕ → Fault → List ℕ → Type 0
-EntryFault Tail order known version fields k fault b =
-    BlockFault order known version fields k fault b
-    ⊎ ((values : List Value) × (f : Fault) × (k ≤ length b) × BlockLays order known version fields values (take k b) × Tail f (drop k b) × (fault ≡ shifted k f))
+abbrev pub EntryFault : (Fault → List ℕ → Type 0) → BlockForm → ℕ → Fault → List ℕ → Type 0
+EntryFault Tail form k fault b =
+    BlockFault form.mode form.fields k fault b
+    ⊎ ((values : List Value) × (f : Fault) × (k ≤ length b) × BlockLays form.mode form.fields values (take k b) × Tail f (drop k b) × (fault ≡ shifted k f))
 
 -- a dimension that lays out and counts no entry, or whose block length reaches the floor
 abbrev pub DimensionGood : Order → List Member → ℕ → ℕ × ℕ → List ℕ → Type 0
@@ -184,25 +195,25 @@ DimensionGood order dim least d b = DimensionLays order dim d.0 d.1 b × ((d.1 �
 
 abbrev mutual
   -- the first fault of a level's groups and data
-  pub TailFault : Order → Bool → ℕ → Level → Fault → List ℕ → Type 0
-  TailFault order known version (Level' name id semantic since block_length fields _ groups parts) fault b =
-      FaultAfter (GroupsFault order known version (length fields) groups) (GroupsLay order known version groups)
-      (λ vs. EachFault (DataFault order version) (DataLays order version) (length fields + length vs) parts) fault b
+  pub TailFault : Mode → Level → Fault → List ℕ → Type 0
+  TailFault mode (Level' name id semantic since block_length fields _ groups parts) fault b =
+      FaultAfter (GroupsFault mode (length fields) groups) (GroupsLay mode groups)
+      (λ vs. EachFault (DataFault mode.order mode.version) (DataLays mode.order mode.version) (length fields + length vs) parts) fault b
 
   -- the first fault of groups that are counted from i
-  pub GroupsFault : Order → Bool → ℕ → ℕ → {n : _} → Row_of-Group n → Fault → List ℕ → Type 0
-  GroupsFault order known version i end_of-Group fault b = ⊥
-  GroupsFault order known version i (more_of-Group g rest) fault b =
-      FaultAfter (Under (way.Part i) (GroupFault order known version g)) (GroupLays order known version g)
-      (λ _. GroupsFault order known version (suc i) rest) fault b
+  pub GroupsFault : Mode → ℕ → {n : _} → Row_of-Group n → Fault → List ℕ → Type 0
+  GroupsFault mode i end_of-Group fault b = ⊥
+  GroupsFault mode i (more_of-Group g rest) fault b =
+      FaultAfter (Under (way.Part i) (GroupFault mode g)) (GroupLays mode g)
+      (λ _. GroupsFault mode (suc i) rest) fault b
 
   -- a fault of the dimension, or the dimension lays out and an entry has a fault
-  pub GroupFault : Order → Bool → ℕ → Group → Fault → List ℕ → Type 0
-  GroupFault order known version (Group' dim level) fault b =
-      IsTrue (is_alive version (out-Level level).since)
-      × FaultAfter (DimensionFault order dim (floor version (out-Level level).fields)) (DimensionGood order dim (floor version (out-Level level).fields))
-      (λ d. TimesFault (EntryFault (TailFault order known version level) order known version (out-Level level).fields d.0)
-      (EntryLays (λ entry e. TailLays order known version level entry e) order known version (out-Level level).fields d.0) 0 d.1) fault b
+  pub GroupFault : Mode → Group → Fault → List ℕ → Type 0
+  GroupFault mode (Group' dim level) fault b =
+      IsTrue (is_alive mode.version (out-Level level).since)
+      × FaultAfter (DimensionFault mode.order dim (floor mode.version (out-Level level).fields)) (DimensionGood mode.order dim (floor mode.version (out-Level level).fields))
+      (λ d. TimesFault (EntryFault (TailFault mode level) (form_of mode level) d.0)
+      (EntryLays (λ entry e. TailLays mode level entry e) (form_of mode level) d.0) 0 d.1) fault b
 
 -- ---- a body
 
@@ -258,9 +269,7 @@ TrailingFault known fault b = IsTrue known × (0 < length b) × (fault ≡ fault
 abbrev pub FirstFault : WireSchema → Fault → List ℕ → Type 0
 FirstFault schema fault body =
     FaultAfter (HeadingFault schema) (HeadingGood schema)
-    (λ h. let known = is_known schema h.version in
-    let version = acting schema h.version in
-    let fields = (out-Level h.level).fields in
-    FaultAfter (EntryFault (TailFault schema.order known version h.level) schema.order known version fields h.block)
-    (EntryLays (λ entry e. TailLays schema.order known version h.level entry e) schema.order known version fields h.block)
-    (λ _. TrailingFault known)) fault body
+    (λ h. let mode = mode_of schema h.version in
+    let form = form_of mode h.level in
+    FaultAfter (EntryFault (TailFault mode h.level) form h.block) (EntryLays (λ entry e. TailLays mode h.level entry e) form h.block)
+    (λ _. TrailingFault mode.known)) fault body

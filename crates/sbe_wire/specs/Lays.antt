@@ -1,6 +1,6 @@
 -- How a message lies in a body. From SBE 1.0, Message structure, Repeating group encoding, Variable-length data, and Schema
 -- extension mechanism. Own profile: the floor, and that no bytes are left at a version that the schema knows.
-use Rattle.std.specs.Prelude.{◌≡◌, ℕ, ◌≤◌, Bool, Some, List, [], ◌∷◌, ◌++◌, length, take, drop, IsTrue, pos, ⊤, slice_get, codes}
+use Rattle.std.specs.Prelude.{◌≡◌, ℕ, ◌≤◌, Some, List, [], ◌∷◌, ◌++◌, length, take, drop, IsTrue, pos, ⊤, slice_get, codes}
 use Rattle.std.specs.Bool.{MatchBool}
 use Rattle.sbe_types.specs.declared.kind.Order.{Order}
 use Rattle.sbe_types.specs.declared.kind.Member.{Member}
@@ -21,7 +21,8 @@ use Rattle.sbe_types.specs.Numbers.{number_of, natural, prim_width}
 use Rattle.sbe_types.specs.Places.{width, begin_of, end_past, members_end}
 use Rattle.sbe_types.specs.Shown.{admits}
 use Rattle.sbe_types.specs.Shows.{Shows}
-use Rattle.sbe_wire.specs.Versions.{acting, is_known, is_alive, floor}
+use Rattle.sbe_wire.specs.declared.mode.Mode.{Mode}
+use Rattle.sbe_wire.specs.Versions.{is_known, is_alive, floor, mode_of, BlockForm, form_of}
 use Rattle.sbe_wire.specs.Named.{number_named, is_admitted}
 
 -- ---- pieces of bytes, one after another
@@ -38,24 +39,24 @@ JoinedBoth R [] (y ∷ ys) b = ⊥
 JoinedBoth R (x ∷ xs) [] b = ⊥
 JoinedBoth R (x ∷ xs) (y ∷ ys) b = (front : List ℕ) × (back : List ℕ) × (b ≡ front ++ back) × R x y front × JoinedBoth R xs ys back
 
--- ---- a block; `known`: the version isn't above the schema's; `version`: the acting one
+-- ---- a block
 
 -- a field behind fields that end at e: the bytes at its place show its value, or it isn't alive and is absent
-abbrev pub FieldLays : Order → Bool → ℕ → ℕ → Field → Value → List ℕ → Type 0
-FieldLays order known version e f v b =
-    MatchBool (is_alive version f.since) (Shows order known f.kind v (take (width f.kind) (drop (begin_of e f.offset) b))) (v ≡ value.Absent)
+abbrev pub FieldLays : Mode → ℕ → Field → Value → List ℕ → Type 0
+FieldLays mode e f v b =
+    MatchBool (is_alive mode.version f.since) (Shows mode.order mode.known f.kind v (take (width f.kind) (drop (begin_of e f.offset) b))) (v ≡ value.Absent)
 
 -- one value for each field, behind fields that end at e
-abbrev pub FieldsLay : Order → Bool → ℕ → ℕ → List Field → List Value → List ℕ → Type 0
-FieldsLay order known version e [] [] b = ⊤
-FieldsLay order known version e [] (v ∷ vs) b = ⊥
-FieldsLay order known version e (f ∷ fs) [] b = ⊥
-FieldsLay order known version e (f ∷ fs) (v ∷ vs) b =
-    FieldLays order known version e f v b × FieldsLay order known version (end_past e f.offset f.kind) fs vs b
+abbrev pub FieldsLay : Mode → ℕ → List Field → List Value → List ℕ → Type 0
+FieldsLay mode e [] [] b = ⊤
+FieldsLay mode e [] (v ∷ vs) b = ⊥
+FieldsLay mode e (f ∷ fs) [] b = ⊥
+FieldsLay mode e (f ∷ fs) (v ∷ vs) b =
+    FieldLays mode e f v b × FieldsLay mode (end_past e f.offset f.kind) fs vs b
 
 -- the block reaches the floor, and its fields lie in it; what lies behind them is passed over
-abbrev pub BlockLays : Order → Bool → ℕ → List Field → List Value → List ℕ → Type 0
-BlockLays order known version fields values b = (floor version fields ≤ length b) × FieldsLay order known version 0 fields values b
+abbrev pub BlockLays : Mode → List Field → List Value → List ℕ → Type 0
+BlockLays mode fields values b = (floor mode.version fields ≤ length b) × FieldsLay mode 0 fields values b
 
 -- ---- data and groups
 
@@ -82,37 +83,37 @@ pub record DimensionLays (order : Order) (dim : List Member) (block count : ℕ)
   pub admitted : IsTrue (is_admitted dim (codes "numInGroup") count)
 
 -- a block of k bytes, and then the tail
-abbrev pub EntryLays : (Block → List ℕ → Type 0) → Order → Bool → ℕ → List Field → ℕ → Block → List ℕ → Type 0
-EntryLays Tail order known version fields k entry b =
-    (k ≤ length b) × BlockLays order known version fields (out-Block entry).fields (take k b) × Tail entry (drop k b)
+abbrev pub EntryLays : (Block → List ℕ → Type 0) → BlockForm → ℕ → Block → List ℕ → Type 0
+EntryLays Tail form k entry b =
+    (k ≤ length b) × BlockLays form.mode form.fields (out-Block entry).fields (take k b) × Tail entry (drop k b)
 
 -- the dimension, and as many entries as it counts
-abbrev pub GroupLies : (Block → List ℕ → Type 0) → Order → Bool → ℕ → List Member → List Field → List Block → List ℕ → Type 0
-GroupLies Tail order known version dim fields entries b =
-    (k : ℕ) × (head : List ℕ) × (back : List ℕ) × (b ≡ head ++ back) × DimensionLays order dim k (length entries) head
-    × Joined (EntryLays Tail order known version fields k) entries back
+abbrev pub GroupLies : (Block → List ℕ → Type 0) → BlockForm → List Member → List Block → List ℕ → Type 0
+GroupLies Tail form dim entries b =
+    (k : ℕ) × (head : List ℕ) × (back : List ℕ) × (b ≡ head ++ back) × DimensionLays form.mode.order dim k (length entries) head
+    × Joined (EntryLays Tail form k) entries back
 
 abbrev mutual
   -- the groups of a level and then its data
-  pub TailLays : Order → Bool → ℕ → Level → Block → List ℕ → Type 0
-  TailLays order known version (Level' name id semantic since block_length fields _ groups parts) block b =
-      (front : List ℕ) × (back : List ℕ) × (b ≡ front ++ back) × GroupsLay order known version groups (out-Block block).groups front
-      × JoinedBoth (DataLays order version) parts (out-Block block).parts back
+  pub TailLays : Mode → Level → Block → List ℕ → Type 0
+  TailLays mode (Level' name id semantic since block_length fields _ groups parts) block b =
+      (front : List ℕ) × (back : List ℕ) × (b ≡ front ++ back) × GroupsLay mode groups (out-Block block).groups front
+      × JoinedBoth (DataLays mode.order mode.version) parts (out-Block block).parts back
 
   -- the groups of a level, one after another
-  pub GroupsLay : Order → Bool → ℕ → {n : _} → Row_of-Group n → List GroupVal → List ℕ → Type 0
-  GroupsLay order known version end_of-Group [] b = b ≡ []
-  GroupsLay order known version end_of-Group (v ∷ vs) b = ⊥
-  GroupsLay order known version (more_of-Group g rest) [] b = ⊥
-  GroupsLay order known version (more_of-Group g rest) (v ∷ vs) b =
-      (front : List ℕ) × (back : List ℕ) × (b ≡ front ++ back) × GroupLays order known version g v front × GroupsLay order known version rest vs back
+  pub GroupsLay : Mode → {n : _} → Row_of-Group n → List GroupVal → List ℕ → Type 0
+  GroupsLay mode end_of-Group [] b = b ≡ []
+  GroupsLay mode end_of-Group (v ∷ vs) b = ⊥
+  GroupsLay mode (more_of-Group g rest) [] b = ⊥
+  GroupsLay mode (more_of-Group g rest) (v ∷ vs) b =
+      (front : List ℕ) × (back : List ℕ) × (b ≡ front ++ back) × GroupLays mode g v front × GroupsLay mode rest vs back
 
   -- a group that isn't alive is absent and takes no bytes
-  pub GroupLays : Order → Bool → ℕ → Group → GroupVal → List ℕ → Type 0
-  GroupLays order known version (Group' dim level) v b =
-      MatchBool (is_alive version (out-Level level).since)
+  pub GroupLays : Mode → Group → GroupVal → List ℕ → Type 0
+  GroupLays mode (Group' dim level) v b =
+      MatchBool (is_alive mode.version (out-Level level).since)
       ((entries : List Block) × (v ≡ groupval.Entries entries)
-      × GroupLies (λ entry e. TailLays order known version level entry e) order known version dim (out-Level level).fields entries b)
+      × GroupLies (λ entry e. TailLays mode level entry e) (form_of mode level) dim entries b)
       ((v ≡ groupval.Absent) × (b ≡ []))
 
 -- ---- a message
@@ -132,6 +133,6 @@ Lays schema m body =
     × (slice_get schema.messages m.template ≡ Some level)
     × (body ≡ header ++ block ++ tail ++ rest)
     × HeaderLays schema (length block) (out-Level level).id m.version header
-    × BlockLays schema.order (is_known schema m.version) (acting schema m.version) (out-Level level).fields (out-Block m.block).fields block
-    × TailLays schema.order (is_known schema m.version) (acting schema m.version) level m.block tail
+    × BlockLays (mode_of schema m.version) (out-Level level).fields (out-Block m.block).fields block
+    × TailLays (mode_of schema m.version) level m.block tail
     × (IsTrue (is_known schema m.version) → rest ≡ [])

@@ -29,7 +29,8 @@ use Rattle.sbe_types.specs.Shown.{shown, shown_element, admits}
 use Rattle.sbe_types.specs.Shows.{is_text_byte, text_value}
 use Rattle.sbe_wire.specs.declared.codes.FCode.{FCode}
 use Rattle.sbe_wire.specs.declared.codes.FCode.TheVariants as code
-use Rattle.sbe_wire.specs.Versions.{acting, is_known, is_alive, floor}
+use Rattle.sbe_wire.specs.declared.mode.Mode.{Mode}
+use Rattle.sbe_wire.specs.Versions.{is_alive, floor, mode_of}
 use Rattle.sbe_wire.specs.Named.{number_named, place_named, is_admitted}
 use Rattle.sbe_wire.specs.Faults.{Fault, shifted, under, fault_at, count_of, message_named, Heading, floor_in}
 
@@ -164,23 +165,23 @@ unfoldable mutual
 -- ---- a block
 
 -- the value of a field, which is absent where it is not alive
-abbrev pub field_read : Order → Bool → ℕ → ℕ → ℕ → Field → List ℕ → Result Value Fault
-field_read order known version e i f b =
-    if is_alive version f.since
-    then later (begin_of e f.offset) (inside (way.Part i) (value_read order known f.kind (take (width f.kind) (drop (begin_of e f.offset) b))))
+abbrev pub field_read : Mode → ℕ → ℕ → Field → List ℕ → Result Value Fault
+field_read mode e i f b =
+    if is_alive mode.version f.since
+    then later (begin_of e f.offset) (inside (way.Part i) (value_read mode.order mode.known f.kind (take (width f.kind) (drop (begin_of e f.offset) b))))
     else Ok value.Absent
 
 -- the values of fields that are counted from i, behind fields that end at e
-unfoldable pub fields_read : Order → Bool → ℕ → ℕ → ℕ → List Field → List ℕ → Result (List Value) Fault
-fields_read order known version e i [] b = Ok []
-fields_read order known version e i (f ∷ fs) b = do
-  v ← field_read order known version e i f b
-  vs ← fields_read order known version (end_past e f.offset f.kind) (suc i) fs b
+unfoldable pub fields_read : Mode → ℕ → ℕ → List Field → List ℕ → Result (List Value) Fault
+fields_read mode e i [] b = Ok []
+fields_read mode e i (f ∷ fs) b = do
+  v ← field_read mode e i f b
+  vs ← fields_read mode (end_past e f.offset f.kind) (suc i) fs b
   Ok (v ∷ vs)
 
 -- the values of a block of k bytes
-abbrev pub block_read : Order → Bool → ℕ → List Field → ℕ → Reader (List Value)
-block_read order known version fields k = read_judged (bytes_read k) (fields_read order known version 0 0 fields)
+abbrev pub block_read : Mode → List Field → ℕ → Reader (List Value)
+block_read mode fields k = read_judged (bytes_read k) (fields_read mode 0 0 fields)
 
 -- ---- data and groups
 
@@ -226,29 +227,29 @@ abbrev pub block_of : List Value → Tail → Block
 block_of fields tail = record { fields = fields; groups = tail.0; parts = tail.1 }
 
 -- a block of k bytes, and then the tail
-abbrev pub entry_read : Reader Tail → Order → Bool → ℕ → List Field → ℕ → Reader Block
-entry_read tail order known version fields k =
-    then_read (block_read order known version fields k) (λ values. then_read tail (λ t. nothing (block_of values t)))
+abbrev pub entry_read : Reader Tail → Mode → List Field → ℕ → Reader Block
+entry_read tail mode fields k =
+    then_read (block_read mode fields k) (λ values. then_read tail (λ t. nothing (block_of values t)))
 
 unfoldable mutual
   -- the groups of a level and then its data
-  pub tail_read : Order → Bool → ℕ → Level → Reader Tail
-  tail_read order known version (Level' name id semantic since block_length fields _ groups parts) b =
-      then_read (groups_read order known version (length fields) groups)
-      (λ gs. then_read (each_read (data_read order version) (length fields + length gs) parts) (λ ds. nothing (gs, ds))) b
+  pub tail_read : Mode → Level → Reader Tail
+  tail_read mode (Level' name id semantic since block_length fields _ groups parts) b =
+      then_read (groups_read mode (length fields) groups)
+      (λ gs. then_read (each_read (data_read mode.order mode.version) (length fields + length gs) parts) (λ ds. nothing (gs, ds))) b
 
   -- groups that are counted from i
-  pub groups_read : Order → Bool → ℕ → ℕ → {n : _} → Row_of-Group n → Reader (List GroupVal)
-  groups_read order known version i end_of-Group b = Ok ([], b)
-  groups_read order known version i (more_of-Group g rest) b =
-      then_read (read_in (way.Part i) (group_read order known version g)) (λ v. then_read (groups_read order known version (suc i) rest) (λ vs. nothing (v ∷ vs))) b
+  pub groups_read : Mode → ℕ → {n : _} → Row_of-Group n → Reader (List GroupVal)
+  groups_read mode i end_of-Group b = Ok ([], b)
+  groups_read mode i (more_of-Group g rest) b =
+      then_read (read_in (way.Part i) (group_read mode g)) (λ v. then_read (groups_read mode (suc i) rest) (λ vs. nothing (v ∷ vs))) b
 
   -- a group, which is absent where it is not alive
-  pub group_read : Order → Bool → ℕ → Group → Reader GroupVal
-  group_read order known version (Group' dim level) b =
-      if is_alive version (out-Level level).since
-      then then_read (dimension_read order dim (floor version (out-Level level).fields))
-      (λ d. then_read (times_read (entry_read (tail_read order known version level) order known version (out-Level level).fields d.0) 0 d.1) (λ entries. nothing (groupval.Entries entries))) b
+  pub group_read : Mode → Group → Reader GroupVal
+  group_read mode (Group' dim level) b =
+      if is_alive mode.version (out-Level level).since
+      then then_read (dimension_read mode.order dim (floor mode.version (out-Level level).fields))
+      (λ d. then_read (times_read (entry_read (tail_read mode level) mode (out-Level level).fields d.0) 0 d.1) (λ entries. nothing (groupval.Entries entries))) b
       else Ok (groupval.Absent, b)
 
 -- ---- a body
@@ -299,10 +300,8 @@ headed h block = record { template = h.template; version = h.version; block = bl
 -- the message behind a heading
 abbrev pub root_read : WireSchema → Heading → List ℕ → Result Msg Fault
 root_read schema h =
-    let known = is_known schema h.version in
-    let version = acting schema h.version in
-    then_all (entry_read (tail_read schema.order known version h.level) schema.order known version (out-Level h.level).fields h.block)
-    (λ block. rest_judged known (headed h block))
+    let mode = mode_of schema h.version in
+    then_all (entry_read (tail_read mode h.level) mode (out-Level h.level).fields h.block) (λ block. rest_judged mode.known (headed h block))
 
 -- the message that the body is, or its first fault
 unfoldable pub message_of : WireSchema → List ℕ → Result Msg Fault

@@ -1,14 +1,14 @@
 //! Laws of the definitions, for each schema whose parts don't go back and whose messages differ in
 //! their ids, as the checker sees to.
 
-ghost use Rattle.std.specs.Prelude.{◌≡◌, ◌⊎◌, ◌↔◌, ◌+◌, ◌≤◌, ℕ, Bool, true, List, Some, Ok, Err, length, slice_get};
+ghost use Rattle.std.specs.Prelude.{◌≡◌, ◌⊎◌, ◌↔◌, ◌+◌, ◌≤◌, ℕ, true, List, Some, Ok, Err, length, slice_get};
 ghost use Rattle.std.specs.Bool.{MatchBool};
-ghost use Rattle.sbe_types.specs.declared.kind.Order.{Order};
 ghost use Rattle.sbe_types.specs.declared.schema.Field.{Field};
 ghost use Rattle.sbe_types.specs.declared.message.Value.{Value};
 ghost use Rattle.sbe_types.specs.declared.message.Value.TheVariants.{Absent};
 ghost use Rattle.sbe_types.specs.Places.{width, field_place, bytes_at};
 ghost use Rattle.sbe_types.specs.Shows.{Shows};
+ghost use Rattle.sbe_wire.specs.declared.mode.Mode.{Mode};
 ghost use Rattle.sbe_wire.specs.Versions.{is_alive, floor};
 ghost use Rattle.sbe_types.specs.declared.schema.WireSchema.{WireSchema};
 ghost use Rattle.sbe_types.specs.declared.message.Msg.{Msg};
@@ -47,11 +47,11 @@ pub fn no_fault_of_a_message()
 /// Fields lie in a block where each field that is alive shows its value at its place, and each other
 /// one is absent.
 pub fn fields_lie_at_their_places()
-    ensures { (order : Order) (known : Bool) (version : ℕ) (fields : List Field) (values : List Value) (b : List ℕ)
-        → FieldsLay order known version 0 fields values b
+    ensures { (mode : Mode) (fields : List Field) (values : List Value) (b : List ℕ)
+        → FieldsLay mode 0 fields values b
         ↔ ((length values ≡ length fields)
         × ((i : ℕ) (f : Field) (v : Value) → slice_get fields i ≡ Some f → slice_get values i ≡ Some v
-        → MatchBool (is_alive version f.since) (Shows order known f.kind v (bytes_at (field_place 0 fields i) (width f.kind) b)) (v ≡ Absent))) }
+        → MatchBool (is_alive mode.version f.since) (Shows mode.order mode.known f.kind v (bytes_at (field_place 0 fields i) (width f.kind) b)) (v ≡ Absent))) }
 {}
 
 /// Each field that is alive ends at the floor or before it, and one of them at the floor, if it isn't 0.

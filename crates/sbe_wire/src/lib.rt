@@ -1,9 +1,12 @@
 //! The definitions of the wire: how a message lies in a body, what can be written, and what the
-//! first fault of a body is. They are stated in `specs/`; the code is the codes that they cite.
+//! first fault of a body is. They are stated in `specs/`; the code is the codes that they cite,
+//! and how a body is read.
 #![tactic(auto)]
 
 mod codes;
 pub mod laws;
+mod mode;
 pub mod worked;
 
 pub use codes::{FCode, NCode};
+pub use mode::Mode;

@@ -3,7 +3,6 @@ use Rattle.std.proofs.Common.{◌≡◌, ℕ, suc, Bool, true, false, List, [], 
 use Rattle.std.specs.Prelude.{slice_get}
 use Rattle.std.specs.Bool.{MatchBool}
 use denote.Hole.Carrier as carrier
-use Rattle.sbe_types.specs.declared.kind.Order.{Order}
 use Rattle.sbe_types.specs.declared.message.Block.{Block, out-Block}
 use Rattle.sbe_types.specs.declared.message.GroupVal.{GroupVal, items_hidden-the_row-Block-1}
 use Rattle.sbe_types.specs.declared.message.GroupVal.TheVariants as groupval
@@ -15,19 +14,20 @@ use Rattle.sbe_types.specs.declared.schema.Level as levels
 use Rattle.sbe_types.specs.declared.schema.Level.{Level, Level', out-Level, Row_of-Group, end_of-Group, more_of-Group, items-the_row-Group, items_shown-the_row-Group-0}
 use Rattle.sbe_types.specs.declared.schema.WireSchema.{WireSchema}
 use Rattle.sbe_types.specs.Places.{end_past}
+use Rattle.sbe_wire.specs.declared.mode.Mode.{Mode}
 use Rattle.sbe_wire.specs.Lays.{Lays, FieldsLay, TailLays, GroupsLay, GroupLays, GroupLies, EntryLays, Joined}
-use Rattle.sbe_wire.specs.Versions.{is_alive}
+use Rattle.sbe_wire.specs.Versions.{is_alive, form_of, mode_of}
 use Rattle.flyweight_view.specs.Seen.{seen_level}
 use Rattle.tree_codec.specs.Trees.{Each, IsWhole, AreWhole, GroupIsWhole, GroupsAreWhole, IsWholeSeen, entries_of}
 
 some_is : {A : Type 0} {x y : A} → ◌≡◌ {A = Option A} (Some x) (Some y) → x ≡ y
 some_is h = cc
 
-fields_long : (order : Order) (known : Bool) (version e : ℕ) (fs : List Field) (vs : List Value) (b : List ℕ) → FieldsLay order known version e fs vs b → length vs ≡ length fs
-fields_long order known version e [] [] b h = refl
-fields_long order known version e [] (v ∷ vs) b h = absurd h
-fields_long order known version e (f ∷ fs) [] b h = absurd h
-fields_long order known version e (f ∷ fs) (v ∷ vs) b h = ap suc (fields_long order known version (end_past e f.offset f.kind) fs vs b h.1)
+fields_long : (mode : Mode) (e : ℕ) (fs : List Field) (vs : List Value) (b : List ℕ) → FieldsLay mode e fs vs b → length vs ≡ length fs
+fields_long mode e [] [] b h = refl
+fields_long mode e [] (v ∷ vs) b h = absurd h
+fields_long mode e (f ∷ fs) [] b h = absurd h
+fields_long mode e (f ∷ fs) (v ∷ vs) b h = ap suc (fields_long mode (end_past e f.offset f.kind) fs vs b h.1)
 
 -- each item of joined ones
 each_joined : {R : Block → List ℕ → Type 0} {P : Block → Type 0} (xs : List Block) (b : List ℕ) → ((x : Block) (c : List ℕ) → R x c → P x) → Joined R xs b → Each P xs
@@ -35,11 +35,11 @@ each_joined [] b f h = tt
 each_joined (x ∷ xs) b f h = (f x h.0 h.3, each_joined xs h.1 f h.4)
 
 -- a block whose fields lie is as long as its level, and its tail's groups are whole
-module _ (order : Order) (known : Bool) (version : ℕ) where
+module _ (mode : Mode) where
   -- the entries of a group that is alive, or none
   by_alive : (dim : List _) (level : Level) (v : GroupVal) (b : List ℕ) (t : Bool)
-      → ((entry : Block) (k : ℕ) (c : List ℕ) → EntryLays (λ x e. TailLays order known version level x e) order known version (out-Level level).fields k entry c → IsWhole level entry)
-      → MatchBool t ((entries : List Block) × (v ≡ groupval.Entries entries) × GroupLies (λ x e. TailLays order known version level x e) order known version dim (out-Level level).fields entries b)
+      → ((entry : Block) (k : ℕ) (c : List ℕ) → EntryLays (λ x e. TailLays mode level x e) (form_of mode level) k entry c → IsWhole level entry)
+      → MatchBool t ((entries : List Block) × (v ≡ groupval.Entries entries) × GroupLies (λ x e. TailLays mode level x e) (form_of mode level) dim entries b)
       ((v ≡ groupval.Absent) × (b ≡ []))
       → Each (λ entry. IsWhole level entry) (entries_of v)
   by_alive dim level v b true f h =
@@ -50,18 +50,18 @@ module _ (order : Order) (known : Bool) (version : ℕ) where
   mutual
     unfolding levels.out-Level carrier.out
 
-    level_whole : (level : Level) (block : Block) (b : List ℕ) → length (out-Block block).fields ≡ length (out-Level level).fields → TailLays order known version level block b → IsWhole level block
+    level_whole : (level : Level) (block : Block) (b : List ℕ) → length (out-Block block).fields ≡ length (out-Level level).fields → TailLays mode level block b → IsWhole level block
     level_whole (Level' name id semantic since block_length fields n groups parts) block b long h = (long, row_whole groups (out-Block block).groups h.0 h.3)
 
-    row_whole : {n : _} (row : Row_of-Group n) (vs : List GroupVal) (b : List ℕ) → GroupsLay order known version row vs b → AreWhole row vs
+    row_whole : {n : _} (row : Row_of-Group n) (vs : List GroupVal) (b : List ℕ) → GroupsLay mode row vs b → AreWhole row vs
     row_whole end_of-Group [] b h = tt
     row_whole end_of-Group (v ∷ vs) b h = absurd h
     row_whole (more_of-Group g rest) [] b h = absurd h
     row_whole (more_of-Group g rest) (v ∷ vs) b h = (group_whole g v h.0 h.3, row_whole rest vs h.1 h.4)
 
-    group_whole : (g : Group) (v : GroupVal) (b : List ℕ) → GroupLays order known version g v b → GroupIsWhole g v
+    group_whole : (g : Group) (v : GroupVal) (b : List ℕ) → GroupLays mode g v b → GroupIsWhole g v
     group_whole (Group' dim level) v b h =
-        by_alive dim level v b (is_alive version (out-Level level).since) (λ entry k c e. level_whole level entry _ (fields_long order known version 0 _ _ _ e.1.1) e.2) h
+        by_alive dim level v b (is_alive mode.version (out-Level level).since) (λ entry k c e. level_whole level entry _ (fields_long mode 0 _ _ _ e.1.1) e.2) h
 
 row_list : (n : _) (row : Row_of-Group n) (vs : List GroupVal) → AreWhole row vs → GroupsAreWhole (items-the_row-Group n row) vs
 row_list n end_of-Group [] h = tt
@@ -81,5 +81,5 @@ seen_whole (Level' name id semantic since block_length fields n groups parts) bl
 pub whole_message : (schema : WireSchema) (m : Msg) (level : Level) (body : List ℕ) → Lays schema m body → slice_get schema.messages m.template ≡ Some level → IsWholeSeen (seen_level level m.block)
 whole_message schema m level body h is =
     let same = some_is (sym h.5 ∙ is) in
-    let whole = level_whole schema.order _ _ h.0 m.block h.3 (fields_long schema.order _ _ 0 _ _ _ h.8.1) h.9 in
+    let whole = level_whole (mode_of schema m.version) h.0 m.block h.3 (fields_long (mode_of schema m.version) 0 _ _ _ h.8.1) h.9 in
     subst (λ l. IsWholeSeen (seen_level l m.block)) same (seen_whole h.0 m.block whole)

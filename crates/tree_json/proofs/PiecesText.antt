@@ -114,7 +114,7 @@ module _ (order : Order) (known : Bool) (b : List ℕ) where
           subst (λ l. PiecesText order known l b (shown_text (value_data kind v) ++ (inner ++ rest))) (sym (append_assoc (kind_pieces kind (at + p)) others ps)) value,
         )
 
-  pub fields_text : (version e : ℕ) (fs : List Field) (vs : List Value) (later : Bool) → ArePlaced e fs → AllAlive version fs → FieldsLay order known version e fs vs b →
+  pub fields_text : (version e : ℕ) (fs : List Field) (vs : List Value) (later : Bool) → ArePlaced e fs → AllAlive version fs → FieldsLay (record { order = order; known = known; version = version }) e fs vs b →
       PiecesText order known (field_pieces later e fs) b (entries_text later (zipped field_entry fs vs))
   fields_text version e [] [] later placed alive h = ([], refl, refl)
   fields_text version e [] (v ∷ vs) later placed alive h = absurd h

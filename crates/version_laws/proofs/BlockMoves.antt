@@ -9,6 +9,7 @@ use Rattle.sbe_types.specs.declared.message.Value.{Value}
 use Rattle.sbe_types.specs.declared.message.Value.TheVariants as value
 use Rattle.sbe_types.specs.Places.{width, is_const, begin_of, end_past}
 use Rattle.sbe_types.specs.Shows.{Shows}
+use Rattle.sbe_wire.specs.declared.mode.Mode.{Mode}
 use Rattle.sbe_wire.specs.Versions.{is_alive, floor, floor_from}
 use Rattle.sbe_wire.specs.Lays.{FieldLays, FieldsLay, BlockLays}
 use Rattle.sbe_wire.specs.Placed.{BeginsBehind, ArePlaced}
@@ -52,6 +53,10 @@ field_flips R e f d g h = record {
   kind = kind_flips R f.kind g.kind h.kind;
 }
 
+-- how values are read in this order, by a schema that knows all parts or doesn't, and at this version
+abbrev pub moded : Order → Bool → ℕ → Mode
+moded order known version = record { order = order; known = known; version = version }
+
 module _ (order : Order) (R : Lists) (known known' : Bool) (keeps : Keeps R known known') where
   slice_is : (e : ℕ) (f : Field) (d : ℕ) (g : Field) → FieldStands R e f d g → (b : List ℕ) (c : Bool) → is_const f.kind ≡ c →
       take (width f.kind) (drop (begin_of e f.offset) b) ≡ take (width g.kind) (drop (begin_of d g.offset) b)
@@ -63,7 +68,7 @@ module _ (order : Order) (R : Lists) (known known' : Bool) (keeps : Keeps R know
       ∙ ap (λ p. take (width g.kind) (drop p b)) (h.place c)
 
   pub field_moves : (version version' e : ℕ) (f : Field) (d : ℕ) (g : Field) → FieldStands R e f d g → is_alive version f.since ≡ is_alive version' g.since →
-      (v : Value) (b : List ℕ) → FieldLays order known version e f v b → FieldLays order known' version' d g v b
+      (v : Value) (b : List ℕ) → FieldLays (moded order known version) e f v b → FieldLays (moded order known' version') d g v b
   field_moves version version' e f d g h alive v b lays =
       chosen_alike _ _ _ (is_alive version f.since) (is_alive version' g.since) alive
       (λ s. subst (Shows order known' g.kind v) (slice_is e f d g h b (is_const f.kind) refl) (value_moves order R known known' keeps f.kind g.kind h.kind v _ s))
@@ -149,9 +154,15 @@ module _ (R : Lists) (least version version' : ℕ) (alike : AlikeTo least versi
 -- ---- the fields of a block
 
 module _ (order : Order) (R : Lists) (known known' : Bool) (least version version' : ℕ) (alike : AlikeTo least version version') where
+  abbrev mode : Mode
+  mode = moded order known version
+
+  abbrev mode' : Mode
+  mode' = moded order known' version'
+
   -- what lies under old lies under new, where no field that was added is alive
   pub lift_fields : Keeps R known known' → DeadBeyond least version' → (e : ℕ) (olds : List Field) (d : ℕ) (news : List Field) → FieldsStand R least e olds d news →
-      (vs : List Value) (b : List ℕ) → FieldsLay order known version e olds vs b → FieldsLay order known' version' d news (lifted_list (old_field least) value.Absent news vs) b
+      (vs : List Value) (b : List ℕ) → FieldsLay mode e olds vs b → FieldsLay mode' d news (lifted_list (old_field least) value.Absent news vs) b
   lift_fields keeps dead e [] d [] h [] b lies = tt
   lift_fields keeps dead e [] d [] h (v ∷ vs) b lies = absurd lies
   lift_fields keeps dead e (f ∷ fs) d [] h vs b lies = absurd h
@@ -163,43 +174,43 @@ module _ (order : Order) (R : Lists) (known known' : Bool) (least version versio
   lift_fields keeps dead e (f ∷ fs) d (g ∷ gs) h (v ∷ vs) b lies =
       by_bool _ (is_old least g.since)
       (λ o. let k = taken _ _ _ o h in
-      subst (λ t. FieldsLay order known' version' d (g ∷ gs) (cond t (v ∷ lifted_list (old_field least) value.Absent gs vs) (value.Absent ∷ lifted_list (old_field least) value.Absent gs (v ∷ vs))) b) (sym o) (
+      subst (λ t. FieldsLay mode' d (g ∷ gs) (cond t (v ∷ lifted_list (old_field least) value.Absent gs vs) (value.Absent ∷ lifted_list (old_field least) value.Absent gs (v ∷ vs))) b) (sym o) (
         field_moves order R known known' keeps version version' e f d g k.0 (alive_is R least version version' alike e f d g k.0 o) v b lies.0,
         lift_fields keeps dead (end_past e f.offset f.kind) fs (end_past d g.offset g.kind) gs k.1 vs b lies.1,
       ))
-      (λ o. subst (λ t. FieldsLay order known' version' d (g ∷ gs) (cond t (v ∷ lifted_list (old_field least) value.Absent gs vs) (value.Absent ∷ lifted_list (old_field least) value.Absent gs (v ∷ vs))) b) (sym o)
+      (λ o. subst (λ t. FieldsLay mode' d (g ∷ gs) (cond t (v ∷ lifted_list (old_field least) value.Absent gs vs) (value.Absent ∷ lifted_list (old_field least) value.Absent gs (v ∷ vs))) b) (sym o)
       (pass_it _ _ _ (dead g.since o) refl, lift_fields keeps dead e (f ∷ fs) (end_past d g.offset g.kind) gs (passed _ _ _ o h) (v ∷ vs) b lies))
 
   -- what lies under new lies under old, as far as old has it
   pub cut_fields : Keeps (flipped R) known' known → (e : ℕ) (olds : List Field) (d : ℕ) (news : List Field) → FieldsStand R least e olds d news →
-      (vs : List Value) (b : List ℕ) → FieldsLay order known' version' d news vs b → FieldsLay order known version e olds (projected_list (old_field least) news vs) b
+      (vs : List Value) (b : List ℕ) → FieldsLay mode' d news vs b → FieldsLay mode e olds (projected_list (old_field least) news vs) b
   cut_fields keeps e [] d [] h vs b lies = tt
   cut_fields keeps e (f ∷ fs) d [] h vs b lies = absurd h
   cut_fields keeps e olds d (g ∷ gs) h [] b lies = absurd lies
   cut_fields keeps e [] d (g ∷ gs) h (v ∷ vs) b lies =
       by_bool _ (is_old least g.since) (λ o. absurd (taken _ _ _ o h))
-      (λ o. subst (λ t. FieldsLay order known version e [] (cond t (v ∷ projected_list (old_field least) gs vs) (projected_list (old_field least) gs vs)) b) (sym o)
+      (λ o. subst (λ t. FieldsLay mode e [] (cond t (v ∷ projected_list (old_field least) gs vs) (projected_list (old_field least) gs vs)) b) (sym o)
       (cut_fields keeps e [] (end_past d g.offset g.kind) gs (passed _ _ _ o h) vs b lies.1))
   cut_fields keeps e (f ∷ fs) d (g ∷ gs) h (v ∷ vs) b lies =
       by_bool _ (is_old least g.since)
       (λ o. let k = taken _ _ _ o h in
-      subst (λ t. FieldsLay order known version e (f ∷ fs) (cond t (v ∷ projected_list (old_field least) gs vs) (projected_list (old_field least) gs vs)) b) (sym o) (
+      subst (λ t. FieldsLay mode e (f ∷ fs) (cond t (v ∷ projected_list (old_field least) gs vs) (projected_list (old_field least) gs vs)) b) (sym o) (
         field_moves order (flipped R) known' known keeps version' version d g e f (field_flips R e f d g k.0) (sym (alive_is R least version version' alike e f d g k.0 o)) v b lies.0,
         cut_fields keeps (end_past e f.offset f.kind) fs (end_past d g.offset g.kind) gs k.1 vs b lies.1,
       ))
-      (λ o. subst (λ t. FieldsLay order known version e (f ∷ fs) (cond t (v ∷ projected_list (old_field least) gs vs) (projected_list (old_field least) gs vs)) b) (sym o)
+      (λ o. subst (λ t. FieldsLay mode e (f ∷ fs) (cond t (v ∷ projected_list (old_field least) gs vs) (projected_list (old_field least) gs vs)) b) (sym o)
       (cut_fields keeps e (f ∷ fs) (end_past d g.offset g.kind) gs (passed _ _ _ o h) vs b lies.1))
 
   -- ---- blocks
 
   pub lift_block : Keeps R known known' → DeadBeyond least version' → (olds news : List Field) → FieldsStand R least 0 olds 0 news →
-      (vs : List Value) (b : List ℕ) → BlockLays order known version olds vs b → BlockLays order known' version' news (lifted_list (old_field least) value.Absent news vs) b
+      (vs : List Value) (b : List ℕ) → BlockLays mode olds vs b → BlockLays mode' news (lifted_list (old_field least) value.Absent news vs) b
   lift_block keeps dead olds news h vs b lies =
       let same : floor version olds ≡ floor version' news = same_floor R least version version' alike dead 0 0 olds 0 0 news h refl in
       (omega (arith, lies.0, same), lift_fields keeps dead 0 olds 0 news h vs b lies.1)
 
   pub cut_block : Keeps (flipped R) known' known → (olds news : List Field) → FieldsStand R least 0 olds 0 news → ArePlaced 0 news →
-      (vs : List Value) (b : List ℕ) → BlockLays order known' version' news vs b → BlockLays order known version olds (projected_list (old_field least) news vs) b
+      (vs : List Value) (b : List ℕ) → BlockLays mode' news vs b → BlockLays mode olds (projected_list (old_field least) news vs) b
   cut_block keeps olds news h placed vs b lies =
       let low : floor version olds ≤ floor version' news = lower_floor R least version version' alike 0 0 olds 0 0 news h placed (omega arith) (omega arith) in
       (omega (arith, lies.0, low), cut_fields keeps 0 olds 0 news h vs b lies.1)

@@ -8,7 +8,7 @@ use Rattle.sbe_types.specs.declared.message.Block.{Block, out-Block}
 use Rattle.sbe_types.specs.declared.message.Msg.{Msg}
 use Rattle.sbe_types.specs.Shown.{is_listed}
 use Rattle.sbe_wire.specs.Named.{number_named}
-use Rattle.sbe_wire.specs.Versions.{acting, is_known}
+use Rattle.sbe_wire.specs.Versions.{acting, is_known, mode_of}
 use Rattle.sbe_wire.specs.Lays.{HeaderLays, BlockLays, TailLays, Lays}
 use Rattle.sbe_wire.specs.Faults.{message_named}
 use Rattle.sbe_wire.specs.Placed.{IsPlaced, IsPlacedLevel}
@@ -17,7 +17,7 @@ use Rattle.version_laws.specs.Projected.{projected, lifted, projected_block, lif
 use Rattle.version_laws.specs.Plain.{Plain}
 use Rattle.version_laws.proofs.Stands.{Lists, Listed, LevelStands, SchemaStands}
 use Rattle.version_laws.proofs.KindMoves.{Keeps, flipped}
-use Rattle.version_laws.proofs.BlockMoves.{AlikeTo, DeadBeyond, lift_block, cut_block}
+use Rattle.version_laws.proofs.BlockMoves.{moded, AlikeTo, DeadBeyond, lift_block, cut_block}
 use Rattle.version_laws.proofs.NamedMoves.{numbers_are, ends_are}
 use Rattle.version_laws.proofs.TailMoves.{fields_stand, placed_fields, lifted_fields, projected_fields, lift_tail}
 use Rattle.version_laws.proofs.TailCuts.{cut_root}
@@ -125,13 +125,13 @@ lifts old new stands m body early lies =
     let header : HeaderLays new (length lies.2) (out-Level found.1).id m.version lies.1 =
     subst (λ i. HeaderLays new (length lies.2) i m.version lies.1) (sym (named_id 0 (out-Level level).id new.messages found there.1))
     (header_moves old new stands (length lies.2) (out-Level level).id m.version lies.1 lies.7) in
-    let block : BlockLays new.order (is_known new m.version) (acting new m.version) (out-Level found.1).fields (out-Block n.block).fields lies.2 =
-    subst (λ vs. BlockLays new.order (is_known new m.version) (acting new m.version) (out-Level found.1).fields vs lies.2) (sym (lifted_fields old.version found.1 m.block))
+    let block : BlockLays (mode_of new m.version) (out-Level found.1).fields (out-Block n.block).fields lies.2 =
+    subst (λ vs. BlockLays (mode_of new m.version) (out-Level found.1).fields vs lies.2) (sym (lifted_fields old.version found.1 m.block))
     (lift_block new.order R _ _ old.version _ _ alike keeps dead (out-Level level).fields (out-Level found.1).fields (fields_stand R old.version level found.1 there.2) (out-Block m.block).fields lies.2
-    (subst (λ o. BlockLays o (is_known old m.version) (acting old m.version) (out-Level level).fields (out-Block m.block).fields lies.2) stands.order lies.8)) in
-    let tail : TailLays new.order (is_known new m.version) (acting new m.version) found.1 n.block lies.3 =
+    (subst (λ o. BlockLays (moded o (is_known old m.version) (acting old m.version)) (out-Level level).fields (out-Block m.block).fields lies.2) stands.order lies.8)) in
+    let tail : TailLays (mode_of new m.version) found.1 n.block lies.3 =
     lift_tail new.order R _ _ old.version _ _ alike keeps dead level found.1 there.2 m.block lies.3
-    (subst (λ o. TailLays o (is_known old m.version) (acting old m.version) level m.block lies.3) stands.order lies.9) in
+    (subst (λ o. TailLays (moded o (is_known old m.version) (acting old m.version)) level m.block lies.3) stands.order lies.9) in
     (n, is, (found.1, lies.1, lies.2, lies.3, lies.4, named_is new (out-Level level).id found there.1, lies.6, header, block, tail, λ k. lies.10 known_old))
 
 no_way : ◌≡◌ {A = Bool} false true → ⊥
@@ -181,12 +181,12 @@ projects_as old new stands placed m body late plain lies t found =
     let level_placed : IsPlacedLevel level = placed.levels m.template level lies.5 in
     let header : HeaderLays old (length lies.2) (out-Level t.1).id m.version lies.1 =
     subst (λ i. HeaderLays old (length lies.2) i m.version lies.1) (sym id) (header_back old new stands (length lies.2) (out-Level level).id m.version lies.1 lies.7) in
-    let block : BlockLays old.order (is_known old m.version) (acting old m.version) (out-Level t.1).fields (out-Block n.block).fields lies.2 =
-    subst (λ vs. BlockLays old.order (is_known old m.version) (acting old m.version) (out-Level t.1).fields vs lies.2) (sym (projected_fields old.version level m.block))
+    let block : BlockLays (mode_of old m.version) (out-Level t.1).fields (out-Block n.block).fields lies.2 =
+    subst (λ vs. BlockLays (mode_of old m.version) (out-Level t.1).fields vs lies.2) (sym (projected_fields old.version level m.block))
     (cut_block old.order R _ _ old.version _ _ alike keeps (out-Level t.1).fields (out-Level level).fields (fields_stand R old.version t.1 level extends) (placed_fields level level_placed) (out-Block m.block).fields lies.2
-    (subst (λ o. BlockLays o (is_known new m.version) (acting new m.version) (out-Level level).fields (out-Block m.block).fields lies.2) (sym stands.order) lies.8)) in
+    (subst (λ o. BlockLays (moded o (is_known new m.version) (acting new m.version)) (out-Level level).fields (out-Block m.block).fields lies.2) (sym stands.order) lies.8)) in
     let cut = cut_root old.order R _ _ old.version _ _ alike keeps t.1 level extends level_placed m.block lies.3 (plain level lies.5)
-    (subst (λ o. TailLays o (is_known new m.version) (acting new m.version) level m.block lies.3) (sym stands.order) lies.9) in (
+    (subst (λ o. TailLays (moded o (is_known new m.version) (acting new m.version)) level m.block lies.3) (sym stands.order) lies.9) in (
       t.1,
       lies.1,
       lies.2,

@@ -13,7 +13,8 @@ use Rattle.sbe_types.specs.declared.message.DataVal.TheVariants as dataval
 use Rattle.sbe_types.specs.declared.message.Block.{Block, out-Block}
 use Rattle.sbe_types.specs.declared.message.GroupVal.{GroupVal, items_hidden-the_row-Block-1}
 use Rattle.sbe_types.specs.declared.message.GroupVal.TheVariants as groupval
-use Rattle.sbe_wire.specs.Versions.{is_alive}
+use Rattle.sbe_wire.specs.declared.mode.Mode.{Mode}
+use Rattle.sbe_wire.specs.Versions.{is_alive, form_of}
 use Rattle.sbe_wire.specs.Lays.{Joined, JoinedBoth, DataLays, DimensionLays, BlockLays, EntryLays, TailLays, GroupsLay, GroupLays}
 use Rattle.sbe_wire.specs.Placed.{IsPlacedLevel, ArePlacedGroups, IsPlacedGroup}
 use Rattle.version_laws.specs.Differ.{is_old, group_since}
@@ -22,7 +23,7 @@ use Rattle.version_laws.proofs.Stands.{Lists, Listed, PartStands, PartsStand, Le
 use Rattle.version_laws.proofs.KindMoves.{Keeps, flipped}
 use Rattle.version_laws.specs.Plain.{AllOf, EachEntry, PlainParts, PlainEntry, PlainGroups, PlainGroup, NoOldParts, NoOldGroups, is_absent_part, is_absent_group, PlainRootParts, PlainRootGroups, PlainRoot}
 use Rattle.version_laws.proofs.NamedMoves.{dimension_back}
-use Rattle.version_laws.proofs.BlockMoves.{taken, passed, by_bool, AlikeTo, DeadBeyond, cut_block}
+use Rattle.version_laws.proofs.BlockMoves.{moded, taken, passed, by_bool, AlikeTo, DeadBeyond, cut_block}
 use Rattle.version_laws.proofs.TailMoves.{each_of, map_length, chosen_both, data_moves, absent_data, fields_stand, placed_fields, projected_fields}
 
 nil_in_front : (b front back : List ℕ) → b ≡ front ++ back → front ≡ [] → back ≡ b
@@ -41,9 +42,9 @@ absent_entries es k = cc
 absent_bytes : (bytes : List ℕ) → ◌≡◌ {A = DataVal} dataval.Absent (dataval.Bytes bytes) → ⊥
 absent_bytes bytes k = cc
 
-absent_group : (order : Order) (known : Bool) (version : ℕ) (g : Group) (v : GroupVal) (b : List ℕ) → v ≡ groupval.Absent → GroupLays order known version g v b → b ≡ []
-absent_group order known version (Group' dim level) v b is lies =
-    by_bool _ (is_alive version (out-Level level).since) (λ o. absurd (absent_entries _ (sym is ∙ (taken _ _ _ o lies).1))) (λ o. (passed _ _ _ o lies).1)
+absent_group : (mode : Mode) (g : Group) (v : GroupVal) (b : List ℕ) → v ≡ groupval.Absent → GroupLays mode g v b → b ≡ []
+absent_group mode (Group' dim level) v b is lies =
+    by_bool _ (is_alive mode.version (out-Level level).since) (λ o. absurd (absent_entries _ (sym is ∙ (taken _ _ _ o lies).1))) (λ o. (passed _ _ _ o lies).1)
 
 is_absent_g : (v : GroupVal) → is_absent_group v ≡ true → v ≡ groupval.Absent
 is_absent_g groupval.Absent h = refl
@@ -77,6 +78,12 @@ no_part_values least (g ∷ gs) none (v ∷ vs) =
     ap (λ t. cond t (v ∷ projected_list (old_part least) gs vs) (projected_list (old_part least) gs vs)) none.0 ∙ no_part_values least gs none.1 vs
 
 module _ (order : Order) (R : Lists) (known known' : Bool) (least version version' : ℕ) (alike : AlikeTo least version version') where
+  abbrev mode : Mode
+  mode = moded order known version
+
+  abbrev mode' : Mode
+  mode' = moded order known' version'
+
   part_alive : (f g : DataField) → PartStands f g → is_old least g.since ≡ true → is_alive version' g.since ≡ is_alive version f.since
   part_alive f g h o = sym (ap (is_alive version) h.since ∙ alike g.since o)
 
@@ -114,22 +121,22 @@ module _ (order : Order) (R : Lists) (known known' : Bool) (least version versio
 
   module _ (keeps : Keeps (flipped R) known' known) (old_dim dim : List Member) (old level : Level) (stands : GroupStands R least (Group' old_dim old) (Group' dim level)) (placed : IsPlacedLevel level) where
     abbrev TailCut : Type 0
-    TailCut = (entry : Block) (b : List ℕ) → PlainEntry least level entry → TailLays order known' version' level entry b → TailLays order known version old (projected_block least level entry) b
+    TailCut = (entry : Block) (b : List ℕ) → PlainEntry least level entry → TailLays mode' level entry b → TailLays mode old (projected_block least level entry) b
 
     abbrev OldEntry : ℕ → Block → List ℕ → Type 0
-    OldEntry k = EntryLays (λ entry e. TailLays order known version old entry e) order known version (out-Level old).fields k
+    OldEntry k = EntryLays (λ entry e. TailLays mode old entry e) (form_of mode old) k
 
     abbrev NewEntry : ℕ → Block → List ℕ → Type 0
-    NewEntry k = EntryLays (λ entry e. TailLays order known' version' level entry e) order known' version' (out-Level level).fields k
+    NewEntry k = EntryLays (λ entry e. TailLays mode' level entry e) (form_of mode' level) k
 
     cut_entry : TailCut → (k : ℕ) (entry : Block) (b : List ℕ) → PlainEntry least level entry → NewEntry k entry b → OldEntry k (projected_block least level entry) b
     cut_entry tail k entry b plain lies =
         let block = cut_block order R known known' least version version' alike keeps (out-Level old).fields (out-Level level).fields
         (fields_stand R least old level stands.2) (placed_fields level placed) (out-Block entry).fields (take k b) lies.1 in
-        (lies.0, subst (λ vs. BlockLays order known version (out-Level old).fields vs (take k b)) (sym (projected_fields least level entry)) block, tail entry (drop k b) plain lies.2)
+        (lies.0, subst (λ vs. BlockLays mode (out-Level old).fields vs (take k b)) (sym (projected_fields least level entry)) block, tail entry (drop k b) plain lies.2)
 
-    of_group : TailCut → is_old least (out-Level level).since ≡ true → (v : GroupVal) (b : List ℕ) → PlainGroup least (Group' dim level) v → GroupLays order known' version' (Group' dim level) v b →
-        GroupLays order known version (Group' old_dim old) (projected_group least (Group' dim level) v) b
+    of_group : TailCut → is_old least (out-Level level).since ≡ true → (v : GroupVal) (b : List ℕ) → PlainGroup least (Group' dim level) v → GroupLays mode' (Group' dim level) v b →
+        GroupLays mode (Group' old_dim old) (projected_group least (Group' dim level) v) b
     unfolding projected_group
     of_group tail o v b plain lies =
         chosen_both _ _ _ _ (is_alive version' (out-Level level).since) (is_alive version (out-Level old).since) (sym (ap (is_alive version) stands.0 ∙ alike (out-Level level).since o))
@@ -155,33 +162,33 @@ module _ (order : Order) (R : Lists) (known known' : Bool) (least version versio
     mutual
       unfolding projected_block projected_groups levels.out-Level carrier.out
 
-      pub cut_tail : (old level : Level) → LevelStands R least old level → IsPlacedLevel level → (block : Block) (b : List ℕ) → PlainEntry least level block → TailLays order known' version' level block b →
-          TailLays order known version old (projected_block least level block) b
+      pub cut_tail : (old level : Level) → LevelStands R least old level → IsPlacedLevel level → (block : Block) (b : List ℕ) → PlainEntry least level block → TailLays mode' level block b →
+          TailLays mode old (projected_block least level block) b
       cut_tail (Level' _ _ _ _ _ fs _ os ps) (Level' _ _ _ _ _ gs _ ns qs) h placed block b plain lies =
           (lies.0, lies.1, lies.2, cut_groups os ns h.1 placed.1 (out-Block block).groups lies.0 plain.0 lies.3, cut_parts ps qs h.2 (out-Block block).parts lies.1 plain.1 lies.4)
 
       cut_groups : {n : _} (olds : Row_of-Group n) {k : _} (news : Row_of-Group k) → GroupsStand R least olds news → ArePlacedGroups news → (vs : List GroupVal) (b : List ℕ) → PlainGroups least news vs →
-          GroupsLay order known' version' news vs b → GroupsLay order known version olds (projected_groups least news vs) b
+          GroupsLay mode' news vs b → GroupsLay mode olds (projected_groups least news vs) b
       cut_groups end_of-Group end_of-Group h placed [] b plain lies = lies
       cut_groups end_of-Group end_of-Group h placed (v ∷ vs) b plain lies = absurd lies
       cut_groups (more_of-Group f fs) end_of-Group h placed vs b plain lies = absurd h
       cut_groups olds (more_of-Group g gs) h placed [] b plain lies = absurd lies
       cut_groups end_of-Group (more_of-Group g gs) h placed (v ∷ vs) b plain lies =
           by_bool _ (is_old least (group_since g)) (λ o. absurd (taken _ _ _ o h))
-          (λ o. subst (λ t. GroupsLay order known version end_of-Group (cond t (projected_group least g v ∷ projected_groups least gs vs) (projected_groups least gs vs)) b) (sym o)
-          (subst (GroupsLay order known version end_of-Group (projected_groups least gs vs)) (nil_in_front b lies.0 lies.1 lies.2 (absent_group order known' version' g v lies.0 (passed _ _ _ o plain.0) lies.3))
+          (λ o. subst (λ t. GroupsLay mode end_of-Group (cond t (projected_group least g v ∷ projected_groups least gs vs) (projected_groups least gs vs)) b) (sym o)
+          (subst (GroupsLay mode end_of-Group (projected_groups least gs vs)) (nil_in_front b lies.0 lies.1 lies.2 (absent_group mode' g v lies.0 (passed _ _ _ o plain.0) lies.3))
           (cut_groups end_of-Group gs (passed _ _ _ o h) placed.1 vs lies.1 plain.1 lies.4)))
       cut_groups (more_of-Group f fs) (more_of-Group g gs) h placed (v ∷ vs) b plain lies =
           by_bool _ (is_old least (group_since g))
           (λ o. let k = taken _ _ _ o h in
-          subst (λ t. GroupsLay order known version (more_of-Group f fs) (cond t (projected_group least g v ∷ projected_groups least gs vs) (projected_groups least gs vs)) b) (sym o)
+          subst (λ t. GroupsLay mode (more_of-Group f fs) (cond t (projected_group least g v ∷ projected_groups least gs vs) (projected_groups least gs vs)) b) (sym o)
           (lies.0, lies.1, lies.2, cut_group f g k.0 placed.0 o v lies.0 (taken _ _ _ o plain.0) lies.3, cut_groups fs gs k.1 placed.1 vs lies.1 plain.1 lies.4))
-          (λ o. subst (λ t. GroupsLay order known version (more_of-Group f fs) (cond t (projected_group least g v ∷ projected_groups least gs vs) (projected_groups least gs vs)) b) (sym o)
-          (subst (GroupsLay order known version (more_of-Group f fs) (projected_groups least gs vs)) (nil_in_front b lies.0 lies.1 lies.2 (absent_group order known' version' g v lies.0 (passed _ _ _ o plain.0) lies.3))
+          (λ o. subst (λ t. GroupsLay mode (more_of-Group f fs) (cond t (projected_group least g v ∷ projected_groups least gs vs) (projected_groups least gs vs)) b) (sym o)
+          (subst (GroupsLay mode (more_of-Group f fs) (projected_groups least gs vs)) (nil_in_front b lies.0 lies.1 lies.2 (absent_group mode' g v lies.0 (passed _ _ _ o plain.0) lies.3))
           (cut_groups (more_of-Group f fs) gs (passed _ _ _ o h) placed.1 vs lies.1 plain.1 lies.4)))
 
-      cut_group : (f g : Group) → GroupStands R least f g → IsPlacedGroup g → is_old least (group_since g) ≡ true → (v : GroupVal) (b : List ℕ) → PlainGroup least g v → GroupLays order known' version' g v b →
-          GroupLays order known version f (projected_group least g v) b
+      cut_group : (f g : Group) → GroupStands R least f g → IsPlacedGroup g → is_old least (group_since g) ≡ true → (v : GroupVal) (b : List ℕ) → PlainGroup least g v → GroupLays mode' g v b →
+          GroupLays mode f (projected_group least g v) b
       cut_group (Group' old_dim old) (Group' dim level) h placed o v b plain lies = of_group keeps old_dim dim old level h placed (cut_tail old level h.2 placed) o v b plain lies
 
   -- ---- the root: behind what old has, new's additions may stand
@@ -193,7 +200,7 @@ module _ (order : Order) (R : Lists) (known known' : Bool) (least version versio
   there_part : (g : DataField) (v : DataVal) (b : List ℕ) → is_absent_part v ≡ false → is_old least g.since ≡ false → DataLays order version' g v b → DeadBeyond least version' → ⊥
   there_part g v b there o lies dead = absurd (clash (sym there ∙ ap is_absent_part (passed _ _ _ (dead g.since o) lies).0))
 
-  there_group : (g : Group) (v : GroupVal) (b : List ℕ) → is_absent_group v ≡ false → is_old least (group_since g) ≡ false → GroupLays order known' version' g v b → DeadBeyond least version' → ⊥
+  there_group : (g : Group) (v : GroupVal) (b : List ℕ) → is_absent_group v ≡ false → is_old least (group_since g) ≡ false → GroupLays mode' g v b → DeadBeyond least version' → ⊥
   there_group (Group' dim level) v b there o lies dead = absurd (clash (sym there ∙ ap is_absent_group (passed _ _ _ (dead (out-Level level).since o) lies).0))
 
   dead_parts : DeadBeyond least version' → (news : List DataField) → NoOldParts least news → (vs : List DataVal) (b : List ℕ) → NewParts news vs b → b ≡ []
@@ -234,7 +241,7 @@ module _ (order : Order) (R : Lists) (known known' : Bool) (least version versio
 
   module _ (keeps : Keeps (flipped R) known' known) (parts : List DataField) (ds : List DataVal) where
     abbrev OldGroups : {n : _} → Row_of-Group n → List GroupVal → List ℕ → Type 0
-    OldGroups olds vs b = GroupsLay order known version olds vs b
+    OldGroups olds vs b = GroupsLay mode olds vs b
 
     -- old's groups at the front; behind them nothing yet, or an addition, and then old has no data
     abbrev GroupsCut : {n : _} → Row_of-Group n → List GroupVal → List ℕ → Type 0
@@ -254,7 +261,7 @@ module _ (order : Order) (R : Lists) (known known' : Bool) (least version versio
     no_groups_lie (more_of-Group f fs) (more_of-Group g gs) h none = no_groups_lie (more_of-Group f fs) gs (passed _ _ _ none.0 h) none.1
 
     cut_root_groups : {n : _} (olds : Row_of-Group n) {k : _} (news : Row_of-Group k) → GroupsStand R least olds news → ArePlacedGroups news → (vs : List GroupVal) (b : List ℕ) →
-        PlainRootGroups least parts ds news vs → GroupsLay order known' version' news vs b → GroupsCut olds (projected_groups least news vs) b
+        PlainRootGroups least parts ds news vs → GroupsLay mode' news vs b → GroupsCut olds (projected_groups least news vs) b
     unfolding projected_groups
     cut_root_groups end_of-Group end_of-Group h placed [] b plain lies = ([], [], lies, refl, inl (refl, plain))
     cut_root_groups end_of-Group end_of-Group h placed (v ∷ vs) b plain lies = absurd lies
@@ -264,7 +271,7 @@ module _ (order : Order) (R : Lists) (known known' : Bool) (least version versio
         by_bool _ (is_old least (group_since g)) (λ o. absurd (taken _ _ _ o h))
         (λ o. subst (λ t. GroupsCut end_of-Group (cond t (projected_group least g v ∷ projected_groups least gs vs) (projected_groups least gs vs)) b) (sym o)
         (by_bool _ (is_absent_group v)
-        (λ a. subst (GroupsCut end_of-Group (projected_groups least gs vs)) (nil_in_front b lies.0 lies.1 lies.2 (absent_group order known' version' g v lies.0 (is_absent_g v a) lies.3))
+        (λ a. subst (GroupsCut end_of-Group (projected_groups least gs vs)) (nil_in_front b lies.0 lies.1 lies.2 (absent_group mode' g v lies.0 (is_absent_g v a) lies.3))
         (cut_root_groups end_of-Group gs (passed _ _ _ o h) placed.1 vs lies.1 (taken _ _ _ a (passed _ _ _ o plain)) lies.4))
         (λ a. let none = passed _ _ _ a (passed _ _ _ o plain) in
         ([], b, refl, subst (λ xs. OldGroups end_of-Group xs []) (sym (no_group_values gs none.0 vs)) refl, inr (none.1, there_group g v lies.0 a o lies.3)))))
@@ -282,16 +289,16 @@ module _ (order : Order) (R : Lists) (known known' : Bool) (least version versio
         ))
         (λ o. subst (λ t. GroupsCut (more_of-Group f fs) (cond t (projected_group least g v ∷ projected_groups least gs vs) (projected_groups least gs vs)) b) (sym o)
         (by_bool _ (is_absent_group v)
-        (λ a. subst (GroupsCut (more_of-Group f fs) (projected_groups least gs vs)) (nil_in_front b lies.0 lies.1 lies.2 (absent_group order known' version' g v lies.0 (is_absent_g v a) lies.3))
+        (λ a. subst (GroupsCut (more_of-Group f fs) (projected_groups least gs vs)) (nil_in_front b lies.0 lies.1 lies.2 (absent_group mode' g v lies.0 (is_absent_g v a) lies.3))
         (cut_root_groups (more_of-Group f fs) gs (passed _ _ _ o h) placed.1 vs lies.1 (taken _ _ _ a (passed _ _ _ o plain)) lies.4))
         (λ a. let none = passed _ _ _ a (passed _ _ _ o plain) in
         ([], b, refl, subst (λ xs. OldGroups (more_of-Group f fs) xs []) (sym (no_group_values gs none.0 vs)) (no_groups_lie (more_of-Group f fs) gs (passed _ _ _ o h) none.0), inr (none.1, there_group g v lies.0 a o lies.3)))))
 
   abbrev RootCut : Level → Block → List ℕ → Type 0
-  RootCut old block b = (front : List ℕ) × (back : List ℕ) × (b ≡ front ++ back) × TailLays order known version old block front × (DeadBeyond least version' → back ≡ [])
+  RootCut old block b = (front : List ℕ) × (back : List ℕ) × (b ≡ front ++ back) × TailLays mode old block front × (DeadBeyond least version' → back ≡ [])
 
   pub cut_root : Keeps (flipped R) known' known → (old level : Level) → LevelStands R least old level → IsPlacedLevel level → (block : Block) (b : List ℕ) → PlainRoot least level block →
-      TailLays order known' version' level block b → RootCut old (projected_block least level block) b
+      TailLays mode' level block b → RootCut old (projected_block least level block) b
   unfolding projected_block
   cut_root keeps (Level' _ _ _ _ _ fs _ os ps) (Level' _ _ _ _ _ gs _ ns qs) h placed block b plain lies =
       let groups = cut_root_groups keeps qs (out-Block block).parts os ns h.1 placed.1 (out-Block block).groups lies.0 plain lies.3 in

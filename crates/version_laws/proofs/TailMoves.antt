@@ -18,7 +18,8 @@ use Rattle.sbe_types.specs.declared.message.GroupVal.{GroupVal, items_hidden-the
 use Rattle.sbe_types.specs.declared.message.GroupVal.TheVariants as groupval
 use Rattle.sbe_types.specs.Numbers.{number_of, natural, prim_width}
 use Rattle.sbe_types.specs.Shown.{admits}
-use Rattle.sbe_wire.specs.Versions.{is_alive}
+use Rattle.sbe_wire.specs.declared.mode.Mode.{Mode}
+use Rattle.sbe_wire.specs.Versions.{is_alive, form_of}
 use Rattle.sbe_wire.specs.Lays.{Joined, JoinedBoth, DataLies, DataLays, DimensionLays, BlockLays, EntryLays, TailLays, GroupsLay, GroupLays}
 use Rattle.sbe_wire.specs.Placed.{ArePlaced, IsPlacedLevel}
 use Rattle.version_laws.specs.Differ.{is_old, group_since}
@@ -26,7 +27,7 @@ use Rattle.version_laws.specs.Projected.{each_entry, projected_list, lifted_list
 use Rattle.version_laws.proofs.Stands.{Lists, Listed, FieldsStand, PartStands, PartsStand, LevelStands, GroupsStand, GroupStands}
 use Rattle.version_laws.proofs.KindMoves.{Keeps}
 use Rattle.version_laws.proofs.NamedMoves.{dimension_moves}
-use Rattle.version_laws.proofs.BlockMoves.{taken, passed, pass_it, chosen_alike, by_bool, AlikeTo, DeadBeyond, lift_block}
+use Rattle.version_laws.proofs.BlockMoves.{moded, taken, passed, pass_it, chosen_alike, by_bool, AlikeTo, DeadBeyond, lift_block}
 
 -- ---- entries
 
@@ -92,6 +93,12 @@ projected_fields least (Level' _ _ _ _ _ gs _ ns qs) block = refl
 -- ---- tails, from old to new
 
 module _ (order : Order) (R : Lists) (known known' : Bool) (least version version' : ℕ) (alike : AlikeTo least version version') where
+  abbrev mode : Mode
+  mode = moded order known version
+
+  abbrev mode' : Mode
+  mode' = moded order known' version'
+
   part_alive : (f g : DataField) → PartStands f g → is_old least g.since ≡ true → is_alive version f.since ≡ is_alive version' g.since
   part_alive f g h o = ap (is_alive version) h.since ∙ alike g.since o
 
@@ -116,21 +123,21 @@ module _ (order : Order) (R : Lists) (known known' : Bool) (least version versio
   -- an entry, and then a group, where the tail of an entry lifts
   module _ (keeps : Keeps R known known') (dead : DeadBeyond least version') (old_dim dim : List Member) (old level : Level) (stands : GroupStands R least (Group' old_dim old) (Group' dim level)) where
     abbrev TailLifts : Type 0
-    TailLifts = (entry : Block) (b : List ℕ) → TailLays order known version old entry b → TailLays order known' version' level (lifted_block least level entry) b
+    TailLifts = (entry : Block) (b : List ℕ) → TailLays mode old entry b → TailLays mode' level (lifted_block least level entry) b
 
     abbrev OldEntry : ℕ → Block → List ℕ → Type 0
-    OldEntry k = EntryLays (λ entry e. TailLays order known version old entry e) order known version (out-Level old).fields k
+    OldEntry k = EntryLays (λ entry e. TailLays mode old entry e) (form_of mode old) k
 
     abbrev NewEntry : ℕ → Block → List ℕ → Type 0
-    NewEntry k = EntryLays (λ entry e. TailLays order known' version' level entry e) order known' version' (out-Level level).fields k
+    NewEntry k = EntryLays (λ entry e. TailLays mode' level entry e) (form_of mode' level) k
 
     lift_entry : TailLifts → (k : ℕ) (entry : Block) (b : List ℕ) → OldEntry k entry b → NewEntry k (lifted_block least level entry) b
     lift_entry tail k entry b lies =
         let block = lift_block order R known known' least version version' alike keeps dead (out-Level old).fields (out-Level level).fields (fields_stand R least old level stands.2) (out-Block entry).fields (take k b) lies.1 in
-        (lies.0, subst (λ vs. BlockLays order known' version' (out-Level level).fields vs (take k b)) (sym (lifted_fields least level entry)) block, tail entry (drop k b) lies.2)
+        (lies.0, subst (λ vs. BlockLays mode' (out-Level level).fields vs (take k b)) (sym (lifted_fields least level entry)) block, tail entry (drop k b) lies.2)
 
-    of_group : TailLifts → is_old least (out-Level level).since ≡ true → (v : GroupVal) (b : List ℕ) → GroupLays order known version (Group' old_dim old) v b →
-        GroupLays order known' version' (Group' dim level) (lifted_group least (Group' dim level) v) b
+    of_group : TailLifts → is_old least (out-Level level).since ≡ true → (v : GroupVal) (b : List ℕ) → GroupLays mode (Group' old_dim old) v b →
+        GroupLays mode' (Group' dim level) (lifted_group least (Group' dim level) v) b
     unfolding lifted_group
     of_group tail o v b lies =
         chosen_both _ _ _ _ (is_alive version (out-Level old).since) (is_alive version' (out-Level level).since) (ap (is_alive version) stands.0 ∙ alike (out-Level level).since o)
@@ -152,13 +159,13 @@ module _ (order : Order) (R : Lists) (known known' : Bool) (least version versio
     mutual
       unfolding lifted_block lifted_groups levels.out-Level carrier.out
 
-      pub lift_tail : (old level : Level) → LevelStands R least old level → (block : Block) (b : List ℕ) → TailLays order known version old block b →
-          TailLays order known' version' level (lifted_block least level block) b
+      pub lift_tail : (old level : Level) → LevelStands R least old level → (block : Block) (b : List ℕ) → TailLays mode old block b →
+          TailLays mode' level (lifted_block least level block) b
       lift_tail (Level' _ _ _ _ _ fs _ os ps) (Level' _ _ _ _ _ gs _ ns qs) h block b lies =
           (lies.0, lies.1, lies.2, lift_groups os ns h.1 (out-Block block).groups lies.0 lies.3, lift_parts dead ps qs h.2 (out-Block block).parts lies.1 lies.4)
 
       lift_groups : {n : _} (olds : Row_of-Group n) {k : _} (news : Row_of-Group k) → GroupsStand R least olds news → (vs : List GroupVal) (b : List ℕ) →
-          GroupsLay order known version olds vs b → GroupsLay order known' version' news (lifted_groups least news vs) b
+          GroupsLay mode olds vs b → GroupsLay mode' news (lifted_groups least news vs) b
       lift_groups end_of-Group end_of-Group h [] b lies = lies
       lift_groups end_of-Group end_of-Group h (v ∷ vs) b lies = absurd lies
       lift_groups (more_of-Group f fs) end_of-Group h vs b lies = absurd h
@@ -170,11 +177,11 @@ module _ (order : Order) (R : Lists) (known known' : Bool) (least version versio
       lift_groups (more_of-Group f fs) (more_of-Group (Group' dim level) gs) h (v ∷ vs) b lies =
           by_bool _ (is_old least (out-Level level).since)
           (λ o. let k = taken _ _ _ o h in
-          subst (λ t. GroupsLay order known' version' (more_of-Group (Group' dim level) gs) (cond t (lifted_group least (Group' dim level) v ∷ lifted_groups least gs vs) (groupval.Absent ∷ lifted_groups least gs (v ∷ vs))) b) (sym o)
+          subst (λ t. GroupsLay mode' (more_of-Group (Group' dim level) gs) (cond t (lifted_group least (Group' dim level) v ∷ lifted_groups least gs vs) (groupval.Absent ∷ lifted_groups least gs (v ∷ vs))) b) (sym o)
           (lies.0, lies.1, lies.2, lift_group f (Group' dim level) k.0 o v lies.0 lies.3, lift_groups fs gs k.1 vs lies.1 lies.4))
-          (λ o. subst (λ t. GroupsLay order known' version' (more_of-Group (Group' dim level) gs) (cond t (lifted_group least (Group' dim level) v ∷ lifted_groups least gs vs) (groupval.Absent ∷ lifted_groups least gs (v ∷ vs))) b) (sym o)
+          (λ o. subst (λ t. GroupsLay mode' (more_of-Group (Group' dim level) gs) (cond t (lifted_group least (Group' dim level) v ∷ lifted_groups least gs vs) (groupval.Absent ∷ lifted_groups least gs (v ∷ vs))) b) (sym o)
           ([], b, refl, pass_it _ _ _ (dead (out-Level level).since o) (refl, refl), lift_groups (more_of-Group f fs) gs (passed _ _ _ o h) (v ∷ vs) b lies))
 
-      lift_group : (f g : Group) → GroupStands R least f g → is_old least (group_since g) ≡ true → (v : GroupVal) (b : List ℕ) → GroupLays order known version f v b →
-          GroupLays order known' version' g (lifted_group least g v) b
+      lift_group : (f g : Group) → GroupStands R least f g → is_old least (group_since g) ≡ true → (v : GroupVal) (b : List ℕ) → GroupLays mode f v b →
+          GroupLays mode' g (lifted_group least g v) b
       lift_group (Group' old_dim old) (Group' dim level) h o v b lies = of_group keeps dead old_dim dim old level h (lift_tail old level h.2) o v b lies

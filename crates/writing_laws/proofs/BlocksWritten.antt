@@ -16,7 +16,7 @@ use Rattle.sbe_types.specs.Shown.{admits}
 use Rattle.sbe_types.specs.Shows.{Shows}
 use Rattle.sbe_types.specs.Wire.{both, padded, FitsKind}
 use Rattle.sbe_wire.specs.declared.codes.NCode.TheVariants as code
-use Rattle.sbe_wire.specs.Versions.{floor, floor_from}
+use Rattle.sbe_wire.specs.Versions.{floor, floor_from, own_mode}
 use Rattle.sbe_wire.specs.Lays.{JoinedBoth, FieldsLay, BlockLays, DataLies, DataLays}
 use Rattle.sbe_wire.specs.Canonical.{fields_bytes, block_bytes, part_bytes, parts_bytes}
 use Rattle.sbe_wire.specs.Fits.{FieldsFit, PartFits, PartsFit}
@@ -52,7 +52,7 @@ module _ (order : Order) (version : ℕ) where
   abbrev FieldsWritten : ℕ → List Field → List Value → Type 0
   FieldsWritten e fs vs =
       (bytes : List ℕ) × (fields_bytes order e fs vs ≡ Some bytes) × (e + length bytes ≡ fields_end e fs)
-      × ((front after : List ℕ) → length front ≡ e → FieldsLay order true version e fs vs ((front ++ bytes) ++ after))
+      × ((front after : List ℕ) → length front ≡ e → FieldsLay (own_mode order version) e fs vs ((front ++ bytes) ++ after))
 
   one_field : (e : ℕ) (f : Field) (fs : List Field) (v : Value) (vs : List Value) → ArePlaced e (f ∷ fs) → f.since ≤ version →
       FitsKind order f.kind v → FieldsWritten (end_past e f.offset f.kind) fs vs → FieldsWritten e (f ∷ fs) (v ∷ vs)
@@ -73,8 +73,8 @@ module _ (order : Order) (version : ℕ) where
             let slice : take (width f.kind) (drop (begin_of e f.offset) whole) ≡ wire =
             ap (λ b. take (width f.kind) (drop (begin_of e f.offset) b)) apart ∙ part_there e f.offset f.kind (is_const f.kind) refl placed.0 front wire (there.0 ++ after) at here.2 in
             let shows : Shows order true f.kind v (take (width f.kind) (drop (begin_of e f.offset) whole)) = subst (Shows order true f.kind v) (sym slice) here.3 in
-            let later : FieldsLay order true version next fs vs whole =
-            subst (λ b. FieldsLay order true version next fs vs (b ++ after)) (append_assoc front (zeros ++ wire) there.0)
+            let later : FieldsLay (own_mode order version) next fs vs whole =
+            subst (λ b. FieldsLay (own_mode order version) next fs vs (b ++ after)) (append_assoc front (zeros ++ wire) there.0)
             (there.3 (front ++ (zeros ++ wire)) after (omega (arith, length-append front (zeros ++ wire), at, first))) in
             (alive_to (Shows order true f.kind v (take (width f.kind) (drop (begin_of e f.offset) whole))) (v ≡ value.Absent) version f.since known shows, later),
       )
@@ -89,7 +89,7 @@ module _ (order : Order) (version : ℕ) where
   -- ---- a block
 
   abbrev pub BlockIs : ℕ → List Field → List Value → List ℕ → Type 0
-  BlockIs k fs vs b = (length b ≡ k) × BlockLays order true version fs vs b
+  BlockIs k fs vs b = (length b ≡ k) × BlockLays (own_mode order version) fs vs b
 
   pub block_written : (k : ℕ) (fs : List Field) (vs : List Value) → ArePlaced 0 fs → AreWritableFields version fs → fields_end 0 fs ≤ k → FieldsFit order fs vs →
       Written (block_bytes order k fs vs) (BlockIs k fs vs) (λ limit before. block_taken limit before k fs vs)

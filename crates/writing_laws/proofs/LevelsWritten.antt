@@ -13,6 +13,7 @@ use Rattle.sbe_types.specs.declared.message.GroupVal.{GroupVal, items_hidden-the
 use Rattle.sbe_types.specs.declared.message.GroupVal.TheVariants as groupval
 use Rattle.sbe_types.specs.Places.{members_end}
 use Rattle.sbe_types.specs.Wire.{both}
+use Rattle.sbe_wire.specs.Versions.{own_mode, form_of, BlockForm}
 use Rattle.sbe_wire.specs.declared.codes.NCode.TheVariants as code
 use Rattle.sbe_wire.specs.Named.{is_admitted}
 use Rattle.sbe_wire.specs.Lays.{Joined, JoinedBoth, BlockLays, DataLays, DimensionLays, EntryLays, GroupLies, TailLays, GroupsLay, GroupLays}
@@ -70,8 +71,11 @@ module _ (order : Order) (version : ℕ) where
     abbrev wide : ℕ
     wide = (out-Level level).block_length
 
+    abbrev form : BlockForm
+    form = form_of (own_mode order version) level
+
     abbrev TailIs : Block → List ℕ → Type 0
-    TailIs entry e = TailLays order true version level entry e
+    TailIs entry e = TailLays (own_mode order version) level entry e
 
     abbrev entry_bytes : Block → Option (List ℕ)
     entry_bytes entry = both (block_bytes order wide fields (out-Block entry).fields) (tail_bytes order level entry)
@@ -80,14 +84,14 @@ module _ (order : Order) (version : ℕ) where
     entry_taken limit at entry = block_taken limit at wide fields (out-Block entry).fields then (λ after. tail_taken limit after level entry)
 
     abbrev EntryIs : Block → List ℕ → Type 0
-    EntryIs = EntryLays TailIs order true version fields wide
+    EntryIs = EntryLays TailIs form wide
 
     entry_lies : (entry : Block) (b : List ℕ) → Then (BlockIs order version wide fields (out-Block entry).fields) (TailIs entry) b → EntryIs entry b
     entry_lies entry b h =
         let front : take wide b ≡ h.0 = ap (take wide) h.2 ∙ ap (λ n. take n (h.0 ++ h.1)) (sym h.3.0) ∙ take-append_seam h.0 h.1 in
         let back : drop wide b ≡ h.1 = ap (drop wide) h.2 ∙ ap (λ n. drop n (h.0 ++ h.1)) (sym h.3.0) ∙ drop-append_seam h.0 h.1 in (
           omega (arith, ap length h.2, length-append h.0 h.1, h.3.0),
-          subst (BlockLays order true version fields (out-Block entry).fields) (sym front) h.3.1,
+          subst (BlockLays (own_mode order version) fields (out-Block entry).fields) (sym front) h.3.1,
           subst (TailIs entry) (sym back) h.4,
         )
 
@@ -110,38 +114,38 @@ module _ (order : Order) (version : ℕ) where
 
       entries_written : IsWritableDimension dim wide → (es : List Block) → is_admitted dim (codes "numInGroup") (length es) ≡ true →
           EachFits (λ entry. Written (entry_bytes entry) (EntryIs entry) (λ limit at. entry_taken limit at entry)) es →
-          Written (entries_bytes order dim wide entry_bytes (Some es)) (GroupLies TailIs order true version dim fields es) (λ limit before. entries_taken limit before dim (entry_taken limit) (Some es))
+          Written (entries_bytes order dim wide entry_bytes (Some es)) (GroupLies TailIs form dim es) (λ limit before. entries_taken limit before dim (entry_taken limit) (Some es))
       entries_written writable es admitted each =
-          counted_as (entries_bytes order dim wide entry_bytes (Some es)) (GroupLies TailIs order true version dim fields es) (λ limit before. counted limit before es)
+          counted_as (entries_bytes order dim wide entry_bytes (Some es)) (GroupLies TailIs form dim es) (λ limit before. counted limit before es)
           (λ limit before. entries_taken limit before dim (entry_taken limit) (Some es))
           (λ limit before. ap (λ t. cond t (counted limit before es) (refused code.Count (length es))) admitted)
-          (written_as (entries_bytes order dim wide entry_bytes (Some es)) (Then (DimensionLays order dim wide (length es)) (Joined EntryIs es)) (GroupLies TailIs order true version dim fields es)
+          (written_as (entries_bytes order dim wide entry_bytes (Some es)) (Then (DimensionLays order dim wide (length es)) (Joined EntryIs es)) (GroupLies TailIs form dim es)
           (λ limit before. counted limit before es) (λ b h. (wide, h.0, h.1, h.2, h.3, h.4))
           (written_then (named_bytes order (dimension_numbers wide (length es)) 0 dim) (all_bytes entry_bytes es) (DimensionLays order dim wide (length es)) (Joined EntryIs es)
           (λ limit before. take_bytes limit before (members_end 0 dim)) (λ limit before. each_taken (entry_taken limit) 0 before es)
           (dimension_written dim wide (length es) writable admitted) (each_written entry_bytes EntryIs entry_taken 0 es each)))
 
       abbrev GroupWritten : GroupVal → Type 0
-      GroupWritten v = Written (group_bytes order (Group' dim level) v) (GroupLays order true version (Group' dim level) v) (λ limit before. group_taken limit before (Group' dim level) v)
+      GroupWritten v = Written (group_bytes order (Group' dim level) v) (GroupLays (own_mode order version) (Group' dim level) v) (λ limit before. group_taken limit before (Group' dim level) v)
 
       of_entries : (out-Level level).since ≤ version → (es : List Block) →
-          Written (entries_bytes order dim wide entry_bytes (Some es)) (GroupLies TailIs order true version dim fields es) (λ limit before. entries_taken limit before dim (entry_taken limit) (Some es)) →
+          Written (entries_bytes order dim wide entry_bytes (Some es)) (GroupLies TailIs form dim es) (λ limit before. entries_taken limit before dim (entry_taken limit) (Some es)) →
           GroupWritten (groupval.Entries es)
       unfolding tail_bytes tail_taken
       of_entries known es w =
           let same : entries_in (groupval.Entries es) ≡ Some es = ap Some (items_hidden-the_row-Block-1 es) in
-          let there : Written (group_bytes order (Group' dim level) (groupval.Entries es)) (GroupLies TailIs order true version dim fields es) (λ limit before. group_taken limit before (Group' dim level) (groupval.Entries es)) =
-          subst (λ o. Written (entries_bytes order dim wide entry_bytes o) (GroupLies TailIs order true version dim fields es) (λ limit before. entries_taken limit before dim (entry_taken limit) o)) (sym same) w in
-          written_as (group_bytes order (Group' dim level) (groupval.Entries es)) (GroupLies TailIs order true version dim fields es) (GroupLays order true version (Group' dim level) (groupval.Entries es))
+          let there : Written (group_bytes order (Group' dim level) (groupval.Entries es)) (GroupLies TailIs form dim es) (λ limit before. group_taken limit before (Group' dim level) (groupval.Entries es)) =
+          subst (λ o. Written (entries_bytes order dim wide entry_bytes o) (GroupLies TailIs form dim es) (λ limit before. entries_taken limit before dim (entry_taken limit) o)) (sym same) w in
+          written_as (group_bytes order (Group' dim level) (groupval.Entries es)) (GroupLies TailIs form dim es) (GroupLays (own_mode order version) (Group' dim level) (groupval.Entries es))
           (λ limit before. group_taken limit before (Group' dim level) (groupval.Entries es))
-          (λ b h. alive_to ((entries : List Block) × (groupval.Entries es ≡ groupval.Entries entries) × GroupLies TailIs order true version dim fields entries b) ((groupval.Entries es ≡ groupval.Absent) × (b ≡ []))
+          (λ b h. alive_to ((entries : List Block) × (groupval.Entries es ≡ groupval.Entries entries) × GroupLies TailIs form dim entries b) ((groupval.Entries es ≡ groupval.Absent) × (b ≡ []))
           version (out-Level level).since known (es, refl, h))
           there
 
   -- ---- levels
 
   abbrev GroupsWritten : ℕ → {n : _} → Row_of-Group n → List GroupVal → Type 0
-  GroupsWritten i groups vs = Written (groups_bytes order groups vs) (GroupsLay order true version groups vs) (λ limit before. groups_taken limit i before groups vs)
+  GroupsWritten i groups vs = Written (groups_bytes order groups vs) (GroupsLay (own_mode order version) groups vs) (λ limit before. groups_taken limit i before groups vs)
 
   mutual
     unfolding tail_bytes tail_taken
@@ -149,7 +153,7 @@ module _ (order : Order) (version : ℕ) where
     pub tail_written : (level : Level) → IsPlacedLevel level → IsWritableLevel version level → (block : Block) → BlockFits order level block → TailWritten level block
     tail_written (Level' name id semantic since block_length fields n groups parts) placed writable block h =
         written_then (groups_bytes order groups (out-Block block).groups) (parts_bytes order parts (out-Block block).parts)
-        (GroupsLay order true version groups (out-Block block).groups) (JoinedBoth (DataLays order version) parts (out-Block block).parts)
+        (GroupsLay (own_mode order version) groups (out-Block block).groups) (JoinedBoth (DataLays order version) parts (out-Block block).parts)
         (λ limit before. groups_taken limit (length fields) before groups (out-Block block).groups)
         (λ limit before. parts_taken limit (length fields + length (out-Block block).groups) before parts (out-Block block).parts)
         (groups_written (length fields) groups placed.1 writable.2 (out-Block block).groups h.1)
@@ -160,13 +164,13 @@ module _ (order : Order) (version : ℕ) where
     groups_written i end_of-Group placed writable (v ∷ vs) h = absurd h
     groups_written i (more_of-Group g rest) placed writable [] h = absurd h
     groups_written i (more_of-Group g rest) placed writable (v ∷ vs) h =
-        written_then (group_bytes order g v) (groups_bytes order rest vs) (GroupLays order true version g v) (GroupsLay order true version rest vs)
+        written_then (group_bytes order g v) (groups_bytes order rest vs) (GroupLays (own_mode order version) g v) (GroupsLay (own_mode order version) rest vs)
         (λ limit before. taken_in (way.Part i) (group_taken limit before g v)) (λ limit before. groups_taken limit (suc i) before rest vs)
-        (written_in (way.Part i) (group_bytes order g v) (GroupLays order true version g v) (λ limit before. group_taken limit before g v) (group_written g placed.0 writable.0 v h.0))
+        (written_in (way.Part i) (group_bytes order g v) (GroupLays (own_mode order version) g v) (λ limit before. group_taken limit before g v) (group_written g placed.0 writable.0 v h.0))
         (groups_written (suc i) rest placed.1 writable.1 vs h.1)
 
     group_written : (g : Group) → IsPlacedGroup g → IsWritableGroup version g → (v : GroupVal) → GroupFits order g v →
-        Written (group_bytes order g v) (GroupLays order true version g v) (λ limit before. group_taken limit before g v)
+        Written (group_bytes order g v) (GroupLays (own_mode order version) g v) (λ limit before. group_taken limit before g v)
     group_written (Group' dim level) placed writable v h =
         let es = h.0 in
         let each = each_of (λ entry. BlockFits order level entry) (λ entry. Written (entry_bytes level entry) (EntryIs level entry) (λ limit at. entry_taken level limit at entry))

@@ -11,7 +11,7 @@ use Rattle.sbe_types.specs.declared.message.Block.{out-Block}
 use Rattle.sbe_types.specs.declared.message.Msg.{Msg}
 use Rattle.sbe_types.specs.Places.{members_end}
 use Rattle.sbe_types.specs.Wire.{both}
-use Rattle.sbe_wire.specs.Versions.{is_known, acting}
+use Rattle.sbe_wire.specs.Versions.{mode_of}
 use Rattle.sbe_wire.specs.Lays.{HeaderLays, BlockLays, TailLays, Lays}
 use Rattle.sbe_wire.specs.Canonical.{header_numbers, block_bytes, tail_bytes, root_bytes, canonical}
 use Rattle.sbe_wire.specs.Fits.{BlockFits, Fits}
@@ -19,7 +19,7 @@ use Rattle.sbe_wire.specs.Misfit.{Taken, ◌then◌, take_bytes, fields_misfit, 
 use Rattle.sbe_wire.specs.Placed.{IsPlaced}
 use Rattle.sbe_wire.proofs.Levels.{placed_fields}
 use Rattle.writing_laws.specs.Writable.{IsWritable}
-use Rattle.writing_laws.proofs.Own.{known_own, acting_own, writable_fields, ends_within, fields_fit}
+use Rattle.writing_laws.proofs.Own.{mode_own, writable_fields, ends_within, fields_fit}
 use Rattle.writing_laws.proofs.Takings.{Takes, takes_bytes, takes_passed, takes_then, Written}
 use Rattle.writing_laws.proofs.NamesWritten.{names_written, names_read}
 use Rattle.writing_laws.proofs.BlocksWritten.{block_written, fields_good}
@@ -68,12 +68,10 @@ module _ (schema : WireSchema) (m : Msg) (level : Level) where
         says_version = names_read order numbers members head (codes "version") writable.version ∙ sym own;
       } in
       let whole : body ≡ head.0 ++ block.bytes ++ tail.bytes ++ [] = sym (append_assoc head.0 block.bytes tail.bytes) ∙ sym (append-nil (head.0 ++ block.bytes ++ tail.bytes)) in
-      let known = sym (known_own schema m.version own) in
-      let acts = sym (acting_own schema m.version own) in
-      let block_lies : BlockLays order (is_known schema m.version) (acting schema m.version) fields values block.bytes =
-      subst (λ v. BlockLays order (is_known schema m.version) v fields values block.bytes) acts (subst (λ k. BlockLays order k version fields values block.bytes) known block.lies.1) in
-      let tail_lies : TailLays order (is_known schema m.version) (acting schema m.version) level m.block tail.bytes =
-      subst (λ v. TailLays order (is_known schema m.version) v level m.block tail.bytes) acts (subst (λ k. TailLays order k version level m.block tail.bytes) known tail.lies) in
+      let same = sym (mode_own schema m.version own) in
+      let mode = mode_of schema m.version in
+      let block_lies : BlockLays mode fields values block.bytes = subst (λ o. BlockLays o fields values block.bytes) same block.lies.1 in
+      let tail_lies : TailLays mode level m.block tail.bytes = subst (λ o. TailLays o level m.block tail.bytes) same tail.lies in
       let root : ℕ = members_end 0 members + wide in
       let many : length body ≡ root + length tail.bytes = omega (arith, length-append head.0 (block.bytes ++ tail.bytes), length-append block.bytes tail.bytes, long, block.lies.0) in
       record {

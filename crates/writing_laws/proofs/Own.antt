@@ -1,5 +1,5 @@
 -- What holds at the schema's own version, and what a level has.
-use Rattle.std.proofs.Common.{◌≡◌, ℕ, ◌≤◌, true, sym, ap, ◌∙◌, subst, arith}
+use Rattle.std.proofs.Common.{◌≡◌, ℕ, ◌≤◌, Bool, true, sym, ap, ◌∙◌, subst, arith}
 use Rattle.std.specs.Prelude.{nat_le, min}
 use Rattle.std.specs.Bool.{MatchBool}
 use Rattle.std.proofs.lemmas.Bool.Decides.{nat_tests}
@@ -8,7 +8,8 @@ use Rattle.sbe_types.specs.declared.schema.Level as levels
 use Rattle.sbe_types.specs.declared.schema.Level.{Level, Level', out-Level}
 use Rattle.sbe_types.specs.declared.schema.WireSchema.{WireSchema}
 use Rattle.sbe_types.specs.Places.{fields_end}
-use Rattle.sbe_wire.specs.Versions.{is_alive, is_known, acting}
+use Rattle.sbe_wire.specs.declared.mode.Mode.{Mode}
+use Rattle.sbe_wire.specs.Versions.{is_alive, is_known, acting, mode_of, own_mode}
 use Rattle.sbe_types.specs.declared.kind.Order.{Order}
 use Rattle.sbe_types.specs.declared.message.Block.{Block, out-Block}
 use Rattle.sbe_wire.specs.Fits.{FieldsFit, BlockFits}
@@ -35,6 +36,12 @@ same_min n = omega arith
 
 pub acting_own : (schema : WireSchema) (version : ℕ) → version ≡ schema.version → acting schema version ≡ schema.version
 acting_own schema version h = ap (acting schema) h ∙ same_min schema.version
+
+-- at the schema's own version
+pub mode_own : (schema : WireSchema) (version : ℕ) → version ≡ schema.version → mode_of schema version ≡ own_mode schema.order schema.version
+mode_own schema version h =
+    ap (λ (k : Bool). let it : Mode = record { order = schema.order; known = k; version = acting schema version } in it) (known_own schema version h)
+    ∙ ap (λ (v : ℕ). let it : Mode = record { order = schema.order; known = true; version = v } in it) (acting_own schema version h)
 
 pub writable_fields : (version : ℕ) (level : Level) → IsWritableLevel version level → AreWritableFields version (out-Level level).fields
 unfolding levels.out-Level carrier.out

@@ -2,7 +2,8 @@ use Rattle.std.proofs.Common.{sym, ap, ◌∙◌}
 use Rattle.std.specs.Prelude.{slice_get}
 use Rattle.sbe_wire.proofs.Messages.{message_judges}
 use Rattle.layout_tables.proofs.Items.{item_there}
-use Rattle.flyweight_view.specs.Heads.{message_from, mode_of}
+use Rattle.flyweight_view.specs.Heads.{message_from}
+use Rattle.sbe_wire.specs.Versions.{mode_of}
 use Rattle.flyweight_view.specs.Told.{fault_of}
 use Rattle.flyweight_view.proofs.Bodies.{refused_early, refused_late, body_read, view_reads}
 use Rattle.flyweight_view.proofs.view.look.Goals as goal
