@@ -2,5 +2,6 @@
 #![tactic(auto)]
 
 mod check;
+mod rows;
 
 pub use check::{Checker, load_check};

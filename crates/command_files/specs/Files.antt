@@ -14,7 +14,7 @@ pub record FilesOf (X : Type 0) : Type 1 where
   pub IsRole : FileRole → Type 0
   pub AreGood : X → Type 0
 
--- what files are judged as, unless they failed or memory was wanting
+-- what files are judged as, unless they failed or it ran out of memory
 abbrev pub JudgedSo : {X : Type 0} → (Result X RefusedFile → Type 0) → Result X JobStop → Type 0
 JudgedSo AreJudged (Ok files) = AreJudged (Ok files)
 JudgedSo AreJudged (Err (stop.Refused file)) = AreJudged (Err file)

@@ -1,4 +1,4 @@
--- What a pump knows of its input behind the pieces that it took.
+-- What a pump knows of its input after the pieces that it took.
 use Rattle.std.specs.Prelude.{◌≡◌, ℕ, Bool, true, false, Option, Some, List, [], ◌++◌, ⊤}
 use Rattle.command_steps.specs.Splits.{Reading, Frames, Lines, Once, Nothing, Others, Piece, End, Splits, Begins}
 

@@ -16,7 +16,8 @@ use Rattle.command_steps.specs.declared.kept.Kept.{Kept}
 
 -- ---- what a command answers
 
--- What a command takes of its input, what a reply to each piece is, whether it never wants memory for one, and the last line of its notes, by the numbers of a run that answered all of its input.
+-- What a command takes of its input, what a reply to each piece is, whether it takes no memory for one, and the last line of its notes, by the
+-- numbers of a run that answered all of its input.
 pub record Answering : Type 1 where
   pub reading : Reading
   pub IsReply : Kept → Piece → Reply → Type 0
@@ -101,15 +102,15 @@ pub record HasParts (bytes : ℕ) (verdict : Verdict) : Type 0 where
 
 -- ---- what a call of a command answers
 
--- One of these replies to so many bytes is written; or in part, and a call failed; or memory was wanting, and nothing is written.
+-- One of these replies to so many bytes is written; or in part, and a call failed; or it ran out of memory, and nothing is written.
 abbrev pub Replied : ℕ → (Reply → Type 0) → Sinks → Sinks → Result Verdict Status → Type 0
 Replied bytes IsAnswer old new result = (reply : Reply) × IsAnswer reply × HasParts bytes reply.verdict × DeliversDraft reply old new result
 
--- One of these replies is drafted, unless memory was wanting. It counts no parts.
+-- One of these replies is drafted, unless it ran out of memory. It counts no parts.
 abbrev pub Drafted : (Reply → Type 0) → Draft → Result Verdict NoMem → Type 0
 Drafted IsAnswer draft result = (reply : Reply) × IsAnswer reply × HasParts 0 reply.verdict × Drafts reply draft result
 
--- memory is wanting only where the command may want it
+-- a command that spares memory never runs out of it
 abbrev pub Wants : Bool → Result Verdict Status → Type 0
 Wants spares (Ok verdict) = ⊤
 Wants spares (Err code) = code ≡ status.NoMemory → spares ≡ false
@@ -135,7 +136,7 @@ counted_by kept bytes verdict = record {
 abbrev pub counted : Kept → Piece → Verdict → Kept
 counted kept piece verdict = counted_by kept (length (piece_bytes piece)) verdict
 
--- The answers to pieces one after another, and the numbers behind them.
+-- The answers to pieces one after another, and the numbers after them.
 abbrev pub Replies : Answering → Kept → List Piece → Written → Kept → Type 0
 Replies on kept [] written after = (written ≡ none_written) × (after ≡ kept)
 Replies on kept (piece ∷ pieces) written after =

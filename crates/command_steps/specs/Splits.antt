@@ -10,7 +10,8 @@ use Rattle.open_framing.specs.Frames as frames
 use Rattle.open_framing.specs.Lines.{IsLine, LineEnd}
 use Rattle.open_framing.specs.Lines as lines
 
--- one thing to answer: a frame's item, a line without its end and whether that end is there, the one job of a command that reads nothing, or other bytes and of which kind they are
+-- one thing to answer: a frame's item, a line without its end and whether that end is there, the one job of a command that reads nothing, or other
+-- bytes and of which kind they are
 pub data Piece : Type 0 where
   Frame : Item → Piece
   Line : List ℕ → Bool → Piece
@@ -52,7 +53,8 @@ lines_end lines.InputLimit = InputLimit
 
 -- ---- how an input is read
 
--- What else an input may be split into, within so many bytes of it: all its pieces and their end; pieces at its front, and the rest; the pieces that are whole in bytes, of which no further one is; which pieces there may be.
+-- What else an input may be split into, within so many bytes of it: all its pieces and their end; pieces at its front, and the rest; the pieces that
+-- are whole in bytes, of which no further one is; which pieces there may be.
 pub record OtherReading : Type 1 where
   pub Splits : ℕ → List ℕ → List Piece → PieceEnd → Type 0
   pub Begins : ℕ → List ℕ → List Piece → List ℕ → Type 0
@@ -65,18 +67,24 @@ taken_by pieces = length (joined piece_bytes pieces)
 
 -- What holds of every reading: an input is split in one way, pieces at its front are the first of all, and go on piece by piece.
 pub record IsReading (reading : OtherReading) : Type 0 where
-  pub once : (n : ℕ) (stream : List ℕ) (xs ys : List Piece) (a b : PieceEnd) → reading.Splits n stream xs a → reading.Splits n stream ys b → (xs ≡ ys) × (a ≡ b)
+  pub once : (n : ℕ) (stream : List ℕ) (xs ys : List Piece) (a b : PieceEnd)
+      → reading.Splits n stream xs a → reading.Splits n stream ys b → (xs ≡ ys) × (a ≡ b)
   pub some : (n : ℕ) (stream : List ℕ) → IsBytes stream → (pieces : List Piece) × (end : PieceEnd) × reading.Splits n stream pieces end
-  pub suits : (n : ℕ) (stream : List ℕ) (pieces : List Piece) (end : PieceEnd) → reading.Splits n stream pieces end → AllByRecursion reading.Suits pieces
+  pub suits : (n : ℕ) (stream : List ℕ) (pieces : List Piece) (end : PieceEnd)
+      → reading.Splits n stream pieces end → AllByRecursion reading.Suits pieces
   pub none : (n : ℕ) (stream : List ℕ) → reading.Begins n stream [] stream
-  pub first : (n : ℕ) (stream : List ℕ) (xs ys : List Piece) (rest : List ℕ) (end : PieceEnd) → reading.Begins n stream xs rest → reading.Splits n stream ys end → (tail : List Piece) × (ys ≡ xs ++ tail)
-  pub more : (n : ℕ) (stream mid rest : List ℕ) (xs ys : List Piece) → reading.Begins n stream xs mid → reading.Begins (n - taken_by xs) mid ys rest → reading.Begins n stream (xs ++ ys) rest
-  pub all : (n : ℕ) (stream rest : List ℕ) (xs ys : List Piece) (end : PieceEnd) → reading.Begins n stream xs rest → reading.Splits (n - taken_by xs) rest ys end → reading.Splits n stream (xs ++ ys) end
+  pub first : (n : ℕ) (stream : List ℕ) (xs ys : List Piece) (rest : List ℕ) (end : PieceEnd)
+      → reading.Begins n stream xs rest → reading.Splits n stream ys end → (tail : List Piece) × (ys ≡ xs ++ tail)
+  pub more : (n : ℕ) (stream mid rest : List ℕ) (xs ys : List Piece)
+      → reading.Begins n stream xs mid → reading.Begins (n - taken_by xs) mid ys rest → reading.Begins n stream (xs ++ ys) rest
+  pub all : (n : ℕ) (stream rest : List ℕ) (xs ys : List Piece) (end : PieceEnd)
+      → reading.Begins n stream xs rest → reading.Splits (n - taken_by xs) rest ys end → reading.Splits n stream (xs ++ ys) end
   pub held : (n : ℕ) (stream held left : List ℕ) (xs : List Piece) → reading.Begins n stream xs (held ++ left) → reading.Holds held []
       → reading.Holds (joined piece_bytes xs ++ held) xs × (stream ≡ (joined piece_bytes xs ++ held) ++ left)
   pub ended : (n : ℕ) (end : PieceEnd) → reading.Splits n [] [] end → end ≡ End
 
--- how an input is read: frames within limits, lines of so many bytes in all at most, not at all, with one job to do or none, or in another way, with so many bytes in all at most
+-- how an input is read: frames within limits, lines of so many bytes in all at most, not at all, with one job to do or none, or in another way, with
+-- so many bytes in all at most
 pub data Reading : Type 1 where
   Frames : Limits → Reading
   Lines : ℕ → Reading
@@ -140,10 +148,11 @@ pub record Leads {X : Type 0} (IsItem : X → Type 0) (bytes_of : X → List ℕ
   pub whole : bytes ≡ joined bytes_of items ++ rest
   pub each : AllByRecursion IsItem items
 
--- The input begins with these pieces, which are within the limits, and the rest stands behind them.
+-- The input begins with these pieces, which are within the limits, and the rest follows them.
 abbrev pub Begins : Reading → List ℕ → List Piece → List ℕ → Type 0
 Begins (Frames limits) stream pieces rest =
-    (items : List Item) × Leads (IsFrame limits.frame) frame_of stream items rest × (length (joined frame_of items) ≤ limits.input) × (pieces ≡ map Frame items)
+    (items : List Item) × Leads (IsFrame limits.frame) frame_of stream items rest
+    × (length (joined frame_of items) ≤ limits.input) × (pieces ≡ map Frame items)
 Begins (Lines input) stream pieces rest =
     (all : List (List ℕ)) × Leads IsLine lines.ended stream all rest × (length (joined lines.ended all) ≤ input) × (pieces ≡ map ended_piece all)
 Begins Once stream pieces rest = ((pieces ≡ []) ⊎ (pieces ≡ Whole ∷ [])) × (rest ≡ stream)
@@ -152,7 +161,8 @@ Begins (Others reading laws input) stream pieces rest = reading.Begins input str
 
 -- These pieces are whole in the bytes, and no further one is.
 abbrev pub Holds : Reading → List ℕ → List Piece → Type 0
-Holds (Frames limits) bytes pieces = (items : List Item) × (rest : List ℕ) × Pieces (IsFrame limits.frame) frame_of bytes items rest × (pieces ≡ map Frame items)
+Holds (Frames limits) bytes pieces =
+    (items : List Item) × (rest : List ℕ) × Pieces (IsFrame limits.frame) frame_of bytes items rest × (pieces ≡ map Frame items)
 Holds (Lines input) bytes pieces = (all : List (List ℕ)) × (rest : List ℕ) × Pieces IsLine lines.ended bytes all rest × (pieces ≡ map ended_piece all)
 Holds Once bytes pieces = ⊥
 Holds Nothing bytes pieces = ⊥

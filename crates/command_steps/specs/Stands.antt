@@ -1,4 +1,4 @@
--- What stands while a command works over a stream.
+-- What holds while a command works over a stream.
 use Rattle.std.specs.Prelude.{◌≡◌, ◌⊎◌, Bool, true, false, ◌≤◌, ◌<◌, ◌+◌, ◌-◌, ◌^◌, Option, Some, None, [], length}
 use Rattle.sbe_base.specs.declared.status.Limits.{Limits}
 use Rattle.open_framing.specs.Lines.{longest_line}
@@ -22,7 +22,7 @@ abbrev pub is_at_end : Option LineEnded → Bool
 is_at_end None = false
 is_at_end (Some end) = true
 
--- what a stream of lines knows behind the last one
+-- what a stream of lines knows after the last one
 abbrev pub lines_ahead : LineState → Ahead
 lines_ahead stream = record { held = stream.held; met_end = is_at_end stream.ended }
 

@@ -15,7 +15,7 @@ use Rattle.command_steps.specs.declared.step.Step.TheVariants.{Went, Ended}
 use Rattle.command_steps.specs.declared.step.Tally.{Tally}
 use Rattle.command_steps.specs.declared.end.Stop.TheVariants as stop
 
--- what a command has done, what it knows of its input behind that, and its last answer
+-- what a command has done, what it knows of the input after that, and its last answer
 pub record Moment : Type 0 where
   pub kept : Kept
   pub ahead : Ahead
@@ -36,7 +36,7 @@ abbrev pub once_if : Bool → Reading
 once_if true = Once
 once_if false = Nothing
 
--- the reading of what stands behind what was done
+-- the reading of what follows what was done
 abbrev pub behind : Reading → Kept → Reading
 behind (Frames limits) kept = Frames (record { frame = limits.frame; input = limits.input - kept.bytes })
 behind (Lines input) kept = Lines (input - kept.bytes)
@@ -59,7 +59,7 @@ pub record TakesPiece (on : Answering) (old new : Moment) (before after : Stream
   pub wrote : Wrote before.sinks after.sinks (written_of reply)
   pub kept : new.kept ≡ counted old.kept piece reply.verdict
 
--- A step that answers a piece. Behind a frame nothing was taken.
+-- A step that answers a piece. Nothing was taken after a frame.
 pub record Goes (on : Answering) (old new : Moment) (before after : Streams) : Type 0 where
   pub answers : (input : List ℕ) → Follows old.ahead before.input.told input → TakesPiece on old new before after input
   pub unmet : old.ahead.met_end ≡ false
@@ -76,7 +76,7 @@ pub record Goes (on : Answering) (old new : Moment) (before after : Streams) : T
 
 -- ---- the end of the steps
 
--- The pieces end here: all that was taken behind the last one is told, or nothing is left of an input that is read.
+-- The pieces end here: all that was taken after the last one is told, or nothing is left of an input that is read.
 pub record Ends (on : Answering) (pump : Moment) (before after : Streams) (input : List ℕ) (code : Status) : Type 0 where
   pub end : PieceEnd
   pub split : Splits (reading_on on pump) input [] end
@@ -96,7 +96,7 @@ pub record Stalls (on : Answering) (pump : Moment) (before after : Streams) (inp
   pub output : after.sinks.output ≡ before.sinks.output
   pub noted : Told (stop_line (stop.ReadFault (pump.kept.bytes + length held))) status.ReadFault before.sinks.notes after.sinks.notes code
 
--- A write of the next piece's answer failed, or memory for it was wanting. Nothing behind a frame was taken.
+-- A write of the next piece's answer failed, or it ran out of memory. Nothing was taken after a frame.
 pub record Fails (on : Answering) (pump : Moment) (after : Streams) (input : List ℕ) (IsWritten : Reply → Type 0) : Type 0 where
   pub piece : Piece
   pub reply : Reply
@@ -113,7 +113,8 @@ pub record Fails (on : Answering) (pump : Moment) (after : Streams) (input : Lis
 pub data Halts (on : Answering) (pump : Moment) (before after : Streams) (input : List ℕ) (code : Status) : Type 0 where
   ended_at : Ends on pump before after input code → Halts on pump before after input code
   stalled_at : Stalls on pump before after input code → Halts on pump before after input code
-  failed_at : Fails on pump after input (λ reply. Breaks before.sinks after.sinks (written_of reply)) → code ≡ status.WriteFault → Halts on pump before after input code
+  failed_at : Fails on pump after input (λ reply. Breaks before.sinks after.sinks (written_of reply)) → code ≡ status.WriteFault
+      → Halts on pump before after input code
   wanting_at : Fails on pump after input (λ reply. after.sinks ≡ before.sinks) → code ≡ status.NoMemory → Halts on pump before after input code
 
 -- the status of a run that nothing outside cut short
@@ -158,15 +159,25 @@ pub record Closes (on : Answering) (old new : Moment) (before after : Streams) (
   pub halts : (input : List ℕ) → Follows old.ahead before.input.told input → Halts on old before after input code
   pub causes : Causes before after code
   pub kept : new ≡ record { kept = old.kept; ahead = new.ahead; ended = Some code }
-  -- a command that spares memory never wants it
+  -- a command that spares memory never runs out of it
   pub memory : code ≡ status.NoMemory → on.spares ≡ false
   pub unread : is_read on.reading ≡ false → after.input ≡ before.input
 
+-- The streams before a step and after it.
+pub record Passage : Type 0 where
+  pub before : Streams
+  pub after : Streams
+
+-- The streams before and after, as one.
+abbrev pub passage : Streams → Streams → Passage
+passage before after = record { before = before; after = after }
+
 -- A piece is answered, or the pump ends; a pump that has ended answers the same again, and leaves all as it was.
-abbrev pub Steps : Answering → Moment → Moment → Streams → Streams → Step → Type 0
-Steps on old new before after Went = (old.ended ≡ None) × Goes on old new before after
-Steps on old new before after (Ended code) =
-    ((old.ended ≡ Some code) × (new ≡ old) × (after ≡ before)) ⊎ ((old.ended ≡ None) × Closes on old new before after code)
+abbrev pub Steps : Answering → Moment → Moment → Passage → Step → Type 0
+Steps on old new streams Went = (old.ended ≡ None) × Goes on old new streams.before streams.after
+Steps on old new streams (Ended code) =
+    ((old.ended ≡ Some code) × (new ≡ old) × (streams.after ≡ streams.before))
+    ⊎ ((old.ended ≡ None) × Closes on old new streams.before streams.after code)
 
 -- ---- many steps
 

@@ -26,7 +26,7 @@ pub trait FrameCommand: Drop {
     ///
     /// # Errors
     ///
-    /// `WriteFault` where a write fails; `NoMemory` for want of memory, and then nothing is written.
+    /// `WriteFault` where a write fails; `NoMemory` when out of memory, and then nothing is written.
     fn answer<O: Sink, N: Sink>(
         &mut self,
         kept: &Kept,
@@ -60,7 +60,7 @@ pub trait LineCommand: Drop {
     ///
     /// # Errors
     ///
-    /// `WriteFault` where a write fails; `NoMemory` for want of memory, and then nothing is written.
+    /// `WriteFault` where a write fails; `NoMemory` when out of memory, and then nothing is written.
     fn answer<O: Sink, N: Sink>(
         &mut self,
         kept: &Kept,

@@ -13,7 +13,7 @@ use sbe_base::{Sink, Status, WriteFault};
 /// What is noted where a run stops before its end.
 #[derive(Clone, Copy, Debug, PartialEq, Eq)]
 pub enum Stop {
-    /// The input failed behind so many bytes.
+    /// The input failed after so many bytes.
     ReadFault(u64),
     /// So many bytes of a frame are there, which begins at the second number.
     EndInside(u64, u64),

@@ -50,7 +50,8 @@ impl<C: LineCommand> LineWork<C> {
     ) -> Result<Tally, Status>
         requires bounded { IsBounded self.old.limits }
         requires stands { StandsLines self.old.limits self.old.stream kept.now }
-        ensures answers { Answers (by_lines self.old.limits.input C.last (C.is_reply self.old.command)) (running kept.now (lines_ahead self.old.stream)) (lines_ahead self.new.stream)
+        ensures answers { Answers (by_lines self.old.limits.input C.last (C.is_reply self.old.command))
+            (running kept.now (lines_ahead self.old.stream)) (lines_ahead self.new.stream)
             (streams_of (I.state input.old) (O.state output.old) (N.state notes.old))
             (streams_of (I.state input.new) (O.state output.new) (N.state notes.new))
             result }

@@ -1,5 +1,5 @@
 -- What words say.
-use Rattle.std.specs.Prelude.{◌≡◌, ◌≤◌, ◌^◌, ℕ, Bool, true, false, ◌&&◌, ◌==◌, not, nat_lt, nat_le, if◌then◌else◌, List, [], ◌∷◌, length, map, get_or, codes, take, drop, find, Option, Some, None, Result, Ok, Err, ⊤}
+use Rattle.std.specs.Prelude.{◌≡◌, ◌≤◌, ◌^◌, ℕ, Bool, true, false, ◌&&◌, ◌==◌, not, nat_lt, nat_le, if◌then◌else◌, List, [], ◌∷◌, length, map, get_or, codes, take, drop, filter, find, Option, Some, None, Result, Ok, Err, ⊤}
 use Rattle.std.specs.Option.{option_and_then}
 use Rattle.std.specs.List.{list_all, list_any}
 use Rattle.std.specs.Str.{bytes_eq, all_ascii_digits}
@@ -9,7 +9,6 @@ use Rattle.command_words.specs.declared.words.Command.{Command}
 use Rattle.command_words.specs.declared.words.WordsErr.{WordsErr}
 use Rattle.command_words.specs.declared.words.WordsErr.TheVariants.{Usage, Memory}
 use Rattle.command_words.specs.declared.forms.Form.{Form}
-use Rattle.command_words.specs.declared.forms.Form.TheVariants as form
 use Rattle.command_words.specs.declared.forms.TheConstants.{FORMS}
 use Rattle.command_words.specs.declared.options.NumberRange.{NumberRange}
 use Rattle.command_words.specs.declared.options.TheConstants.{ALSO, MOST_ALSO, MAX_FRAME, MAX_INPUT, FRAME_RANGE, INPUT_RANGE}
@@ -20,7 +19,7 @@ use Rattle.command_words.specs.declared.options.TheConstants.{ALSO, MOST_ALSO, M
 abbrev pub is_file_name : List ℕ → Bool
 is_file_name word = nat_lt 0 (length word) && not (bytes_eq (take 2 word) (codes "--"))
 
--- it isn't empty, and no zero stands in front of more
+-- it isn't empty, and has no leading zero in front of more
 abbrev pub begins_a_number : List ℕ → Bool
 begins_a_number [] = false
 begins_a_number (digit ∷ []) = true
@@ -32,7 +31,10 @@ is_number word = begins_a_number word && all_ascii_digits word
 
 -- the number that a word writes, where it is at least the one and at most the other
 abbrev pub number_within : ℕ → ℕ → List ℕ → Option ℕ
-number_within least most word = if is_number word && nat_le least (digits_value 10 word) && nat_le (digits_value 10 word) most then Some (digits_value 10 word) else None
+number_within least most word =
+    if is_number word && nat_le least (digits_value 10 word) && nat_le (digits_value 10 word) most
+    then Some (digits_value 10 word)
+    else None
 
 -- ---- options: words in pairs, the option's word and its value
 
@@ -72,7 +74,7 @@ limits_of pairs = limits_from (number_given MAX_FRAME.now FRAME_RANGE pairs) (nu
 abbrev pub names_by : ℕ → List (List ℕ) → Option (List (List ℕ))
 names_by most values = if nat_le (length values) most && list_all is_file_name values then Some values else None
 
--- the names of files that pairs give this option, which may stand so often
+-- the names of files that pairs give this option, which may be given so often
 abbrev pub names_given : List ℕ → ℕ → List (List ℕ) → Option (List (List ℕ))
 names_given option most pairs = names_by most (values_of option pairs)
 
@@ -89,6 +91,10 @@ pub record FormRow : Type 0 where
 abbrev pub rows : List FormRow
 rows = map (λ row. record { form = row.0; word = row.1.now; files = row.2; options = map (λ option. option.now) row.3.now }) FORMS
 
+-- The rows of a command's word.
+abbrev pub rows_of : List ℕ → List FormRow
+rows_of word = filter (λ row. bytes_eq word row.word) rows
+
 -- the words have the form of this row, whatever values its options have
 abbrev pub fits : FormRow → List (List ℕ) → Bool
 fits row [] = false
@@ -102,7 +108,7 @@ command_from form files None also = None
 command_from form files (Some limits) None = None
 command_from form files (Some limits) (Some also) = Some (record { form = form; files = files; also = also; limits = limits })
 
--- what words of this row say: the files behind its word, and the values of the options behind these
+-- what words of this row say: the files after its word, and the values of the options after these
 abbrev pub said_by : FormRow → List (List ℕ) → Option Command
 said_by row [] = None
 said_by row (word ∷ rest) =
@@ -123,29 +129,6 @@ Says (Err Memory) said = ⊤
 -- the name of the file at this place of a command's words
 abbrev pub file_at : Command → ℕ → List ℕ
 file_at command place = get_or command.files place []
-
--- What a command does with the input, and whether it may want memory once its files are loaded.
-pub record InputUse : Type 0 where
-  pub reads : Bool
-  pub spares_memory : Bool
-
--- One line a form.
-abbrev pub input_use : Form → InputUse
-input_use form.Check = record { reads = false; spares_memory = false }
-input_use form.Compat = record { reads = false; spares_memory = false }
-input_use form.Dump = record { reads = true; spares_memory = true }
-input_use form.Build = record { reads = true; spares_memory = false }
-input_use form.FixCheck = record { reads = true; spares_memory = true }
-
--- whether a command takes anything of the input
-abbrev pub reads_input : Option Command → Bool
-reads_input None = false
-reads_input (Some command) = (input_use command.form).reads
-
--- whether a command takes no memory once its files are loaded
-abbrev pub spares_memory : Option Command → Bool
-spares_memory None = false
-spares_memory (Some command) = (input_use command.form).spares_memory
 
 -- 64 to 16,777,216 bytes a frame, and 1 to 1,099,511,627,776 bytes in all
 abbrev pub AreInRange : Limits → Type 0

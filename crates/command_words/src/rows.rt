@@ -1,18 +1,7 @@
-//! The tables, computed.
+//! The options, computed. The row of a form is computed in the crate of its command.
 
-ghost use Rattle.std.specs.Prelude.{◌≡◌, ◌∷◌, [], map, codes};
-ghost use Rattle.command_words.specs.declared.forms.Form.TheVariants as form;
-ghost use Rattle.command_words.specs.Words.{rows};
+ghost use Rattle.std.specs.Prelude.{◌≡◌, codes};
 ghost use Rattle.command_words.specs.declared.options.TheConstants.{ALSO, MOST_ALSO, MAX_FRAME, MAX_INPUT, FRAME_RANGE, INPUT_RANGE};
-
-/// The words of the forms, with the number of files that each has, and its options.
-pub fn forms()
-    ensures forms { map (λ row. row.form) rows ≡ form.Check ∷ form.Compat ∷ form.Dump ∷ form.Build ∷ form.FixCheck ∷ [] }
-    ensures words { map (λ row. row.word) rows ≡ codes "check" ∷ codes "compat" ∷ codes "dump" ∷ codes "build" ∷ codes "fixcheck" ∷ [] }
-    ensures files { map (λ row. row.files) rows ≡ 1 ∷ 2 ∷ 1 ∷ 1 ∷ 1 ∷ [] }
-    ensures options { map (λ row. row.options) rows
-        ≡ [] ∷ [] ∷ (codes "--max-frame" ∷ codes "--max-input" ∷ codes "--also" ∷ []) ∷ (codes "--max-frame" ∷ codes "--max-input" ∷ []) ∷ (codes "--max-frame" ∷ codes "--max-input" ∷ []) ∷ [] }
-{}
 
 /// The words of the options, and the numbers that each takes.
 pub fn options()

@@ -81,11 +81,11 @@ pub enum WordsErr {
     Memory,
 }
 
-/// The command that the words behind the program's name say.
+/// The command that the words after the program's name say.
 ///
 /// # Errors
 ///
-/// `Usage` exactly where they have none of the forms; `Memory` for want of memory.
+/// `Usage` exactly where they have none of the forms; `Memory` when out of memory.
 pub fn read_words(alloc: Global, words: &[String]) -> Result<Command, WordsErr>
     ensures says { Says result (command_of (map (λ word. string_bytes word) words.now)) }
     ensures ranges { IfOk result (λ command. HasLimits command) }
@@ -170,7 +170,7 @@ fn read_limits(options: &[String]) -> Option<Limits>
     })
 }
 
-/// The names of files that options give one of them, which may stand so often.
+/// The names of files that options give one of them, which may be given so often.
 fn names_given(
     alloc: Global,
     option: &str,

@@ -2,5 +2,6 @@
 #![tactic(auto)]
 
 mod compat;
+mod rows;
 
 pub use compat::{Comparer, load_compat};

@@ -3,5 +3,6 @@
 
 mod dump;
 mod dumped;
+mod rows;
 
 pub use dump::{Dumper, load_dump};

@@ -83,11 +83,14 @@ answered line = record { output = line; notes = []; verdict = Answered }
 abbrev pub noted : List ℕ → Reply
 noted line = record { output = []; notes = line; verdict = Refused }
 
--- A frame of another encoding type than that of tag-value texts is refused. Else its body is answered by a line where it is a text of some fields, or refused at its first fault.
+-- A frame of another encoding type than that of tag-value texts is refused. Else its body is answered by a line where it is a text of some fields,
+-- or refused at its first fault.
 pub data IsTextReply (tags : List Pair) (number : ℕ) (item : Item) (reply : Reply) : Type 0 where
   other_encoding : item.encoding ≢ TAG_VALUE → reply ≡ noted (refused_line number (of_encoding item.encoding)) → IsTextReply tags number item reply
-  a_text : item.encoding ≡ TAG_VALUE → (fields : List Field) → FixText tags fields item.body → reply ≡ answered (text_line number (type_of fields) (length fields)) → IsTextReply tags number item reply
-  a_fault : item.encoding ≡ TAG_VALUE → (fault : FixFault) → IsFirstFault tags item.body fault → reply ≡ noted (refused_line number (of_fault fault)) → IsTextReply tags number item reply
+  a_text : item.encoding ≡ TAG_VALUE → (fields : List Field) → FixText tags fields item.body
+      → reply ≡ answered (text_line number (type_of fields) (length fields)) → IsTextReply tags number item reply
+  a_fault : item.encoding ≡ TAG_VALUE → (fault : FixFault) → IsFirstFault tags item.body fault
+      → reply ≡ noted (refused_line number (of_fault fault)) → IsTextReply tags number item reply
 
 -- The reply of `fixcheck` to a frame.
 abbrev pub IsFixCheckReply : List Pair → Kept → Item → Reply → Type 0

@@ -4,5 +4,6 @@
 mod answer;
 mod fixcheck;
 mod lines;
+mod rows;
 
 pub use fixcheck::{FixChecker, load_fixcheck};

@@ -26,7 +26,7 @@ file_map (Some bytes) = in_file (map_of bytes)
 abbrev pub too_long : FileRefusal
 too_long = NoMap Limit []
 
--- what bytes are judged as, unless memory was wanting
+-- what bytes are judged as, unless it ran out of memory
 abbrev pub ReadsMap : List ℕ → Result Repository LoadStop → Type 0
 ReadsMap bytes (Ok repository) = in_file (map_of bytes) ≡ Ok repository
 ReadsMap bytes (Err (Refused refusal)) = in_file (map_of bytes) ≡ Err refusal

@@ -13,7 +13,7 @@ use Rattle.replies.specs.declared.verdict.Verdict.{Verdict}
 abbrev pub drafted : Draft → Written
 drafted draft = record { output = draft.output.items; notes = draft.notes.items }
 
--- a draft holds this reply, unless memory was wanting
+-- a draft holds this reply, unless it ran out of memory
 abbrev pub Drafts : Reply → Draft → Result Verdict NoMem → Type 0
 Drafts reply draft (Ok verdict) = (draft.output.items ≡ reply.output) × (draft.notes.items ≡ reply.notes) × (verdict ≡ reply.verdict)
 Drafts reply draft (Err e) = ⊤
@@ -27,7 +27,7 @@ abbrev pub WritesBoth : Written → Sinks → Sinks → Result (Unit {0}) WriteF
 WritesBoth written old new (Ok done) = WroteCalmly written old new
 WritesBoth written old new (Err e) = Breaks old new written
 
--- a reply is written, or it is written in part and a call failed, or memory was wanting and nothing is written
+-- a reply is written, or it is written in part and a call failed, or it ran out of memory and nothing is written
 abbrev pub DeliversDraft : Reply → Sinks → Sinks → Result Verdict Status → Type 0
 DeliversDraft reply old new (Ok verdict) = WroteCalmly (written_of reply) old new × (verdict ≡ reply.verdict)
 DeliversDraft reply old new (Err code) = ((code ≡ status.WriteFault) × Breaks old new (written_of reply)) ⊎ ((code ≡ status.NoMemory) × (new ≡ old))

@@ -5,13 +5,13 @@ use Rattle.sbe_base.proofs.Known.{appends_more}
 use Rattle.sbe_base.specs.Causes.{AppendsPart}
 use Rattle.sbe_base.specs.declared.status.Status.{Status}
 use Rattle.sbe_base.specs.declared.status.Status.TheVariants as status
-use Rattle.command_words.specs.Words.{command_of, reads_input, spares_memory}
+use Rattle.command_words.specs.Words.{command_of}
 use Rattle.command_steps.specs.Splits.{is_read, PieceEnd, End, EndInside, HeadFault, LineOver, InputLimit}
 use Rattle.replies.specs.Reply.{Written, Reply, written_of, then_written}
 use Rattle.command_steps.specs.Ends.{Outcome, end_status}
 use Rattle.sbe_cli.specs.Report.{JobReport, JudgedReport, CommandReport, Report}
 use Rattle.replies.specs.Outside.{Sinks, Outside, Wrote, Breaks, Told, noted, failed}
-use Rattle.sbe_cli.specs.Jobs.{Job, answering_of, reading_of, IsReadAs}
+use Rattle.sbe_cli.specs.Jobs.{Job, answering_of, reading_of, IsReadAs, reads_input, spares_memory}
 use Rattle.sbe_cli.specs.Opens.{JudgedAs}
 use Rattle.command_steps.specs.Steps.{IsReported, running, Ends, Stalls, Fails, ended_at, stalled_at, failed_at, wanting_at, Course, Drains}
 use Rattle.sbe_cli.specs.Runs.{desk, Known, IsJob, written_in, read_line, AllAnswered, StandsAtRead, StandsAtWrite, at_reply, at_end, at_read, NotesPart, Fronts, HasRead, Runs}

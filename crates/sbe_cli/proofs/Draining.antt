@@ -3,7 +3,7 @@ use Rattle.std.proofs.Common.{◌≡◌, ◌≤◌, refl, sym, ap, ◌∙◌, su
 use Rattle.sbe_base.specs.declared.status.Status.{Status}
 use Rattle.replies.specs.Outside.{Streams}
 use Rattle.command_steps.specs.Splits.{most_pieces}
-use Rattle.command_steps.specs.Steps.{Moment, Steps, Drains}
+use Rattle.command_steps.specs.Steps.{Moment, Steps, Drains, passage}
 use Rattle.command_steps.specs.declared.step.Step.TheVariants.{Went, Ended}
 use Rattle.command_steps.proofs.Running.{IsRunning, runs_new, runs_more, drained}
 use Rattle.sbe_cli.specs.Jobs.{Job, answering_of, reading_of}
@@ -24,12 +24,12 @@ began pump old new =
     record { job_is = refl; within = running.within; running = running }
 
 module _ (job : Job) (old now new : Streams) (pump pump' : PumpState) (h : IsDraining job pump old now) where
-  pub went_on : Steps (answering_of pump.job) pump.at pump'.at now new Went → pump'.job ≡ pump.job → IsDraining job pump' old new
+  pub went_on : Steps (answering_of pump.job) pump.at pump'.at (passage now new) Went → pump'.job ≡ pump.job → IsDraining job pump' old new
   went_on step same =
-      let here = subst (λ (j : Job). Steps (answering_of j) pump.at pump'.at now new Went) h.job_is step in
+      let here = subst (λ (j : Job). Steps (answering_of j) pump.at pump'.at (passage now new) Went) h.job_is step in
       let running = runs_more (answering_of job) old now new pump.at pump'.at h.running here in
       record { job_is = same ∙ h.job_is; within = within_so job pump'.job pump' (same ∙ h.job_is) running.within; running = running }
 
-  pub came_to_end : (code : Status) → Steps (answering_of pump.job) pump.at pump'.at now new (Ended code) → Drains (answering_of job) old new code
+  pub came_to_end : (code : Status) → Steps (answering_of pump.job) pump.at pump'.at (passage now new) (Ended code) → Drains (answering_of job) old new code
   came_to_end code step =
-      drained (answering_of job) old now new pump.at pump'.at code h.running (subst (λ (j : Job). Steps (answering_of j) pump.at pump'.at now new (Ended code)) h.job_is step)
+      drained (answering_of job) old now new pump.at pump'.at code h.running (subst (λ (j : Job). Steps (answering_of j) pump.at pump'.at (passage now new) (Ended code)) h.job_is step)

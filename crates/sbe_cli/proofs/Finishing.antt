@@ -5,12 +5,13 @@ use Rattle.std.proofs.KnownBytes.{Appends-nil}
 use Rattle.sbe_base.specs.Causes.{AppendsPart}
 use Rattle.sbe_base.specs.declared.status.Status.{Status}
 use Rattle.sbe_base.specs.declared.status.Status.TheVariants as status
-use Rattle.command_words.specs.Words.{command_of, reads_input, spares_memory}
+use Rattle.command_words.specs.Words.{command_of}
 use Rattle.command_steps.specs.Ends.{Outcome}
 use Rattle.schema_files.specs.Refusals.{refusal_status}
 use Rattle.sbe_base.specs.Objects.{Object, Failed}
 use Rattle.replies.specs.Outside.{Outside, Wrote, Calm}
 use Rattle.command_steps.specs.Steps.{IsStepStatus, IsReported}
+use Rattle.sbe_cli.specs.Jobs.{reads_input, spares_memory}
 use Rattle.sbe_cli.specs.Runs.{Known, written_in, Reports, StandsAtRead, StandsAtWrite, StandsAtFile, Fronts, HasRead, Runs}
 use Rattle.schema_files.specs.declared.files.FileRefusal.{FileRefusal}
 use Rattle.schema_files.specs.declared.files.FileRefusal.TheVariants.{Absent, TooLong, Unread, Broken, SameId, FormDiffers, NoMap}

@@ -1,5 +1,5 @@
 -- The job of a command: what its files are judged as, and what it then answers.
-use Rattle.std.specs.Prelude.{◌≡◌, ℕ, true, List, Option, Some, Result, Ok, Err, ⊤}
+use Rattle.std.specs.Prelude.{◌≡◌, ℕ, Bool, true, false, List, Option, Some, None, Result, Ok, Err, ⊤}
 use Rattle.sbe_base.specs.declared.status.Limits.{Limits}
 use Rattle.sbe_types.specs.declared.schema.WireSchema.{WireSchema}
 use Rattle.dump_lines.specs.declared.schemas.Schemas.{Schemas}
@@ -7,7 +7,7 @@ use Rattle.command_files.specs.Files.{FilesOf, LoadsFiles}
 use Rattle.schema_files.specs.declared.files.FileRole.{FileRole}
 use Rattle.schema_files.specs.declared.files.RefusedFile.{RefusedFile}
 use Rattle.schema_files.specs.declared.files.JobStop.{JobStop}
-use Rattle.command_words.specs.Words.{file_at, reads_input, spares_memory}
+use Rattle.command_words.specs.Words.{file_at}
 use Rattle.command_words.specs.declared.words.Command.{Command}
 use Rattle.command_words.specs.declared.forms.Form.{Form}
 use Rattle.command_words.specs.declared.forms.Form.TheVariants as form
@@ -55,17 +55,49 @@ making {X} files make = record {
   AreGood = λ job. (accepted : X) × files.AreGood accepted × (job ≡ make accepted);
 }
 
--- What the files of a command of this form are: one line a form.
-abbrev pub files_by : Form → Command → FilesOf Job
-files_by form.Check command = making (check_files (file_at command 0)) Check
-files_by form.Compat command = making (compat_files (file_at command 0) (file_at command 1)) Compat
-files_by form.Dump command = making (dump_files (file_at command 0) command.also) (λ schemas. Dump schemas command.limits)
-files_by form.Build command = making (build_files (file_at command 0) command.limits.frame) (λ building. Build building command.limits.input)
-files_by form.FixCheck command = making (fixcheck_files (file_at command 0)) (λ tags. FixCheck tags command.limits)
+-- A command's files with the job that they make, whether it takes anything of the input, and whether it takes no memory once they are loaded.
+pub record Commanding : Type 1 where
+  pub files : FilesOf Job
+  pub reads : Bool
+  pub spares : Bool
+
+-- it takes nothing of the input
+abbrev pub on_files : FilesOf Job → Commanding
+on_files files = record { files = files; reads = false; spares = false }
+
+-- it reads the input
+abbrev pub on_input : FilesOf Job → Commanding
+on_input files = record { files = files; reads = true; spares = false }
+
+-- it reads the input, and takes no memory meanwhile
+abbrev pub on_input_sparing : FilesOf Job → Commanding
+on_input_sparing files = record { files = files; reads = true; spares = true }
+
+-- What a command of this form does: one line a form.
+abbrev pub commanding_by : Form → Command → Commanding
+commanding_by form.Check command = on_files (making (check_files (file_at command 0)) Check)
+commanding_by form.Compat command = on_files (making (compat_files (file_at command 0) (file_at command 1)) Compat)
+commanding_by form.Dump command = on_input_sparing (making (dump_files (file_at command 0) command.also) (λ schemas. Dump schemas command.limits))
+commanding_by form.Build command = on_input (making (build_files (file_at command 0) command.limits.frame) (λ building. Build building command.limits.input))
+commanding_by form.FixCheck command = on_input_sparing (making (fixcheck_files (file_at command 0)) (λ tags. FixCheck tags command.limits))
+
+-- what a command does
+abbrev pub commanding_of : Command → Commanding
+commanding_of command = commanding_by command.form command
 
 -- what the files of a command are
 abbrev pub files_of : Command → FilesOf Job
-files_of command = files_by command.form command
+files_of command = (commanding_of command).files
+
+-- whether a command takes anything of the input
+abbrev pub reads_input : Option Command → Bool
+reads_input None = false
+reads_input (Some command) = (commanding_of command).reads
+
+-- whether a command takes no memory once its files are loaded
+abbrev pub spares_memory : Option Command → Bool
+spares_memory None = false
+spares_memory (Some command) = (commanding_of command).spares
 
 -- The job of a command whose files are accepted, or the first refusal of a file.
 abbrev pub Judges : Command → (List ℕ → Option (List ℕ)) → Result Job RefusedFile → Type 0

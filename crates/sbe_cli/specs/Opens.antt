@@ -9,6 +9,7 @@ use Rattle.sbe_base.specs.Objects.{Failed}
 use Rattle.replies.specs.Outside.{Desk, Told}
 use Rattle.schema_files.specs.declared.files.FileRole.{FileRole}
 use Rattle.schema_files.specs.declared.files.RefusedFile.{RefusedFile}
+use Rattle.sbe_cli.specs.declared.unopened.Unopened.{Unopened}
 use Rattle.sbe_cli.specs.declared.unopened.Unopened.TheVariants as unopened
 use Rattle.command_words.specs.declared.words.Command.{Command}
 
@@ -25,15 +26,20 @@ opened_for job = record { job = job; at = opened }
 abbrev pub JudgedAs : Command → Desk → Result Job RefusedFile → Type 0
 JudgedAs command before judged = (contents : List ℕ → Option (List ℕ)) → before.files.told ≡ Some contents → Judges command contents judged
 
--- A file is refused, the files failed, or memory was wanting.
+-- this is noted, and its status answered
+abbrev pub NotesWhy : Unopened → Desk → Desk → Status → Type 0
+NotesWhy why before after code = Told (unopened_line why) (unopened_status why) before.notes after.notes code
+
+-- A file is refused, the files failed, or it ran out of memory.
 pub data Declines (command : Command) (before after : Desk) (code : Status) : Type 0 where
   refuses : (file : RefusedFile) → JudgedAs command before (Err file) → after.files ≡ before.files
-      → Told (unopened_line (unopened.Refused file)) (unopened_status (unopened.Refused file)) before.notes after.notes code → Declines command before after code
+      → NotesWhy (unopened.Refused file) before after code → Declines command before after code
   fails : (role : FileRole) → HasFile command role → Failed before.files after.files
-      → Told (unopened_line (unopened.FileFault role)) (unopened_status (unopened.FileFault role)) before.notes after.notes code → Declines command before after code
+      → NotesWhy (unopened.FileFault role) before after code → Declines command before after code
   wants : code ≡ status.NoMemory → after ≡ before → Declines command before after code
 
 -- The pump of the command's job, or the status that its files are declined with.
 abbrev pub Opens : Command → Desk → Desk → Result PumpState Status → Type 0
-Opens command before after (Ok pump) = JudgedAs command before (Ok pump.job) × IsReady command pump.job × (pump ≡ opened_for pump.job) × (after ≡ before) × IsReadAs command pump.job
+Opens command before after (Ok pump) =
+    JudgedAs command before (Ok pump.job) × IsReady command pump.job × (pump ≡ opened_for pump.job) × (after ≡ before) × IsReadAs command pump.job
 Opens command before after (Err code) = Declines command before after code

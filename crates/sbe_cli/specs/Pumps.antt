@@ -1,4 +1,4 @@
--- What stands inside a pump.
+-- What holds inside a pump.
 use Rattle.std.specs.Prelude.{◌≡◌, Option, Some, None, ⊤}
 use Rattle.sbe_base.specs.declared.status.Limits.{Limits}
 use Rattle.sbe_base.specs.declared.status.Status.{Status}
@@ -10,7 +10,8 @@ use Rattle.command_steps.specs.Stands.{IsBounded, Stands, StandsLines, StandsOnc
 use Rattle.command_steps.specs.declared.kept.Kept.{Kept}
 use Rattle.command_steps.specs.declared.step.Step.{Step}
 use Rattle.command_steps.specs.declared.step.Step.TheVariants.{Ended}
-use Rattle.sbe_cli.specs.Jobs.{Job, Check, Compat, Dump, Build, FixCheck}
+use Rattle.sbe_cli.specs.Jobs as jobs
+use Rattle.sbe_cli.specs.Jobs.{Job}
 use Rattle.sbe_cli.specs.declared.pump.Work.{Work}
 use Rattle.sbe_cli.specs.declared.pump.Work.TheVariants as work
 
@@ -27,23 +28,23 @@ pub record OnJob : Type 0 where
 
 -- One line a command.
 abbrev pub on_job : Work → OnJob
-on_job (work.Check on) = record { job = Check on.command; feed = nothing }
-on_job (work.Compat on) = record { job = Compat on.command; feed = nothing }
-on_job (work.Dump on) = record { job = Dump on.command on.limits; feed = frames on.limits on.stream }
-on_job (work.Build on) = record { job = Build on.command on.limits.input; feed = lines on.limits on.stream }
-on_job (work.FixCheck on) = record { job = FixCheck on.command on.limits; feed = frames on.limits on.stream }
+on_job (work.Check on) = record { job = jobs.Check on.command; feed = nothing }
+on_job (work.Compat on) = record { job = jobs.Compat on.command; feed = nothing }
+on_job (work.Dump on) = record { job = jobs.Dump on.command on.limits; feed = frames on.limits on.stream }
+on_job (work.Build on) = record { job = jobs.Build on.command on.limits.input; feed = lines on.limits on.stream }
+on_job (work.FixCheck on) = record { job = jobs.FixCheck on.command on.limits; feed = frames on.limits on.stream }
 
 -- the job of work
 abbrev pub job_of : Work → Job
 job_of on = (on_job on).job
 
--- what is known of the input behind the pieces
+-- what is known of the input after the pieces
 abbrev pub ahead_in : Feed → Ahead
 ahead_in (frames limits stream) = none_ahead
 ahead_in (lines limits stream) = lines_ahead stream
 ahead_in nothing = none_ahead
 
--- what work knows of the input behind its pieces
+-- what work knows of the input after its pieces
 abbrev pub ahead_of : Work → Ahead
 ahead_of on = ahead_in (on_job on).feed
 

@@ -4,14 +4,14 @@ use Rattle.std.specs.Io.KnownBytes.{Consumes, Appends}
 use Rattle.sbe_base.specs.Causes.{AppendsPart}
 use Rattle.sbe_base.specs.declared.status.Status.{Status}
 use Rattle.sbe_base.specs.declared.status.Status.TheVariants as status
-use Rattle.command_words.specs.Words.{command_of, reads_input, spares_memory}
+use Rattle.command_words.specs.Words.{command_of}
 use Rattle.command_steps.specs.Splits.{Piece, Holds}
 use Rattle.command_steps.specs.Ahead.{Ahead, IsAhead, Follows, Reaches}
 use Rattle.replies.specs.Reply.{Written, Reply, written_of}
 use Rattle.command_steps.specs.Replies.{none_kept, Replies}
 use Rattle.command_steps.specs.Ends.{Outcome, stop_line}
 use Rattle.sbe_cli.specs.Report.{Report}
-use Rattle.sbe_cli.specs.Jobs.{Job, answering_of, reading_of, Judges, HasFile, IsReadAs, IsReady}
+use Rattle.sbe_cli.specs.Jobs.{Job, answering_of, reading_of, Judges, HasFile, IsReadAs, IsReady, reads_input, spares_memory}
 use Rattle.sbe_cli.specs.Stops.{unopened_line}
 use Rattle.sbe_base.specs.Objects.{Failed}
 use Rattle.replies.specs.Outside.{Desk, Sinks, Streams, Outside, Wrote, Breaks, Calm}
@@ -32,6 +32,34 @@ pub record Known (old : Outside) (contents : List ℕ → Option (List ℕ)) (in
   pub files : old.files.told ≡ Some contents
   pub source : old.streams.input.told ≡ Some input
 
+-- it holds of what the files and the input hold, where they tell it
+abbrev pub WhenKnown : Outside → ((List ℕ → Option (List ℕ)) → List ℕ → Type 0) → Type 0
+WhenKnown old P = (contents : List ℕ → Option (List ℕ)) (input : List ℕ) → Known old contents input → P contents input
+
+-- all of these bytes went to the output
+abbrev pub GivesOutput : Outside → Outside → List ℕ → Type 0
+GivesOutput old new bytes = Appends old.streams.sinks.output.told new.streams.sinks.output.told bytes
+
+-- a front of these bytes went to the output
+abbrev pub GivesOutputPart : Outside → Outside → List ℕ → Type 0
+GivesOutputPart old new bytes = AppendsPart old.streams.sinks.output.told new.streams.sinks.output.told bytes
+
+-- a front of these bytes went to the notes
+abbrev pub GivesNotesPart : Outside → Outside → List ℕ → Type 0
+GivesNotesPart old new bytes = AppendsPart old.streams.sinks.notes.told new.streams.sinks.notes.told bytes
+
+-- the source gave these bytes
+abbrev pub GaveInput : Outside → Outside → List ℕ → Type 0
+GaveInput old new taken = Consumes old.streams.input.told new.streams.input.told taken
+
+-- nothing of the input is left
+abbrev pub LeavesNothing : Outside → Outside → Type 0
+LeavesNothing old new = (input : List ℕ) → old.streams.input.told ≡ Some input → new.streams.input.told ≡ Some []
+
+-- the output or the notes failed
+abbrev pub SinkFailed : Outside → Outside → Type 0
+SinkFailed old new = Failed old.streams.sinks.output new.streams.sinks.output ⊎ Failed old.streams.sinks.notes new.streams.sinks.notes
+
 -- the words are a command, its files are accepted, and this is its job
 abbrev pub IsJob : List (List ℕ) → (List ℕ → Option (List ℕ)) → Job → Type 0
 IsJob words contents job = (command : Command) × (command_of words ≡ Some command) × Judges command contents (Ok job)
@@ -43,14 +71,14 @@ written_in outcome = record { output = outcome.output; notes = outcome.notes }
 -- Output, notes and status are those of the report.
 abbrev pub Reports : List (List ℕ) → Outside → Outside → Status → Type 0
 Reports words old new code =
-    (contents : List ℕ → Option (List ℕ)) (input : List ℕ) → Known old contents input →
-    (outcome : Outcome) × Report words contents input outcome × (code ≡ outcome.status) × Wrote old.streams.sinks new.streams.sinks (written_in outcome)
+    WhenKnown old (λ contents input. (outcome : Outcome) × Report words contents input outcome
+    × (code ≡ outcome.status) × Wrote old.streams.sinks new.streams.sinks (written_in outcome))
 
 -- the words are a command that has a file in that role
 abbrev pub NamesFile : List (List ℕ) → FileRole → Type 0
 NamesFile words role = (command : Command) × (command_of words ≡ Some command) × HasFile command role
 
--- ---- what stands after a fault
+-- ---- what is written after a fault
 
 -- All whole pieces of these bytes, which the source gave, are answered.
 pub record AllAnswered (words : List (List ℕ)) (contents : List ℕ → Option (List ℕ)) (taken : List ℕ) (written : Written) : Type 0 where
@@ -61,17 +89,18 @@ pub record AllAnswered (words : List (List ℕ)) (contents : List ℕ → Option
   pub kept : Kept
   pub replies : Replies (answering_of job) none_kept pieces written kept
 
--- the line of an input that failed behind so many bytes
+-- the line of an input that failed after so many bytes
 abbrev pub read_line : List ℕ → List ℕ
 read_line taken = stop_line (stop.ReadFault (length taken))
 
 -- The source gave some bytes and failed. All whole pieces of them are answered, and the fault's line is noted.
 abbrev pub StandsAtRead : List (List ℕ) → Outside → Outside → (List ℕ → Option (List ℕ)) → Type 0
 StandsAtRead words old new contents =
-    (taken : List ℕ) × (written : Written) × Consumes old.streams.input.told new.streams.input.told taken × AllAnswered words contents taken written
+    (taken : List ℕ) × (written : Written) × GaveInput old new taken × AllAnswered words contents taken written
     × Wrote old.streams.sinks new.streams.sinks (record { output = written.output; notes = written.notes ++ read_line taken })
 
--- A write of the answer to the last of these pieces failed. The others' answers are written, and nothing behind it was taken, but for what was read ahead of lines.
+-- A write of the answer to the last of these pieces failed. The others' answers are written, and nothing after it was taken, but for what was read
+-- ahead of lines.
 pub record AtReply (words : List (List ℕ)) (contents : List ℕ → Option (List ℕ)) (input : List ℕ) (old new : Streams) : Type 0 where
   pub job : Job
   pub is_job : IsJob words contents job
@@ -91,16 +120,15 @@ pub record AtReply (words : List (List ℕ)) (contents : List ℕ → Option (Li
   pub whole : Wrote old.sinks mid written
   pub part : Breaks mid new.sinks (written_of reply)
 
--- Where a write failed: at an answer; at the last line of the report, behind all answers; at the line of a fault of the input, or of the files.
+-- Where a write failed: at an answer; at the last line of the report, after all answers; at the line of a fault of the input, or of the files.
 pub data StandsAtWrite (words : List (List ℕ)) (old new : Outside) (contents : List ℕ → Option (List ℕ)) (input : List ℕ) : Type 0 where
   at_reply : AtReply words contents input old.streams new.streams → StandsAtWrite words old new contents input
-  at_end : (outcome : Outcome) → Report words contents input outcome → Appends old.streams.sinks.output.told new.streams.sinks.output.told outcome.output
-      → AppendsPart old.streams.sinks.notes.told new.streams.sinks.notes.told outcome.notes → StandsAtWrite words old new contents input
-  at_read : (taken : List ℕ) (written : Written) → Consumes old.streams.input.told new.streams.input.told taken → AllAnswered words contents taken written
-      → Appends old.streams.sinks.output.told new.streams.sinks.output.told written.output
-      → AppendsPart old.streams.sinks.notes.told new.streams.sinks.notes.told (written.notes ++ read_line taken) → StandsAtWrite words old new contents input
+  at_end : (outcome : Outcome) → Report words contents input outcome → GivesOutput old new outcome.output
+      → GivesNotesPart old new outcome.notes → StandsAtWrite words old new contents input
+  at_read : (taken : List ℕ) (written : Written) → GaveInput old new taken → AllAnswered words contents taken written
+      → GivesOutput old new written.output → GivesNotesPart old new (written.notes ++ read_line taken) → StandsAtWrite words old new contents input
   at_file : (role : FileRole) → NamesFile words role → new.streams.input ≡ old.streams.input → new.streams.sinks.output ≡ old.streams.sinks.output
-      → AppendsPart old.streams.sinks.notes.told new.streams.sinks.notes.told (unopened_line (unopened.FileFault role)) → StandsAtWrite words old new contents input
+      → GivesNotesPart old new (unopened_line (unopened.FileFault role)) → StandsAtWrite words old new contents input
 
 -- The files failed at one of the words: nothing was read or written but the fault's line.
 pub record StandsAtFile (words : List (List ℕ)) (old new : Streams) : Type 0 where
@@ -111,24 +139,24 @@ pub record StandsAtFile (words : List (List ℕ)) (old new : Streams) : Type 0 w
 
 -- ---- fronts
 
--- A line that tells a fault of the files, or of the input behind the bytes that it gave. That object failed.
+-- A line that tells a fault of the files, or of the input after the bytes that it gave. That object failed.
 abbrev pub IsFaultLine : List (List ℕ) → Outside → Outside → List ℕ → Type 0
 IsFaultLine words old new line =
     (Failed old.files new.files × ((role : FileRole) × NamesFile words role × (line ≡ unopened_line (unopened.FileFault role))))
-    ⊎ (Failed old.streams.input new.streams.input × ((taken : List ℕ) × Consumes old.streams.input.told new.streams.input.told taken × (line ≡ read_line taken)))
+    ⊎ (Failed old.streams.input new.streams.input × ((taken : List ℕ) × GaveInput old new taken × (line ≡ read_line taken)))
 
 -- notes grew by a front of these, or by a front of them and a front of such a line
 abbrev pub NotesPart : List (List ℕ) → Outside → Outside → List ℕ → Type 0
 NotesPart words old new notes =
-    AppendsPart old.streams.sinks.notes.told new.streams.sinks.notes.told notes
+    GivesNotesPart old new notes
     ⊎ ((front : List ℕ) × (back : List ℕ) × (line : List ℕ) × (notes ≡ front ++ back) × IsFaultLine words old new line
-    × AppendsPart old.streams.sinks.notes.told new.streams.sinks.notes.told (front ++ line))
+    × GivesNotesPart old new (front ++ line))
 
 -- Output and notes grew by fronts of the report's.
 abbrev pub Fronts : List (List ℕ) → Outside → Outside → Type 0
 Fronts words old new =
     (contents : List ℕ → Option (List ℕ)) (input : List ℕ) (outcome : Outcome) → Known old contents input → Report words contents input outcome →
-    AppendsPart old.streams.sinks.output.told new.streams.sinks.output.told outcome.output × NotesPart words old new outcome.notes
+    GivesOutputPart old new outcome.output × NotesPart words old new outcome.notes
 
 -- ---- the run
 
@@ -141,17 +169,17 @@ pub record Runs (words : List (List ℕ)) (old new : Outside) (code : Status) : 
   -- nothing outside cut the run short: all is as in the report, no call failed, and nothing is left where all of the input was answered
   pub report : IsReported code → Reports words old new code
   pub calm : IsReported code → (new.files.faults ≡ old.files.faults) × Calm old.streams new.streams
-  pub read : reads_input (command_of words) ≡ true → HasRead code → (input : List ℕ) → old.streams.input.told ≡ Some input → new.streams.input.told ≡ Some []
+  pub read : reads_input (command_of words) ≡ true → HasRead code → LeavesNothing old new
   -- a fault is answered only where that object failed
   pub file_fault : code ≡ status.FileFault → Failed old.files new.files
   pub read_fault : code ≡ status.ReadFault → Failed old.streams.input new.streams.input
-  pub write_fault : code ≡ status.WriteFault → Failed old.streams.sinks.output new.streams.sinks.output ⊎ Failed old.streams.sinks.notes new.streams.sinks.notes
-  -- what stands then
+  pub write_fault : code ≡ status.WriteFault → SinkFailed old new
+  -- what is written then
   pub file_stands : code ≡ status.FileFault → StandsAtFile words old.streams new.streams
-  pub read_stands : code ≡ status.ReadFault → (contents : List ℕ → Option (List ℕ)) (input : List ℕ) → Known old contents input → StandsAtRead words old new contents
-  pub write_stands : code ≡ status.WriteFault → (contents : List ℕ → Option (List ℕ)) (input : List ℕ) → Known old contents input → StandsAtWrite words old new contents input
+  pub read_stands : code ≡ status.ReadFault → WhenKnown old (λ contents input. StandsAtRead words old new contents)
+  pub write_stands : code ≡ status.WriteFault → WhenKnown old (λ contents input. StandsAtWrite words old new contents input)
   pub fronts : Fronts words old new
-  -- where the words are a command that spares memory, memory is wanting only before anything was read or written
+  -- where the words are a command that spares memory, it runs out of memory only before anything was read or written
   pub memory : spares_memory (command_of words) ≡ true → code ≡ status.NoMemory → new.streams ≡ old.streams
   -- the source is as it was where the words are no command that reads it, or the run ended before its items
   pub untouched : reads_input (command_of words) ≡ false → new.streams.input ≡ old.streams.input
@@ -161,4 +189,5 @@ pub record Runs (words : List (List ℕ)) (old new : Outside) (code : Status) : 
 abbrev pub CarriesOut : Command → Outside → Outside → Status → Type 0
 CarriesOut command old new code =
     (Declines command (desk old) (desk new) code × (new.streams.input ≡ old.streams.input) × (new.streams.sinks.output ≡ old.streams.sinks.output))
-    ⊎ ((job : Job) × JudgedAs command (desk old) (Ok job) × IsReady command job × (new.files ≡ old.files) × Drains (answering_of job) old.streams new.streams code × IsReadAs command job)
+    ⊎ ((job : Job) × JudgedAs command (desk old) (Ok job) × IsReady command job × (new.files ≡ old.files)
+    × Drains (answering_of job) old.streams new.streams code × IsReadAs command job)

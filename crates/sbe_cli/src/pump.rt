@@ -2,10 +2,9 @@ ghost use Rattle.std.specs.Prelude.{◌≡◌, IfOk};
 ghost use Rattle.replies.specs.Outside.{streams_of, desk_of};
 ghost use Rattle.schema_files.specs.Files.{JobCause};
 ghost use Rattle.command_words.specs.Words.{HasLimits};
-ghost use Rattle.command_steps.specs.Replies.{none_kept, counted_by};
-ghost use Rattle.command_steps.specs.Ahead.{none_ahead};
+ghost use Rattle.command_steps.specs.Replies.{counted_by};
 ghost use Rattle.command_steps.specs.Stands.{CanCount};
-ghost use Rattle.command_steps.specs.Steps.{Steps, Answers, running};
+ghost use Rattle.command_steps.specs.Steps.{Steps, Answers, passage, running};
 ghost use Rattle.sbe_cli.specs.Jobs.{LoadsJob, answering_of, made_so};
 ghost use Rattle.sbe_cli.specs.Opens.{Opens, opened_for};
 ghost use Rattle.sbe_cli.specs.Pumps.{ahead_of, job_of, IsSoundWork, StandsSo, EndsAs, IsOpened};
@@ -62,8 +61,8 @@ impl Pump {
     ///
     /// # Errors
     ///
-    /// The status that the command ends with: a file is absent or refused, the files or the notes failed, or memory
-    /// was wanting. Its line is noted.
+    /// The status that the command ends with: a file is absent or refused, the files or the notes failed, or it ran out of
+    /// memory. Its line is noted.
     pub fn open<F: Files, N: Sink>(
         alloc: Global,
         command: Command,
@@ -84,7 +83,7 @@ impl Pump {
         }
     }
 
-    /// Answers the next item of the input, or ends. What an item gives is written before a byte behind it is asked
+    /// Answers the next item of the input, or ends. What an item gives is written before a byte after it is asked
     /// for; lines are read ahead inside their buffer. A pump that has ended gives the same answer again, and reads and writes nothing.
     pub fn step<I: Source, O: Sink, N: Sink>(
         &mut self,
@@ -93,8 +92,8 @@ impl Pump {
         notes: &mut N,
     ) -> Step
         ensures steps { Steps (answering_of self.old.job) self.old.at self.new.at
-            (streams_of (I.state input.old) (O.state output.old) (N.state notes.old))
-            (streams_of (I.state input.new) (O.state output.new) (N.state notes.new))
+            (passage (streams_of (I.state input.old) (O.state output.old) (N.state notes.old))
+            (streams_of (I.state input.new) (O.state output.new) (N.state notes.new)))
             result }
         ensures job { self.new.job ≡ self.old.job }
     {

@@ -25,7 +25,7 @@ IsRead (Err file.SameId) = ⊤
 IsRead (Err file.FormDiffers) = ⊤
 IsRead (Err (file.NoMap code path)) = ⊤
 
--- what bytes are judged as, unless memory was wanting
+-- what bytes are judged as, unless it ran out of memory
 abbrev pub Reads : Result WireSchema FileRefusal → Result WireSchema LoadStop → Type 0
 Reads judged (Ok schema) = judged ≡ Ok schema
 Reads judged (Err (Refused refusal)) = judged ≡ Err refusal
@@ -87,7 +87,7 @@ NamesLast before now (Err stop.NoMemory) = ⊤
 
 -- ---- several schemas
 
--- what a further file is judged as, unless the files failed or memory was wanting
+-- what a further file is judged as, unless the files failed or it ran out of memory
 abbrev pub JoinsAs : Schemas → Result WireSchema FileRefusal → Result WireSchema LoadStop → Type 0
 JoinsAs schemas file (Ok schema) = JoinsFrom schemas file (Ok schema)
 JoinsAs schemas file (Err (Refused why)) = JoinsFrom schemas file (Err why)
@@ -96,22 +96,25 @@ JoinsAs schemas file (Err NoMemory) = ⊤
 
 -- the same of a name, where the files tell what they hold
 abbrev pub LoadsJoining : Option (List ℕ → Option (List ℕ)) → Schemas → List ℕ → Result WireSchema LoadStop → Type 0
-LoadsJoining told schemas name result = (contents : List ℕ → Option (List ℕ)) → told ≡ Some contents → JoinsAs schemas (file_schema (contents name)) result
+LoadsJoining told schemas name result =
+    (contents : List ℕ → Option (List ℕ)) → told ≡ Some contents → JoinsAs schemas (file_schema (contents name)) result
 
--- what files are judged as, unless they failed or memory was wanting
+-- what files are judged as, unless they failed or it ran out of memory
 abbrev pub JudgedSo : (Result Schemas RefusedFile → Type 0) → Result Schemas JobStop → Type 0
 JudgedSo Judges (Ok schemas) = Judges (Ok schemas)
 JudgedSo Judges (Err (stop.Refused file)) = Judges (Err file)
 JudgedSo Judges (Err (stop.Fault role)) = ⊤
 JudgedSo Judges (Err stop.NoMemory) = ⊤
 
--- the same of further names behind schemas that are taken, where the files tell what they hold
+-- the same of further names after schemas that are taken, where the files tell what they hold
 abbrev pub LoadsMore : Option (List ℕ → Option (List ℕ)) → Schemas → List (List ℕ) → Result Schemas JobStop → Type 0
-LoadsMore told schemas also result = (contents : List ℕ → Option (List ℕ)) → told ≡ Some contents → JudgedSo (JudgesMore contents schemas 1 also) result
+LoadsMore told schemas also result =
+    (contents : List ℕ → Option (List ℕ)) → told ≡ Some contents → JudgedSo (JudgesMore contents schemas 1 also) result
 
 -- the same of all names
 abbrev pub LoadsSchemas : Option (List ℕ → Option (List ℕ)) → List ℕ → List (List ℕ) → Result Schemas JobStop → Type 0
-LoadsSchemas told name also result = (contents : List ℕ → Option (List ℕ)) → told ≡ Some contents → JudgedSo (JudgesSchemas contents name also) result
+LoadsSchemas told name also result =
+    (contents : List ℕ → Option (List ℕ)) → told ≡ Some contents → JudgedSo (JudgesSchemas contents name also) result
 
 -- the file that failed is one of so many further ones, or the first
 abbrev pub FailsAt : ℕ → Result Schemas JobStop → Type 0

@@ -83,12 +83,12 @@ abbrev pub JoinsFrom : Schemas → Result WireSchema FileRefusal → Result Wire
 JoinsFrom schemas (Ok schema) judged = Joins schemas schema judged
 JoinsFrom schemas (Err why) judged = judged ≡ Err why
 
--- behind a file that is taken it goes on so, and a refused one ends all
+-- after a file that is taken it goes on so, and a refused one ends all
 abbrev pub GoesOn : FileRole → Result WireSchema FileRefusal → (WireSchema → Type 0) → Result Schemas RefusedFile → Type 0
 GoesOn role (Ok schema) Next judged = Next schema
 GoesOn role (Err why) Next judged = judged ≡ Err (refused_as role why)
 
--- further files, counted from that number, behind schemas that are taken
+-- further files, counted from that number, after schemas that are taken
 abbrev pub JudgesMore : (List ℕ → Option (List ℕ)) → Schemas → ℕ → List (List ℕ) → Result Schemas RefusedFile → Type 0
 JudgesMore contents schemas number [] judged = judged ≡ Ok schemas
 JudgesMore contents schemas number (name ∷ names) judged =

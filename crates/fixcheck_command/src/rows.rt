@@ -1,0 +1,11 @@
+//! The words of `fixcheck`, computed.
+
+ghost use Rattle.std.specs.Prelude.{◌≡◌, ◌∷◌, [], codes};
+ghost use Rattle.command_words.specs.Words.{rows_of};
+ghost use Rattle.command_words.specs.declared.forms.Form.TheVariants as form;
+
+/// Its row in the table of forms.
+pub fn words()
+    ensures { rows_of (codes "fixcheck")
+        ≡ record { form = form.FixCheck; word = codes "fixcheck"; files = 1; options = codes "--max-frame" ∷ codes "--max-input" ∷ [] } ∷ [] }
+{}
