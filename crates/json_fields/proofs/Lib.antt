@@ -1,6 +1,5 @@
 pub mod Shown
 pub mod FromBytes
-pub mod MembersFit
 pub mod MembersShown
 pub mod Fronts
 pub mod Valid

@@ -1,6 +1,6 @@
 -- The rows of a table, printed one behind another.
-use Rattle.std.proofs.Common.{◌≡◌, ◌≤◌, ℕ, ℤ, Bool, true, false, cond, List, [], ◌∷◌, ◌++◌, refl, sym, ap, ◌∙◌, subst, arith, append_assoc}
-use Rattle.std.proofs.lemmas.List.{append-nil}
+use Rattle.std.proofs.Common.{◌≡◌, ◌≤◌, ◌-◌, ℕ, ℤ, Bool, true, false, cond, List, [], ◌∷◌, ◌++◌, length, take, drop, get_or, refl, sym, ap, ◌∙◌, subst, arith, append_assoc}
+use Rattle.std.proofs.lemmas.List.{append-nil, take_rest}
 use Rattle.std.specs.List.{AllByRecursion}
 use Rattle.serde_json.specs.Data.{null}
 use Rattle.sbe_types.specs.declared.kind.Kind.{Kind, Leaf}
@@ -23,6 +23,7 @@ use Rattle.json_fields.proofs.FromBytes.{single_written, text_written, leaf_writ
 use Rattle.flat_rows.specs.declared.rows.Quick.{Quick}
 use Rattle.flat_rows.specs.Quick.{is_word, is_none, KeepsNumber, KeepsText, IsQuickNumber}
 use Rattle.flat_rows.proofs.Looks.{null_is}
+use Rattle.flat_rows.proofs.RowsJudged.{there}
 use Rattle.flat_rows.specs.declared.rows.FlatRow.{FlatRow}
 use Rattle.flat_rows.specs.Pieces.{Slot}
 use Rattle.flat_rows.specs.Judged.{bytes_there}
@@ -34,8 +35,8 @@ pub record Goes (all rest : List Slot) (block : List ℕ) (prints : List ℕ →
   pub goes : (known : Bool) (text : List ℕ) → SlotsText Little known all block text →
       (more : List ℕ) × (done : List ℕ) × SlotsText Little known rest block more × prints done × (done ++ more ≡ text)
 
-pub goes_first : {all : List Slot} {block : List ℕ} {O : Type 0} {state : O → Object (List ℕ)} {a : Printer O} → Goes all all block (Prints state a a)
-goes_first = record { goes = λ known text h. (text, [], h, prints_nothing, refl) }
+pub goes_first : {all rest : List Slot} {block : List ℕ} {O : Type 0} {state : O → Object (List ℕ)} {a : Printer O} → rest ≡ all → Goes all rest block (Prints state a a)
+goes_first {all} {rest} {block} is = record { goes = λ known text h. (text, [], subst (λ ss. SlotsText Little known ss block text) (sym is) h, prints_nothing, refl) }
 
 pub goes_next : {all : List Slot} {block : List ℕ} {O : Type 0} {state : O → Object (List ℕ)} {start now literal next : Printer O} (before rest : List Slot) (s : Slot) → before ≡ s ∷ rest → Goes all before block (Prints state start now) →
     Prints state now literal s.before → PrintsShown Little s.kind (bytes_there s.kind s.place block) (Prints state literal next) → Goes all rest block (Prints state start next)
@@ -77,6 +78,10 @@ rows_end start n (r ∷ rs) h = let rest = rows_end r.end n rs h.2 in omega (ari
 pub each_end : (start n : ℕ) (rows : List FlatRow) → AreRows start n rows → AllByRecursion (λ (r : FlatRow). r.end ≤ n) rows
 each_end start n [] h = tt
 each_end start n (r ∷ rs) h = (rows_end r.end n rs h.2, each_end r.end n rs h.2)
+
+-- the first row of some, and the others
+pub row_first : (rows : List FlatRow) (r : FlatRow) → 1 ≤ length rows → r ≡ get_or rows 0 r → rows ≡ r ∷ take (length rows - 1) (drop 1 rows)
+row_first rows r some is = there rows 0 r some is ∙ ap (λ rest. r ∷ rest) (sym (take_rest rows 1))
 
 -- ---- numbers
 

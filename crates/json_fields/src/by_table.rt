@@ -29,11 +29,13 @@ pub fn put_rows<O: Sink>(printer: &mut Printer<'_, O>, table: &FlatRows, block: 
         → Prints O.state printer.old printer.new text }
 {
     let mut start = 0;
-    for row in table.rows.as_slice() {
+    let mut left = table.rows.as_slice();
+    'rows: while let [row, rest @ ..] = left {
         let end = row.end as usize;
-        printer.put_lead(&table.bytes[start..], end - start);
+        printer.put_lead(table.bytes.as_slice(), start, end - start);
         put_row(printer, row, block);
         start = end;
+        left = rest;
     }
     printer.put(&table.bytes[start..]);
 }

@@ -1,4 +1,4 @@
-ghost use Rattle.std.specs.Prelude.{◌≡◌, ◌+◌, ◌≤◌, ◌++◌, [], codes, length, take};
+ghost use Rattle.std.specs.Prelude.{◌≡◌, ◌+◌, ◌≤◌, ◌++◌, [], codes, length, take, drop};
 ghost use Rattle.printers.specs.declared.chunk.TheConstants.{CHUNK_BYTES};
 ghost use Rattle.printers.specs.Chunks.{nothing_gathered};
 
@@ -81,17 +81,17 @@ impl Chunk {
         self.failed = failed;
     }
 
-    /// Gathers the first `run` bytes of a lead. It has room for as many as are copied: so the way of the copy goes by no
-    /// number, and of what was copied behind them nothing is kept.
+    /// Gathers `run` bytes of a text from a place in it on. N bytes are copied, whatever `run` is, so the copy has no branch
+    /// on it; the length grows by `run` alone.
     #[inline(always)]
-    pub(crate) fn add_lead<const N: usize>(&mut self, bytes: &[u8], run: usize)
+    pub(crate) fn add_lead<const N: usize>(&mut self, text: &[u8], start: usize, run: usize)
         requires run { run ≤ N }
-        requires enough { N ≤ length bytes.now }
+        requires enough { start + N ≤ length text.now }
         requires room { length self.old.bytes + N ≤ CHUNK_BYTES }
-        ensures { self.new ≡ record self.old { bytes = self.old.bytes ++ take run bytes.now } }
+        ensures { self.new ≡ record self.old { bytes = self.old.bytes ++ take run (drop start text.now) } }
     {
         let at = self.len;
-        place_front::<N>(&mut self.room, at, bytes);
+        place_front::<N>(&mut self.room, at, &text[start..]);
         self.len = at + run;
     }
 

@@ -1,4 +1,4 @@
-ghost use Rattle.std.specs.Prelude.{◌≡◌, ◌+◌, ◌≤◌, ◌++◌, [], codes, length, take};
+ghost use Rattle.std.specs.Prelude.{◌≡◌, ◌+◌, ◌≤◌, ◌++◌, [], codes, length, take, drop};
 ghost use Rattle.sbe_base.specs.Objects.{Object};
 ghost use Rattle.sbe_base.specs.Writes.{Ends, Writes};
 ghost use Rattle.printers.specs.declared.chunk.TheConstants.{CHUNK_BYTES};
@@ -61,24 +61,33 @@ impl<'a, O: Sink> Printer<'a, O> {
         self.chunk.clear(failed);
     }
 
-    /// Prints the first `run` of bytes, which lead to a value.
+    /// Prints `run` bytes of a text, from a place in it on. They lead to a value.
     #[inline(always)]
-    pub fn put_lead(&mut self, bytes: &[u8], run: usize)
-        requires { run ≤ length bytes.now }
-        ensures { Prints O.state self.old self.new (take run bytes.now) }
+    pub fn put_lead(&mut self, text: &[u8], start: usize, run: usize)
+        requires { start + run ≤ length text.now }
+        ensures { Prints O.state self.old self.new (take run (drop start text.now)) }
     {
-        if run <= SHORT_LEAD_BYTES
-            && bytes.len() >= SHORT_LEAD_BYTES
-            && self.chunk.len() + SHORT_LEAD_BYTES <= CHUNK_BYTES
-        {
-            self.chunk.add_lead::<SHORT_LEAD_BYTES>(bytes, run);
-        } else if run <= LEAD_BYTES
-            && bytes.len() >= LEAD_BYTES
-            && self.chunk.len() + LEAD_BYTES <= CHUNK_BYTES
-        {
-            self.chunk.add_lead::<LEAD_BYTES>(bytes, run);
+        if start + SHORT_LEAD_BYTES > text.len() {
+            self.put_apart(&text[start..start + run]);
+        } else if run <= SHORT_LEAD_BYTES && self.chunk.len() + SHORT_LEAD_BYTES <= CHUNK_BYTES {
+            self.chunk.add_lead::<SHORT_LEAD_BYTES>(text, start, run);
         } else {
-            self.put_apart(&bytes[..run]);
+            self.put_long_lead(text, start, run);
+        }
+    }
+
+    /// Prints `run` bytes of a text, which are more than a few, or come where the chunk is nearly full.
+    #[inline(always)]
+    fn put_long_lead(&mut self, text: &[u8], start: usize, run: usize)
+        requires { start + run ≤ length text.now }
+        ensures { Prints O.state self.old self.new (take run (drop start text.now)) }
+    {
+        if start + LEAD_BYTES > text.len() {
+            self.put_apart(&text[start..start + run]);
+        } else if run <= LEAD_BYTES && self.chunk.len() + LEAD_BYTES <= CHUNK_BYTES {
+            self.chunk.add_lead::<LEAD_BYTES>(text, start, run);
+        } else {
+            self.put_apart(&text[start..start + run]);
         }
     }
 

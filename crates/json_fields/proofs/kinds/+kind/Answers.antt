@@ -10,7 +10,7 @@ use Rattle.printers.specs.Prints.{Prints}
 use Rattle.printers.proofs.Printing.{reprinted}
 use Rattle.json_values.proofs.Entries.{there}
 use Rattle.json_fields.proofs.FromBytes.{enum_written, set_written, constant_written, leaf_written, written_as}
-use Rattle.json_fields.proofs.MembersFit.{AreFit, members_fit, fit_first}
+use Rattle.flat_rows.proofs.MembersFit.{AreFit, members_fit, fit_first}
 use Rattle.json_fields.proofs.MembersShown.{Goes, goes_first, goes_next, goes_over}
 use Rattle.json_fields.proofs.kinds.+kind.Goals as goal
 

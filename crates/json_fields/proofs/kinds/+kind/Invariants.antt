@@ -1,6 +1,6 @@
 use Rattle.std.proofs.Common.{drop, length}
 use Rattle.printers.specs.Prints.{Prints}
-use Rattle.json_fields.proofs.MembersFit.{AreFit}
+use Rattle.flat_rows.proofs.MembersFit.{AreFit}
 use Rattle.json_fields.proofs.MembersShown.{Goes}
 use Rattle.json_fields.proofs.kinds.+kind.Given as goal
 
