@@ -156,7 +156,7 @@ beyond [] i h = refl
 beyond (x ∷ xs) zero h = absurd (omega arith)
 beyond (x ∷ xs) (suc i) h = beyond xs i (omega arith)
 
-not_within : {X : Type 0} (xs : List X) (i : ℕ) → slice_get xs i ≡ None → length xs ≤ i
+pub not_within : {X : Type 0} (xs : List X) (i : ℕ) → slice_get xs i ≡ None → length xs ≤ i
 not_within [] i h = omega arith
 not_within (x ∷ xs) zero h = cc
 not_within (x ∷ xs) (suc i) h = let le : length xs ≤ i = not_within xs i h in omega arith

@@ -3,7 +3,6 @@ ghost use Rattle.reference_graph.specs.Learning.{empty, looked_up, links_extent,
 
 use crate::extent::{EMPTY, Extent, ONE_FIELD};
 use crate::graph::{Link, Node};
-use crate::order::references_first;
 use lists::NoMem;
 use std::alloc::Global;
 
@@ -11,13 +10,13 @@ use std::alloc::Global;
 pub type Extents = Vec<Option<Extent>>;
 
 /// What is known of the nodes. A round learns of the nodes all of whose links lead to known ones. The
-/// first goes from references to what has them, and so learns all; one that learns nothing is the last.
-pub fn find_extents(alloc: Global, nodes: &[Node]) -> Result<Extents, NoMem>
+/// first goes in this order, and learns all if it is from references to what has them; one that learns
+/// nothing is the last.
+pub fn find_extents(alloc: Global, nodes: &[Node], order: &[usize]) -> Result<Extents, NoMem>
     ensures { IfOk result (λ extents. HasExtents nodes.now extents.items) }
 {
     let mut extents = unknown_extents(alloc, nodes.len())?;
-    let order = references_first(alloc, nodes)?;
-    learn_in(nodes, order.as_slice(), &mut extents);
+    learn_in(nodes, order, &mut extents);
     'rounds: while learn(nodes, &mut extents) {}
     Ok(extents)
 }

@@ -3,10 +3,12 @@
 //! from what is known of its parts, without putting it together.
 #![tactic(auto)]
 
+mod distinct;
 mod extent;
 mod graph;
 mod laws;
 mod learning;
+mod numbers;
 mod order;
 mod structures;
 mod tag_set;

@@ -3,9 +3,11 @@ ghost use Rattle.reference_graph.specs.Graphs.{links_at, is_endless, Ends};
 ghost use Rattle.reference_graph.specs.declared.graph.Node.{Node};
 ghost use Rattle.reference_graph.specs.Structures.{is_ambiguous, is_over_limit};
 
+use crate::distinct::{Words, find_distinct};
 use crate::extent::Extent;
 use crate::graph::Node;
 use crate::learning::{Extents, find_extents};
+use crate::order::references_first;
 use crate::walk::has_tag_twice;
 use lists::{List, NoMem};
 use std::alloc::Global;
@@ -16,6 +18,8 @@ use std::marker::Model;
 pub struct Structures {
     nodes: List<Node>,
     extents: Extents,
+    /// Which are known to have no tag twice.
+    distinct: Words,
 }
 
 impl Model for Structures {
@@ -24,6 +28,7 @@ impl Model for Structures {
     ghost use Rattle.reference_graph.specs.declared.graph.Node.{Node};
     ghost use Rattle.reference_graph.specs.contracts.graph.Node as node;
     ghost use Rattle.reference_graph.specs.Learning.{HasExtents};
+    ghost use Rattle.reference_graph.specs.Marking.{AreDistinct};
 
     ghost Value = { List Node };
 
@@ -31,7 +36,7 @@ impl Model for Structures {
 
     ghost view = { λ structures. structures.nodes };
 
-    ghost invariant = { λ structures. HasExtents structures.nodes structures.extents.items };
+    ghost invariant = { λ structures. HasExtents structures.nodes structures.extents.items × AreDistinct structures.nodes structures.distinct.items };
 }
 
 impl Structures {
@@ -39,8 +44,14 @@ impl Structures {
     pub fn new(alloc: Global, nodes: List<Node>) -> Result<Structures, NoMem>
         ensures { IfOk result (λ structures. structures ≡ nodes) }
     {
-        let extents = find_extents(alloc, nodes.as_slice())?;
-        Ok(Structures { nodes, extents })
+        let order = references_first(alloc, nodes.as_slice())?;
+        let extents = find_extents(alloc, nodes.as_slice(), order.as_slice())?;
+        let distinct = find_distinct(alloc, nodes.as_slice(), order.as_slice())?;
+        Ok(Structures {
+            nodes,
+            extents,
+            distinct,
+        })
     }
 
     /// How many nodes there are.
@@ -75,6 +86,9 @@ impl Structures {
         requires ends { Ends self.now (links_at self.now i) }
         ensures { IfOk result (λ twice. (node : Node) → slice_get self.now i ≡ Some node → twice ≡ is_ambiguous self.now node.links) }
     {
+        if self.distinct[i].is_some() {
+            return Ok(false);
+        }
         let node = self.nodes.at(i);
         has_tag_twice(
             alloc,

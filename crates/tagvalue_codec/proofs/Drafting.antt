@@ -9,7 +9,7 @@ use Rattle.tagvalue_codec.specs.declared.write.Phase.TheVariants.{Open}
 use Rattle.tagvalue_codec.specs.declared.write.Full.{Full}
 use Rattle.tagvalue_codec.specs.Fields.{soh, tag_bytes, field_bytes}
 use Rattle.tagvalue_codec.specs.Texts.{sum_over, sum_field, text_over}
-use Rattle.tagvalue_codec.specs.Drafts.{IsFull, IsReady, typed, field_of, ready_bytes, data_bytes}
+use Rattle.tagvalue_codec.specs.Drafts.{IsFull, IsReady, typed, field_of, ready_bytes, data_bytes, ready_data_bytes}
 use Rattle.tagvalue_codec.specs.Rooms.{front_over, text_from, head_bytes, needed_for, begin_in, Keeps}
 use Rattle.tagvalue_codec.proofs.Judging.{last_bytes}
 
@@ -119,6 +119,19 @@ pub data_laid_out : (body value length_digits count digits : List ℕ) (length_t
 data_laid_out body value length_digits count digits length_tag tag first amount second =
     (λ i. (body ++ ready_bytes (first i ++ (61 ∷ [])) (amount i)) ++ ready_bytes (second i ++ (61 ∷ [])) value)
     ∙ append_assoc body (field_bytes (field_of length_tag (decimal (length value)))) (field_bytes (field_of tag value))
+
+pub ready_data_long : (length_tag count tag value : List ℕ) → count ≡ decimal (length value) →
+    length (ready_data_bytes length_tag tag value) ≡ length length_tag + length count + 1 + (length tag + length value + 1)
+ready_data_long length_tag count tag value amount =
+    let one = ready_long length_tag (decimal (length value)) in
+    let two = ready_long tag value in
+    omega (arith, one, two, ap length amount, length-append (ready_bytes length_tag (decimal (length value))) (ready_bytes tag value))
+
+pub ready_data_laid_out : (body length_tag count tag value : List ℕ) → count ≡ decimal (length value) →
+    (body ++ ready_bytes length_tag count) ++ ready_bytes tag value ≡ body ++ ready_data_bytes length_tag tag value
+ready_data_laid_out body length_tag count tag value amount =
+    (λ i. (body ++ ready_bytes length_tag (amount i)) ++ ready_bytes tag value)
+    ∙ append_assoc body (ready_bytes length_tag (decimal (length value))) (ready_bytes tag value)
 
 -- ---- what is known of an answer
 

@@ -69,3 +69,7 @@ ready_bytes tag value = tag ++ (value ++ (soh ∷ []))
 -- a length field and its data field
 abbrev pub data_bytes : ℕ → ℕ → List ℕ → List ℕ
 data_bytes length_tag tag value = field_bytes (field_of length_tag (decimal (length value))) ++ field_bytes (field_of tag value)
+
+-- the same by the bytes of both tags
+abbrev pub ready_data_bytes : List ℕ → List ℕ → List ℕ → List ℕ
+ready_data_bytes length_tag tag value = ready_bytes length_tag (decimal (length value)) ++ ready_bytes tag value

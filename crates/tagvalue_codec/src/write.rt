@@ -1,6 +1,6 @@
 ghost use Rattle.std.specs.Prelude.{◌≡◌, ℕ, List, ◌≤◌, ◌<◌, ◌+◌, ◌++◌, ◌∷◌, [], length, false, decimal, IfOk, OnOk, OnErr, IfErr, min};
 ghost use Rattle.tagvalue_codec.specs.Fields.{IsTag, soh, field_bytes};
-ghost use Rattle.tagvalue_codec.specs.Drafts.{IsValue, IsReady, IsFull, idle, begun, done, finished, typed, field_of, ready_bytes, data_bytes};
+ghost use Rattle.tagvalue_codec.specs.Drafts.{IsValue, IsReady, IsFull, idle, begun, done, finished, typed, field_of, ready_bytes, data_bytes, ready_data_bytes};
 ghost use Rattle.tagvalue_codec.specs.Rooms.{head_bytes, text_from, needed_for, sum_of_bytes};
 ghost use Rattle.tagvalue_codec.specs.Texts.{is_locked, text_over};
 ghost use Rattle.tagvalue_codec.specs.declared.write.TheConstants.{MOST_AROUND, MOST_MORE};
@@ -208,6 +208,40 @@ impl FixWriter {
         }
         self.body.append_field(length_digits, count);
         self.body.append_field(digits, value);
+        Ok(())
+    }
+
+    /// Appends a length field and its data field by the bytes of their tags with the `=`, as `95=` and `96=`. They
+    /// count as one, and SOH may stand in the value.
+    ///
+    /// # Errors
+    ///
+    /// `Full` exactly where the text finished with both passes the limit. The text stays as it was.
+    pub fn ready_data_field(
+        &mut self,
+        length_tag: &[u8],
+        tag: &[u8],
+        value: &[u8],
+    ) -> Result<(), Full>
+        requires open { self.old.phase ≡ Phase.Open }
+        requires length_tag { IsReady length_tag.now }
+        requires tag { IsReady tag.now }
+        requires value { 0 < length value.now }
+        ensures ok { OnOk result (self.new ≡ begun self.old.limit self.old.begin (self.old.body ++ ready_data_bytes length_tag.now tag.now value.now)) }
+        ensures err { OnErr result (self.new ≡ self.old) }
+        ensures fits { OnOk result (length (text_over self.old.begin (self.old.body ++ ready_data_bytes length_tag.now tag.now value.now)) ≤ self.old.limit) }
+        ensures full { IfErr result (IsFull self.old.limit self.old.begin (self.old.body ++ ready_data_bytes length_tag.now tag.now value.now)) }
+    {
+        let mut buffer = Buffer::new();
+        let count = buffer.format(value.len()).as_bytes();
+        let first = length_tag.len() as u64 + count.len() as u64 + 1;
+        let second = tag.len() as u64 + value.len() as u64 + 1;
+        match self.admit(first + second) {
+            Ok(()) => {}
+            Err(full) => return Err(full),
+        }
+        self.body.append_ready(length_tag, count);
+        self.body.append_ready(tag, value);
         Ok(())
     }
 

@@ -3,9 +3,9 @@ use Rattle.reference_graph.proofs.Asking.{answers_none, answers_over}
 use Rattle.reference_graph.proofs.structures.Structures.is_over_limit.Goals as goal
 
 pub returns-in-None : goal.returns-in-None
-returns-in-None c = answers_none c.self.inside.nodes c.args.self.now c.self.view_is c.self.inside.extents.items c.self.invariant c.args.i c.requires c.index.result.now c.index.ensures c.in-None.is
+returns-in-None c = answers_none c.self.inside.nodes c.args.self.now c.self.view_is c.self.inside.extents.items c.self.invariant.0 c.args.i c.requires c.index.result.now c.index.ensures c.in-None.is
 
 pub returns-in-Some : goal.returns-in-Some
 returns-in-Some c node at ends =
     c.is_over.ensures
-    ∙ answers_over c.self.inside.nodes c.args.self.now c.self.view_is c.self.inside.extents.items c.self.invariant c.args.i c.requires c.index.result.now c.index.ensures c.in-Some.extent c.in-Some.is node at ends
+    ∙ answers_over c.self.inside.nodes c.args.self.now c.self.view_is c.self.inside.extents.items c.self.invariant.0 c.args.i c.requires c.index.result.now c.index.ensures c.in-Some.extent c.in-Some.is node at ends

@@ -1,0 +1,161 @@
+ghost use Rattle.std.specs.Prelude.{◌≡◌, ◌+◌, ◌<◌, ◌≤◌, length, replicate, slice_get, Some, None, IfOk};
+ghost use Rattle.reference_graph.specs.Marking.{mark, count_mark, link_word, links_word, node_word, Passed, AreClear, AreDistinct};
+
+use crate::graph::{Link, Node};
+use crate::numbers::{numbered_nodes, tags_in};
+use lists::NoMem;
+use std::alloc::Global;
+
+/// How many numbers one pass looks at.
+pub const WIDTH: u32 = 128;
+
+/// The most numbers, so that passes are few. Tags past them share the last, and what has two of those
+/// is gone through.
+pub const MOST_NUMBERS: u32 = 16_384;
+
+/// For each node a word, unless some tag may be in its structure twice.
+pub type Words = Vec<Option<u128>>;
+
+/// Which nodes are known to have no tag twice, each component being looked at once a pass, however
+/// many messages have it. No contract says that all such nodes are found: that takes an order in which
+/// each node comes after those that it refers to.
+pub fn find_distinct(alloc: Global, nodes: &[Node], order: &[usize]) -> Result<Words, NoMem>
+    ensures { IfOk result (λ words. AreDistinct nodes.now words.items) }
+{
+    let tags = tags_in(alloc, nodes)?;
+    let last = tags.len().min(MOST_NUMBERS);
+    let numbered = numbered_nodes(alloc, last, &tags, nodes)?;
+    let words = find_clear(alloc, numbered.as_slice(), order, last)?;
+    Ok(words)
+}
+
+/// Which nodes have no number up to the last twice.
+fn find_clear(alloc: Global, nodes: &[Node], order: &[usize], last: u32) -> Result<Words, NoMem>
+    requires { last ≤ MOST_NUMBERS }
+    ensures { IfOk result (λ words. AreClear nodes.now (last + 1) words.items) }
+{
+    let mut words = all_clear(alloc, nodes.len())?;
+    let mut first = 0;
+    'passes: while first <= last {
+        words = pass(alloc, nodes, order, first, words.as_slice())?;
+        first += WIDTH;
+    }
+    Ok(words)
+}
+
+/// Of so many nodes no number was seen.
+fn all_clear(alloc: Global, count: usize) -> Result<Words, NoMem>
+    ensures { IfOk result (λ words. length words.items ≡ count) }
+{
+    Ok(vec![in alloc; Some(0); count]?)
+}
+
+/// Of so many nodes nothing is known.
+fn none_clear(alloc: Global, count: usize) -> Result<Words, NoMem>
+    ensures { IfOk result (λ words. words.items ≡ replicate count None) }
+{
+    Ok(vec![in alloc; None; count]?)
+}
+
+/// Looks at the numbers from the first on, in the nodes of which all passes before told.
+fn pass(
+    alloc: Global,
+    nodes: &[Node],
+    order: &[usize],
+    first: u32,
+    before: &[Option<u128>],
+) -> Result<Words, NoMem>
+    requires { length before.now ≡ length nodes.now }
+    ensures { IfOk result (λ words. Passed nodes.now first before.now words.items) }
+{
+    let mut words = none_clear(alloc, nodes.len())?;
+    for i in order {
+        if *i < nodes.len() {
+            pass_at(nodes, *i, first, before, &mut words);
+        }
+    }
+    Ok(words)
+}
+
+/// The same for the node at a place.
+fn pass_at(nodes: &[Node], i: usize, first: u32, before: &[Option<u128>], words: &mut Words)
+    requires within { i < length nodes.now }
+    requires before { length before.now ≡ length nodes.now }
+    requires long { length words.old.items ≡ length nodes.now }
+    ensures { Passed nodes.now first before.now words.old.items → Passed nodes.now first before.now words.new.items }
+{
+    if let Some(_) = word_at(before, i) {
+        words[i] = node_word(words.as_slice(), first, &nodes[i]);
+    }
+}
+
+fn word_at(words: &[Option<u128>], i: usize) -> Option<u128>
+    requires { i < length words.now }
+    ensures { slice_get words.now i ≡ Some result }
+{
+    words[i]
+}
+
+/// What the words so far tell of a node.
+fn node_word(words: &[Option<u128>], first: u32, node: &Node) -> Option<u128>
+    ensures { result ≡ node_word words.now first node.now }
+{
+    links_word(
+        words,
+        first,
+        count_mark(first, node.count),
+        node.links.as_slice(),
+    )
+}
+
+fn count_mark(first: u32, count: Option<u32>) -> u128
+    ensures { result ≡ count_mark first count }
+{
+    match count {
+        None => 0,
+        Some(number) => mark(first, number),
+    }
+}
+
+/// What they tell of links after those so far.
+fn links_word(words: &[Option<u128>], first: u32, so_far: u128, links: &[Link]) -> Option<u128>
+    ensures { result ≡ links_word words.now first so_far links.now }
+{
+    let mut all = so_far;
+    for link in links {
+        match link_word(words, first, *link) {
+            None => return None,
+            Some(word) => {
+                if all & word != 0 {
+                    return None;
+                }
+                all |= word;
+            }
+        }
+    }
+    Some(all)
+}
+
+/// What they tell of one link.
+fn link_word(words: &[Option<u128>], first: u32, link: Link) -> Option<u128>
+    ensures { result ≡ link_word words.now first link }
+{
+    match link {
+        Link::Field(number) => Some(mark(first, number)),
+        Link::To(i) => match words.get(i) {
+            None => Some(0),
+            Some(word) => *word,
+        },
+    }
+}
+
+/// The bit of a number, if this pass looks at it.
+fn mark(first: u32, number: u32) -> u128
+    ensures { result ≡ mark first number }
+{
+    if first <= number && number - first < WIDTH {
+        1 << (number - first)
+    } else {
+        0
+    }
+}
