@@ -12,4 +12,6 @@ mod window;
 
 pub use held::Ended;
 pub use lines::{LineEnded, LineErr, LineStream, LineTaken};
+pub use reading::Dry;
 pub use stream::{FrameStream, LONGEST_FRAME, StreamErr, Taken};
+pub use window::Window;

@@ -6,7 +6,7 @@ use sbe_base::{Failed, Source};
 
 /// Why no byte came.
 #[derive(Clone, Copy, Debug, PartialEq, Eq)]
-pub(crate) enum Dry {
+pub enum Dry {
     /// The read failed.
     Fault,
     /// The source has ended.

@@ -32,7 +32,7 @@ pub(crate) enum NoEnd {
 
 /// Bytes in a buffer, of a source that may give so many at most. Where they lie in it doesn't show.
 #[derive(Drop)]
-pub(crate) struct Window {
+pub struct Window {
     buffer: Vec<u8>,
     start: usize,
     end: usize,
@@ -53,7 +53,7 @@ impl Model for Window {
 
 impl Window {
     /// No bytes yet, and room for `size`.
-    pub(crate) fn new(alloc: Global, size: usize, limit: u64) -> Result<Window, NoMem>
+    pub fn new(alloc: Global, size: usize, limit: u64) -> Result<Window, NoMem>
         ensures { IfOk result (λ w. w.held ≡ none_held size limit) }
     {
         let mut buffer = Vec::with_capacity(alloc, size)?;
@@ -68,28 +68,28 @@ impl Window {
     }
 
     /// The bytes that are held.
-    pub(crate) fn as_slice(&self) -> &[u8]
+    pub fn as_slice(&self) -> &[u8]
         ensures { result.now ≡ self.now.held.bytes }
     {
         &self.buffer[self.start..self.end]
     }
 
     /// How many bytes were taken in all.
-    pub(crate) fn taken(&self) -> u64
+    pub fn taken(&self) -> u64
         ensures { result ≡ self.now.held.taken }
     {
         self.taken
     }
 
     /// How many bytes are held.
-    pub(crate) fn len(&self) -> usize
+    pub fn len(&self) -> usize
         ensures { result ≡ length self.now.held.bytes }
     {
         self.end - self.start
     }
 
     /// What is held has room, and no more bytes were taken than may be.
-    pub(crate) fn is_within(&self)
+    pub fn is_within(&self)
         ensures fits { length self.now.held.bytes ≤ self.now.held.size }
         ensures taken { self.now.held.taken ≤ self.now.held.limit }
     {
@@ -97,7 +97,7 @@ impl Window {
     }
 
     /// How many bytes have room.
-    pub(crate) fn size(&self) -> usize
+    pub fn size(&self) -> usize
         ensures { result ≡ self.now.held.size }
     {
         self.buffer.len()
@@ -131,7 +131,7 @@ impl Window {
     }
 
     /// Lets the first bytes go.
-    fn let_go(&mut self, n: usize)
+    pub fn let_go(&mut self, n: usize)
         requires { n ≤ length self.old.held.bytes }
         ensures { self.new.held ≡ let_go_of n self.old.held }
     {
@@ -162,7 +162,7 @@ impl Window {
     }
 
     /// Reads once, so that at most so many bytes are held.
-    pub(crate) fn more<I: Source>(&mut self, input: &mut I, want: usize) -> Result<(), Dry>
+    pub fn more<I: Source>(&mut self, input: &mut I, want: usize) -> Result<(), Dry>
         requires less { length self.old.held.bytes < want }
         requires room { want ≤ self.old.held.size }
         ensures most { OnOk result (length self.new.held.bytes ≤ want) }
