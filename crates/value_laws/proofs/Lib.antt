@@ -1,8 +1,8 @@
-mod ReadBack
-mod Fractions
-mod DecimalsBack
-mod Reduced
-mod SetsBack
-mod WholeBack
-mod Spelled
-mod Enough
+pub mod ReadBack
+pub mod Fractions
+pub mod DecimalsBack
+pub mod Reduced
+pub mod SetsBack
+pub mod WholeBack
+pub mod Spelled
+pub mod Enough

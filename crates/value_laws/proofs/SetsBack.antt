@@ -14,10 +14,10 @@ use Rattle.fix_values.proofs.CodeLemmas.{filter_all, is_byte}
 use Rattle.fix_values.proofs.TableLemmas.{byte_named}
 
 -- the bytes of codes of one byte each
-abbrev bytes : List Code → List ℕ
+abbrev pub bytes : List Code → List ℕ
 bytes codes = map first_byte codes
 
-one_byte : (text : List ℕ) → length text ≡ 1 → text ≡ slice_index text 0 ∷ []
+pub one_byte : (text : List ℕ) → length text ≡ 1 → text ≡ slice_index text 0 ∷ []
 one_byte [] h = absurd (omega (arith, h))
 one_byte (b ∷ []) h = refl
 one_byte (b ∷ c ∷ bs) h = absurd (omega (arith, h))
@@ -49,10 +49,10 @@ odd_length x (y ∷ ys) h =
     let all = both (is_choice x) (list_all is_choice (y ∷ ys)) h in
     ap (λ t. length t % 2 == 1) (joined_two x y ys (is_byte x all.0)) ∙ odd_two (length (joined (y ∷ ys))) (odd_length y ys all.1)
 
-same_bytes : (a b : List ℕ) → length a ≡ 1 → length b ≡ 1 → bytes_eq a b ≡ eqb (slice_index a 0) (slice_index b 0)
+pub same_bytes : (a b : List ℕ) → length a ≡ 1 → length b ≡ 1 → bytes_eq a b ≡ eqb (slice_index a 0) (slice_index b 0)
 same_bytes a b h g = ap (λ t. bytes_eq t b) (one_byte a h) ∙ (ap (bytes_eq (slice_index a 0 ∷ [])) (one_byte b g) ∙ and_true (eqb (slice_index a 0) (slice_index b 0)))
 
-among_bytes : (x : Code) (xs : List Code) → is_choice x ≡ true → list_all is_choice xs ≡ true → is_among (first_byte x) (bytes xs) ≡ list_any (same_text x) xs
+pub among_bytes : (x : Code) (xs : List Code) → is_choice x ≡ true → list_all is_choice xs ≡ true → is_among (first_byte x) (bytes xs) ≡ list_any (same_text x) xs
 among_bytes x [] g h = refl
 among_bytes x (y ∷ ys) g h =
     let all = both (is_choice y) (list_all is_choice ys) h in
@@ -62,7 +62,7 @@ any_filter_by : (b : Bool) (q : Code → Bool) (y : Code) (ys : List Code) → q
 any_filter_by true q y ys h g = rw (h, g)
 any_filter_by false q y ys h g = g
 
-any_filter : (p q : Code → Bool) (xs : List Code) → list_any q xs ≡ false → list_any q (filter p xs) ≡ false
+pub any_filter : (p q : Code → Bool) (xs : List Code) → list_any q xs ≡ false → list_any q (filter p xs) ≡ false
 any_filter p q [] h = refl
 any_filter p q (y ∷ ys) h =
     let none = neither (q y) (list_any q ys) h in
@@ -83,13 +83,13 @@ distinct_bytes p (x ∷ xs) h a =
     let apart = both (not (list_any (same_text x) xs)) (is_apart same_text xs) a in
     distinct_by (p x) x (filter p xs) all.0 (filter_all p is_choice xs all.1) (any_filter p (same_text x) xs (is_not_true _ apart.0)) (distinct_bytes p xs all.1 apart.1)
 
-weaken : (x : Code) (xs : List Code) (cs : List ℕ) → list_all (has_code xs) cs ≡ true → list_all (has_code (x ∷ xs)) cs ≡ true
+pub weaken : (x : Code) (xs : List Code) (cs : List ℕ) → list_all (has_code xs) cs ≡ true → list_all (has_code (x ∷ xs)) cs ≡ true
 weaken x xs [] h = refl
 weaken x xs (c ∷ cs) h =
     let all = both (has_code xs c) (list_all (has_code xs) cs) h in
     together (is_code_of c x || has_code xs c) _ (or_right (is_code_of c x) (has_code xs c) all.0) (weaken x xs cs all.1)
 
-own_code : (x : Code) → is_choice x ≡ true → is_code_of (first_byte x) x ≡ true
+pub own_code : (x : Code) → is_choice x ≡ true → is_code_of (first_byte x) x ≡ true
 own_code x h = same_bytes x.text (first_byte x ∷ []) (is_byte x h) refl ∙ (Decides-eqb (first_byte x) (first_byte x)).1 refl
 
 coded_by : (b : Bool) (x : Code) (xs ys : List Code) → is_choice x ≡ true → list_all (has_code xs) (bytes ys) ≡ true → list_all (has_code (x ∷ xs)) (bytes (cond b (x ∷ ys) ys)) ≡ true
@@ -118,7 +118,7 @@ head_named : (b : Bool) (x : Code) (F : List Code) → is_choice x ≡ true → 
 head_named true x F g h none = or_left (eqb (first_byte x) (first_byte x)) _ ((Decides-eqb (first_byte x) (first_byte x)).1 refl)
 head_named false x F g h none = among_bytes x F g h ∙ none
 
-named_alike : (p : Code → Bool) (cs : List Code) → list_all is_choice cs ≡ true → is_apart same_text cs ≡ true → AllByRecursion (λ y. is_among (first_byte y) (bytes (filter p cs)) ≡ p y) cs
+pub named_alike : (p : Code → Bool) (cs : List Code) → list_all is_choice cs ≡ true → is_apart same_text cs ≡ true → AllByRecursion (λ y. is_among (first_byte y) (bytes (filter p cs)) ≡ p y) cs
 named_alike p [] h a = tt
 named_alike p (x ∷ xs) h a =
     let all = both (is_choice x) (list_all is_choice xs) h in
@@ -128,11 +128,11 @@ named_alike p (x ∷ xs) h a =
       lift p (p x) x (filter p xs) xs all.0 all.1 none (named_alike p xs all.1 apart.1),
     )
 
-filter_same : (p q : Code → Bool) (cs : List Code) → AllByRecursion (λ y. q y ≡ p y) cs → filter q cs ≡ filter p cs
+pub filter_same : (p q : Code → Bool) (cs : List Code) → AllByRecursion (λ y. q y ≡ p y) cs → filter q cs ≡ filter p cs
 filter_same p q [] h = refl
 filter_same p q (x ∷ xs) h = ap (λ b. cond b (x ∷ filter q xs) (filter q xs)) h.0 ∙ ap (λ l. cond (p x) (x ∷ l) l) (filter_same p q xs h.1)
 
-named_on : (p : Code → Bool) (B : List ℕ) (cs : List Code) → list_all is_choice cs ≡ true → AllByRecursion (λ y. is_among (first_byte y) B ≡ p y) cs → AllByRecursion (λ y. is_named B y ≡ p y) cs
+pub named_on : (p : Code → Bool) (B : List ℕ) (cs : List Code) → list_all is_choice cs ≡ true → AllByRecursion (λ y. is_among (first_byte y) B ≡ p y) cs → AllByRecursion (λ y. is_named B y ≡ p y) cs
 named_on p B [] h same = tt
 named_on p B (x ∷ xs) h same =
     let all = both (is_choice x) (list_all is_choice xs) h in
@@ -144,7 +144,7 @@ set_by true false true own text h = absurd (cc h)
 set_by true false false own text h = (refl, refl, ok_is own text h)
 set_by false b c own text h = absurd (cc h)
 
-odd_set : (cs : List Code) → list_all is_choice cs ≡ true → (length (joined cs) == 0) ≡ false → (length (joined cs) % 2 == 1) ≡ true
+pub odd_set : (cs : List Code) → list_all is_choice cs ≡ true → (length (joined cs) == 0) ≡ false → (length (joined cs) % 2 == 1) ≡ true
 odd_set [] h some = absurd (false≢true (sym some))
 odd_set (x ∷ xs) h some = odd_length x xs h
 

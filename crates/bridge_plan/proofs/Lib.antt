@@ -1,0 +1,10 @@
+pub mod Planning
+pub mod Covered
+pub mod PlanParts
+pub mod Distinct
+pub mod RulesKept
+pub mod SchemaGives
+pub mod Counting
+pub mod Passing
+pub mod Translating
+pub mod Computing

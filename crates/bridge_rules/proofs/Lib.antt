@@ -1,0 +1,17 @@
+pub mod OptionLemmas
+pub mod BoolLemmas
+pub mod ReducedForms
+pub mod PlainRules
+pub mod CodeRules
+pub mod ShownTexts
+pub mod Units
+pub mod SoundRules
+pub mod Moments
+pub mod Sets
+pub mod ReadBack
+pub mod DateTexts
+pub mod BoundedRules
+pub mod TypeFacts
+pub mod TableRules
+pub mod Computing
+pub mod OneItem

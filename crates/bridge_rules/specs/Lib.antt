@@ -1,0 +1,11 @@
+pub mod Rules
+pub mod Members
+pub mod Texts
+pub mod Values
+pub mod Items
+pub mod Good
+pub mod Datatypes
+pub mod Table
+pub mod Sound
+pub mod Bounds
+pub mod Rows

@@ -1,0 +1,46 @@
+//! Laws of the rules of values, as functions without a body.
+
+ghost use Rattle.std.specs.Prelude.{◌≡◌, ℕ, List, Some, None, Ok};
+ghost use Rattle.sbe_types.specs.declared.message.Value.{Value};
+ghost use Rattle.sbe_types.specs.declared.kind.Kind.{Kind};
+ghost use Rattle.schema_facts.specs.InOrder.{IsKindFrom};
+ghost use Rattle.bridge_rules.specs.Rules.{Rule};
+ghost use Rattle.bridge_rules.specs.Datatypes.{Datatype};
+ghost use Rattle.bridge_rules.specs.Table.{rule_of};
+ghost use Rattle.bridge_rules.specs.Good.{Good};
+ghost use Rattle.bridge_rules.specs.Texts.{text_by};
+ghost use Rattle.bridge_rules.specs.Values.{value_by, missing_by};
+ghost use Rattle.bridge_rules.specs.Items.{value_item, text_item};
+ghost use Rattle.bridge_rules.specs.Sound.{IsSound, ShowsGood};
+ghost use Rattle.bridge_rules.specs.Bounds.{IsBounded, CanShow, IsMapped};
+
+/// Each rule of the table keeps what the laws of messages ask, where its types and codes are as
+/// those of a checked schema.
+pub fn rules_are_sound()
+    ensures { (rule : Rule) → IsBounded rule → IsSound rule }
+{}
+
+/// What a rule writes of a good value is told by it, where its types and codes are as those of a
+/// checked schema.
+pub fn good_values_are_shown()
+    ensures { (rule : Rule) → IsBounded rule → CanShow rule → ShowsGood rule }
+{}
+
+/// The rules of the kinds of a checked schema have the bounds that the laws ask.
+pub fn rules_of_checked_kinds_are_bounded()
+    ensures { (k : Kind) (d : Datatype) (rule : Rule) → IsKindFrom 1 k → IsMapped d
+        → rule_of k d ≡ Some rule → IsBounded rule × CanShow rule }
+{}
+
+/// A value and its text have one item for the applications that compare them, and a value without a
+/// field has none.
+pub fn values_and_texts_have_one_item()
+    ensures read { (rule : Rule) (t : List ℕ) (v : Value) → IsBounded rule → value_by rule t ≡ Ok v
+        → text_item rule t ≡ value_item rule v }
+    ensures shown { (rule : Rule) (v : Value) (t : List ℕ) → IsBounded rule → CanShow rule → Good rule v
+        → text_by rule v ≡ Ok (Some t) → text_item rule t ≡ value_item rule v }
+    ensures missing { (rule : Rule) (v : Value) → IsBounded rule → missing_by rule ≡ Some v
+        → value_item rule v ≡ None }
+    ensures unwritten { (rule : Rule) (v : Value) → IsBounded rule → CanShow rule → Good rule v
+        → text_by rule v ≡ Ok None → value_item rule v ≡ None }
+{}

@@ -1,0 +1,16 @@
+pub mod AnswerLemmas
+pub mod TagLemmas
+pub mod Turning
+pub mod Refusing
+pub mod Cutting
+pub mod Writing
+pub mod There
+pub mod Arranging
+pub mod Filling
+pub mod Firsts
+pub mod Whole
+pub mod Lengths
+pub mod Cursor
+pub mod Telling
+pub mod WrittenAgain
+pub mod Limits
