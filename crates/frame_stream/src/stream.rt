@@ -86,6 +86,7 @@ impl FrameStream {
     ///
     /// Each variant of [`StreamErr`]. After [`StreamErr::ReadFault`] the bytes of the unfinished frame stay, and the
     /// next call goes on with them.
+    #[inline(always)]
     pub fn take<I: Source>(&mut self, input: &mut I) -> Result<Taken, StreamErr>
         ensures stays { IfSome self.old.ended (λ ended. result ≡ told_by ended) }
         ensures kept { IsSome self.old.ended → self.new ≡ self.old }
