@@ -17,7 +17,7 @@ use Rattle.bridge_plan.specs.StructureFacts.{EachGroup, HasCount}
 use Rattle.bridge_plan.proofs.PlanParts.{Steps, plan_by}
 
 -- the count of a group's repeat is that of its dimension
-repeat_count : (tag place : ℕ) (inner : Structure) (x : Group) (g : Repeat) → repeat_of tag place inner x ≡ Some g → count_leaf x ≡ Some g.count
+pub repeat_count : (tag place : ℕ) (inner : Structure) (x : Group) (g : Repeat) → repeat_of tag place inner x ≡ Some g → count_leaf x ≡ Some g.count
 repeat_count tag place inner x g h = by_delimiter (delimiter_of inner) (count_leaf x) refl h
   where
     by_delimiter : (d : Option ℕ) (c : Option LeafOf) → count_leaf x ≡ c →

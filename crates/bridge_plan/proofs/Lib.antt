@@ -7,4 +7,5 @@ pub mod SchemaGives
 pub mod Counting
 pub mod Passing
 pub mod Translating
+pub mod FittingMessages
 pub mod Computing

@@ -171,7 +171,7 @@ slot_numbered m tag level slot h = by_field (field_slot m tag 0 (out-Level level
         record { place = subst (HasPlace level tag) (sym own.place) own.at; holds = λ v good. subst (λ p. IsHeld p v) (sym own.place) (own.holds v good) }
 
 -- what a group's repeat says of its place and level
-repeat_is : (tag place : ℕ) (inner : Structure) (x : Group) (g : Repeat) → repeat_of tag place inner x ≡ Some g → (g.place ≡ place) × (g.level ≡ level_in x)
+pub repeat_is : (tag place : ℕ) (inner : Structure) (x : Group) (g : Repeat) → repeat_of tag place inner x ≡ Some g → (g.place ≡ place) × (g.level ≡ level_in x)
 repeat_is tag place inner x g h = by_delimiter (delimiter_of inner) (count_leaf x) h
   where
     by_delimiter : (d : Option ℕ) (c : Option LeafOf) →

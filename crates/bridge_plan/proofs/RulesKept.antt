@@ -21,6 +21,9 @@ use Rattle.bridge_plan.specs.CheckedLevels.{AreOrdered, HasOrderedFields, IsOrde
 use Rattle.bridge_rules.proofs.OptionLemmas.{some_is, none_some, and_then_is}
 use Rattle.bridge_rules.proofs.BoolLemmas.{either, if_true, if_false}
 use Rattle.bridge_rules.proofs.TableRules.{rule_kept}
+use Rattle.bridge_rules.specs.Again.{HasText}
+use Rattle.bridge_rules.proofs.RepeatingRules.{rule_repeats}
+use Rattle.bridge_rules.proofs.TextsAgain.{texts_again}
 use Rattle.bridge_rules.proofs.BoundedRules.{bounded_sound, bounded_shown}
 
 abbrev slot_by : ℕ → ℕ → Rule → Slot
@@ -32,14 +35,15 @@ field_fit m tag i (f ∷ fs) slot all mapped h = elim (either (f.id == tag)) [
   | inl t ↦
       let is = and_then_is (rule_of f.kind (datatype_of m tag)) (λ (rule : Rule). Some (slot_by tag i rule)) slot
       (sym (if_true (f.id == tag) (and_then (rule_of f.kind (datatype_of m tag)) (λ rule. Some (slot_by tag i rule))) (field_slot m tag (suc i) fs) t) ∙ h) in
-      subst IsFit (ap (λ s. s.rule) (some_is is.2)) (rule_kept f.kind (datatype_of m tag) is.0 all.0 mapped is.1)
+      let kept = rule_kept f.kind (datatype_of m tag) is.0 all.0 mapped is.1 in
+      subst IsFit (ap (λ s. s.rule) (some_is is.2)) (kept.0, kept.1, rule_repeats f.kind (datatype_of m tag) is.0 all.0 is.1)
   | inr n ↦ field_fit m tag (suc i) fs slot all.1 mapped
       (sym (if_false (f.id == tag) (and_then (rule_of f.kind (datatype_of m tag)) (λ rule. Some (slot_by tag i rule))) (field_slot m tag (suc i) fs) n) ∙ h)
 ]
 
 data_fit_by : (d : DataField) (kind : Datatype) (rule : Rule) → data_rule d kind ≡ Some rule → IsFit rule
-data_fit_by d raw rule h = subst IsFit (some_is h) (tt, tt)
-data_fit_by d text rule h = subst IsFit (some_is h) (tt, tt)
+data_fit_by d raw rule h = subst IsFit (some_is h) (tt, tt, tt)
+data_fit_by d text rule h = subst IsFit (some_is h) (tt, tt, tt)
 data_fit_by d whole_number rule h = none_some h
 data_fit_by d decimal_number rule h = none_some h
 data_fit_by d character rule h = none_some h
@@ -105,3 +109,6 @@ plan_sound m s level is = each_rule IsFit IsSound (λ rule fit. bounded_sound ru
 
 pub plan_shown : (m : Mapping) (s : Structure) (level : Level) → IsOrdered m s level → EachRule ShowsGood (plan_of m s level)
 plan_shown m s level is = each_rule IsFit ShowsGood (λ rule fit. bounded_shown rule fit.0 fit.1) (plan_of m s level) (fit_rules m s level is.fields is.groups is.mapped)
+
+pub plan_again : (m : Mapping) (s : Structure) (level : Level) → IsOrdered m s level → EachRule HasText (plan_of m s level)
+plan_again m s level is = each_rule IsFit HasText (λ rule fit. texts_again rule fit.0 fit.2) (plan_of m s level) (fit_rules m s level is.fields is.groups is.mapped)

@@ -1,6 +1,6 @@
 -- The levels of a checked schema have what the laws of messages ask of them.
-use Rattle.std.proofs.Common.{◌≡◌, inl, inr, ℕ, ◌+◌, ◌<◌, ◌≤◌, ◌^◌, suc, true, false, Bool, cond, arith, List, [], ◌∷◌, Option, Some, None, refl, sym, ap, ◌∙◌, subst, ℤ, pos}
-use Rattle.std.specs.Prelude.{◌&&◌, codes, slice_get, int_le, ⊤}
+use Rattle.std.proofs.Common.{◌≡◌, ℕ, ◌+◌, ◌<◌, ◌^◌, true, false, Bool, cond, arith, List, [], ◌∷◌, Some, None, refl, subst, ℤ, pos}
+use Rattle.std.specs.Prelude.{◌&&◌, ◌==◌, codes, slice_get, int_le}
 use Rattle.std.specs.List.{AllByRecursion}
 use Rattle.std.specs.Str.{bytes_eq}
 use Rattle.std.proofs.lemmas.Int.{ints}
@@ -8,7 +8,7 @@ use Rattle.std.proofs.lemmas.Bool.Decides.{nat_tests}
 use denote.Hole.Carrier as carrier
 use Rattle.sbe_types.specs.declared.schema.Group as groups
 use Rattle.sbe_types.specs.declared.kind.Leaf.{Leaf as LeafOf}
-use Rattle.sbe_types.specs.declared.kind.Kind.{Kind, Leaf, Enum, Set, Const, Comp', Comp}
+use Rattle.sbe_types.specs.declared.kind.Kind.{Kind, Leaf, Enum, Set, Const, Comp'}
 use Rattle.sbe_types.specs.declared.kind.Member.{Member}
 use Rattle.sbe_types.specs.declared.schema.Field.{Field}
 use Rattle.sbe_types.specs.declared.schema.Group.{Group, Group', out-Group}
@@ -18,22 +18,23 @@ use Rattle.sbe_types.specs.Places.{begin_of, end_past}
 use Rattle.sbe_types.specs.Shown.{admits}
 use Rattle.sbe_wire.specs.Named.{Spot, spot_of, spot_named}
 use Rattle.schema_rules.specs.Ranges.{is_number_of}
-use Rattle.schema_facts.specs.InOrder.{IsLeafFrom, IsKindFrom, IsKindInOrder, IsCompositeInOrder}
-use Rattle.schema_facts.specs.Levels.{Node, node, nodes, nodes_from, all_nodes}
-use Rattle.schema_facts.specs.Measured.{IsDimension, IsMeasuredLevel, AreMeasured}
+use Rattle.schema_facts.specs.InOrder.{IsLeafFrom, IsKindFrom, IsKindInOrder}
+use Rattle.schema_facts.specs.Levels.{Node, node, nodes, all_nodes}
+use Rattle.schema_facts.specs.Measured.{IsMeasuredLevel, AreMeasured}
 use Rattle.schema_facts.specs.CheckedLevels.{HasKinds}
-use Rattle.schema_facts.specs.IsChecked.{EachLevel, IsChecked}
+use Rattle.schema_facts.specs.IsChecked.{IsChecked}
 use Rattle.schema_facts.proofs.KindLists.{KindsList, made_members}
 use Rattle.schema_facts.proofs.LevelForms.{all_of_message, holds_below}
 use Rattle.reference_graph.specs.Expansion.{Structure, ended, plain, counted}
-use Rattle.bridge_rules.specs.Members.{and_then}
 use Rattle.bridge_rules.proofs.OptionLemmas.{some_is, none_some, and_then_some}
 use Rattle.bridge_rules.proofs.TypeFacts.{primitive_short}
 use Rattle.bridge_terms.specs.Plans.{Each}
-use Rattle.bridge_plan.specs.Mappings.{Mapping}
-use Rattle.bridge_plan.specs.Covers.{uncovered, group_of, groups_in, level_in, count_leaf}
+use Rattle.bridge_rules.specs.Datatypes.{Datatype}
+use Rattle.bridge_rules.specs.Bounds.{IsMapped}
+use Rattle.bridge_plan.specs.Mappings.{Mapping, datatype_in}
+use Rattle.bridge_plan.specs.Covers.{uncovered, groups_in, level_in}
 use Rattle.bridge_plan.specs.StructureFacts.{IsDistinct, EachGroup, HasCount}
-use Rattle.bridge_plan.specs.CheckedLevels.{AreOrdered, HasOrderedFields, IsOrdered, IsCovered, HasShortCodes}
+use Rattle.bridge_plan.specs.CheckedLevels.{AreOrdered, HasOrderedFields, IsCovered, HasShortCodes}
 use Rattle.bridge_plan.proofs.Covered.{found_group}
 use Rattle.bridge_plan.proofs.PlanParts.{groups_same}
 
@@ -145,3 +146,17 @@ checked_covered schema m s i level checked codes_short distinct at h =
         mapped = codes_short;
       };
     }
+
+-- ---- codes
+
+mapped_in : (tag : ℕ) (ds : List (ℕ × Datatype)) → AllByRecursion (λ (d : ℕ × Datatype). IsMapped d.1) ds → IsMapped (datatype_in tag ds)
+mapped_in tag [] all = tt
+mapped_in tag (d ∷ ds) all = by_test (d.0 == tag) (mapped_in tag ds all.1)
+  where
+    by_test : (b : Bool) → IsMapped (datatype_in tag ds) → IsMapped (cond b d.1 (datatype_in tag ds))
+    by_test true more = all.0
+    by_test false more = more
+
+-- the codes of a mapping are short where those of each of its datatypes are
+pub table_short : (m : Mapping) → AllByRecursion (λ (d : ℕ × Datatype). IsMapped d.1) m.datatypes → HasShortCodes m
+table_short m all tag = mapped_in tag m.datatypes all

@@ -1,23 +1,19 @@
 -- Messages of covered templates and tag-value texts, there and back.
-use Rattle.std.proofs.Common.{◌≡◌, ◌⊎◌, ℕ, ◌<◌, ◌^◌, true, List, [], ◌∷◌, ◌++◌, length, Option, Some, None, Result, Ok, Err, refl, sym, ap, ◌∙◌, subst}
-use Rattle.std.specs.Prelude.{pos}
+use Rattle.std.proofs.Common.{◌≡◌, ◌⊎◌, ℕ, List, Option, Some, None, Ok, Err, sym, ap, ◌∙◌, subst}
 use Rattle.sbe_types.specs.declared.message.Block.{Block}
-use Rattle.sbe_types.specs.declared.message.Value.{Value}
-use Rattle.sbe_types.specs.declared.schema.Group.{Group}
 use Rattle.sbe_types.specs.declared.schema.Level.{Level}
-use Rattle.sbe_types.specs.Shown.{admits}
 use Rattle.tagvalue_codec.specs.Fields.{Field}
-use Rattle.reference_graph.specs.Expansion.{Structure, ended, plain, counted}
+use Rattle.reference_graph.specs.Expansion.{Structure, counted}
+use Rattle.bridge_rules.specs.Again.{HasText}
 use Rattle.bridge_rules.specs.Sound.{IsSound, ShowsGood}
 use Rattle.bridge_rules.specs.Items.{Item}
 use Rattle.bridge_rules.specs.Members.{and_then}
-use Rattle.bridge_rules.proofs.OptionLemmas.{some_is}
-use Rattle.bridge_terms.specs.Plans.{Plan, Repeat, Tree, Each, done, single, group, AreGood}
-use Rattle.bridge_terms.specs.PlanFacts.{EachRule, HasText, IsPlaced, IsRoot, AreCounted}
+use Rattle.bridge_terms.specs.Plans.{Tree}
+use Rattle.bridge_terms.specs.PlanFacts.{EachRule, IsPlaced, IsRoot}
 use Rattle.bridge_terms.specs.Parts.{application_fields}
-use Rattle.bridge_terms.specs.Gathering.{items_of_fields, items_of, values_of_fields, application_view, message_application_items, field_application_items}
+use Rattle.bridge_terms.specs.Gathering.{items_of_fields, items_of, application_view, message_application_items, field_application_items}
 use Rattle.bridge_terms.specs.MessageFields.{fields_of, no_text_at}
-use Rattle.bridge_terms.specs.WayBack.{IsBack, back_refused}
+use Rattle.bridge_terms.specs.WayBack.{back_refused}
 use Rattle.bridge_terms.specs.Blocks.{values_of, block_of, IsPlanOf, IsBackBlock}
 use Rattle.fix_values.specs.declared.rule.V.TheVariants.{Range}
 use Rattle.bridge_terms.proofs.WrittenAgain.{written_again}
@@ -26,16 +22,15 @@ use Rattle.bridge_terms.proofs.Filling.{values_again}
 use Rattle.bridge_terms.proofs.There.{same_items, there_and_back, good_back}
 use Rattle.bridge_terms.proofs.Whole.{held_all, back_block, some_block, block_unrefused, one_back_block}
 use Rattle.bridge_plan.specs.Mappings.{Mapping}
-use Rattle.bridge_plan.specs.Covers.{plan_of, group_of, groups_in, level_in, repeat_of}
-use Rattle.bridge_plan.specs.StructureFacts.{EachGroup, HasCount}
+use Rattle.bridge_plan.specs.Covers.{plan_of}
 use Rattle.bridge_plan.specs.CheckedLevels.{IsCovered}
 use Rattle.bridge_plan.specs.Translation.{Values, Draft, whole_text, IsMessageOf, IsHead, IsTranslated, ComesBack, IsCanonicalBlock}
 use Rattle.bridge_plan.proofs.Planning.{plan_root, placed}
 use Rattle.bridge_plan.proofs.Covered.{covered_delimited}
-use Rattle.bridge_plan.proofs.PlanParts.{Steps, plan_by, plan_is_of}
+use Rattle.bridge_plan.proofs.PlanParts.{plan_is_of}
 use Rattle.bridge_plan.proofs.Counting.{counts_short}
 use Rattle.bridge_plan.proofs.Passing.{passed_over}
-use Rattle.bridge_plan.proofs.RulesKept.{plan_sound, plan_shown}
+use Rattle.bridge_plan.proofs.RulesKept.{plan_sound, plan_shown, plan_again}
 
 pub covered_plan : (m : Mapping) (s : Structure) (level : Level) → IsCovered m s level → IsPlanOf level (plan_of m s level)
 covered_plan m s level is = plan_is_of m s level is.distinct is.covered is.counts
@@ -51,6 +46,9 @@ covered_sound m s level is = plan_sound m s level is.ordered
 
 pub covered_shown : (m : Mapping) (s : Structure) (level : Level) → IsCovered m s level → EachRule ShowsGood (plan_of m s level)
 covered_shown m s level is = plan_shown m s level is.ordered
+
+pub covered_again : (m : Mapping) (s : Structure) (level : Level) → IsCovered m s level → EachRule HasText (plan_of m s level)
+covered_again m s level is = plan_again m s level is.ordered
 
 pub one_message : (m : Mapping) (s : Structure) (level : Level) (text : List Field) (b c : Block) → IsCovered m s level → IsMessageOf m s level text b → IsMessageOf m s level text c → b ≡ c
 one_message m s level text b c is h k =
@@ -112,10 +110,10 @@ pub again_items : (m : Mapping) (s : Structure) (level : Level) (text : List Fie
 again_items m s level text b draft is headed h written = (again_back m s level text b draft is headed h written).back.same ∙ sym h.back.same
 
 -- the message of a text has fields again
-pub again_written : (m : Mapping) (s : Structure) (level : Level) (text : List Field) (b : Block) → IsCovered m s level → EachRule HasText (plan_of m s level) → IsMessageOf m s level text b →
+pub again_written : (m : Mapping) (s : Structure) (level : Level) (text : List Field) (b : Block) → IsCovered m s level → IsMessageOf m s level text b →
     ((fields : List Field) × (fields_of (plan_of m s level) (values_of (plan_of m s level) b) ≡ Ok fields)) ⊎ ((tag : ℕ) × (fields_of (plan_of m s level) (values_of (plan_of m s level) b) ≡ Err (no_text_at tag Range)))
-again_written m s level text b is texts h =
-    written_again (plan_of m s level) (covered_root m s level is).planned (covered_shown m s level is) texts (application_fields m.lists text) (values_of (plan_of m s level) b) h.back.good h.back.same
+again_written m s level text b is h =
+    written_again (plan_of m s level) (covered_root m s level is).planned (covered_sound m s level is) (covered_shown m s level is) (covered_again m s level is) (application_fields m.lists text) (values_of (plan_of m s level) b) h.back
 
 -- ---- items as applications see them
 

@@ -185,6 +185,16 @@ cover_of m level = cover_in m level (structure_for m (out-Level level).semantic)
 
 -- ---- the template of a message
 
--- the templates with this MsgType; a text is of the one template, and of none where there are none or several
+-- the templates with this MsgType
 abbrev pub templates_of : List ℕ → List Level → List Level
 templates_of kind levels = filter (λ level. bytes_eq (out-Level level).semantic kind) levels
+
+-- the one item of a list, if it has exactly one
+abbrev pub lone : {X : Type 0} → List X → Option X
+lone [] = None
+lone (x ∷ []) = Some x
+lone (x ∷ y ∷ xs) = None
+
+-- the template of the texts with this MsgType: the only one that has it, where the mapping has a message of it
+abbrev pub template_for : Mapping → List ℕ → List Level → Option Level
+template_for m kind levels = and_then (structure_for m kind) (λ structure. lone (templates_of kind levels))

@@ -4,3 +4,4 @@ pub mod StructureFacts
 pub mod CheckedLevels
 pub mod Translation
 pub mod Rows
+pub mod CaseRows

@@ -30,7 +30,8 @@ delimiter_of ended = None
 delimiter_of (plain tag rest) = Some tag
 delimiter_of (counted tag inner rest) = None
 
-abbrev datatype_in : ℕ → List (ℕ × Datatype) → Datatype
+-- the datatype of this tag in a table
+abbrev pub datatype_in : ℕ → List (ℕ × Datatype) → Datatype
 datatype_in tag [] = unbridged
 datatype_in tag (d ∷ ds) = if d.0 == tag then d.1 else datatype_in tag ds
 

@@ -2,9 +2,12 @@
 //! tag is at two places covers the template of a checked schema.
 
 ghost use Rattle.std.specs.Prelude.{◌≡◌, ℕ, false, List, None, Some, Ok, Err, ◌⊎◌, slice_get};
+ghost use Rattle.std.specs.List.{AllByRecursion};
 ghost use Rattle.sbe_types.specs.declared.message.Block.{Block};
+ghost use Rattle.sbe_types.specs.declared.kind.Order.{Order};
 ghost use Rattle.sbe_types.specs.declared.schema.Level.{Level};
 ghost use Rattle.sbe_types.specs.declared.schema.WireSchema.{WireSchema};
+ghost use Rattle.sbe_wire.specs.Fits.{BlockFits};
 ghost use Rattle.fix_values.specs.declared.rule.V.TheVariants.{Range};
 ghost use Rattle.tagvalue_codec.specs.Fields.{Field};
 ghost use Rattle.schema_facts.specs.IsChecked.{IsChecked};
@@ -12,8 +15,11 @@ ghost use Rattle.reference_graph.specs.declared.graph.Link.{Link};
 ghost use Rattle.reference_graph.specs.declared.graph.Node.{Node};
 ghost use Rattle.reference_graph.specs.Expansion.{Structure, structure_of};
 ghost use Rattle.reference_graph.specs.Structures.{is_ambiguous};
+ghost use Rattle.bridge_rules.specs.Again.{HasText};
+ghost use Rattle.bridge_rules.specs.Bounds.{IsMapped};
+ghost use Rattle.bridge_rules.specs.Datatypes.{Datatype};
 ghost use Rattle.bridge_rules.specs.Sound.{IsSound, ShowsGood};
-ghost use Rattle.bridge_terms.specs.PlanFacts.{EachRule, HasText, IsPlaced, IsRoot};
+ghost use Rattle.bridge_terms.specs.PlanFacts.{EachRule, IsPlaced, IsRoot};
 ghost use Rattle.bridge_terms.specs.Parts.{application_fields};
 ghost use Rattle.bridge_terms.specs.Gathering.{items_of_fields, items_of, message_application_items, field_application_items};
 ghost use Rattle.bridge_terms.specs.WayBack.{back_refused};
@@ -38,6 +44,11 @@ pub fn covered_templates_of_checked_schemas()
         → uncovered m s level ≡ None → IsCovered m s level }
 {}
 
+/// The codes of a mapping are short where those of each of its datatypes are.
+pub fn codes_of_short_datatypes_are_short()
+    ensures { (m : Mapping) → AllByRecursion (λ (d : ℕ × Datatype). IsMapped d.1) m.datatypes → HasShortCodes m }
+{}
+
 /// The plan of a covered level has each part of the level once, and its tags and rules are in order.
 pub fn a_covered_level_has_a_plan()
     ensures whole { (m : Mapping) (s : Structure) (level : Level) → IsCovered m s level
@@ -48,6 +59,8 @@ pub fn a_covered_level_has_a_plan()
         → EachRule IsSound (plan_of m s level) }
     ensures shown { (m : Mapping) (s : Structure) (level : Level) → IsCovered m s level
         → EachRule ShowsGood (plan_of m s level) }
+    ensures again { (m : Mapping) (s : Structure) (level : Level) → IsCovered m s level
+        → EachRule HasText (plan_of m s level) }
 {}
 
 /// A text is translated to at most one message.
@@ -98,6 +111,14 @@ pub fn a_message_comes_back_with_its_items()
         × (items_of (plan_of m s level) (values_of (plan_of m s level) b) ≡ items_of (plan_of m s level) values) }
 {}
 
+/// A block that fits its template comes back with its items, wherever it has fields.
+pub fn blocks_that_fit_come_back()
+    ensures { (order : Order) (m : Mapping) (s : Structure) (level : Level) (block : Block) (draft : Draft)
+        → IsCovered m s level → IsHead m draft.head → BlockFits order level block
+        → fields_of (plan_of m s level) (values_of (plan_of m s level) block) ≡ Ok draft.fields
+        → ComesBack m s level (values_of (plan_of m s level) block) draft }
+{}
+
 /// A message of canonical values comes back as it was.
 pub fn a_canonical_message_comes_back()
     ensures { (m : Mapping) (s : Structure) (level : Level) (block : Block) (draft : Draft)
@@ -108,7 +129,7 @@ pub fn a_canonical_message_comes_back()
 /// has the same items, and is translated to the same message.
 pub fn a_text_written_again_has_its_items()
     ensures written { (m : Mapping) (s : Structure) (level : Level) (text : List Field) (b : Block) → IsCovered m s level
-        → EachRule HasText (plan_of m s level) → IsMessageOf m s level text b
+        → IsMessageOf m s level text b
         → ((fields : List Field) × (fields_of (plan_of m s level) (values_of (plan_of m s level) b) ≡ Ok fields))
         ⊎ ((tag : ℕ) × (fields_of (plan_of m s level) (values_of (plan_of m s level) b) ≡ Err (no_text_at tag Range))) }
     ensures application { (m : Mapping) (s : Structure) (level : Level) (text : List Field) (b : Block) (draft : Draft)

@@ -17,8 +17,9 @@ ghost use Rattle.bridge_terms.specs.Places.{places_of, to_part, to_entry, no_tex
 ghost use Rattle.bridge_terms.specs.WayBack.{back_refused, unreadable, unlike, misgrouped, unknown, missing, repeated};
 ghost use Rattle.bridge_terms.specs.Blocks.{values_of, IsPlanOf};
 ghost use Rattle.bridge_plan.specs.Mappings.{structure_for};
-ghost use Rattle.bridge_plan.specs.Covers.{cover_of, covered_by, unmapped, no_message, templates_of};
+ghost use Rattle.bridge_plan.specs.Covers.{cover_of, covered_by, unmapped, no_message, templates_of, template_for};
 ghost use Rattle.bridge_plan.specs.Rows.{plan_for, uint8_leaf, tm, st, tm_plan, st_plan, one_moment, one_set, px, rd, gr, order, px_plan, rd_plan, gr_plan, order_plan, lists, price, raw_bytes, one_order, one_bare_entry, order_block, order_fields, tagged, mapping, strange, lines, template, template_of_group, x_at, uncovered_in, empty_component_first, party_plan};
+ghost use Rattle.bridge_plan.specs.CaseRows.{lacking, lacking_map, bare_data, bare_data_map, zoned, zoned_map};
 
 /// The plans of covered templates.
 pub fn plan_rows()
@@ -186,6 +187,19 @@ pub fn message_rows()
     ensures one { templates_of (codes "U3") (px ∷ rd ∷ gr ∷ []) ≡ px ∷ [] }
     ensures none { templates_of (codes "ZZ") (px ∷ rd ∷ gr ∷ []) ≡ [] }
     ensures several { templates_of (codes "D") (px ∷ order ∷ strange ∷ []) ≡ order ∷ strange ∷ [] }
+    ensures only { template_for mapping (codes "U3") (px ∷ rd ∷ gr ∷ []) ≡ Some px }
+    ensures no_other { template_for mapping (codes "U1") (px ∷ gr ∷ []) ≡ None }
+    ensures ambiguous { template_for mapping (codes "D") (px ∷ order ∷ strange ∷ []) ≡ None }
+    ensures unmapped { template_for mapping [] (px ∷ lines ∷ []) ≡ None }
+{}
+
+/// The first part that isn't covered, of larger examples: a field that the mapped group lacks, a number
+/// whose field is data, and a number of a datatype that isn't bridged.
+pub fn larger_cover_rows()
+    ensures lacking { cover_of lacking_map lacking ≡ unmapped (codes "g14" ∷ codes "f9" ∷ []) }
+    ensures data { cover_of bare_data_map bare_data ≡ unmapped (codes "f14" ∷ []) }
+    ensures zoned { cover_of zoned_map zoned ≡ unmapped (codes "f10" ∷ []) }
+    ensures other { cover_of bare_data_map zoned ≡ no_message }
 {}
 
 /// Groups on the way back, and what is wrong with others.

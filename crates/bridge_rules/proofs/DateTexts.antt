@@ -104,7 +104,7 @@ number_or_null_is : (o : Option ℤ) → number_in (number_or_null o) ≡ o
 number_or_null_is None = refl
 number_or_null_is (Some n) = refl
 
-month_text_is : (leaves : MonthLeaves) (m : MonthYear) → text_by (month_year leaves) (month_value m) ≡ field_text (month_shown m)
+pub month_text_is : (leaves : MonthLeaves) (m : MonthYear) → text_by (month_year leaves) (month_value m) ≡ field_text (month_shown m)
 month_text_is leaves m = simp (items_hidden-the_row-Value-0, number_or_null_is)
 
 pub month_year_shown : (leaves : MonthLeaves) → ShowsGood (month_year leaves)
@@ -167,7 +167,7 @@ moment_back from_midnight unit n t h =
       λ rule. given_front rule t (digits 2 clock.hour) (58 ∷ (digits 2 clock.minute ++ (58 ∷ (digits 2 clock.second ++ fraction_text clock.places clock.fraction)))) s.spelled (some_digits 2 clock.hour (omega arith)) (plain_clock clock),
     )
 
-moment_text_is : (from : From) (leaf : LeafOf) (unit : UnitBy) (x : TimeCount) → Fits leaf unit x → text_by (moment from leaf unit) (moment_value unit x) ≡ field_text (moment_text from (Some x.unit) x.count)
+pub moment_text_is : (from : From) (leaf : LeafOf) (unit : UnitBy) (x : TimeCount) → Fits leaf unit x → text_by (moment from leaf unit) (moment_value unit x) ≡ field_text (moment_text from (Some x.unit) x.count)
 moment_text_is from leaf (always u) x fits =
     let here : text_by (moment from leaf (always u)) (moment_value (always u) x) ≡ field_text (moment_text from (Some u) x.count) = simp items_hidden-the_row-Value-0 in
     here ∙ ap (λ w. field_text (moment_text from (Some w) x.count)) (eqb-true u x.unit (and_second (is_value leaf x.count) _ fits))

@@ -13,5 +13,10 @@ pub mod DateTexts
 pub mod BoundedRules
 pub mod TypeFacts
 pub mod TableRules
+pub mod TableCases
+pub mod FittingValues
+pub mod FittingShown
 pub mod Computing
 pub mod OneItem
+pub mod TextsAgain
+pub mod RepeatingRules

@@ -52,7 +52,7 @@ least_is digits = by_tests (nat_le digits 0) (nat_le digits 3) (nat_le digits 6)
     by_tests false false false = refl
 
 -- what an instant is in the unit of a part
-in_unit_is : (leaf : LeafOf) (unit : UnitBy) (r : Result Instant V) (x : TimeCount) → in_unit_of leaf unit r ≡ Ok x → (item_of_read (instant_item_of unit) r ≡ Some (item_of unit x)) × Fits leaf unit x
+pub in_unit_is : (leaf : LeafOf) (unit : UnitBy) (r : Result Instant V) (x : TimeCount) → in_unit_of leaf unit r ≡ Ok x → (item_of_read (instant_item_of unit) r ≡ Some (item_of unit x)) × Fits leaf unit x
 in_unit_is leaf unit (Err v) x h = err_ok h
 in_unit_is leaf (always u) (Ok i) x h =
     let is = timed_is u (judged leaf (in_unit i.nanos u)) x h in
@@ -69,7 +69,7 @@ in_unit_is leaf (on_wire l) (Ok i) x h =
       ap (λ b. b && (is_value l (pos x.unit) && is_unit x.unit)) fits.1 ∙ ap (λ b. b && is_unit x.unit) there.1 ∙ ap is_unit (sym is.1) ∙ least_is i.digits,
     )
 
-instant_is : {m n : ℤ} {a b : Option ℕ} → instant m a ≡ instant n b → (m ≡ n) × (a ≡ b)
+pub instant_is : {m n : ℤ} {a b : Option ℕ} → instant m a ≡ instant n b → (m ≡ n) × (a ≡ b)
 instant_is h = (ap nanos_in h, ap unit_of h)
   where
     nanos_in : Item → ℤ

@@ -100,7 +100,7 @@ integer_decimal_shown leaf narrow short v good = elim good [
   | inr g ↦ subst (IsShown (integer_decimal leaf)) (sym g.0) (none_shown (integer_decimal leaf) value.Null refl refl)
 ]
 
-if_back_is : {X : Type 0} (back : List ℕ → Result X V) (r : Result (List ℕ) V) (t : List ℕ) → if_back back r ≡ Ok t → r ≡ Ok t
+pub if_back_is : {X : Type 0} (back : List ℕ → Result X V) (r : Result (List ℕ) V) (t : List ℕ) → if_back back r ≡ Ok t → r ≡ Ok t
 if_back_is back (Err v) t h = err_ok h
 if_back_is {X} back (Ok s) t h = by_read (back s) h
   where

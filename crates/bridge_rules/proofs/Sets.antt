@@ -313,11 +313,11 @@ some_bits : (c : ℕ) (F : List Code) → has_code F c ≡ true → 0 < bits_of 
 some_bits c [] h = true_false h refl
 some_bits c (x ∷ xs) h = let one : 0 < 2 ^ natural x.number = one-le-pow (natural x.number) 2 (omega arith) in omega (arith, bits_more x xs, one)
 
-not_zero_is : (n : ℕ) → 0 < n → not_zero n ≡ Some n
+pub not_zero_is : (n : ℕ) → 0 < n → not_zero n ≡ Some n
 not_zero_is zero h = absurd (omega (arith, h))
 not_zero_is (suc n) h = refl
 
-set_is : (codes : List Code) (t : List ℕ) (z : ℤ) → set_number codes t ≡ Ok z →
+pub set_is : (codes : List Code) (t : List ℕ) (z : ℤ) → set_number codes t ≡ Ok z →
     (is_set_text t ≡ true) × (list_all (has_code codes) (characters t) ≡ true) × (pos (bits_of (filter (is_named (characters t)) codes)) ≡ z)
 set_is codes t z h = by_tests (is_set_text t) (list_all (has_code codes) (characters t)) h
   where
@@ -342,7 +342,7 @@ choices_is h = (ap codes_of h, ap rest_of h)
     rest_of (choices f a) = a
     rest_of i = pos 0
 
-first_among : (codes : List Code) (t : List ℕ) → is_set_text t ≡ true → list_all (has_code codes) (characters t) ≡ true → 0 < bits_of (filter (is_named (characters t)) codes)
+pub first_among : (codes : List Code) (t : List ℕ) → is_set_text t ≡ true → list_all (has_code codes) (characters t) ≡ true → 0 < bits_of (filter (is_named (characters t)) codes)
 first_among codes [] spelled all = true_false spelled refl
 first_among codes (b ∷ bs) spelled all =
     some_bits b (filter (is_named (characters (b ∷ bs))) codes)

@@ -113,7 +113,7 @@ same_value_is value.Null v h = true_false h refl
 same_value_is value.Const v h = true_false h refl
 same_value_is value.Absent v h = true_false h refl
 
-compared_is : (own : Value) (r : Result Value Misread) (v : Value) → if_constant own r ≡ Ok v → (r ≡ Ok own) × (v ≡ value.Const)
+pub compared_is : (own : Value) (r : Result Value Misread) (v : Value) → if_constant own r ≡ Ok v → (r ≡ Ok own) × (v ≡ value.Const)
 compared_is own (Err w) v h = err_ok h
 compared_is own (Ok w) v h = by_test (same_value own w) refl h
   where
@@ -162,7 +162,7 @@ any_text_sound = record {
 
 -- ---- characters
 
-char_is : (leaf : LeafOf) (t : List ℕ) (n : ℤ) → char_value leaf t ≡ Ok n → (t ≡ natural n ∷ []) × (is_value leaf n ≡ true)
+pub char_is : (leaf : LeafOf) (t : List ℕ) (n : ℤ) → char_value leaf t ≡ Ok n → (t ≡ natural n ∷ []) × (is_value leaf n ≡ true)
 char_is leaf [] n h = err_ok h
 char_is leaf (b ∷ []) n h =
     let is = judged_is leaf (Ok (pos b)) n h in
@@ -231,7 +231,7 @@ integer_decimal_sound leaf narrow = kept_sound {X = ℤ} {make = value.Num} {Fit
 own_form : (d : Dec) → unsigned_abs d.mantissa < 10 ^ 39 → IsReduced d → reduced_form d ≡ d
 own_form d few reduced = one_form (reduced_form d) d (form_reduced d.mantissa d.exponent few) reduced (form_same d.mantissa d.exponent)
 
-floated_is : (m e : LeafOf) (r : Result Dec V) (d : Dec) → decimal_in_types m e r ≡ Ok d → (r ≡ Ok d) × (is_value m d.mantissa ≡ true) × (is_value e d.exponent ≡ true)
+pub floated_is : (m e : LeafOf) (r : Result Dec V) (d : Dec) → decimal_in_types m e r ≡ Ok d → (r ≡ Ok d) × (is_value m d.mantissa ≡ true) × (is_value e d.exponent ≡ true)
 floated_is m e (Err v) d h = err_ok h
 floated_is m e (Ok x) d h = by_test (is_value m x.mantissa && is_value e x.exponent) refl h
   where
@@ -294,7 +294,7 @@ figure_some : {Z : Type 0} (n : ℤ) (r : Result (List ℕ) V) → written_numbe
 figure_some n (Ok s) h = some_none h
 figure_some n (Err v) h = some_none h
 
-given_plain : (rule : Rule) (t : List ℕ) → ((b : ℕ) (bs : List ℕ) → is_given rule (b ∷ bs) ≡ not (has_soh (b ∷ bs))) → is_given rule t ≡ true → has_soh t ≡ false
+pub given_plain : (rule : Rule) (t : List ℕ) → ((b : ℕ) (bs : List ℕ) → is_given rule (b ∷ bs) ≡ not (has_soh (b ∷ bs))) → is_given rule t ≡ true → has_soh t ≡ false
 given_plain rule [] plain h = true_false h refl
 given_plain rule (b ∷ bs) plain h = not_true _ (sym (plain b bs) ∙ h)
 
@@ -340,7 +340,7 @@ truth_forth (x ∷ xs) leaf b n h =
           (more.0, or_right (int_eq x.number n) _ more.1, more.2)
     ]
 
-boolean_forth : (names : List Named) (leaf : LeafOf) (t : List ℕ) (n : ℤ) → boolean_number names leaf t ≡ Ok n → (boolean_shown names n ≡ Ok t) × (is_listed names n ≡ true) × (is_null leaf n ≡ false)
+pub boolean_forth : (names : List Named) (leaf : LeafOf) (t : List ℕ) (n : ℤ) → boolean_number names leaf t ≡ Ok n → (boolean_shown names n ≡ Ok t) × (is_listed names n ≡ true) × (is_null leaf n ≡ false)
 boolean_forth names leaf [] n h = err_ok h
 boolean_forth names leaf (b ∷ c ∷ bs) n h = err_ok h
 boolean_forth names leaf (b ∷ []) n h = by_test ((b == 89) || (b == 78)) h
@@ -398,7 +398,7 @@ day_count_sound leaf = kept_sound {X = ℤ} {make = value.Num} {Fits = λ n. is_
 month_is : {m n : MonthYear} → in_month m ≡ in_month n → m ≡ n
 month_is h = cc
 
-month_admitted_is : (leaves : MonthLeaves) (r : Result MonthYear V) (m : MonthYear) → month_admitted leaves r ≡ Ok m → (r ≡ Ok m) × (is_month_of leaves m ≡ true)
+pub month_admitted_is : (leaves : MonthLeaves) (r : Result MonthYear V) (m : MonthYear) → month_admitted leaves r ≡ Ok m → (r ≡ Ok m) × (is_month_of leaves m ≡ true)
 month_admitted_is leaves (Err v) m h = err_ok h
 month_admitted_is leaves (Ok x) m h = by_test (is_month_of leaves x) refl h
   where

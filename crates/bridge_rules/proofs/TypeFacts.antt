@@ -28,6 +28,7 @@ use Rattle.bridge_rules.specs.Bounds.{IsShort, IsNarrow, IsUnsigned, is_short}
 use Rattle.bridge_rules.specs.Datatypes.{NamedCode}
 use Rattle.bridge_rules.specs.Rules.{is_char}
 use Rattle.bridge_rules.specs.Table.{code_with, code_of, codes_of, number_codes, number_text, choice_code, choice_codes, named_text}
+use Rattle.bridge_rules.specs.Again.{IsWord}
 use Rattle.bridge_rules.proofs.OptionLemmas.{some_is, none_some, and_second}
 use Rattle.bridge_rules.proofs.BoolLemmas.{true_false, either, or_left, or_right, none_of, if_true, if_false}
 
@@ -37,7 +38,7 @@ between : (a b low high n : ℤ) → int_le a low ≡ true → int_le high b ≡
 between a b low high n p q r s = grind (arith, ints, nat_tests)
 
 -- a value of the type is a number of its primitive
-in_primitive : (k : ℕ) (leaf : LeafOf) → IsLeafFrom k leaf → (n : ℤ) → is_value leaf n ≡ true → is_number_of leaf.prim n ≡ true
+pub in_primitive : (k : ℕ) (leaf : LeafOf) → IsLeafFrom k leaf → (n : ℤ) → is_value leaf n ≡ true → is_number_of leaf.prim n ≡ true
 in_primitive k leaf facts n is =
     let inside = both _ _ (and_second _ (admits leaf n) is) in
     between _ _ leaf.low leaf.high n (both _ _ facts.low).0 (both _ _ facts.high).1 inside.0 inside.1
@@ -52,6 +53,20 @@ primitive_short U8 n h = (grind (arith, ints, nat_tests), grind (arith, ints, na
 primitive_short U16 n h = (grind (arith, ints, nat_tests), grind (arith, ints, nat_tests))
 primitive_short U32 n h = (grind (arith, ints, nat_tests), grind (arith, ints, nat_tests))
 primitive_short U64 n h = (grind (arith, ints, nat_tests), grind (arith, ints, nat_tests))
+
+primitive_word : (prim : Primitive) (n : ℤ) → is_number_of prim n ≡ true → unsigned_abs n < 2 ^ 64
+primitive_word Char n h = grind (arith, ints, nat_tests)
+primitive_word I8 n h = grind (arith, ints, nat_tests)
+primitive_word I16 n h = grind (arith, ints, nat_tests)
+primitive_word I32 n h = grind (arith, ints, nat_tests)
+primitive_word I64 n h = grind (arith, ints, nat_tests)
+primitive_word U8 n h = grind (arith, ints, nat_tests)
+primitive_word U16 n h = grind (arith, ints, nat_tests)
+primitive_word U32 n h = grind (arith, ints, nat_tests)
+primitive_word U64 n h = grind (arith, ints, nat_tests)
+
+pub leaf_word : (k : ℕ) (leaf : LeafOf) → IsLeafFrom k leaf → IsWord leaf
+leaf_word k leaf facts n is = let number = in_primitive k leaf facts n is in ((primitive_short leaf.prim n number).0, primitive_word leaf.prim n number)
 
 pub leaf_short : (k : ℕ) (leaf : LeafOf) → IsLeafFrom k leaf → IsShort leaf
 leaf_short k leaf facts n is = primitive_short leaf.prim n (in_primitive k leaf facts n is)

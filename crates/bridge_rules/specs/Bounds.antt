@@ -9,9 +9,6 @@ use Rattle.sbe_types.specs.Numbers.{natural}
 use Rattle.fix_values.specs.declared.rule.Code.{Code}
 use Rattle.fix_values.specs.Numerals.{integer_of, is_value}
 use Rattle.fix_values.specs.Codes.{code_text, has_short_text, is_apart, is_choice, same_truth}
-use Rattle.sbe_types.specs.declared.kind.ConstValue.{ConstValue}
-use Rattle.sbe_types.specs.declared.kind.ConstValue.TheVariants as const
-use Rattle.sbe_types.specs.declared.kind.Kind.{Kind, Leaf, Enum, Set, Const, Comp'}
 use Rattle.fix_values.specs.declared.rule.TheConstants.{MOST_BYTES}
 use Rattle.bridge_rules.specs.Rules.{Rule, integer, integer_decimal, fixed_decimal, floating_decimal, single_char, char_array, enum_code, enum_number, enum_boolean, choice_set, raw_data, text_data, day_count, moment, month_year, any_text, constant}
 use Rattle.bridge_rules.specs.Members.{same_value}
@@ -19,6 +16,7 @@ use Rattle.bridge_rules.specs.Items.{Item, digit_or_number, item_by}
 use Rattle.bridge_rules.specs.Good.{Good}
 use Rattle.bridge_rules.specs.Datatypes.{NamedCode, Datatype, code_set}
 use Rattle.bridge_rules.specs.Sound.{IsShown, AreCodes}
+use Rattle.bridge_rules.specs.Again.{CanRepeat}
 
 -- no number of the type has more than 39 digits
 abbrev pub IsNarrow : LeafOf → Type 0
@@ -93,4 +91,4 @@ IsMapped d = ⊤
 
 -- what the laws of messages ask of a rule
 abbrev pub IsFit : Rule → Type 0
-IsFit rule = IsBounded rule × CanShow rule
+IsFit rule = IsBounded rule × CanShow rule × CanRepeat rule

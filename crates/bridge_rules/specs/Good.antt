@@ -1,4 +1,5 @@
--- The values that fit their part and are in the one form of their item: each value that is read of a text is one. Own profile.
+-- The values that fit their part and are in the one form of their item: each value that is read of a text is one. They are
+-- those of FitsKind that are in this form, by a law. Own profile.
 use Rattle.std.specs.Prelude.{◌≡◌, ◌⊎◌, ℕ, ◌^◌, Bool, true, false, not, ◌&&◌, ◌==◌, nat_lt, List, length, IsTrue, pos, Result, Ok, Err, ⊤}
 use Rattle.sbe_types.specs.declared.kind.Leaf.{Leaf as LeafOf}
 use Rattle.sbe_types.specs.declared.kind.Named.{Named}

@@ -7,5 +7,6 @@ pub mod Good
 pub mod Datatypes
 pub mod Table
 pub mod Sound
+pub mod Again
 pub mod Bounds
 pub mod Rows

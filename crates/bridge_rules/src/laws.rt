@@ -1,18 +1,23 @@
 //! Laws of the rules of values, as functions without a body.
 
-ghost use Rattle.std.specs.Prelude.{◌≡◌, ℕ, List, Some, None, Ok};
+ghost use Rattle.std.specs.Prelude.{◌≡◌, ◌↔◌, ℕ, List, Some, None, Ok};
+ghost use Rattle.sbe_types.specs.declared.kind.Order.{Order};
 ghost use Rattle.sbe_types.specs.declared.message.Value.{Value};
+ghost use Rattle.sbe_types.specs.Wire.{FitsKind};
+ghost use Rattle.sbe_wire.specs.Placed.{IsPlacedKind};
+ghost use Rattle.writing_laws.specs.Writable.{IsWritableKind};
 ghost use Rattle.sbe_types.specs.declared.kind.Kind.{Kind};
 ghost use Rattle.schema_facts.specs.InOrder.{IsKindFrom};
 ghost use Rattle.bridge_rules.specs.Rules.{Rule};
 ghost use Rattle.bridge_rules.specs.Datatypes.{Datatype};
 ghost use Rattle.bridge_rules.specs.Table.{rule_of};
-ghost use Rattle.bridge_rules.specs.Good.{Good};
+ghost use Rattle.bridge_rules.specs.Good.{Good, IsItemForm};
 ghost use Rattle.bridge_rules.specs.Texts.{text_by};
 ghost use Rattle.bridge_rules.specs.Values.{value_by, missing_by};
 ghost use Rattle.bridge_rules.specs.Items.{value_item, text_item};
-ghost use Rattle.bridge_rules.specs.Sound.{IsSound, ShowsGood};
+ghost use Rattle.bridge_rules.specs.Sound.{IsSound, IsShown, IsReadable, ShowsGood};
 ghost use Rattle.bridge_rules.specs.Bounds.{IsBounded, CanShow, IsMapped};
+ghost use Rattle.bridge_rules.specs.Again.{HasText, CanRepeat};
 
 /// Each rule of the table keeps what the laws of messages ask, where its types and codes are as
 /// those of a checked schema.
@@ -32,6 +37,22 @@ pub fn rules_of_checked_kinds_are_bounded()
         → rule_of k d ≡ Some rule → IsBounded rule × CanShow rule }
 {}
 
+/// A value is good by the rule of its kind exactly where it fits the kind and is in the one form of
+/// its item.
+pub fn good_values_are_those_that_fit()
+    ensures { (order : Order) (k : Kind) (d : Datatype) (rule : Rule) (v : Value) → IsKindFrom 1 k → IsPlacedKind k
+        → IsWritableKind k → rule_of k d ≡ Some rule → Good rule v ↔ (FitsKind order k v × IsItemForm rule v) }
+{}
+
+/// What is written of a value that fits its kind has the value's item and can be read, and where
+/// nothing is written of it the part may have no field.
+pub fn fitting_values_are_shown_and_read()
+    ensures shown { (order : Order) (k : Kind) (d : Datatype) (rule : Rule) (v : Value) → IsKindFrom 1 k → IsMapped d
+        → rule_of k d ≡ Some rule → FitsKind order k v → IsShown rule v }
+    ensures read { (order : Order) (k : Kind) (d : Datatype) (rule : Rule) (v : Value) → IsKindFrom 1 k → IsMapped d
+        → rule_of k d ≡ Some rule → FitsKind order k v → IsReadable rule v }
+{}
+
 /// A value and its text have one item for the applications that compare them, and a value without a
 /// field has none.
 pub fn values_and_texts_have_one_item()
@@ -43,4 +64,15 @@ pub fn values_and_texts_have_one_item()
         → value_item rule v ≡ None }
     ensures unwritten { (rule : Rule) (v : Value) → IsBounded rule → CanShow rule → Good rule v
         → text_by rule v ≡ Ok None → value_item rule v ≡ None }
+{}
+
+/// The rules of the kinds of a checked schema have what is asked so that texts are written again.
+pub fn rules_of_checked_kinds_repeat()
+    ensures { (k : Kind) (d : Datatype) (rule : Rule) → IsKindFrom 1 k → rule_of k d ≡ Some rule → CanRepeat rule }
+{}
+
+/// A value that a text is read as has a text again, unless it is a decimal whose exponent is outside
+/// the range that is shown.
+pub fn values_of_texts_are_written_again()
+    ensures { (rule : Rule) → IsBounded rule → CanRepeat rule → HasText rule }
 {}

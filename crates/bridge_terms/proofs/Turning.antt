@@ -19,7 +19,7 @@ use Rattle.bridge_rules.proofs.OptionLemmas.{some_is, none_some, and_then_is, an
 use Rattle.bridge_terms.proofs.AnswerLemmas.{both_is, both_some, each_turned, each_back, each_long}
 use Rattle.std.proofs.lemmas.Bool.{eqb-true}
 
-value_read_is : (r : Result Value Misread) (v : Value) → value_read r ≡ Some v → r ≡ Ok v
+pub value_read_is : (r : Result Value Misread) (v : Value) → value_read r ≡ Some v → r ≡ Ok v
 value_read_is (Ok w) v h = ap Ok (some_is h)
 value_read_is (Err w) v h = none_some h
 
@@ -62,7 +62,7 @@ run_long n cut h = eqb-true (length cut.pieces) n (and_second _ _ h)
 abbrev HasEntries : {Y : Type 0} → LeafOf → (Y → Type 0) → List Y → Type 0
 HasEntries leaf P ys = IsTrue (admits leaf (pos (length ys))) × Each P ys
 
-group_turned : {Y Z : Type 0} (leaf : LeafOf) (delimiter : ℕ) (a : List Field → Option Y) (b : List Field → Option Z) (f : Y → Z) (P : Y → Type 0) →
+pub group_turned : {Y Z : Type 0} (leaf : LeafOf) (delimiter : ℕ) (a : List Field → Option Y) (b : List Field → Option Z) (f : Y → Z) (P : Y → Type 0) →
     ((piece : List Field) (y : Y) → a piece ≡ Some y → (b piece ≡ Some (f y)) × P y) →
     (o : Option Part) (ys : List Y) → group_in (count_admitted leaf) delimiter a o ≡ Some ys →
     (group_in (count_found leaf) delimiter b o ≡ Some (map f ys)) × HasEntries leaf P ys
@@ -104,7 +104,7 @@ group_returned leaf delimiter a b f P turn (Some x) ys h good =
 
 -- ---- a level
 
-level_turned : {Y Z : Type 0} (p : Plan) (a : List Part → Option Y) (b : List Part → Option Z) (f : Y → Z) (P : Y → Type 0) →
+pub level_turned : {Y Z : Type 0} (p : Plan) (a : List Part → Option Y) (b : List Part → Option Z) (f : Y → Z) (P : Y → Type 0) →
     ((parts : List Part) (y : Y) → a parts ≡ Some y → (b parts ≡ Some (f y)) × P y) →
     (fields : List Field) (y : Y) → in_level p a fields ≡ Some y → (in_level p b fields ≡ Some (f y)) × P y
 level_turned p a b f P turn fields y h =

@@ -9,16 +9,20 @@ use Rattle.tagvalue_codec.specs.Fields.{Field}
 use Rattle.bridge_rules.specs.Rules.{Rule}
 use Rattle.bridge_rules.specs.Items.{Item, item_by, item_in}
 use Rattle.bridge_rules.specs.Members.{and_then}
-use Rattle.bridge_rules.specs.Sound.{ShowsGood}
+use Rattle.bridge_rules.specs.Sound.{IsSound, ShowsGood}
+use Rattle.bridge_rules.specs.Again.{IsOfText, IsAgain, HasText}
+use Rattle.bridge_rules.specs.Values.{value_by}
 use Rattle.bridge_rules.specs.Texts.{text_by}
 use Rattle.bridge_rules.proofs.OptionLemmas.{some_is, none_some, and_then_is, if_some}
 use Rattle.bridge_rules.proofs.BoolLemmas.{or_left, if_true, if_false}
 use Rattle.bridge_terms.specs.Plans.{Plan, Tree, Each, done, single, group, owns, AreGood}
-use Rattle.bridge_terms.specs.PlanFacts.{EachRule, BeginsWith, Unowned, IsPlanned, HasText}
+use Rattle.bridge_terms.specs.PlanFacts.{EachRule, EachValue, BeginsWith, Unowned, IsPlanned}
 use Rattle.bridge_terms.specs.Parts.{Part, Cut, cut_after, in_run, of_part, parts_of, pieces_of, in_piece, of_piece, part_at}
-use Rattle.bridge_terms.specs.Gathering.{in_level, is_run, entries_in, group_in, each, gather, text_at, item_look, item_found, count_found, items_of, items_of_fields}
+use Rattle.bridge_terms.specs.Gathering.{in_level, is_run, entries_in, group_in, each, gather, text_at, item_look, item_found, count_found, count_admitted, value_found, value_look, items_of}
+use Rattle.bridge_terms.specs.WayBack.{IsBack}
 use Rattle.bridge_terms.specs.MessageFields.{Unwritable, no_text_at, join_answers, slot_part, gives_field, begins, entry_fields, count_part, group_part, answer_fields, if_begun, message_parts, fields_of}
 use Rattle.bridge_terms.proofs.AnswerLemmas.{both_is, in_front_is}
+use Rattle.bridge_terms.proofs.Turning.{value_read_is, group_turned, level_turned, back_so}
 
 -- each entry begins with its delimiter
 abbrev AreBegun : (p : Plan) → Tree Value p → Type 0
@@ -119,6 +123,26 @@ all_begun (group g inner rest) planned shows parts t good h =
       all_begun rest planned.5 shows.1 parts t.1 good.2 two.1,
     )
 
+-- ---- values of texts
+
+found_of_text : (rule : Rule) (t : Option (List ℕ)) (v : Value) → value_found rule t ≡ Some v → IsOfText rule v
+found_of_text rule None v h = inr h
+found_of_text rule (Some t) v h = inl (t, value_read_is (value_by rule t) v h)
+
+-- each value that is gathered is that of a text, or of a part without a field
+all_of_texts : (p : Plan) (parts : List Part) (t : Tree Value p) → gather value_look p parts ≡ Some t → EachValue IsOfText p t
+all_of_texts done parts t h = tt
+all_of_texts (single s rest) parts t h =
+    let is = both_is (value_found s.rule (text_at s.tag parts)) (gather value_look rest parts) t h in
+    (found_of_text s.rule (text_at s.tag parts) t.0 is.0, all_of_texts rest parts t.1 is.1)
+all_of_texts (group g inner rest) parts t h =
+    let one = in_level inner (λ piece. gather value_look inner piece) in
+    let is = both_is (group_in (count_admitted g.count) g.delimiter one (part_at g.tag parts)) (gather value_look rest parts) t h in
+    let entry = level_turned inner (λ piece. gather value_look inner piece) (λ piece. gather value_look inner piece) (λ e. e) (λ e. EachValue IsOfText inner e)
+    (λ piece e k. (k, all_of_texts inner piece e k)) in
+    let here = group_turned g.count g.delimiter one one (λ e. e) (λ e. EachValue IsOfText inner e) entry (part_at g.tag parts) t.0 is.0 in
+    (here.1.1, all_of_texts rest parts t.1 is.1)
+
 -- ---- what is written of them
 
 -- an answer, or a refusal by an exponent
@@ -155,21 +179,26 @@ each_with : {X : Type 0} (P Q R : X → Type 0) → ((x : X) → P x → Q x →
 each_with P Q R turn [] a b = tt
 each_with P Q R turn (x ∷ xs) a b = (turn x a.0 b.0, each_with P Q R turn xs a.1 b.1)
 
-parts_answered : (p : Plan) → EachRule HasText p → (t : Tree Value p) → AreGood p t → AreBegun p t → IsAnswered (message_parts p t)
-parts_answered done texts t good begun = inl ([], refl)
-parts_answered (single s rest) texts t good begun =
-    join_answered (slot_part s.tag (text_by s.rule t.0)) (message_parts rest t.1) (slot_answered s.tag (text_by s.rule t.0) (texts.0 t.0 good.0)) (parts_answered rest texts.1 t.1 good.1 begun)
-parts_answered (group g inner rest) texts t good begun =
+value_answered : (rule : Rule) (v : Value) → IsAgain rule v → ((o : Option (List ℕ)) × (text_by rule v ≡ Ok o)) ⊎ (text_by rule v ≡ Err why.Range)
+value_answered rule v (inl is) = inl is
+value_answered rule v (inr far) = inr far.1
+
+parts_answered : (p : Plan) → EachRule HasText p → (t : Tree Value p) → EachValue IsOfText p t → AreBegun p t → IsAnswered (message_parts p t)
+parts_answered done texts t read begun = inl ([], refl)
+parts_answered (single s rest) texts t read begun =
+    join_answered (slot_part s.tag (text_by s.rule t.0)) (message_parts rest t.1) (slot_answered s.tag (text_by s.rule t.0) (value_answered s.rule t.0 (texts.0 t.0 read.0))) (parts_answered rest texts.1 t.1 read.1 begun)
+parts_answered (group g inner rest) texts t read begun =
     let entry = λ (e : Tree Value inner). if_begun g.tag (begins inner e) (answer_fields (message_parts inner e)) in
-    let all = each_with (λ e. AreGood inner e) (λ e. (begins inner e ≡ true) × AreBegun inner e) (λ e. IsAnswered (entry e))
+    let all = each_with (λ e. EachValue IsOfText inner e) (λ e. (begins inner e ≡ true) × AreBegun inner e) (λ e. IsAnswered (entry e))
     (λ e fine own. subst IsAnswered (sym (ap (λ b. if_begun g.tag b (answer_fields (message_parts inner e))) own.0)) (fields_answered (message_parts inner e) (parts_answered inner texts.0 e fine own.1)))
-    t.0 good.1 begun.0 in
-    join_answered (group_part g.tag entry t.0) (message_parts rest t.1) (group_answered g.tag entry t.0 (entries_answered entry (λ e. IsAnswered (entry e)) (λ e h. h) t.0 all)) (parts_answered rest texts.1 t.1 good.2 begun.1)
+    t.0 read.0 begun.0 in
+    join_answered (group_part g.tag entry t.0) (message_parts rest t.1) (group_answered g.tag entry t.0 (entries_answered entry (λ e. IsAnswered (entry e)) (λ e h. h) t.0 all)) (parts_answered rest texts.1 t.1 read.1 begun.1)
 
 -- the message that fields are translated to has fields, or is refused by an exponent
-pub written_again : (p : Plan) → IsPlanned p → EachRule ShowsGood p → EachRule HasText p → (fields : List Field) (t : Tree Value p) → AreGood p t → items_of_fields p fields ≡ Some (items_of p t) →
+pub written_again : (p : Plan) → IsPlanned p → EachRule IsSound p → EachRule ShowsGood p → EachRule HasText p → (fields : List Field) (t : Tree Value p) → IsBack p fields t →
     ((again : List Field) × (fields_of p t ≡ Ok again)) ⊎ ((tag : ℕ) × (fields_of p t ≡ Err (no_text_at tag why.Range)))
-written_again p planned shows texts fields t good h =
+written_again p planned sound shows texts fields t back =
     let parts = parts_of (owns p) fields in
-    let level = if_some _ (gather item_look p parts) (items_of p t) h in
-    fields_answered (message_parts p t) (parts_answered p texts t good (all_begun p planned shows parts t good level.1))
+    let level = if_some _ (gather item_look p parts) (items_of p t) back.same in
+    let read = if_some _ (gather value_look p parts) t (back_so p sound fields t back) in
+    fields_answered (message_parts p t) (parts_answered p texts t (all_of_texts p parts t read.1) (all_begun p planned shows parts t back.good level.1))

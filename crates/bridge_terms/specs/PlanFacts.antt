@@ -1,11 +1,8 @@
 -- What the laws of whole messages ask of a plan: of its tags, of its rules, and of the values at its places. Own profile.
-use Rattle.std.specs.Prelude.{◌≡◌, ◌⊎◌, ℕ, ◌<◌, ◌^◌, true, false, ⊤, IsTrue, List, length, pos, Option, Ok, Err}
+use Rattle.std.specs.Prelude.{◌≡◌, ℕ, ◌<◌, ◌^◌, true, false, ⊤, IsTrue, length, pos}
 use Rattle.sbe_types.specs.declared.message.Value.{Value}
 use Rattle.sbe_types.specs.Shown.{admits}
-use Rattle.fix_values.specs.declared.rule.V.TheVariants as why
 use Rattle.bridge_rules.specs.Rules.{Rule}
-use Rattle.bridge_rules.specs.Good.{Good}
-use Rattle.bridge_rules.specs.Texts.{text_by}
 use Rattle.bridge_terms.specs.Plans.{Plan, Tree, Each, done, single, group, tags, all_tags, owns, is_in}
 
 -- it holds of each rule of a plan
@@ -55,7 +52,3 @@ AreCounted done t = ⊤
 AreCounted (single s rest) t = AreCounted rest t.1
 AreCounted (group g inner rest) t =
     (length t.0 < 10 ^ 64) × IsTrue (admits g.count (pos (length t.0))) × Each (λ e. AreCounted inner e) t.0 × AreCounted rest t.1
-
--- each good value has a text or none, unless its exponent is outside the range that is shown
-abbrev pub HasText : Rule → Type 0
-HasText rule = (v : Value) → Good rule v → ((o : Option (List ℕ)) × (text_by rule v ≡ Ok o)) ⊎ (text_by rule v ≡ Err why.Range)

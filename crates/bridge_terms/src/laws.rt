@@ -6,9 +6,10 @@ ghost use Rattle.sbe_types.specs.declared.message.Block.{Block};
 ghost use Rattle.sbe_types.specs.declared.schema.Level.{Level};
 ghost use Rattle.fix_values.specs.declared.rule.V.TheVariants as why;
 ghost use Rattle.tagvalue_codec.specs.Fields.{Field};
+ghost use Rattle.bridge_rules.specs.Again.{HasText};
 ghost use Rattle.bridge_rules.specs.Sound.{IsSound, IsShown, IsReadable, ShowsGood};
 ghost use Rattle.bridge_terms.specs.Plans.{Plan, Tree, Each, is_in, AreGood};
-ghost use Rattle.bridge_terms.specs.PlanFacts.{EachRule, IsPlaced, IsRoot, EachValue, AreCounted, HasText};
+ghost use Rattle.bridge_terms.specs.PlanFacts.{EachRule, IsPlaced, IsRoot, EachValue, AreCounted};
 ghost use Rattle.bridge_terms.specs.Parts.{Part, TagLists, is_application, application_fields, parts_of, run_of, rest_of};
 ghost use Rattle.bridge_terms.specs.Gathering.{values_of_fields, items_of_fields, items_of};
 ghost use Rattle.bridge_terms.specs.MessageFields.{fields_of, with_lengths, no_text_at};
@@ -130,7 +131,7 @@ pub fn no_place_is_over_the_limit()
 /// The message that fields are translated to has fields again, unless a decimal's exponent is outside
 /// the range that is shown.
 pub fn a_message_of_fields_is_written_again()
-    ensures { (p : Plan) (fields : List Field) (t : Tree Value p) → IsRoot p → EachRule ShowsGood p → EachRule HasText p
-        → IsBack p fields t → ((again : List Field) × (fields_of p t ≡ Ok again))
+    ensures { (p : Plan) (fields : List Field) (t : Tree Value p) → IsRoot p → EachRule IsSound p → EachRule ShowsGood p
+        → EachRule HasText p → IsBack p fields t → ((again : List Field) × (fields_of p t ≡ Ok again))
         ⊎ ((tag : ℕ) × (fields_of p t ≡ Err (no_text_at tag why.Range))) }
 {}

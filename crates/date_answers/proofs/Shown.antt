@@ -239,7 +239,7 @@ time_spelled unit n t h =
 
 -- ---- moments
 
-split_is : (n : ℤ) (units : ℕ) → 0 < units → ((days_in n units *ℤ pos units) +ℤ pos (left_in n units) ≡ n) × (left_in n units < units)
+pub split_is : (n : ℤ) (units : ℕ) → 0 < units → ((days_in n units *ℤ pos units) +ℤ pos (left_in n units) ≡ n) × (left_in n units < units)
 split_is (pos n) units some =
     let all = div-add-mod' n units in
     (omega (arith, signed_arith, all), mod-lt n some)
@@ -340,15 +340,35 @@ unit_so unit (inr (inl e)) = ap is_unit e
 unit_so unit (inr (inr (inl e))) = ap is_unit e
 unit_so unit (inr (inr (inr e))) = ap is_unit e
 
+-- each time of day has a text
+pub time_counted : (unit count : ℕ) → IsUnit unit → count < units_of_a_day unit → (u : List ℕ) × (time_shown unit (pos count) ≡ Ok u)
+time_counted unit count known low =
+    let is = clock_is unit count known low in (
+      clock_text (clock_at unit count),
+      if_true (is_unit unit) _ (Err Range) (unit_so unit known)
+          ∙ told_so is_time clock_text (clock_counted unit (number_below (pos count) (units_of_a_day unit))) (clock_at unit count) (ap (on_some (clock_at unit)) (below_so count (units_of_a_day unit) low)) (is_time_so (clock_at unit count) is.1),
+    )
+
 pub time_told : (unit : ℕ) (n : ℤ) (t : List ℕ) → Spells (times_in unit) t n → (u : List ℕ) × (time_shown unit n ≡ Ok u)
 time_told unit n t s =
     let clock = s.parts in
     let low : count_of clock < units_of_a_day unit = subst (λ p. count_of clock < 86_400 * 10 ^ p) s.fits.places_are (count_below clock s.fits.fits s.real) in
-    let there : number_below n (units_of_a_day unit) ≡ Some (count_of clock) = subst (λ z. number_below z (units_of_a_day unit) ≡ Some (count_of clock)) s.stands (below_so (count_of clock) (units_of_a_day unit) low) in
-    let is = clock_is unit (count_of clock) s.fits.known low in (
-      clock_text (clock_at unit (count_of clock)),
-      if_true (is_unit unit) _ (Err Range) (unit_so unit s.fits.known)
-          ∙ told_so is_time clock_text (clock_counted unit (number_below n (units_of_a_day unit))) (clock_at unit (count_of clock)) (ap (on_some (clock_at unit)) there) (is_time_so (clock_at unit (count_of clock)) is.1),
+    subst (λ z. (u : List ℕ) × (time_shown unit z ≡ Ok u)) s.stands (time_counted unit (count_of clock) s.fits.known low)
+
+-- each moment of a day that the calendar has has a text
+pub stamp_counted : (unit : ℕ) (n : ℤ) (day : Day) → IsUnit unit → IsDay day → day.year < 10000 → number_of day ≡ days_in n (units_of_a_day unit) → (u : List ℕ) × (stamp_shown unit n ≡ Ok u)
+stamp_counted unit n day known real within day_is =
+    let units = units_of_a_day unit in
+    let power : 0 < 10 ^ unit = one-le-pow unit 10 (omega arith) in
+    let split = split_is n units (omega (arith, power)) in
+    let found = day_there (days_in n units) day real within day_is in
+    let clock = clock_is unit (left_in n units) known split.1 in
+    let own : Stamp = as_stamp found.0 (clock_at unit (left_in n units)) in (
+      stamp_text own,
+      if_true (is_unit unit) _ (Err Range) (unit_so unit known)
+          ∙ told_so is_stamp stamp_text (both_some_of as_stamp (day_numbered (days_in n units)) (Some (clock_at unit (left_in n units)))) own
+          (paired_so as_stamp (day_numbered (days_in n units)) (Some (clock_at unit (left_in n units))) found.0 (clock_at unit (left_in n units)) found.1 refl)
+          (is_stamp_so own (is_day_is found.0 found.2, clock.1)),
     )
 
 pub stamp_told : (unit : ℕ) (n : ℤ) (t : List ℕ) → Spells (stamps_in unit) t n → (u : List ℕ) × (stamp_shown unit n ≡ Ok u)
@@ -361,15 +381,7 @@ stamp_told unit n t s =
     let low : count_of stamp.clock < units = subst (λ p. count_of stamp.clock < 86_400 * 10 ^ p) inner.places_are (count_below stamp.clock inner.fits s.real.1) in
     let whole : (number_of stamp.day *ℤ pos units) +ℤ pos (count_of stamp.clock) ≡ n = subst (λ p. (number_of stamp.day *ℤ pos (86_400 * 10 ^ p)) +ℤ pos (count_of stamp.clock) ≡ n) inner.places_are s.stands in
     let day_is : number_of stamp.day ≡ days_in n units = one_day units (number_of stamp.day) (days_in n units) (count_of stamp.clock) (left_in n units) low split.1 (whole ∙ sym split.0) in
-    let found = day_there (days_in n units) stamp.day s.real.0 s.fits.0.year day_is in
-    let clock = clock_is unit (left_in n units) inner.known split.1 in
-    let own : Stamp = as_stamp found.0 (clock_at unit (left_in n units)) in (
-      stamp_text own,
-      if_true (is_unit unit) _ (Err Range) (unit_so unit inner.known)
-          ∙ told_so is_stamp stamp_text (both_some_of as_stamp (day_numbered (days_in n units)) (Some (clock_at unit (left_in n units)))) own
-          (paired_so as_stamp (day_numbered (days_in n units)) (Some (clock_at unit (left_in n units))) found.0 (clock_at unit (left_in n units)) found.1 refl)
-          (is_stamp_so own (is_day_is found.0 found.2, clock.1)),
-    )
+    stamp_counted unit n stamp.day inner.known s.real.0 s.fits.0.year day_is
 
 part_of_so : (p : Part) → FitsPart p → part_of (day_part p) (week_part p) ≡ Some p
 part_of_so part.Whole fits = refl

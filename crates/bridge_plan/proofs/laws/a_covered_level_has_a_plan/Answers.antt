@@ -1,4 +1,4 @@
-use Rattle.bridge_plan.proofs.Translating.{covered_plan, covered_root, covered_placed, covered_sound, covered_shown}
+use Rattle.bridge_plan.proofs.Translating.{covered_plan, covered_root, covered_placed, covered_sound, covered_shown, covered_again}
 use Rattle.bridge_plan.proofs.laws.a_covered_level_has_a_plan.Goals as goal
 
 pub returns-clause-whole : goal.returns-clause-whole
@@ -15,3 +15,6 @@ returns-clause-sound c = covered_sound
 
 pub returns-clause-shown : goal.returns-clause-shown
 returns-clause-shown c = covered_shown
+
+pub returns-clause-again : goal.returns-clause-again
+returns-clause-again c = covered_again

@@ -21,3 +21,19 @@ returns-clause-none c = refl
 pub returns-clause-several : goal.returns-clause-several
 unfolding computing
 returns-clause-several c = refl
+
+pub returns-clause-only : goal.returns-clause-only
+unfolding computing
+returns-clause-only c = refl
+
+pub returns-clause-no_other : goal.returns-clause-no_other
+unfolding computing
+returns-clause-no_other c = refl
+
+pub returns-clause-ambiguous : goal.returns-clause-ambiguous
+unfolding computing
+returns-clause-ambiguous c = refl
+
+pub returns-clause-unmapped : goal.returns-clause-unmapped
+unfolding computing
+returns-clause-unmapped c = refl
