@@ -1,8 +1,9 @@
-//! Rows of streams: frames and lines that are taken of a source piece by piece.
+//! Rows of streams: frames, lines and tag-value texts that are taken of a source piece by piece.
 #![tactic(auto)]
 
 mod frames;
 mod lines;
+mod raw;
 mod sources;
 
 use anyhow::{Result, bail};
@@ -18,6 +19,8 @@ impl Calls for AllCalls {
             "retried" => frames::retried(rt.alloc(), row),
             "ahead" => frames::read_ahead(rt.alloc(), row),
             "lines" => lines::in_pieces(rt.alloc(), row),
+            "raw" => raw::in_pieces(rt.alloc(), row),
+            "raw retried" => raw::retried(rt.alloc(), row),
             _ => bail!("there is no such call"),
         }
     }

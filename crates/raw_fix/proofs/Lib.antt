@@ -1,0 +1,16 @@
+pub mod TurnLemmas
+pub mod Fronts
+pub mod ClaimLemmas
+pub mod FieldLemmas
+pub mod TakeLemmas
+pub mod FaultLemmas
+pub mod MarkLemmas
+pub mod RawLemmas
+pub mod TextLemmas
+pub mod MarkPlaces
+pub mod DigitLemmas
+pub mod StepLemmas
+pub mod Computing
+pub mod ResumeLemmas
+pub mod ItemLemmas
+pub mod CourseLemmas

@@ -1,0 +1,10 @@
+pub mod Claims
+pub mod Turns
+pub mod Raw
+pub mod Fields
+pub mod Places
+pub mod Stream
+pub mod Steps
+pub mod Taking
+pub mod Items
+pub mod Rows

@@ -1,0 +1,77 @@
+-- What a stream tells. Own profile.
+use Rattle.std.specs.Prelude.{◌≡◌, ◌≤◌, ℕ, Option, Some, None, Result, Ok, Err, List, [], ◌++◌, ⊤}
+use Rattle.sbe_base.specs.Causes.{Rose}
+use Rattle.tagvalue_codec.specs.declared.data_tags.Pair.{Pair}
+use Rattle.tagvalue_codec.specs.declared.table.FixField.{FixField}
+use Rattle.tagvalue_codec.specs.Places.{Holds}
+use Rattle.raw_fix.specs.declared.taken.RawEnded.{RawEnded}
+use Rattle.raw_fix.specs.declared.taken.RawEnded.TheVariants as ended
+use Rattle.raw_fix.specs.declared.taken.RawTaken.{RawTaken}
+use Rattle.raw_fix.specs.declared.taken.RawTaken.TheVariants as taken
+use Rattle.raw_fix.specs.declared.taken.RawErr.{RawErr}
+use Rattle.raw_fix.specs.declared.taken.RawErr.TheVariants as err
+use Rattle.raw_fix.specs.Raw.{Texts}
+use Rattle.raw_fix.specs.Fields.{fix_texts}
+use Rattle.raw_fix.specs.Stream.{RawState, IsCounted, TakesBy, RawFalls, RawHeldBy}
+
+-- the answer at an end
+abbrev pub ended_told : RawEnded → Result RawTaken RawErr
+ended_told ended.End = Ok taken.End
+ended_told ended.Limit = Err err.InputLimit
+
+-- the end that an answer tells, which stays
+abbrev pub raw_ended_of : Result RawTaken RawErr → Option RawEnded
+raw_ended_of (Ok taken.Message) = None
+raw_ended_of (Ok (taken.Garbled code at many)) = None
+raw_ended_of (Ok taken.End) = Some ended.End
+raw_ended_of (Err err.InputLimit) = Some ended.Limit
+raw_ended_of (Err err.ReadFault) = None
+
+-- the texts that this stream is for
+abbrev pub texts_for : List Pair → RawState → Texts
+texts_for tags s = fix_texts tags s.most
+
+-- what a source has left, before and after
+pub record Lefts : Type 0 where
+  pub before : Option (List ℕ)
+  pub after : Option (List ℕ)
+
+-- by the bytes of the source where it tells them, and anything where it doesn't
+abbrev pub IfTold : Option (List ℕ) → Option (List ℕ) → (List ℕ → List ℕ → Type 0) → Type 0
+IfTold None left' P = ⊤
+IfTold (Some left) None P = ⊥
+IfTold (Some left) (Some left') P = P left left'
+
+-- an answer by the bytes of the source where it tells them, and any where it doesn't
+abbrev pub TakesFrom : Texts → RawState → RawState → Lefts → Result RawTaken RawErr → Type 0
+TakesFrom texts old new lefts result = IfTold lefts.before lefts.after (λ left left'. TakesBy texts old new (record { stream = old.held ++ left; left = left' }) result)
+
+-- what holds whether the source tells its bytes or not
+pub record TakesRaw (texts : Texts) (old new : RawState) (lefts : Lefts) (result : Result RawTaken RawErr) : Type 0 where
+  pub from : TakesFrom texts old new lefts result
+  pub falls : RawFalls old new result
+  pub held : RawHeldBy texts new result
+  pub ended : new.ended ≡ raw_ended_of result
+  pub counted : IsCounted new
+  pub most : new.most ≡ old.most
+  pub input : new.input ≡ old.input
+
+-- no text is lent where no message was taken
+abbrev pub RawTextOf : RawState → Result RawTaken RawErr → Type 0
+RawTextOf new (Ok taken.Message) = new.ended ≡ None
+RawTextOf new (Ok (taken.Garbled code at many)) = new.text ≡ []
+RawTextOf new (Ok taken.End) = new.text ≡ []
+RawTextOf new (Err e) = new.text ≡ []
+
+-- the table holds the fields of a message, and else none
+abbrev pub TableOf : List Pair → List ℕ → Result RawTaken RawErr → List FixField → Type 0
+TableOf tags text (Ok taken.Message) table = Holds tags text table
+TableOf tags text (Ok (taken.Garbled code at many)) table = table ≡ []
+TableOf tags text (Ok taken.End) table = table ≡ []
+TableOf tags text (Err e) table = table ≡ []
+
+-- the count of faults rose at a read fault, and is the same at every other answer
+abbrev pub RawCause : {T : Type 0} → ℕ → ℕ → Result T RawErr → Type 0
+RawCause before now (Ok x) = now ≡ before
+RawCause before now (Err err.InputLimit) = now ≡ before
+RawCause before now (Err err.ReadFault) = (before ≤ now) × Rose before now

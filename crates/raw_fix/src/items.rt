@@ -1,0 +1,271 @@
+ghost use Rattle.std.specs.Prelude.{◌≡◌, ◌≤◌, ◌<◌, ◌+◌, ◌-◌, ◌^◌, [], false, None, Some, IfSome, IfOk, length, take};
+ghost use Rattle.frame_stream.specs.Reading.{DryCause};
+ghost use Rattle.raw_fix.specs.Claims.{before_soh};
+ghost use Rattle.raw_fix.specs.Fields.{HasFields, settled_size, size_if, size_of, step_size};
+ghost use Rattle.raw_fix.specs.Items.{item_place, Finishes, Nexts, Settles, Waits, TextFits, texts_of};
+ghost use Rattle.raw_fix.specs.Raw.{IsRun, Texts};
+ghost use Rattle.raw_fix.specs.Taking.{RawCause};
+ghost use Rattle.raw_fix.specs.declared.items.TheConstants.{LEAST_FRAME};
+ghost use Rattle.open_framing.specs.declared.head.TheConstants.{HEAD_BYTES};
+ghost use Rattle.raw_fix.specs.Steps.{Steps};
+ghost use Rattle.frame_stream.specs.Window.{Reads, let_go_of, none_held};
+
+use crate::code::PCode;
+use crate::mark::{Marked, next_mark};
+use crate::soh::find_soh;
+use crate::step::{Known, Step, next_step};
+use crate::taken::{RawErr, Run};
+use frame_stream::{Dry, Window};
+use open_framing::HEAD_BYTES;
+use sbe_base::{NoMem, Source};
+use std::alloc::Global;
+use std::marker::Model;
+use tagvalue_codec::{DataTags, FieldTable};
+
+/// The least limit of a frame that a stream is opened with.
+pub const LEAST_FRAME: usize = 64;
+
+/// What is settled of a stream's front.
+#[derive(Clone, Copy, Debug, PartialEq, Eq)]
+pub(crate) enum Settled {
+    /// The first bytes that are held, so many, are a message.
+    Message(usize),
+    /// These bytes are none. They have been let go.
+    Garbled(Run),
+    /// Nothing is left.
+    End,
+}
+
+/// The bytes of a stream from the next item on, or from a place in one that is no message and hasn't ended.
+#[derive(Drop)]
+pub(crate) struct Items {
+    bytes: Window,
+    /// How many of the first bytes have no SOH.
+    plain: usize,
+    begun: Option<Run>,
+}
+
+impl Model for Items {
+    ghost use Rattle.raw_fix.specs.Items.{ItemState, AreItems};
+
+    ghost Value = { ItemState };
+
+    ghost view = { λ s. record { held = s.bytes.held; begun = s.begun } };
+
+    ghost invariant = { λ s. AreItems s.plain s.bytes.held s.begun };
+}
+
+impl Items {
+    /// Nothing is held yet, and there is room for `size` bytes.
+    pub(crate) fn new(alloc: Global, size: usize, limit: u64) -> Result<Items, NoMem>
+        requires { LEAST_FRAME ≤ size }
+        ensures { IfOk result (λ items. items ≡ record { held = none_held size limit; begun = None }) }
+    {
+        Ok(Items {
+            bytes: Window::new(alloc, size, limit)?,
+            plain: 0,
+            begun: None,
+        })
+    }
+
+    /// How many bytes were taken in all.
+    pub(crate) fn taken(&self) -> u64
+        ensures { result ≡ self.now.held.taken }
+    {
+        self.bytes.taken()
+    }
+
+    /// The first bytes that are held.
+    pub(crate) fn as_slice(&self) -> &[u8]
+        ensures { result.now ≡ self.now.held.bytes }
+    {
+        self.bytes.as_slice()
+    }
+
+    /// Lets the first bytes go.
+    pub(crate) fn let_go(&mut self, n: usize)
+        requires { n ≤ length self.old.held.bytes }
+        ensures { self.new ≡ record { held = let_go_of n self.old.held; begun = self.old.begun } }
+    {
+        self.bytes.let_go(n);
+        self.plain = self.plain.saturating_sub(n);
+    }
+
+    /// Where the bytes stand, and what is known of them.
+    fn known(&self) -> Known
+        ensures at { result.at + length self.now.held.bytes ≡ self.now.held.taken }
+        ensures begun { result.begun ≡ self.now.begun }
+        ensures within { result.plain ≤ length self.now.held.bytes }
+        ensures none { before_soh (take result.plain self.now.held.bytes) ≡ None }
+        ensures counts { IfSome result.begun (λ run. run.length ≤ result.at) }
+        ensures some { IfSome result.begun (λ run. 0 < run.length) }
+        ensures room { self.now.held.taken < 2 ^ 64 }
+        ensures size { LEAST_FRAME ≤ self.now.held.size }
+        ensures most { result.most ≡ self.now.held.size - HEAD_BYTES }
+        ensures fits { length self.now.held.bytes ≤ self.now.held.size }
+        ensures input { self.now.held.taken ≤ self.now.held.limit }
+    {
+        Known {
+            at: self.bytes.taken() - self.bytes.len() as u64,
+            begun: self.begun,
+            plain: self.plain,
+            most: self.bytes.size() - HEAD_BYTES,
+        }
+    }
+
+    /// Reads once after the bytes.
+    fn read<I: Source>(&mut self, input: &mut I) -> Result<(), Dry>
+        requires { length self.old.held.bytes < self.old.held.size }
+        ensures reads { Reads self.old.held self.new.held ((I.state input.old).told) ((I.state input.new).told) result }
+        ensures begun { self.new.begun ≡ self.old.begun }
+        ensures cause { DryCause (I.state input.old).faults (I.state input.new).faults result }
+    {
+        let size = self.bytes.size();
+        self.bytes.more(input, size)
+    }
+
+    /// What the bytes that are held settle, some of which there are.
+    fn step(&self, tags: &DataTags, table: &mut FieldTable) -> Step
+        requires some { 0 < length self.now.held.bytes }
+        requires empty { table.old ≡ [] }
+        ensures steps { Steps (texts_of tags.now self.now) self.now.held.bytes (item_place self.now) self.now.begun result }
+        ensures fields { HasFields tags.now self.now.held.bytes (step_size result) table.new }
+    {
+        let known = self.known();
+        next_step(self.bytes.as_slice(), known, tags, table)
+    }
+
+    /// Settles what is at the front of the bytes that are held, if they settle it. What is settled to be no message
+    /// is let go.
+    fn settle(&mut self, tags: &DataTags, table: &mut FieldTable) -> Option<Settled>
+        requires empty { table.old ≡ [] }
+        ensures settles { Settles (texts_of tags.now self.old) self.old self.new result }
+        ensures fields { HasFields tags.now self.new.held.bytes (size_if result) table.new }
+    {
+        let _known = self.known();
+        if self.bytes.len() == 0 {
+            return None;
+        }
+        match self.step(tags, table) {
+            Step::Message(n) => Some(Settled::Message(n)),
+            Step::Ends(run, n) => {
+                self.end_run(n);
+                Some(Settled::Garbled(run))
+            }
+            Step::GoesOn(run, n) => {
+                self.go_on(run, n);
+                None
+            }
+            Step::More => {
+                self.look();
+                None
+            }
+        }
+    }
+
+    /// Lets the first bytes go, with which those that are no message end.
+    fn end_run(&mut self, n: usize)
+        requires { n ≤ length self.old.held.bytes }
+        ensures { self.new ≡ record { held = let_go_of n self.old.held; begun = None } }
+    {
+        self.let_go(n);
+        self.begun = None;
+    }
+
+    /// Lets the first bytes go, which are no message and haven't ended.
+    fn go_on(&mut self, run: Run, n: usize)
+        requires within { n ≤ length self.old.held.bytes }
+        requires counts { run.length + length self.old.held.bytes ≤ self.old.held.taken + n }
+        requires some { 0 < run.length }
+        ensures { self.new ≡ record { held = let_go_of n self.old.held; begun = Some run } }
+    {
+        self.let_go(n);
+        self.begun = Some(run);
+    }
+
+    /// Notes how many of the first bytes have no SOH, so that none of them is looked at again.
+    fn look(&mut self)
+        ensures { self.new ≡ self.old }
+    {
+        self.plain = plain_front(self.bytes.as_slice(), self.plain);
+    }
+
+    /// Settles what is at the front where nothing follows the bytes that are held.
+    fn finish(&mut self) -> Settled
+        ensures none { settled_size result ≡ None }
+        ensures finishes { (texts : Texts) → Waits texts self.old → Finishes texts self.old self.new result }
+    {
+        let known = self.known();
+        let len = self.bytes.len();
+        match known.begun {
+            Some(run) => {
+                self.end_run(len);
+                Settled::Garbled(run.longer(len))
+            }
+            None if len == 0 => Settled::End,
+            None => {
+                let run = Run {
+                    code: PCode::Ends,
+                    at: known.at,
+                    length: 0,
+                };
+                let n = last_run(self.bytes.as_slice());
+                self.end_run(n);
+                Settled::Garbled(run.longer(n))
+            }
+        }
+    }
+
+    /// Settles the next item. It reads only where the bytes that are held settle none.
+    pub(crate) fn next<I: Source>(
+        &mut self,
+        input: &mut I,
+        tags: &DataTags,
+        table: &mut FieldTable,
+    ) -> Result<Settled, RawErr>
+        requires empty { table.old ≡ [] }
+        ensures nexts { Nexts (texts_of tags.now self.old) self.old self.new (record { before = (I.state input.old).told; after = (I.state input.new).told }) result }
+        ensures fits { TextFits self.new result }
+        ensures fields { HasFields tags.now self.new.held.bytes (size_of result) table.new }
+        ensures cause { RawCause (I.state input.old).faults (I.state input.new).faults result }
+    {
+        let _known = self.known();
+        loop {
+            match self.settle(tags, table) {
+                Some(settled) => return Ok(settled),
+                None => {}
+            }
+            match self.read(input) {
+                Ok(()) => {}
+                Err(Dry::Fault) => return Err(RawErr::ReadFault),
+                Err(Dry::Over) => return Err(RawErr::InputLimit),
+                Err(Dry::End) => return Ok(self.finish()),
+            }
+        }
+    }
+}
+
+/// How many of the first bytes have no SOH: of `plain` it is known.
+fn plain_front(bytes: &[u8], plain: usize) -> usize
+    requires within { plain ≤ length bytes.now }
+    requires none { before_soh (take plain bytes.now) ≡ None }
+    ensures within { result ≤ length bytes.now }
+    ensures none { before_soh (take result bytes.now) ≡ None }
+{
+    match find_soh(bytes, plain) {
+        Some(i) => i,
+        None => bytes.len(),
+    }
+}
+
+/// How far bytes that are no message go, of which nothing follows.
+fn last_run(bytes: &[u8]) -> usize
+    requires { 0 < length bytes.now }
+    ensures within { result ≤ length bytes.now }
+    ensures runs { IsRun false bytes.now (take result bytes.now) }
+{
+    match next_mark(&bytes[1..]) {
+        Marked::At(i) => i + 1,
+        Marked::NotIn(_) => bytes.len(),
+    }
+}

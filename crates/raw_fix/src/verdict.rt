@@ -1,0 +1,72 @@
+ghost use Rattle.std.specs.Prelude.{◌≡◌, ◌≤◌, [], None, length, take, true, false, IsTrue};
+ghost use Rattle.tagvalue_codec.specs.Places.{Holds};
+ghost use Rattle.raw_fix.specs.Claims.{before_soh, claim_of};
+ghost use Rattle.raw_fix.specs.Fields.{HasFields, fix_texts, is_fix, verdict_size};
+ghost use Rattle.raw_fix.specs.Raw.{verdict_by};
+
+use crate::claim::{Claim, read_claim};
+use crate::code::PCode;
+use tagvalue_codec::{DataTags, FieldTable, read_fix};
+
+/// What is at the front of some bytes.
+#[derive(Clone, Copy, Debug, PartialEq, Eq)]
+pub(crate) enum Verdict {
+    /// A message of so many bytes.
+    Says(usize),
+    /// No message, for this reason.
+    Refuses(PCode),
+}
+
+/// What is at the front of the bytes, if no bytes after them change it. The first `plain` bytes have no SOH. The
+/// table holds the fields of a message.
+pub(crate) fn judge(
+    bytes: &[u8],
+    most: usize,
+    plain: usize,
+    tags: &DataTags,
+    table: &mut FieldTable,
+) -> Option<Verdict>
+    requires within { plain ≤ length bytes.now }
+    requires none { before_soh (take plain bytes.now) ≡ None }
+    requires empty { table.old ≡ [] }
+    ensures verdict { result ≡ verdict_by (fix_texts tags.now most) true bytes.now (claim_of most bytes.now) }
+    ensures fields { HasFields tags.now bytes.now (verdict_size result) table.new }
+{
+    match read_claim(bytes, most, plain) {
+        Claim::Whole(n) => {
+            if n > bytes.len() {
+                None
+            } else if is_text(&bytes[..n], tags, table) {
+                Some(Verdict::Says(n))
+            } else {
+                Some(Verdict::Refuses(PCode::Text))
+            }
+        }
+        Claim::Open => None,
+        Claim::Never => Some(Verdict::Refuses(PCode::Prefix)),
+    }
+}
+
+/// Whether the bytes are a text, all of them. The table holds its fields then.
+#[tactic(auto, using(crate::proofs::FieldLemmas::is_read, crate::proofs::FieldLemmas::is_refused))]
+fn is_text(bytes: &[u8], tags: &DataTags, table: &mut FieldTable) -> bool
+    ensures same { result ≡ is_fix tags.now bytes.now }
+    ensures fields { IsTrue result → Holds tags.now bytes.now table.new }
+    ensures empty { result ≡ false → table.new ≡ [] }
+{
+    match read_fix(bytes, tags, table) {
+        Ok(()) => true,
+        Err(_) => false,
+    }
+}
+
+/// Drops all fields of the table: no bytes are no text, and a text that is refused leaves none.
+#[tactic(auto, using(crate::proofs::FieldLemmas::none_left))]
+pub(crate) fn drop_fields(tags: &DataTags, table: &mut FieldTable)
+    ensures { table.new ≡ [] }
+{
+    match read_fix(&[], tags, table) {
+        Ok(()) => {}
+        Err(_) => {}
+    }
+}
