@@ -1,3 +1,4 @@
 pub mod Mappings
 pub mod DataFields
 pub mod Headers
+pub mod Structures

@@ -33,6 +33,13 @@ over_told graph table tells i node extent at is ends =
     ∙ ap (λ b. b || nat_lt 6 (min (node_depth graph node) 7)) (above (length (node_tags graph node)) 4096)
     ∙ ap (λ b. nat_lt 4096 (length (node_tags graph node)) || b) (above (node_depth graph node) 6)
 
+pub places_told : (graph : List Node) (table : List (Option Extent)) → HasExtents graph table → (i : ℕ) (node : Node) (extent : Extent) → slice_get graph i ≡ Some node → slice_get table i ≡ Some (Some extent) →
+    is_endless graph node.links ≡ false → extent.places ≡ min (length (node_tags graph node)) 4097
+places_told graph table tells i node extent at is ends =
+    let all : Extent = extent_of (length (node_tags graph node)) (node_depth graph node) in
+    let e : ◌≡◌ {A = Option Extent} (Some extent) (Some all) = extent_told graph table tells i node (Some extent) at is ∙ ap (λ b. if b then None else Some all) ends in
+    ap (λ (x : Extent). x.places) (same_Some extent all e)
+
 pub none_told : (graph : List Node) (table : List (Option Extent)) → HasExtents graph table → (i : ℕ) (node : Node) → slice_get graph i ≡ Some node → slice_get table i ≡ Some None → is_endless graph node.links ≡ false → ⊥
 none_told graph table tells i node at is ends =
     let all : Extent = extent_of (length (node_tags graph node)) (node_depth graph node) in
@@ -56,6 +63,13 @@ module _ (nodes graph : List Node) (view : nodes ≡ graph) (table : List (Optio
 
   pub answers_none : o ≡ None → (node : Node) → slice_get graph i ≡ Some node → is_endless graph node.links ≡ false → false ≡ is_over_limit graph node
   answers_none none node at ends = absurd (none_told graph table told_here i node at (here ∙ ap Some none) ends)
+
+  pub answers_no_places : o ≡ None → (node : Node) → slice_get graph i ≡ Some node → is_endless graph node.links ≡ false → 0 ≡ min (length (node_tags graph node)) 4097
+  answers_no_places none node at ends = absurd (none_told graph table told_here i node at (here ∙ ap Some none) ends)
+
+  pub answers_places : (extent : Extent) → o ≡ Some extent → (node : Node) → slice_get graph i ≡ Some node → is_endless graph node.links ≡ false →
+      extent.places ≡ min (length (node_tags graph node)) 4097
+  answers_places extent some node at ends = places_told graph table told_here i node extent at (here ∙ ap Some some) ends
 
   pub answers_over : (extent : Extent) → o ≡ Some extent → (node : Node) → slice_get graph i ≡ Some node → is_endless graph node.links ≡ false → is_over extent ≡ is_over_limit graph node
   answers_over extent some node at ends = over_told graph table told_here i node extent at (here ∙ ap Some some) ends

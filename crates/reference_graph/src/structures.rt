@@ -1,7 +1,8 @@
-ghost use Rattle.std.specs.Prelude.{◌≡◌, ◌<◌, length, slice_get, Some, IfOk};
+ghost use Rattle.std.specs.Prelude.{◌≡◌, ◌+◌, ◌<◌, length, min, slice_get, Some, IfOk};
 ghost use Rattle.reference_graph.specs.Graphs.{links_at, is_endless, Ends};
 ghost use Rattle.reference_graph.specs.declared.graph.Node.{Node};
-ghost use Rattle.reference_graph.specs.Structures.{is_ambiguous, is_over_limit};
+ghost use Rattle.reference_graph.specs.declared.extent.TheConstants.{PLACE_LIMIT};
+ghost use Rattle.reference_graph.specs.Structures.{is_ambiguous, is_over_limit, node_tags};
 
 use crate::distinct::{Words, find_distinct};
 use crate::extent::Extent;
@@ -59,6 +60,26 @@ impl Structures {
         ensures { result ≡ length self.now }
     {
         self.nodes.len()
+    }
+
+    /// The nodes in their order.
+    pub fn nodes(&self) -> &[Node]
+        ensures { result.now ≡ self.now }
+    {
+        self.nodes.as_slice()
+    }
+
+    /// How many places the structure of a node has, a group's count among them; one more than the
+    /// limit where there are more.
+    pub fn places(&self, i: usize) -> u32
+        requires { i < length self.now }
+        ensures { (node : Node) → slice_get self.now i ≡ Some node → Ends self.now node.links
+            → result ≡ min (length (node_tags self.now node)) (PLACE_LIMIT + 1) }
+    {
+        match self.extents[i] {
+            None => 0,
+            Some(extent) => extent.places,
+        }
     }
 
     /// Whether some chain of references from the node at a place comes to a node twice.

@@ -1,0 +1,8 @@
+//! The structure of a message as rows, one a place, put together of what the message refers to.
+#![tactic(auto)]
+
+mod row;
+mod walk;
+
+pub use row::PlaceRow;
+pub use walk::structure_rows;
