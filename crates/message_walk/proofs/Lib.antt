@@ -1,0 +1,11 @@
+pub mod DataPuts
+pub mod Entries
+pub mod Fields
+pub mod Leads
+pub mod Messages
+pub mod Nth
+pub mod RowLemmas
+pub mod Slots
+pub mod Steps
+pub mod Trails
+pub mod Values

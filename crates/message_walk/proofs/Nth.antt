@@ -1,0 +1,68 @@
+-- What is at a number of a block, and what is seen there.
+use Rattle.std.proofs.Common.{◌≡◌, ℕ, zero, suc, List, [], ◌∷◌, Option, Some, None, refl, sym, ap, subst, ◌∙◌}
+use Rattle.std.specs.Prelude.{map, slice_get}
+use Rattle.std.specs.Option.{option_map}
+use Rattle.sbe_types.specs.declared.message.DataVal.{DataVal}
+use Rattle.sbe_types.specs.declared.message.DataVal.TheVariants as dataval
+use Rattle.sbe_types.specs.declared.message.GroupVal.{GroupVal}
+use Rattle.sbe_types.specs.declared.message.GroupVal as groupval
+use Rattle.sbe_types.specs.declared.message.Value.{Value}
+use Rattle.sbe_types.specs.declared.message.Value.TheVariants as value
+use Rattle.sbe_types.specs.declared.schema.Group.{Group, out-Group}
+use Rattle.flyweight_view.specs.declared.values.FieldBytes.{FieldBytes}
+use Rattle.flyweight_view.specs.ShownIn.{IsShownIn}
+use Rattle.flyweight_view.specs.Seen.{Seen, seen_level, bytes_in, group_seen, entries_in}
+use Rattle.bridge_terms.specs.Blocks.{data_value, entries_of, nth_or}
+use Rattle.message_walk.specs.Rows.{entries_seen, value_seen, IsSeenOf}
+
+some_is : {A : Type 0} {x y : A} → ◌≡◌ {A = Option A} (Some x) (Some y) → x ≡ y
+some_is h = cc
+
+pub nth_is : {X : Type 0} (none : X) (n : ℕ) (xs : List X) (x : X) → slice_get xs n ≡ Some x → nth_or none n xs ≡ x
+nth_is none n [] x h = cc
+nth_is none zero (y ∷ xs) x h = some_is h
+nth_is none (suc n) (y ∷ xs) x h = nth_is none n xs x h
+
+-- a field that is seen shows the value that is there
+shown_at : (f : FieldBytes) (o : Option Value) → IsShownIn f o → (v : Value) × (o ≡ Some v) × IsShownIn f (Some v)
+shown_at f None h = absurd h
+shown_at f (Some v) h = (v, refl, h)
+
+pub field_seen : (f : FieldBytes) (none : Value) (n : ℕ) (vs : List Value) → IsShownIn f (slice_get vs n) → IsSeenOf (Some f) (nth_or none n vs)
+field_seen f none n vs h =
+    let there = shown_at f (slice_get vs n) h in
+    subst (λ v. IsShownIn f (Some v)) (sym (nth_is none n vs there.0 there.1)) there.2
+
+pub field_absent : (none : Value) (n : ℕ) (vs : List Value) → slice_get vs n ≡ Some value.Absent → IsSeenOf None (nth_or none n vs)
+field_absent none n vs h = nth_is none n vs value.Absent h
+
+-- the bytes of data that are seen are those of the data that is there
+value_is : (d : DataVal) → value_seen (bytes_in d) ≡ data_value d
+value_is dataval.Absent = refl
+value_is (dataval.Bytes bytes) = refl
+
+data_there : (o : Option DataVal) (result : Option (List ℕ)) → option_map bytes_in o ≡ Some result → (d : DataVal) × (o ≡ Some d) × (bytes_in d ≡ result)
+data_there None result h = cc
+data_there (Some d) result h = (d, refl, some_is h)
+
+pub data_seen : (none : DataVal) (n : ℕ) (parts : List DataVal) (result : Option (List ℕ)) → option_map bytes_in (slice_get parts n) ≡ Some result
+    → value_seen result ≡ data_value (nth_or none n parts)
+data_seen none n parts result h =
+    let there = data_there (slice_get parts n) result h in
+    ap value_seen (sym there.2) ∙ value_is there.0 ∙ ap data_value (sym (nth_is none n parts there.0 there.1))
+
+-- the entries of a group that are seen are those that are there
+entries_are : (g : Group) (v : GroupVal) → entries_seen (entries_in (out-Group g).level v) ≡ map (seen_level (out-Group g).level) (entries_of v)
+entries_are g groupval.Absent = refl
+entries_are g (groupval.Entries' n row) = refl
+
+got : (g : Group) (o : Option GroupVal) (result : Option (List Seen)) → group_seen (Some g) o ≡ Some result → (v : GroupVal) × (o ≡ Some v) × (entries_in (out-Group g).level v ≡ result)
+got g None result h = cc
+got g (Some v) result h = (v, refl, some_is h)
+
+pub group_seen_at : (groups : List Group) (vs : List GroupVal) (none : GroupVal) (n : ℕ) (g : Group) (result : Option (List Seen))
+    → slice_get groups n ≡ Some g → group_seen (slice_get groups n) (slice_get vs n) ≡ Some result
+    → entries_seen result ≡ map (seen_level (out-Group g).level) (entries_of (nth_or none n vs))
+group_seen_at groups vs none n g result found seen =
+    let there = got g (slice_get vs n) result (ap (λ o. group_seen o (slice_get vs n)) (sym found) ∙ seen) in
+    ap entries_seen (sym there.2) ∙ entries_are g there.0 ∙ ap (λ v. map (seen_level (out-Group g).level) (entries_of v)) (sym (nth_is none n vs there.0 there.1))

@@ -1,0 +1,6 @@
+pub mod Halts
+pub mod Leads
+pub mod Messages
+pub mod Rows
+pub mod States
+pub mod Ways

@@ -1,0 +1,102 @@
+-- The rows of a plan, and the views that it is walked over. Own profile.
+use Rattle.std.specs.Prelude.{◌≡◌, ◌<◌, ℕ, List, [], ◌∷◌, ◌++◌, length, slice_get, Option, Some, None, ⊤}
+use Rattle.std.specs.Fmt.{decimal}
+use Rattle.sbe_types.specs.declared.kind.Leaf.{Leaf as LeafOf}
+use Rattle.sbe_types.specs.declared.schema.Field.{Field as FieldOf}
+use Rattle.sbe_types.specs.declared.schema.DataField.{DataField}
+use Rattle.sbe_types.specs.declared.schema.Group.{Group, out-Group}
+use Rattle.sbe_types.specs.declared.schema.Level.{out-Level}
+use Rattle.sbe_types.specs.declared.message.Value.{Value}
+use Rattle.sbe_types.specs.declared.message.Value.TheVariants as value
+use Rattle.flyweight_view.specs.declared.values.FieldBytes.{FieldBytes}
+use Rattle.flyweight_view.specs.ShownIn.{IsShownIn}
+use Rattle.flyweight_view.specs.Seen.{Seen}
+use Rattle.bridge_rules.specs.Rules.{Rule, raw_data, text_data}
+use Rattle.bridge_terms.specs.Parts.{TagLists}
+use Rattle.bridge_terms.specs.Plans.{Plan, Place, in_fields, in_data, Slot, done, single, group}
+use Rattle.bridge_terms.specs.Blocks.{values_of}
+use Rattle.bridge_terms.specs.MessageFields.{begins, length_in}
+use Rattle.bridge_terms.specs.Places.{Places, begun_places, places_of, no_places, then_places, place_of, entries_places}
+use Rattle.message_walk.specs.declared.plan.PlanRow.{PlanRow}
+use Rattle.message_walk.specs.declared.plan.Part.{Part}
+use Rattle.message_walk.specs.declared.plan.Part.TheVariants as part
+
+-- ---- rows
+
+-- the rule of data as they are
+pub record IsRaw (rule : Rule) : Type 0 where
+  pub leaf : LeafOf
+  pub is : rule ≡ raw_data leaf
+
+-- the rule of data as a text
+pub record IsPassage (rule : Rule) : Type 0 where
+  pub leaf : LeafOf
+  pub is : rule ≡ text_data leaf
+
+-- the row's part is the field or data of a slot, whose data field has this length field, if any
+abbrev pub IsSlotAt : {R : Type 0} → (R → Rule → Type 0) → Option ℕ → Slot → ℕ → Part R → Type 0
+IsSlotAt spells lead s n (part.Field by) = (s.place ≡ in_fields n) × (lead ≡ None) × spells by s.rule
+IsSlotAt spells lead s n (part.Data (Some own)) = (s.place ≡ in_data n) × (lead ≡ Some own) × IsRaw s.rule
+IsSlotAt spells lead s n (part.Data None) = (s.place ≡ in_data n) × (lead ≡ None) × IsPassage s.rule
+IsSlotAt spells lead s n (part.Group size) = ⊥
+
+-- how many rows are those of a group's entries
+abbrev pub size_of : {R : Type 0} → Part R → Option ℕ
+size_of (part.Field by) = None
+size_of (part.Data lead) = None
+size_of (part.Group size) = Some size
+
+-- the rows are those of the plan: a row a place, those of a group's entries after the group's
+abbrev pub AreRows : {R : Type 0} → (R → Rule → Type 0) → TagLists → Plan → List (PlanRow R) → Type 0
+AreRows spells lists done rows = rows ≡ []
+AreRows spells lists (single s rest) rows =
+    (r : PlanRow _) × (others : List (PlanRow _)) × (rows ≡ r ∷ others) × (r.lead ≡ s.tag)
+    × IsSlotAt spells (length_in s.tag lists.lengths) s r.number r.part × AreRows spells lists rest others
+AreRows spells lists (group g inner rest) rows =
+    (r : PlanRow _) × (own : List (PlanRow _)) × (others : List (PlanRow _)) × (rows ≡ r ∷ (own ++ others)) × (r.lead ≡ g.tag)
+    × (r.number ≡ g.place) × (length_in g.tag lists.lengths ≡ None) × (size_of r.part ≡ Some (length own))
+    × AreRows spells lists inner own × AreRows spells lists rest others
+
+-- the place is one of a level with these fields and data
+abbrev pub IsThere : Place → List FieldOf → List DataField → Type 0
+IsThere (in_fields i) fields parts = i < length fields
+IsThere (in_data i) fields parts = i < length parts
+
+-- the places of the plan are some of a level with these parts
+abbrev pub Fits : Plan → List FieldOf → List Group → List DataField → Type 0
+Fits done fields groups parts = ⊤
+Fits (single s rest) fields groups parts = IsThere s.place fields parts × Fits rest fields groups parts
+Fits (group g inner rest) fields groups parts =
+    ((found : Group) × (slice_get groups g.place ≡ Some found)
+    × Fits inner (out-Level (out-Group found).level).fields (out-Level (out-Group found).level).groups (out-Level (out-Group found).level).parts)
+    × Fits rest fields groups parts
+
+-- the same of what is seen of a level
+abbrev pub FitsSeen : Plan → Seen → Type 0
+FitsSeen p seen = Fits p seen.fields seen.groups seen.parts
+
+-- ---- views
+
+-- what is seen of a field is this value
+abbrev pub IsSeenOf : Option FieldBytes → Value → Type 0
+IsSeenOf None v = v ≡ value.Absent
+IsSeenOf (Some f) v = IsShownIn f (Some v)
+
+-- the value of data that is seen
+abbrev pub value_seen : Option (List ℕ) → Value
+value_seen None = value.Absent
+value_seen (Some bytes) = value.Text bytes
+
+-- the entries that are seen
+abbrev pub entries_seen : Option (List Seen) → List Seen
+entries_seen None = []
+entries_seen (Some es) = es
+
+-- the places of an entry that is seen
+abbrev pub entry_places : Plan → Seen → Places
+entry_places p e = begun_places (begins p (values_of p e.block)) (places_of p (values_of p e.block))
+
+-- a group's count and its entries, without the step to it
+abbrev pub run_inside : {X : Type 0} → ℕ → (X → Places) → List X → Places
+run_inside tag entry [] = no_places
+run_inside tag entry (e ∷ es) = then_places (place_of tag (decimal (length (e ∷ es)))) (entries_places entry 0 (e ∷ es))

@@ -1,0 +1,23 @@
+//! The fields of a message, written as a walk over the rows of a plan and over the view of the message.
+//!
+//! A row is a place of a level: its tag, and what is there. Rows are in the order of the mapped structure, and those of a
+//! group's entries follow the group's own. How a value becomes a text is up to the rows (`PutValue`).
+#![tactic(auto)]
+
+mod data;
+mod halt;
+mod lead;
+mod message;
+mod places;
+mod plan;
+mod put;
+mod trail;
+mod walk;
+
+pub use halt::{Cause, Halt};
+pub use lead::Lead;
+pub use message::put_message;
+pub use plan::{Part, PlanRow};
+pub use put::{Put, PutValue, put_text};
+pub use trail::{Trail, WayStep};
+pub use walk::put_rows;

@@ -1,0 +1,109 @@
+// The field of a value.
+ghost use Rattle.std.specs.Prelude.{◌≡◌, ◌<◌, List, length, None, Ok, Some};
+ghost use Rattle.std.specs.Fmt.{decimal};
+ghost use Rattle.sbe_types.specs.declared.message.Value.{Value};
+ghost use Rattle.tagvalue_codec.specs.declared.write.Phase.TheVariants.{Open};
+ghost use Rattle.tagvalue_codec.specs.Drafts.{IsValue};
+ghost use Rattle.bridge_rules.specs.Rules.{Rule};
+ghost use Rattle.bridge_rules.specs.Texts.{text_by};
+ghost use Rattle.bridge_terms.specs.MessageFields.{length_in};
+ghost use Rattle.bridge_terms.specs.Parts.{TagLists};
+ghost use Rattle.bridge_terms.specs.Places.{place_of};
+ghost use Rattle.message_walk.specs.Rows.{IsSeenOf};
+ghost use Rattle.message_walk.specs.States.{after, outcome, IsPut};
+
+use crate::halt::{Cause, Halt};
+use crate::lead::Lead;
+use flyweight_view::FieldBytes;
+use itoa::Buffer;
+use tagvalue_codec::FixWriter;
+
+/// What became of the field of a value.
+#[derive(Clone, Copy, Debug, PartialEq, Eq, Drop)]
+pub enum Put {
+    Written,
+    /// The value gives no field.
+    Nothing,
+    /// It has no text, or no room: the halt says why.
+    Refused,
+}
+
+/// How the values of a field are spelled.
+pub trait PutValue {
+    /// Whether it spells values as a rule does.
+    ghost spells: { Self → Rule → Type 0 };
+
+    /// Writes the field of a value, if it gives one. A value that is absent has no bytes.
+    fn put(
+        &self,
+        lead: &Lead,
+        field: Option<FieldBytes<'_>>,
+        out: &mut FixWriter,
+        halt: &mut Halt,
+    ) -> Put
+        requires { out.old.phase ≡ Open }
+        ensures open { out.new.phase ≡ Open }
+        ensures put { (lists : TagLists) (rule : Rule) (v : Value) → length_in lead.now lists.lengths ≡ None → spells self.now rule
+            → IsSeenOf field.entry v → IsPut lists out.old lead.now (text_by rule v) (record { put = result; draft = out.new; halt = halt.new }) };
+}
+
+/// Writes a field of that text.
+#[inline(always)]
+pub fn put_text(lead: &Lead, text: &[u8], out: &mut FixWriter, halt: &mut Halt) -> Put
+    requires open { out.old.phase ≡ Open }
+    requires value { IsValue text.now }
+    ensures open { out.new.phase ≡ Open }
+    ensures put { (lists : TagLists) → length_in lead.now lists.lengths ≡ None
+        → IsPut lists out.old lead.now (Ok (Some text.now)) (record { put = result; draft = out.new; halt = halt.new }) }
+{
+    let tag = lead.bytes();
+    match out.ready_field(tag, text) {
+        Ok(()) => Put::Written,
+        Err(full) => {
+            halt.tell(Cause::Full(full.needed));
+            Put::Refused
+        }
+    }
+}
+
+/// Writes a length field and the data field of those bytes.
+pub(crate) fn put_data_text(
+    length_lead: &Lead,
+    lead: &Lead,
+    text: &[u8],
+    out: &mut FixWriter,
+    halt: &mut Halt,
+) -> Put
+    requires open { out.old.phase ≡ Open }
+    requires value { 0 < length text.now }
+    ensures open { out.new.phase ≡ Open }
+    ensures put { (lists : TagLists) → length_in lead.now lists.lengths ≡ Some length_lead.now
+        → IsPut lists out.old lead.now (Ok (Some text.now)) (record { put = result; draft = out.new; halt = halt.new }) }
+{
+    let first = length_lead.bytes();
+    let second = lead.bytes();
+    match out.ready_data_field(first, second, text) {
+        Ok(()) => Put::Written,
+        Err(full) => {
+            halt.tell(Cause::Full(full.needed));
+            Put::Refused
+        }
+    }
+}
+
+/// Writes the field of a count.
+#[tactic(auto, using(crate::proofs::Values::count_value, crate::proofs::Steps::put_on, crate::proofs::Steps::put_off))]
+pub(crate) fn put_count(lead: &Lead, count: usize, out: &mut FixWriter, halt: &mut Halt) -> bool
+    requires { out.old.phase ≡ Open }
+    ensures open { out.new.phase ≡ Open }
+    ensures put { (lists : TagLists) → length_in lead.now lists.lengths ≡ None
+        → outcome result out.new halt.new ≡ after lists out.old (place_of lead.now (decimal count)) }
+{
+    let mut buffer = Buffer::new();
+    let digits = buffer.format(count).as_bytes();
+    match put_text(lead, digits, out, halt) {
+        Put::Written => true,
+        Put::Nothing => true,
+        Put::Refused => false,
+    }
+}

@@ -1,0 +1,238 @@
+// The walk over the rows of a plan.
+ghost use Rattle.std.specs.Prelude.{◌≡◌, ◌<◌, ◌+◌, ℕ, length, None, Some, false};
+ghost use Rattle.sbe_types.specs.declared.message.Block.{out-Block};
+ghost use Rattle.tagvalue_codec.specs.declared.write.Phase.TheVariants.{Open};
+ghost use Rattle.bridge_rules.specs.Texts.{text_by};
+ghost use Rattle.bridge_terms.specs.Blocks.{values_of, value_at};
+ghost use Rattle.bridge_terms.specs.MessageFields.{length_in};
+ghost use Rattle.bridge_terms.specs.Parts.{TagLists};
+ghost use Rattle.bridge_terms.specs.Places.{entries_places, places_of, run_places, slot_places};
+ghost use Rattle.bridge_terms.specs.Plans.{Each, Plan, Slot};
+ghost use Rattle.message_walk.specs.declared.put.Put.TheVariants.{Nothing};
+ghost use Rattle.message_walk.specs.Halts.{undelimited_here};
+ghost use Rattle.message_walk.specs.Rows.{entries_seen, entry_places, run_inside, size_of, AreRows, FitsSeen, IsSlotAt, IsThere};
+ghost use Rattle.message_walk.specs.States.{after, outcome, IsPut};
+
+use crate::data::put_data;
+use crate::halt::{Cause, Halt};
+use crate::lead::Lead;
+use crate::places::{at_most, data_at, entries_at, field_at, first, front, rest_from};
+use crate::plan::{Part, PlanRow};
+use crate::put::{Put, PutValue, put_count};
+use crate::trail::WayStep;
+use flyweight_view::{BlockView, EntriesView};
+use tagvalue_codec::FixWriter;
+
+/// Writes the fields of a block by the rows of its plan. Where it says no, `halt` tells the first place that isn't written,
+/// and the fields before it are written.
+#[cycle(walk)]
+pub fn put_rows<R: PutValue>(
+    rows: &[PlanRow<R>],
+    block: &BlockView<'_>,
+    out: &mut FixWriter,
+    halt: &mut Halt,
+) -> bool
+    requires { out.old.phase ≡ Open }
+    ensures open { out.new.phase ≡ Open }
+    ensures put { (lists : TagLists) (p : Plan) → AreRows R.spells lists p rows.now → FitsSeen p block.now
+        → outcome result out.new halt.new ≡ after lists out.old (places_of p (values_of p block.now.block)) }
+{
+    let mut left = rows;
+    while left.len() > 0 {
+        let row = first(left);
+        let rest = rest_from(left, 1);
+        match size_of(&row.part) {
+            None => {
+                if !put_row(row, block, out, halt) {
+                    return false;
+                }
+                left = rest;
+            }
+            Some(size) => {
+                let size = at_most(size, rest.len());
+                let entries = entries_at(block, row.number);
+                if !put_group(&row.lead, front(rest, size), entries, out, halt) {
+                    return false;
+                }
+                left = rest_from(rest, size);
+            }
+        }
+    }
+    true
+}
+
+/// How many rows are those of a group's entries; none where it is no group.
+#[inline(always)]
+fn size_of<R>(part: &Part<R>) -> Option<usize>
+    ensures { result ≡ size_of part.now }
+{
+    match part {
+        Part::Field(_) => None,
+        Part::Data(_) => None,
+        Part::Group(size) => Some(*size),
+    }
+}
+
+/// Writes the field of a field or data, if its value gives one.
+fn put_row<R: PutValue>(
+    row: &PlanRow<R>,
+    block: &BlockView<'_>,
+    out: &mut FixWriter,
+    halt: &mut Halt,
+) -> bool
+    requires { out.old.phase ≡ Open }
+    ensures open { out.new.phase ≡ Open }
+    ensures put { (lists : TagLists) (s : Slot) → IsSlotAt R.spells (length_in row.now.lead lists.lengths) s row.now.number row.now.part
+        → IsThere s.place block.now.fields block.now.parts
+        → outcome result out.new halt.new ≡ after lists out.old (slot_places row.now.lead (text_by s.rule (value_at s.place block.now.block))) }
+{
+    match put_slot(row, block, out, halt) {
+        Put::Written => true,
+        Put::Nothing => true,
+        Put::Refused => {
+            halt.under(WayStep::Part(row.lead.tag()));
+            false
+        }
+    }
+}
+
+/// The same, and what became of it. It leaves a group alone.
+#[inline(always)]
+fn put_slot<R: PutValue>(
+    row: &PlanRow<R>,
+    block: &BlockView<'_>,
+    out: &mut FixWriter,
+    halt: &mut Halt,
+) -> Put
+    requires { out.old.phase ≡ Open }
+    ensures open { out.new.phase ≡ Open }
+    ensures put { (lists : TagLists) (s : Slot) → IsSlotAt R.spells (length_in row.now.lead lists.lengths) s row.now.number row.now.part
+        → IsThere s.place block.now.fields block.now.parts
+        → IsPut lists out.old row.now.lead (text_by s.rule (value_at s.place block.now.block)) (record { put = result; draft = out.new; halt = halt.new }) }
+    ensures group { (size : ℕ) → size_of row.now.part ≡ Some size → (result ≡ Nothing) × (out.new ≡ out.old) }
+{
+    match &row.part {
+        Part::Field(rule) => rule.put(&row.lead, field_at(block, row.number), out, halt),
+        Part::Data(length) => put_data(length, &row.lead, data_at(block, row.number), out, halt),
+        Part::Group(_) => Put::Nothing,
+    }
+}
+
+/// Writes a group: its count, and then its entries.
+#[cycle(walk)]
+fn put_group<R: PutValue>(
+    lead: &Lead,
+    rows: &[PlanRow<R>],
+    entries: Option<EntriesView<'_>>,
+    out: &mut FixWriter,
+    halt: &mut Halt,
+) -> bool
+    requires { out.old.phase ≡ Open }
+    ensures open { out.new.phase ≡ Open }
+    ensures put { (lists : TagLists) (p : Plan) → length_in lead.now lists.lengths ≡ None → AreRows R.spells lists p rows.now
+        → Each (FitsSeen p) (entries_seen entries.entry)
+        → outcome result out.new halt.new ≡ after lists out.old (run_places lead.now (entry_places p) (entries_seen entries.entry)) }
+{
+    let Some(entries) = entries else {
+        return true;
+    };
+    if put_run(lead, rows, entries, out, halt) {
+        return true;
+    }
+    halt.under(WayStep::Part(lead.tag()));
+    false
+}
+
+/// Writes the count and the entries of a group, if there are any.
+#[cycle(walk)]
+fn put_run<R: PutValue>(
+    lead: &Lead,
+    rows: &[PlanRow<R>],
+    entries: EntriesView<'_>,
+    out: &mut FixWriter,
+    halt: &mut Halt,
+) -> bool
+    requires { out.old.phase ≡ Open }
+    ensures open { out.new.phase ≡ Open }
+    ensures put { (lists : TagLists) (p : Plan) → length_in lead.now lists.lengths ≡ None → AreRows R.spells lists p rows.now
+        → Each (FitsSeen p) entries.entry
+        → outcome result out.new halt.new ≡ after lists out.old (run_inside lead.now (entry_places p) entries.entry) }
+{
+    let count = entries.len();
+    if count == 0 {
+        return true;
+    }
+    if !put_count(lead, count, out, halt) {
+        return false;
+    }
+    put_entries(rows, entries, out, halt)
+}
+
+/// Writes the entries of a group, one after another.
+#[cycle(walk)]
+fn put_entries<R: PutValue>(
+    rows: &[PlanRow<R>],
+    entries: EntriesView<'_>,
+    out: &mut FixWriter,
+    halt: &mut Halt,
+) -> bool
+    requires { out.old.phase ≡ Open }
+    ensures open { out.new.phase ≡ Open }
+    ensures put { (lists : TagLists) (p : Plan) → AreRows R.spells lists p rows.now → Each (FitsSeen p) entries.entry
+        → outcome result out.new halt.new ≡ after lists out.old (entries_places (entry_places p) 0 entries.entry) }
+{
+    let count = entries.len();
+    let mut number = 0;
+    for entry in entries {
+        if !put_entry(rows, &entry, out, halt) {
+            halt.under(WayStep::Entry(number));
+            return false;
+        }
+        number = next_number(number, count);
+    }
+    true
+}
+
+/// The number after this one.
+#[inline(always)]
+fn next_number(number: usize, count: usize) -> usize
+    ensures { number < count → result ≡ number + 1 }
+{
+    if number < count { number + 1 } else { number }
+}
+
+/// Writes an entry, which begins with the field of its first row.
+#[cycle(walk)]
+fn put_entry<R: PutValue>(
+    rows: &[PlanRow<R>],
+    entry: &BlockView<'_>,
+    out: &mut FixWriter,
+    halt: &mut Halt,
+) -> bool
+    requires { out.old.phase ≡ Open }
+    ensures open { out.new.phase ≡ Open }
+    ensures put { (lists : TagLists) (p : Plan) → AreRows R.spells lists p rows.now → FitsSeen p entry.now
+        → outcome result out.new halt.new ≡ after lists out.old (entry_places p entry.now) }
+{
+    if rows.is_empty() {
+        return undelimited(halt);
+    }
+    let row = first(rows);
+    match put_slot(row, entry, out, halt) {
+        Put::Written => put_rows(rest_from(rows, 1), entry, out, halt),
+        Put::Nothing => undelimited(halt),
+        Put::Refused => {
+            halt.under(WayStep::Part(row.lead.tag()));
+            false
+        }
+    }
+}
+
+/// Tells that an entry doesn't begin with its delimiter.
+fn undelimited(halt: &mut Halt) -> bool
+    ensures refused { result ≡ false }
+    ensures halt { halt.new ≡ undelimited_here }
+{
+    halt.tell(Cause::NoDelimiter);
+    false
+}
