@@ -19,7 +19,7 @@ use Rattle.command_steps.specs.Replies.{Answering, by_whole, counted_by, HasPart
 use Rattle.command_steps.specs.Ends.{end_notes, end_status, done_status, stop_line, stop_status}
 use Rattle.sbe_base.specs.Objects.{Object, Failed}
 use Rattle.replies.specs.Outside.{Sinks, Streams, Breaks, at_output, at_notes, Told, noted, failed}
-use Rattle.command_steps.specs.Steps.{Moment, running, behind, IsStepStatus, Fails, Halts, ended_at, failed_at, wanting_at, Causes, Answers}
+use Rattle.command_steps.specs.Steps.{Moment, running, reading_after, IsStepStatus, Fails, Halts, ended_at, failed_at, wanting_at, Causes, Answers}
 use Rattle.open_framing.specs.Frames.{Item}
 use Rattle.replies.specs.Drafts.{DeliversDraft}
 use Rattle.command_steps.specs.Stands.{Stands, StandsOnce, CanCount}
@@ -195,13 +195,13 @@ module _ (IsAnswer : Reply → Type 0) (kept : Kept) (stands : StandsOnce kept) 
       let one : kept.items ≡ 1 = omega (arith, stands.items, some) in
       let told : Told [] (end_status End kept.refused) before.sinks.notes after.sinks.notes code =
       noted done (wrote_none before.sinks after.sinks sinks) (ap (λ s. s.notes.faults) sinks) in
-      let none : (input : List ℕ) → Splits (behind Once kept) input [] End = λ input. subst (λ r. Splits r input [] End) (sym (once_one kept one)) (refl, refl) in
+      let none : (input : List ℕ) → Splits (reading_after Once kept) input [] End = λ input. subst (λ r. Splits r input [] End) (sym (once_one kept one)) (refl, refl) in
       closed_once code (λ input source. ended_at (record { end = End; split = none input; left = λ read. cc; output = output; noted = told }))
       (end_causes before after code [] (end_status End kept.refused) (end_is ended.End kept.refused) (ap (λ o. o.faults) same) output told)
 
   -- the job is done now
   module _ (none : kept.items ≡ 0) where
-    begins_whole : (input : List ℕ) → Begins (behind Once kept) input (Whole ∷ []) input
+    begins_whole : (input : List ℕ) → Begins (reading_after Once kept) input (Whole ∷ []) input
     begins_whole input = subst (λ r. Begins r input (Whole ∷ []) input) (sym (once_none kept none)) (inr refl, refl)
 
     pub went_once : (verdict : Verdict) (reply : Reply) → IsAnswer reply → DeliversDraft reply before.sinks after.sinks (Ok verdict) → Answers job whole none_ahead before after (Ok (record { bytes = 0; verdict = verdict }))
@@ -247,7 +247,7 @@ module _ (IsAnswer : Reply → Type 0) (kept : Kept) (stands : StandsOnce kept) 
       | inr w ↦ closed_once code (λ i source. wanting_at (fails_once reply replied i (λ r. after.sinks ≡ before.sinks) w.1 source) w.0) (want_causes before after code w.0)
     ]
 
--- what stands behind the one job
+-- what follows the one job
 module _ (kept : Kept) (stands : StandsOnce kept) (none : kept.items ≡ 0) (verdict : Verdict) (parts : HasParts 0 verdict) where
   pub once_stands : StandsOnce (counted_by kept 0 verdict)
   once_stands = record {

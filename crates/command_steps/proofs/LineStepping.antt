@@ -246,7 +246,7 @@ module _ (limits : Limits) (last_line : Kept → List ℕ) (IsAnswer : Kept → 
           let h = took st st' before.input.told after.input.told (Ok taken.Line) input takes.from follows in
           elim h.2 [ inl e ↦ took_ended input h.0 h.1 e | inr l ↦ took_last input h.0 h.1 l ]
 
-      -- what stands behind the line
+      -- what follows the line
       pub has_taken : length st'.line ≤ longest_line → HasTaken limits st' kept
       has_taken line = record {
         runs = elim takes.ended [

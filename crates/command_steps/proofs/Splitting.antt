@@ -16,7 +16,7 @@ use Rattle.open_framing.proofs.FrameLemmas.{cut_more, cut_once, cut_found, frame
 use Rattle.open_framing.proofs.LineLemmas.{lines_once, lines_found, lines_more, line_complete}
 use Rattle.command_steps.specs.Splits.{Reading, Frames, Lines, Once, Nothing, Others, Piece, Frame, Line, Whole, piece_bytes, ended_piece, line_pieces, PieceEnd, End, frames_end, lines_end, Splits, Leads, Begins, Holds}
 use Rattle.command_steps.specs.Ahead.{Reaches}
-use Rattle.command_steps.specs.Steps.{behind, once_if}
+use Rattle.command_steps.specs.Steps.{reading_after, once_if}
 use Rattle.command_steps.specs.declared.kept.Kept.{Kept}
 
 -- ---- there is one way to split, and there is one
@@ -142,7 +142,7 @@ begins_first Once stream xs ys rest end h k = elim h.0 [
 begins_first Nothing stream xs ys rest end h k = (ys, ap (λ z. z ++ ys) (sym h.0))
 begins_first (Others reading laws input) stream xs ys rest end h k = laws.first input stream xs ys rest end h k
 
--- ---- pieces go on behind pieces
+-- ---- pieces follow pieces
 
 pub begins_none : (reading : Reading) (stream : List ℕ) → Begins reading stream [] stream
 begins_none (Frames limits) stream = ([], record { whole = refl; each = tt }, omega arith, refl)
@@ -195,20 +195,20 @@ is_one n true h e = absurd (apart (sym miss ∙ h))
 is_one n false h e = refl
 
 -- whether the one job is still to do
-pub once_none : (kept : Kept) → kept.items ≡ 0 → behind Once kept ≡ Once
+pub once_none : (kept : Kept) → kept.items ≡ 0 → reading_after Once kept ≡ Once
 once_none kept e = is_none kept.items (kept.items == 0) refl e
 
-pub once_one : (kept : Kept) → kept.items ≡ 1 → behind Once kept ≡ Nothing
+pub once_one : (kept : Kept) → kept.items ≡ 1 → reading_after Once kept ≡ Nothing
 once_one kept e = is_one kept.items (kept.items == 0) refl e
 
 -- one job was done, or none yet
-once_done : (kept : Kept) (pieces : List Piece) → Counts kept pieces → pieces ≡ Whole ∷ [] → behind Once kept ≡ Nothing
+once_done : (kept : Kept) (pieces : List Piece) → Counts kept pieces → pieces ≡ Whole ∷ [] → reading_after Once kept ≡ Nothing
 once_done kept pieces c e = once_one kept (c.items ∙ ap length e)
 
-once_left : (kept : Kept) (pieces : List Piece) → Counts kept pieces → pieces ≡ [] → behind Once kept ≡ Once
+once_left : (kept : Kept) (pieces : List Piece) → Counts kept pieces → pieces ≡ [] → reading_after Once kept ≡ Once
 once_left kept pieces c e = once_none kept (c.items ∙ ap length e)
 
-pub begins_more : (reading : Reading) (kept : Kept) (stream mid rest : List ℕ) (xs ys : List Piece) → Counts kept xs → Begins reading stream xs mid → Begins (behind reading kept) mid ys rest → Begins reading stream (xs ++ ys) rest
+pub begins_more : (reading : Reading) (kept : Kept) (stream mid rest : List ℕ) (xs ys : List Piece) → Counts kept xs → Begins reading stream xs mid → Begins (reading_after reading kept) mid ys rest → Begins reading stream (xs ++ ys) rest
 begins_more (Frames limits) kept stream mid rest xs ys c h k = (
   h.0 ++ k.0,
   leads_on (IsFrame limits.frame) frame_of stream mid rest h.0 k.0 h.1 k.1,
@@ -232,17 +232,17 @@ begins_more Once kept stream mid rest xs ys c h k = elim h.0 [
 begins_more Nothing kept stream mid rest xs ys c h k = (ap (λ z. z ++ ys) h.0 ∙ k.0, k.1 ∙ h.1)
 begins_more (Others reading laws input) kept stream mid rest xs ys c h k = laws.more input stream mid rest xs ys h (subst (λ n. reading.Begins (input - n) mid ys rest) c.bytes k)
 
--- ---- an end behind pieces is the end of all
+-- ---- an end after pieces is the end of all
 
 cuts_on : (items more : List Item) (rest : List ℕ) (limit n : ℕ) (end : CutEnd) → AllByRecursion (IsFrame limit) items → Cut rest limit n more end →
     Cut (joined frame_of items ++ rest) limit (length (joined frame_of items) + n) (items ++ more) end
 cuts_on [] more rest limit n end all cut = let same : n ≡ 0 + n = omega arith in subst (λ k. Cut rest limit k more end) same cut
-cuts_on (x ∷ items) behind_all rest limit n end all cut =
-    let later = cuts_on items behind_all rest limit n end all.1 cut in
-    let more = cut_more (joined frame_of items ++ rest) limit (length (joined frame_of items) + n) x (items ++ behind_all) end all.0 later in
+cuts_on (x ∷ items) after_all rest limit n end all cut =
+    let later = cuts_on items after_all rest limit n end all.1 cut in
+    let more = cut_more (joined frame_of items ++ rest) limit (length (joined frame_of items) + n) x (items ++ after_all) end all.0 later in
     let size : length (frame_of x) + (length (joined frame_of items) + n) ≡ length (frame_of x ++ joined frame_of items) + n = omega (arith, length-append (frame_of x) (joined frame_of items)) in
-    subst (λ s. Cut s limit (length (frame_of x ++ joined frame_of items) + n) (x ∷ (items ++ behind_all)) end) (sym (append_assoc (frame_of x) (joined frame_of items) rest))
-    (subst (λ k. Cut (frame_of x ++ (joined frame_of items ++ rest)) limit k (x ∷ (items ++ behind_all)) end) size more)
+    subst (λ s. Cut s limit (length (frame_of x ++ joined frame_of items) + n) (x ∷ (items ++ after_all)) end) (sym (append_assoc (frame_of x) (joined frame_of items) rest))
+    (subst (λ k. Cut (frame_of x ++ (joined frame_of items ++ rest)) limit k (x ∷ (items ++ after_all)) end) size more)
 
 cut_items : (items : List Item) (rest : List ℕ) (limit n : ℕ) (end : CutEnd) → AllByRecursion (IsFrame limit) items → Cut rest limit n [] end →
     Cut (joined frame_of items ++ rest) limit (length (joined frame_of items) + n) items end
@@ -257,12 +257,12 @@ cut_items (x ∷ items) rest limit n end all cut =
 lines_items : (all more : List (List ℕ)) (rest : List ℕ) (n : ℕ) (end : LineEnd) → AllByRecursion IsLine all → lines.Lines rest n more end →
     lines.Lines (joined lines.ended all ++ rest) (length (joined lines.ended all) + n) (all ++ more) end
 lines_items [] more rest n end good cut = let same : n ≡ 0 + n = omega arith in subst (λ k. lines.Lines rest k more end) same cut
-lines_items (x ∷ all) behind_all rest n end good cut =
-    let later = lines_items all behind_all rest n end good.1 cut in
-    let more = lines_more (joined lines.ended all ++ rest) (length (joined lines.ended all) + n) x (all ++ behind_all) end good.0 later in
+lines_items (x ∷ all) after_all rest n end good cut =
+    let later = lines_items all after_all rest n end good.1 cut in
+    let more = lines_more (joined lines.ended all ++ rest) (length (joined lines.ended all) + n) x (all ++ after_all) end good.0 later in
     let size : length (lines.ended x) + (length (joined lines.ended all) + n) ≡ length (lines.ended x ++ joined lines.ended all) + n = omega (arith, length-append (lines.ended x) (joined lines.ended all)) in
-    subst (λ s. lines.Lines s (length (lines.ended x ++ joined lines.ended all) + n) (x ∷ (all ++ behind_all)) end) (sym (append_assoc (lines.ended x) (joined lines.ended all) rest))
-    (subst (λ k. lines.Lines (lines.ended x ++ (joined lines.ended all ++ rest)) k (x ∷ (all ++ behind_all)) end) size more)
+    subst (λ s. lines.Lines s (length (lines.ended x ++ joined lines.ended all) + n) (x ∷ (all ++ after_all)) end) (sym (append_assoc (lines.ended x) (joined lines.ended all) rest))
+    (subst (λ k. lines.Lines (lines.ended x ++ (joined lines.ended all ++ rest)) k (x ∷ (all ++ after_all)) end) size more)
 
 -- what maps to nothing is nothing
 none_mapped : {X : Type 0} (f : X → Piece) (xs : List X) → [] ≡ map f xs → xs ≡ []
@@ -274,7 +274,7 @@ no_lines : (count : ℕ) (all : List (List ℕ)) → [] ≡ line_pieces count al
 no_lines count [] e = refl
 no_lines count (x ∷ all) e = absurd (no_more e)
 
--- the lines of the rest stand behind those at the front
+-- the lines of the rest follow those at the front
 lines_on : (input : ℕ) (kept : Kept) (stream rest : List ℕ) (xs : List Piece) (all more : List (List ℕ)) (end : LineEnd) → Counts kept xs →
     Leads IsLine lines.ended stream all rest × (length (joined lines.ended all) ≤ input) × (xs ≡ map ended_piece all) → lines.Lines rest (input - kept.bytes) more end → lines.Lines stream input (all ++ more) end
 lines_on input kept stream rest xs all more end c h cut =
@@ -282,8 +282,8 @@ lines_on input kept stream rest xs all more end c h cut =
     let found = lines_items all more rest (input - kept.bytes) end h.0.each cut in
     subst (λ s. lines.Lines s input (all ++ more) end) (sym h.0.whole) (subst (λ n. lines.Lines (joined lines.ended all ++ rest) n (all ++ more) end) size found)
 
-pub splits_behind : (reading : Reading) (kept : Kept) (stream rest : List ℕ) (xs : List Piece) (end : PieceEnd) → Counts kept xs → Begins reading stream xs rest → Splits (behind reading kept) rest [] end → Splits reading stream xs end
-splits_behind (Frames limits) kept stream rest xs end c h k =
+pub splits_after : (reading : Reading) (kept : Kept) (stream rest : List ℕ) (xs : List Piece) (end : PieceEnd) → Counts kept xs → Begins reading stream xs rest → Splits (reading_after reading kept) rest [] end → Splits reading stream xs end
+splits_after (Frames limits) kept stream rest xs end c h k =
     let size : length (joined frame_of h.0) + (limits.input - kept.bytes) ≡ limits.input = omega (arith, h.2, frames_counted kept xs h.0 c h.3) in
     let none : Cut rest limits.frame (limits.input - kept.bytes) [] k.1 = subst (λ (items : List Item). Cut rest limits.frame (limits.input - kept.bytes) items k.1) (none_mapped Frame k.0 k.3) k.2 in
     let all = cut_items h.0 rest limits.frame (limits.input - kept.bytes) k.1 h.1.each none in (
@@ -293,48 +293,48 @@ splits_behind (Frames limits) kept stream rest xs end c h k =
       h.3,
       k.4,
     )
-splits_behind (Lines input) kept stream rest xs end c h k =
+splits_after (Lines input) kept stream rest xs end c h k =
     let all = lines_on input kept stream rest xs h.0 k.0 k.1 c (h.1, h.2, h.3) k.2 in
     let none : k.0 ≡ [] = no_lines (length rest) k.0 k.3 in
     (h.0, k.1, subst (λ (ls : List (List ℕ)). lines.Lines stream input ls k.1) (ap (λ (ls : List (List ℕ)). h.0 ++ ls) none ∙ append-nil h.0) all, h.3 ∙ sym (pieces_ended h.0 stream rest h.1.whole), k.4)
-splits_behind Once kept stream rest xs end c h k = elim h.0 [
+splits_after Once kept stream rest xs end c h k = elim h.0 [
   | inl none ↦ let there : Splits Once rest [] end = subst (λ r. Splits r rest [] end) (once_left kept xs c none) k in absurd (no_more there.0)
   | inr one ↦ let there : Splits Nothing rest [] end = subst (λ r. Splits r rest [] end) (once_done kept xs c one) k in (one, there.1)
 ]
-splits_behind Nothing kept stream rest xs end c h k = (h.0, k.1)
-splits_behind (Others reading laws input) kept stream rest xs end c h k =
+splits_after Nothing kept stream rest xs end c h k = (h.0, k.1)
+splits_after (Others reading laws input) kept stream rest xs end c h k =
     subst (λ ps. reading.Splits input stream ps end) (append-nil xs) (laws.all input stream rest xs [] end h (subst (λ n. reading.Splits (input - n) rest [] end) c.bytes k))
 
 -- ---- what is whole in the bytes that were given
 
-pub holds_behind : (reading : Reading) (kept : Kept) (stream held left : List ℕ) (xs : List Piece) → Counts kept xs → Begins reading stream xs (held ++ left) → Holds (behind reading kept) held [] →
+pub holds_after : (reading : Reading) (kept : Kept) (stream held left : List ℕ) (xs : List Piece) → Counts kept xs → Begins reading stream xs (held ++ left) → Holds (reading_after reading kept) held [] →
     Holds reading (joined piece_bytes xs ++ held) xs × (stream ≡ (joined piece_bytes xs ++ held) ++ left)
-holds_behind (Frames limits) kept stream held left xs c h k =
+holds_after (Frames limits) kept stream held left xs c h k =
     let bytes : joined piece_bytes xs ≡ joined frame_of h.0 = ap (joined piece_bytes) h.3 ∙ frames_bytes h.0 in
     let none : [] ≡ k.0 = sym (none_mapped Frame k.0 k.3) in
     let rest : held ≡ k.1 = k.2.whole ∙ ap (λ (items : List Item). joined frame_of items ++ k.1) (sym none) in (
       (h.0, held, record { whole = ap (λ b. b ++ held) bytes; each = h.1.each; longest = λ x more is e. k.2.longest x more is (sym rest ∙ e) }, h.3),
       h.1.whole ∙ ap (λ b. b ++ (held ++ left)) (sym bytes) ∙ sym (append_assoc (joined piece_bytes xs) held left),
     )
-holds_behind (Lines input) kept stream held left xs c h k =
+holds_after (Lines input) kept stream held left xs c h k =
     let bytes : joined piece_bytes xs ≡ joined lines.ended h.0 = ap (joined piece_bytes) h.3 ∙ lines_bytes h.0 in
     let none : [] ≡ k.0 = sym (none_mapped ended_piece k.0 k.3) in
     let rest : held ≡ k.1 = k.2.whole ∙ ap (λ (all : List (List ℕ)). joined lines.ended all ++ k.1) (sym none) in (
       (h.0, held, record { whole = ap (λ b. b ++ held) bytes; each = h.1.each; longest = λ x more is e. k.2.longest x more is (sym rest ∙ e) }, h.3),
       h.1.whole ∙ ap (λ b. b ++ (held ++ left)) (sym bytes) ∙ sym (append_assoc (joined piece_bytes xs) held left),
     )
-holds_behind Once kept stream held left xs c h k = by (kept.items == 0) k
+holds_after Once kept stream held left xs c h k = by (kept.items == 0) k
   where
     by : {P : Type 0} (t : Bool) → Holds (once_if t) held [] → P
     by true f = absurd f
     by false f = absurd f
-holds_behind Nothing kept stream held left xs c h k = absurd k
-holds_behind (Others reading laws input) kept stream held left xs c h k = laws.held input stream held left xs h k
+holds_after Nothing kept stream held left xs c h k = absurd k
+holds_after (Others reading laws input) kept stream held left xs c h k = laws.held input stream held left xs h k
 
 -- ---- an input whose end was met
 
--- all pieces of the rest stand behind those at the front
-splits_more : (reading : Reading) (kept : Kept) (stream rest : List ℕ) (xs ys : List Piece) (end : PieceEnd) → Counts kept xs → Begins reading stream xs rest → Splits (behind reading kept) rest ys end → Splits reading stream (xs ++ ys) end
+-- all pieces of the rest follow those at the front
+splits_more : (reading : Reading) (kept : Kept) (stream rest : List ℕ) (xs ys : List Piece) (end : PieceEnd) → Counts kept xs → Begins reading stream xs rest → Splits (reading_after reading kept) rest ys end → Splits reading stream (xs ++ ys) end
 splits_more (Frames limits) kept stream rest xs ys end c h k =
     let size : length (joined frame_of h.0) + (limits.input - kept.bytes) ≡ limits.input = omega (arith, h.2, frames_counted kept xs h.0 c h.3) in
     let all = cuts_on h.0 k.0 rest limits.frame (limits.input - kept.bytes) k.1 h.1.each k.2 in (
@@ -358,8 +358,8 @@ splits_more Once kept stream rest xs ys end c h k = elim h.0 [
 splits_more Nothing kept stream rest xs ys end c h k = (ap (λ z. z ++ ys) h.0 ∙ k.0, k.1)
 splits_more (Others reading laws input) kept stream rest xs ys end c h k = laws.all input stream rest xs ys end h (subst (λ n. reading.Splits (input - n) rest ys end) c.bytes k)
 
--- pieces go on behind those that an input begins with
-pub reaches_more : (met : Bool) (reading : Reading) (kept : Kept) (stream mid rest : List ℕ) (xs ys : List Piece) → Counts kept xs → Begins reading stream xs mid → Reaches met (behind reading kept) mid ys rest →
+-- pieces follow those that an input begins with
+pub reaches_more : (met : Bool) (reading : Reading) (kept : Kept) (stream mid rest : List ℕ) (xs ys : List Piece) → Counts kept xs → Begins reading stream xs mid → Reaches met (reading_after reading kept) mid ys rest →
     Reaches met reading stream (xs ++ ys) rest
 reaches_more false reading kept stream mid rest xs ys c h k = begins_more reading kept stream mid rest xs ys c h k
 reaches_more true reading kept stream mid rest xs ys c h k = (splits_more reading kept stream mid xs ys End c h k.0, k.1)
@@ -392,7 +392,7 @@ lines_of_none n all end h =
     h.ends ∙ ap (λ r. (lines.last_of (nat_lt n 0) r).1) rest ∙ ap (λ t. (lines.last_of t []).1) (none_below n)
 
 -- where the end was met, nothing else can be
-pub none_ended : (reading : Reading) (kept : Kept) (stream : List ℕ) (xs : List Piece) (end : PieceEnd) → Counts kept xs → Splits reading stream xs End → Splits (behind reading kept) [] [] end → end ≡ End
+pub none_ended : (reading : Reading) (kept : Kept) (stream : List ℕ) (xs : List Piece) (end : PieceEnd) → Counts kept xs → Splits reading stream xs End → Splits (reading_after reading kept) [] [] end → end ≡ End
 none_ended (Frames limits) kept stream xs end c h k = k.4 ∙ ap frames_end (cut_of_none limits.frame (limits.input - kept.bytes) k.0 k.1 k.2)
 none_ended (Lines input) kept stream xs end c h k = k.4 ∙ ap lines_end (lines_of_none (input - kept.bytes) k.0 k.1 k.2)
 none_ended Once kept stream xs end c h k = let there : Splits Nothing [] [] end = subst (λ r. Splits r [] [] end) (once_done kept xs c h.0) k in there.1

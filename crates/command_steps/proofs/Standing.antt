@@ -14,11 +14,11 @@ use Rattle.command_steps.specs.Replies.{Answering, none_kept, counted, Replies}
 use Rattle.command_steps.specs.Ends.{Outcome, end_notes, closed, PiecesReport, stop_line}
 use Rattle.sbe_base.specs.Objects.{Object}
 use Rattle.replies.specs.Outside.{Streams, Wrote, Breaks, at_output, at_notes, Told, noted, failed}
-use Rattle.command_steps.specs.Steps.{Moment, behind, IsReported, Ends, Stalls, Fails, Progress}
+use Rattle.command_steps.specs.Steps.{Moment, reading_after, IsReported, Ends, Stalls, Fails, Progress}
 use Rattle.command_steps.specs.declared.kept.Kept.{Kept}
 use Rattle.command_steps.specs.declared.end.Stop.TheVariants as stop
 use Rattle.command_steps.proofs.Folding.{AnswersOnce, replies_more, replies_front}
-use Rattle.command_steps.proofs.Splitting.{Counts, reaches_first, reaches_more, splits_behind, none_ended, holds_behind}
+use Rattle.command_steps.proofs.Splitting.{Counts, reaches_first, reaches_more, splits_after, none_ended, holds_after}
 use Rattle.command_steps.proofs.Running.{counts}
 
 -- ---- parts
@@ -31,8 +31,8 @@ pub part_of : (old new : Option (List ℕ)) (bytes more all : List ℕ) → Appe
 part_of old new bytes more all h e = (h.0, h.1 ++ more, e ∙ ap (λ b. b ++ more) h.2 ∙ append_assoc h.0 h.1 more, h.3)
 
 -- bytes and then a part of others are a part of both
-pub part_behind : (old mid new : Option (List ℕ)) (x y : List ℕ) → Appends old mid x → AppendsPart mid new y → AppendsPart old new (x ++ y)
-part_behind old mid new x y h k = (x ++ k.0, k.1, ap (λ b. x ++ b) k.2 ∙ sym (append_assoc x k.0 k.1), appends_more old mid new x k.0 h k.3)
+pub part_after : (old mid new : Option (List ℕ)) (x y : List ℕ) → Appends old mid x → AppendsPart mid new y → AppendsPart old new (x ++ y)
+part_after old mid new x y h k = (x ++ k.0, k.1, ap (λ b. x ++ b) k.2 ∙ sym (append_assoc x k.0 k.1), appends_more old mid new x k.0 h k.3)
 
 -- bytes and then none
 pub appends_same : (old : Option (List ℕ)) (mid new : Object (List ℕ)) (x : List ℕ) → Appends old mid.told x → new ≡ mid → Appends old new.told x
@@ -79,17 +79,17 @@ module _ (on : Answering) (placed : AnswersOnce on) (input : List ℕ) (outcome 
         notes_is = ap (λ (o : Outcome). o.notes) report.6 ∙ ap (λ (w : Written). w.notes ++ end) front.1 ∙ append_assoc written.notes front.0.notes end;
       }
 
--- the line of an input that failed behind so many bytes
+-- the line of an input that failed after so many bytes
 abbrev pub read_line : List ℕ → List ℕ
 read_line taken = stop_line (stop.ReadFault (length taken))
 
 -- ---- the ways to end
 
--- where the pieces end, behind those that an input reaches
-ends_behind : (met : Bool) (reading : Reading) (kept : Kept) (stream rest : List ℕ) (xs : List Piece) (end : PieceEnd) → Counts kept xs → Reaches met reading stream xs rest → Splits (behind reading kept) rest [] end → Splits reading stream xs end
-ends_behind false reading kept stream rest xs end c h k = splits_behind reading kept stream rest xs end c h k
-ends_behind true reading kept stream rest xs end c h k =
-    let none : Splits (behind reading kept) [] [] end = subst (λ r. Splits (behind reading kept) r [] end) h.1 k in
+-- where the pieces end, after those that an input reaches
+ends_after : (met : Bool) (reading : Reading) (kept : Kept) (stream rest : List ℕ) (xs : List Piece) (end : PieceEnd) → Counts kept xs → Reaches met reading stream xs rest → Splits (reading_after reading kept) rest [] end → Splits reading stream xs end
+ends_after false reading kept stream rest xs end c h k = splits_after reading kept stream rest xs end c h k
+ends_after true reading kept stream rest xs end c h k =
+    let none : Splits (reading_after reading kept) [] [] end = subst (λ r. Splits (reading_after reading kept) r [] end) h.1 k in
     subst (Splits reading stream xs) (sym (none_ended reading kept stream xs end c h.0 none)) h.0
 
 module _ (on : Answering) (pump : Moment) (old mid new : Streams) (input : List ℕ) (progress : Progress on pump old mid input) (code : Status) where
@@ -107,7 +107,7 @@ module _ (on : Answering) (pump : Moment) (old mid new : Streams) (input : List 
       ends.end,
       progress.written,
       kept,
-      ends_behind pump.ahead.met_end on.reading kept input progress.left progress.pieces ends.end (counts on kept progress.pieces progress.written progress.replies) progress.begins ends.split,
+      ends_after pump.ahead.met_end on.reading kept input progress.left progress.pieces ends.end (counts on kept progress.pieces progress.written progress.replies) progress.begins ends.split,
       progress.replies,
       refl,
     )
@@ -116,7 +116,7 @@ module _ (on : Answering) (pump : Moment) (old mid new : Streams) (input : List 
     output_whole = appends_same old.sinks.output.told mid.sinks.output new.sinks.output progress.written.output progress.wrote.output ends.output
 
     pub notes_part : AppendsPart old.sinks.notes.told new.sinks.notes.told all_written.notes
-    notes_part = part_behind old.sinks.notes.told mid.sinks.notes.told new.sinks.notes.told progress.written.notes _ progress.wrote.notes (told_part _ _ mid.sinks.notes new.sinks.notes code ends.noted)
+    notes_part = part_after old.sinks.notes.told mid.sinks.notes.told new.sinks.notes.told progress.written.notes _ progress.wrote.notes (told_part _ _ mid.sinks.notes new.sinks.notes code ends.noted)
 
     pub reported : IsReported code → (code ≡ all_written.status) × Wrote old.sinks new.sinks (record { output = all_written.output; notes = all_written.notes })
     reported r =
@@ -132,7 +132,7 @@ module _ (on : Answering) (pump : Moment) (old mid new : Streams) (input : List 
     begun = subst (Begins on.reading input progress.pieces) stalls.taken (subst (λ b. Reaches b on.reading input progress.pieces progress.left) stalls.unmet progress.begins)
 
     held_so : Holds on.reading given progress.pieces × (input ≡ given ++ stalls.left)
-    held_so = holds_behind on.reading kept input stalls.held stalls.left progress.pieces (counts on kept progress.pieces progress.written progress.replies) begun stalls.part
+    held_so = holds_after on.reading kept input stalls.held stalls.left progress.pieces (counts on kept progress.pieces progress.written progress.replies) begun stalls.part
 
     pub whole_given : Holds on.reading given progress.pieces
     whole_given = held_so.0
@@ -153,9 +153,9 @@ module _ (on : Answering) (pump : Moment) (old mid new : Streams) (input : List 
     answers_written = appends_same old.sinks.output.told mid.sinks.output new.sinks.output progress.written.output progress.wrote.output stalls.output
 
     pub line_part : AppendsPart old.sinks.notes.told new.sinks.notes.told (progress.written.notes ++ read_line given)
-    line_part = part_behind old.sinks.notes.told mid.sinks.notes.told new.sinks.notes.told progress.written.notes (read_line given) progress.wrote.notes (told_part (read_line given) status.ReadFault mid.sinks.notes new.sinks.notes code line_told)
+    line_part = part_after old.sinks.notes.told mid.sinks.notes.told new.sinks.notes.told progress.written.notes (read_line given) progress.wrote.notes (told_part (read_line given) status.ReadFault mid.sinks.notes new.sinks.notes code line_told)
 
-  -- a write failed, or memory was wanting: nothing behind the next piece was taken
+  -- a write failed, or it ran out of memory: nothing after the next piece was taken
   module _ (IsWritten : Reply → Type 0) (fails : Fails on pump new progress.left IsWritten) where
     pub begun_last : Reaches fails.ahead.met_end on.reading input (progress.pieces ++ fails.piece ∷ []) fails.left
     begun_last =
@@ -168,7 +168,7 @@ module _ (on : Answering) (pump : Moment) (old mid new : Streams) (input : List 
   -- what a broken answer leaves
   pub broken_output : (written : Written) → Breaks mid.sinks new.sinks written → AppendsPart old.sinks.output.told new.sinks.output.told (progress.written.output ++ written.output)
   broken_output written breaks = elim breaks [
-    | at_output p s f ↦ part_behind old.sinks.output.told mid.sinks.output.told new.sinks.output.told progress.written.output written.output progress.wrote.output p
+    | at_output p s f ↦ part_after old.sinks.output.told mid.sinks.output.told new.sinks.output.told progress.written.output written.output progress.wrote.output p
     | at_notes a s p f ↦ whole_part old.sinks.output.told new.sinks.output.told (progress.written.output ++ written.output)
         (appends_more old.sinks.output.told mid.sinks.output.told new.sinks.output.told progress.written.output written.output progress.wrote.output a)
   ]
@@ -178,5 +178,5 @@ module _ (on : Answering) (pump : Moment) (old mid new : Streams) (input : List 
     | at_output p s f ↦
         part_of old.sinks.notes.told new.sinks.notes.told progress.written.notes written.notes (progress.written.notes ++ written.notes)
         (whole_part old.sinks.notes.told new.sinks.notes.told progress.written.notes (appends_same old.sinks.notes.told mid.sinks.notes new.sinks.notes progress.written.notes progress.wrote.notes s)) refl
-    | at_notes a s p f ↦ part_behind old.sinks.notes.told mid.sinks.notes.told new.sinks.notes.told progress.written.notes written.notes progress.wrote.notes p
+    | at_notes a s p f ↦ part_after old.sinks.notes.told mid.sinks.notes.told new.sinks.notes.told progress.written.notes written.notes progress.wrote.notes p
   ]

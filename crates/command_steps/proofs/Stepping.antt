@@ -198,7 +198,7 @@ module _ (limits : Limits) (spares : Bool) (last_line : Kept → List ℕ) (IsAn
               refl,
             )
 
-        -- what stands behind the frame
+        -- what follows the frame
         module _ (verdict : Verdict) (parts : HasParts (length st'.body) verdict) where
           pub stands_on : BodyOf st' (Ok (taken.Frame h)) → Stands limits st' (counted_by kept h.length verdict)
           stands_on body = record {

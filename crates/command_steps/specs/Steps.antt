@@ -37,16 +37,16 @@ once_if true = Once
 once_if false = Nothing
 
 -- the reading of what follows what was done
-abbrev pub behind : Reading → Kept → Reading
-behind (Frames limits) kept = Frames (record { frame = limits.frame; input = limits.input - kept.bytes })
-behind (Lines input) kept = Lines (input - kept.bytes)
-behind Once kept = once_if (kept.items == 0)
-behind Nothing kept = Nothing
-behind (Others reading laws input) kept = Others reading laws (input - kept.bytes)
+abbrev pub reading_after : Reading → Kept → Reading
+reading_after (Frames limits) kept = Frames (record { frame = limits.frame; input = limits.input - kept.bytes })
+reading_after (Lines input) kept = Lines (input - kept.bytes)
+reading_after Once kept = once_if (kept.items == 0)
+reading_after Nothing kept = Nothing
+reading_after (Others reading laws input) kept = Others reading laws (input - kept.bytes)
 
 -- how a pump reads on
 abbrev pub reading_on : Answering → Moment → Reading
-reading_on on pump = behind on.reading pump.kept
+reading_on on pump = reading_after on.reading pump.kept
 
 -- The next piece of what follows was taken, and its answer was written; the numbers count it.
 pub record TakesPiece (on : Answering) (old new : Moment) (before after : Streams) (input : List ℕ) : Type 0 where

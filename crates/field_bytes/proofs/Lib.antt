@@ -1,4 +1,3 @@
-pub mod Bits
 pub mod Fitting
 pub mod Elements
 pub mod Places

@@ -1,5 +1,5 @@
--- The bytes of a number by a writer of unsigned ones, and the bit of a choice. From SBE 1.0, Field encoding.
-use Rattle.std.specs.Prelude.{ℕ, nat_lt, if◌then◌else◌, Option, Some, None, List, [], ◌∷◌, ℤ, pos, negsuc}
+-- The bytes of a number by a writer of unsigned ones. From SBE 1.0, Field encoding.
+use Rattle.std.specs.Prelude.{ℕ, List, [], ◌∷◌, ℤ}
 use Rattle.std.specs.Int.{cast_unsigned, w8, w16, w32, w64}
 use Rattle.sbe_types.specs.declared.kind.Primitive.{Primitive}
 use Rattle.sbe_types.specs.declared.kind.Primitive.TheVariants.{Char, I8, I16, I32, I64, U8, U16, U32, U64}
@@ -16,8 +16,3 @@ written_as bytes U32 n = bytes 4 (natural n)
 written_as bytes I32 n = bytes 4 (cast_unsigned w32 n)
 written_as bytes U64 n = bytes 8 (natural n)
 written_as bytes I64 n = bytes 8 (cast_unsigned w64 n)
-
--- the place of a bit, where it is one of 64
-abbrev pub bit_of : ℤ → Option ℕ
-bit_of (pos k) = if nat_lt k 64 then Some k else None
-bit_of (negsuc k) = None

@@ -9,7 +9,7 @@ ghost use Rattle.sbe_types.specs.declared.path.Step.TheVariants.{Elem as ElemSte
 ghost use Rattle.field_bytes.specs.Faults.{is_single, told};
 
 use crate::fault::{FieldCause, ValueFault, refuse, refuse_element};
-use crate::listed::{are_listed, is_listed};
+use named_numbers::{are_listed, is_listed};
 use sbe_types::{Elem, Kind, Leaf, LeafShape, NamedList, Presence, Value};
 
 /// Whether a value fits a leaf, an enum or a set; if not, the first element or byte that doesn't is left in

@@ -5,7 +5,6 @@ mod arrays;
 mod fault;
 mod judge;
 mod leaf;
-mod listed;
 mod number;
 mod puts;
 

@@ -1,9 +1,10 @@
 -- The text of data as it is printed: keys stand as they are, and members are left out one by one. Own profile.
-use Rattle.std.specs.Prelude.{◌≡◌, ℕ, not, ◌&&◌, ◌||◌, ◌==◌, Bool, true, false, List, [], ◌∷◌, ◌++◌, codes, Option, Some, None, ⊤}
+use Rattle.std.specs.Prelude.{◌≡◌, ℕ, if◌then◌else◌, not, ◌&&◌, ◌||◌, ◌==◌, Bool, true, false, List, [], ◌∷◌, ◌++◌, codes, Option, Some, None, ⊤}
 use Rattle.json.specs.Print.{escape, quoted}
 use Rattle.serde_json.specs.Data.{Data, null, boolean, number, string, array, object, Items, no_items, item, Members, no_members, member}
 use Rattle.serde_json.specs.Written.{compact_text, comma_if}
-use Rattle.json_values.specs.Values.{Entry, listed, is_printable}
+use Rattle.sbe_types.specs.declared.kind.Named.{Named}
+use Rattle.json_values.specs.Values.{Entry, listed, is_printable, has_bit}
 
 -- a quoted name and a colon
 abbrev pub key_text : List ℕ → List ℕ
@@ -33,6 +34,10 @@ abbrev mutual
 abbrev pub entry_text : Bool → Entry → List ℕ
 entry_text later (name, None) = []
 entry_text later (name, Some d) = comma_if later ++ (key_text name ++ plain_text d)
+
+-- what a choice of a set adds after others: its name where its bit is set
+abbrev pub choice_text : Bool → ℕ → Named → List ℕ
+choice_text later bits choice = if has_bit bits choice.number then comma_if later ++ plain_text (string choice.name) else []
 
 -- whether a member stands, now that this one follows
 abbrev pub later_behind : Bool → Option Data → Bool

@@ -140,11 +140,6 @@ name_of (v ∷ vs) n = if int_eq v.number n then Some v.name else name_of vs n
 abbrev pub enum_data : List Named → ℤ → Data
 enum_data names n = option_map_or string (name_of names n) (number_data n)
 
--- the place of a bit, where it is one of 64
-abbrev pub bit_of : ℤ → Option ℕ
-bit_of (pos k) = if nat_lt k 64 then Some k else None
-bit_of (negsuc k) = None
-
 -- the bit of that number is set
 abbrev pub has_bit : ℕ → ℤ → Bool
 has_bit bits (pos k) = bit_at bits k == 1

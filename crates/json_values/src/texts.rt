@@ -192,7 +192,7 @@ fn hex_digits_at(at: usize) -> &'static [u8]
 
 /// A digit to the base 16.
 #[inline(always)]
-fn hex_digit(n: u8) -> u8
+pub fn hex_digit(n: u8) -> u8
     requires { n < 16 }
     ensures { result ≡ slice_index lower_digits n }
 {

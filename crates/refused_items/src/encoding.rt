@@ -1,13 +1,11 @@
-ghost use Rattle.std.specs.Prelude.{◌≡◌, ◌<◌, slice_index};
-ghost use Rattle.hex.specs.Hex.{lower_digits};
+ghost use Rattle.std.specs.Prelude.{◌≡◌};
 ghost use Rattle.printers.specs.Prints.{Prints};
 ghost use Rattle.refused_items.specs.Refused.{of_encoding, refused_line, type_text};
 
 use crate::refused::{put_refused_back, put_refused_front};
+use json_values::hex_digit;
 use printers::Printer;
 use sbe_base::Sink;
-
-const HEX_DIGITS: &[u8; 16] = b"0123456789abcdef";
 
 /// Prints the line of an item whose frame is of another encoding type.
 #[inline(never)]
@@ -31,12 +29,4 @@ fn digits_of(encoding: u16) -> [u8; 4]
         hex_digit(low / 16),
         hex_digit(low % 16),
     ]
-}
-
-/// A digit to the base 16.
-fn hex_digit(n: u8) -> u8
-    requires { n < 16 }
-    ensures { result ≡ slice_index lower_digits n }
-{
-    HEX_DIGITS[n as usize]
 }

@@ -12,7 +12,7 @@ use Rattle.sbe_base.specs.Objects.{Object, Failed}
 use Rattle.replies.specs.Outside.{Outside, Wrote, Calm}
 use Rattle.command_steps.specs.Steps.{IsStepStatus, IsReported}
 use Rattle.sbe_cli.specs.Jobs.{reads_input, spares_memory}
-use Rattle.sbe_cli.specs.Runs.{Known, written_in, Reports, StandsAtRead, StandsAtWrite, StandsAtFile, Fronts, HasRead, Runs}
+use Rattle.sbe_cli.specs.Runs.{Known, WhenKnown, SinkFailed, written_in, Reports, StandsAtRead, StandsAtWrite, StandsAtFile, Fronts, HasRead, Runs}
 use Rattle.schema_files.specs.declared.files.FileRefusal.{FileRefusal}
 use Rattle.schema_files.specs.declared.files.FileRefusal.TheVariants.{Absent, TooLong, Unread, Broken, SameId, FormDiffers, NoMap}
 use Rattle.sbe_cli.proofs.Reporting.{one_report}
@@ -58,75 +58,51 @@ module _ (words : List (List ℕ)) (old new : Outside) where
     unread = touched.unread;
   }
 
-  pub runs_file : Failed old.files new.files → StandsAtFile words old.streams new.streams → Fronts words old new → Touched status.FileFault → Runs words old new status.FileFault
-  runs_file failed_so stands fronts touched = record {
-    report = λ x. absurd x;
-    calm = λ x. absurd x;
-    read = λ takes h. elim h [ inl e ↦ cc | inr e ↦ cc ];
-    file_fault = λ e. failed_so;
-    read_fault = λ e. cc;
-    write_fault = λ e. cc;
-    file_stands = λ e. stands;
-    read_stands = λ e. cc;
-    write_stands = λ e. cc;
+  -- what a status of a run that was cut short asks for
+  record CutShort (code : Status) : Type 0 where
+    never : IsReported code → ⊥
+    file : code ≡ status.FileFault → Failed old.files new.files × StandsAtFile words old.streams new.streams
+    read : code ≡ status.ReadFault → Failed old.streams.input new.streams.input × WhenKnown old (λ contents input. StandsAtRead words old new contents)
+    write : code ≡ status.WriteFault → SinkFailed old new × WhenKnown old (λ contents input. StandsAtWrite words old new contents input)
+    memory : spares_memory (command_of words) ≡ true → code ≡ status.NoMemory → new.streams ≡ old.streams
+
+  -- a run that was cut short is no report
+  runs_cut : (code : Status) → CutShort code → Fronts words old new → Touched code → Runs words old new code
+  runs_cut code cut fronts touched = record {
+    report = λ x. absurd (cut.never x);
+    calm = λ x. absurd (cut.never x);
+    read = λ takes h. absurd (cut.never (elim h [ inl e ↦ subst IsReported (sym e) tt | inr e ↦ subst IsReported (sym e) tt ]));
+    file_fault = λ e. (cut.file e).0;
+    read_fault = λ e. (cut.read e).0;
+    write_fault = λ e. (cut.write e).0;
+    file_stands = λ e. (cut.file e).1;
+    read_stands = λ e. (cut.read e).1;
+    write_stands = λ e. (cut.write e).1;
     fronts = fronts;
-    memory = λ takes e. cc;
+    memory = cut.memory;
     untouched = touched.untouched;
     unread = touched.unread;
   }
 
-  pub runs_read : Failed old.streams.input new.streams.input →
-      ((contents : List ℕ → Option (List ℕ)) (input : List ℕ) → Known old contents input → StandsAtRead words old new contents) → Fronts words old new → Touched status.ReadFault → Runs words old new status.ReadFault
-  runs_read failed_so stands fronts touched = record {
-    report = λ x. absurd x;
-    calm = λ x. absurd x;
-    read = λ takes h. elim h [ inl e ↦ cc | inr e ↦ cc ];
-    file_fault = λ e. cc;
-    read_fault = λ e. failed_so;
-    write_fault = λ e. cc;
-    file_stands = λ e. cc;
-    read_stands = λ e. stands;
-    write_stands = λ e. cc;
-    fronts = fronts;
-    memory = λ takes e. cc;
-    untouched = touched.untouched;
-    unread = touched.unread;
-  }
+  pub runs_file : Failed old.files new.files → StandsAtFile words old.streams new.streams → Fronts words old new → Touched status.FileFault
+      → Runs words old new status.FileFault
+  runs_file failed_so stands fronts touched =
+      runs_cut status.FileFault (record { never = λ x. x; file = λ e. (failed_so, stands); read = λ e. cc; write = λ e. cc; memory = λ takes e. cc }) fronts touched
 
-  pub runs_write : Failed old.streams.sinks.output new.streams.sinks.output ⊎ Failed old.streams.sinks.notes new.streams.sinks.notes →
-      ((contents : List ℕ → Option (List ℕ)) (input : List ℕ) → Known old contents input → StandsAtWrite words old new contents input) → Fronts words old new → Touched status.WriteFault → Runs words old new status.WriteFault
-  runs_write failed_so stands fronts touched = record {
-    report = λ x. absurd x;
-    calm = λ x. absurd x;
-    read = λ takes h. elim h [ inl e ↦ cc | inr e ↦ cc ];
-    file_fault = λ e. cc;
-    read_fault = λ e. cc;
-    write_fault = λ e. failed_so;
-    file_stands = λ e. cc;
-    read_stands = λ e. cc;
-    write_stands = λ e. stands;
-    fronts = fronts;
-    memory = λ takes e. cc;
-    untouched = touched.untouched;
-    unread = touched.unread;
-  }
+  pub runs_read : Failed old.streams.input new.streams.input → WhenKnown old (λ contents input. StandsAtRead words old new contents)
+      → Fronts words old new → Touched status.ReadFault → Runs words old new status.ReadFault
+  runs_read failed_so stands fronts touched =
+      runs_cut status.ReadFault (record { never = λ x. x; file = λ e. cc; read = λ e. (failed_so, stands); write = λ e. cc; memory = λ takes e. cc }) fronts touched
 
-  pub runs_wanting : Fronts words old new → (spares_memory (command_of words) ≡ true → new.streams ≡ old.streams) → Touched status.NoMemory → Runs words old new status.NoMemory
-  runs_wanting fronts memory touched = record {
-    report = λ x. absurd x;
-    calm = λ x. absurd x;
-    read = λ takes h. elim h [ inl e ↦ cc | inr e ↦ cc ];
-    file_fault = λ e. cc;
-    read_fault = λ e. cc;
-    write_fault = λ e. cc;
-    file_stands = λ e. cc;
-    read_stands = λ e. cc;
-    write_stands = λ e. cc;
-    fronts = fronts;
-    memory = λ takes e. memory takes;
-    untouched = touched.untouched;
-    unread = touched.unread;
-  }
+  pub runs_write : SinkFailed old new → WhenKnown old (λ contents input. StandsAtWrite words old new contents input)
+      → Fronts words old new → Touched status.WriteFault → Runs words old new status.WriteFault
+  runs_write failed_so stands fronts touched =
+      runs_cut status.WriteFault (record { never = λ x. x; file = λ e. cc; read = λ e. cc; write = λ e. (failed_so, stands); memory = λ takes e. cc }) fronts touched
+
+  pub runs_wanting : Fronts words old new → (spares_memory (command_of words) ≡ true → new.streams ≡ old.streams) → Touched status.NoMemory
+      → Runs words old new status.NoMemory
+  runs_wanting fronts memory touched =
+      runs_cut status.NoMemory (record { never = λ x. x; file = λ e. cc; read = λ e. cc; write = λ e. cc; memory = λ takes e. memory takes }) fronts touched
 
 -- ---- a pump that isn't opened
 

@@ -1,5 +1,5 @@
 -- Whether two schemas are of one form is decided.
-use Rattle.std.proofs.Common.{◌≡◌, inl, inr, ℕ, zero, suc, ◌+◌, Bool, true, false, ℤ, if◌then◌else◌, List, [], ◌∷◌, map, Option, Some, None, refl, sym, ap, ◌∙◌, subst}
+use Rattle.std.proofs.Common.{◌≡◌, inl, inr, ℕ, zero, suc, ℤ, List, [], ◌∷◌, Option, Some, None, refl, ap, ◌∙◌, subst}
 use mathlib.Core.Former.{Count}
 use Rattle.sbe_types.specs.declared.kind.Primitive.{Primitive}
 use Rattle.sbe_types.specs.declared.kind.Primitive.TheVariants as prim
@@ -16,8 +16,9 @@ use Rattle.sbe_types.specs.declared.kind.ConstValue.TheVariants as constant
 use Rattle.sbe_types.specs.declared.kind.Kind.{Kind, Leaf, Enum, Set, Const, Comp', Row_of-Member, end_of-Member, more_of-Member, items-the_row-Member}
 use Rattle.sbe_types.specs.declared.kind.Member.{Member}
 use Rattle.sbe_types.specs.declared.schema.WireSchema.{WireSchema}
-use Rattle.sbe_types.specs.Places.{width, is_const, begin_of, place_of, end_past, member_place}
+use Rattle.sbe_types.specs.Places.{place_of, end_past}
 use Rattle.schema_check.specs.Forms.{SameForm, IsLike, AreLike}
+use Rattle.schema_check.proofs.FormLemmas.{first_stands}
 use Rattle.schema_files.proofs.Deciding.{Decided, Apart, numbers, through, pairs, lists, options, integers, both, and}
 
 -- ---- words
@@ -214,50 +215,6 @@ mutual
       (λ h. let same = some_is (ap first_in h) in (ap (λ (m : Member). m.name) same, ap (λ (m : Member). m.offset) same))
       (λ h. (ap (λ (m : Member). m.kind) (some_is (ap first_in h)), items_same rest others (rest_of (ap (λ r. items-the_row-Member _ r) h))))
 
--- ---- members, one by one and as a whole
-
-record SameFrom (e : ℕ) (ms ns : List Member) : Type 0 where
-  names : map (λ m. m.name) ms ≡ map (λ m. m.name) ns
-  kinds : map (λ m. m.kind) ms ≡ map (λ m. m.kind) ns
-  places : (i : ℕ) → member_place e ms i ≡ member_place e ns i
-
-end_by : (b : Bool) (x y e w : ℕ) → (if b then None else Some x) ≡ (if b then None else Some y) → (if b then e else x + w) ≡ (if b then e else y + w)
-end_by true x y e w h = refl
-end_by false x y e w h = cc
-
-end_like : (e : ℕ) (o p : Option ℕ) (k l : Kind) → k ≡ l → place_of e o k ≡ place_of e p l → end_past e o k ≡ end_past e p l
-end_like e o p k l same h = end_by (is_const k) (begin_of e o) (begin_of e p) e (width k) (h ∙ ap (place_of e p) (sym same)) ∙ ap (end_past e p) same
-
-more_places : (e : ℕ) (m n : Member) (ms ns : List Member) → IsLike e m n
-    → ((i : ℕ) → member_place (end_past e m.offset m.kind) ms i ≡ member_place (end_past e m.offset m.kind) ns i)
-    → (i : ℕ) → member_place e (m ∷ ms) i ≡ member_place e (n ∷ ns) i
-more_places e m n ms ns like h zero = like.place
-more_places e m n ms ns like h (suc i) = h i ∙ ap (λ (d : ℕ). member_place d ns i) (end_like e m.offset n.offset m.kind n.kind like.kind like.place)
-
-to_whole : (ms ns : List Member) (e : ℕ) → AreLike e ms ns → SameFrom e ms ns
-to_whole [] [] e h = record { names = refl; kinds = refl; places = λ i. refl }
-to_whole [] (n ∷ ns) e h = absurd h
-to_whole (m ∷ ms) [] e h = absurd h
-to_whole (m ∷ ms) (n ∷ ns) e h =
-    let rest = to_whole ms ns (end_past e m.offset m.kind) h.1 in
-    record { names = cc (h.0.name, rest.names); kinds = cc (h.0.kind, rest.kinds); places = more_places e m n ms ns h.0 rest.places }
-
-from_whole : (ms ns : List Member) (e : ℕ) → SameFrom e ms ns → AreLike e ms ns
-from_whole [] [] e h = tt
-from_whole [] (n ∷ ns) e h = let named = h.names in cc
-from_whole (m ∷ ms) [] e h = let named = h.names in cc
-from_whole (m ∷ ms) (n ∷ ns) e h =
-    let named = h.names in
-    let of_kinds = h.kinds in
-    let like : IsLike e m n = record { name = cc; kind = cc; place = h.places 0 } in (
-      like,
-      from_whole ms ns (end_past e m.offset m.kind) (record {
-        names = cc;
-        kinds = cc;
-        places = λ i. h.places (suc i) ∙ ap (λ (d : ℕ). member_place d ns i) (sym (end_like e m.offset n.offset m.kind n.kind like.kind like.place));
-      }),
-    )
-
 -- ---- the forms of schemas
 
 like_decided : (e : ℕ) (m n : Member) → Decided (IsLike e m n)
@@ -274,9 +231,8 @@ likes_decided e (m ∷ ms) (n ∷ ns) = and (like_decided e m n) (likes_decided 
 
 pub form_decided : (s t : WireSchema) → Decided (SameForm s t)
 form_decided s t =
+    let stands = first_stands s.header.members t.header.members in
     both (orders s.order t.order) (likes_decided 0 s.header.members t.header.members)
-    (λ same like.
-    let whole = to_whole s.header.members t.header.members 0 like in
-    record { order = same; header = record { names = whole.names; kinds = whole.kinds; places = whole.places } })
+    (λ same like. record { order = same; header = stands.rest like })
     (λ form. form.order)
-    (λ form. from_whole s.header.members t.header.members 0 (record { names = form.header.names; kinds = form.header.kinds; places = form.header.places }))
+    (λ form. stands.all form.header)

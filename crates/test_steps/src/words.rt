@@ -3,10 +3,10 @@
 use anyhow::{Result, bail};
 use row_tables::Row;
 use sbe_base::Limits;
-use sbe_cli::{Command, FORMS, Form, WordsErr, read_words};
+use sbe_cli::{Command, FORMS, WordsErr, read_words};
 use std::alloc::Global;
 
-/// The words that a row gives behind so many others.
+/// The words that a row gives after so many others.
 pub fn words_of(alloc: Global, row: &Row, first: usize) -> Result<Vec<String>> {
     let mut words = Vec::new(alloc);
     for i in first..row.len() {
@@ -15,34 +15,34 @@ pub fn words_of(alloc: Global, row: &Row, first: usize) -> Result<Vec<String>> {
     Ok(words)
 }
 
-fn limits_text(alloc: Global, limits: Limits) -> Result<String> {
-    let frame = limits.frame;
-    let input = limits.input;
-    Ok(format!(in alloc; "frames of {frame}, input of {input}")?)
-}
-
+/// The text of a command: its word and its files; where it takes options, how many further schemas it has, and its limits.
 fn command_text(alloc: Global, command: &Command) -> Result<String> {
-    let file = command.file(0);
-    match command.form {
-        Form::Check => Ok(format!(in alloc; "check {file}")?),
-        Form::Compat => {
-            let newer = command.file(1);
-            Ok(format!(in alloc; "compat {file} {newer}")?)
-        }
-        Form::Dump => {
-            let limits = limits_text(alloc, command.limits)?;
-            let more = command.also.len();
-            Ok(format!(in alloc; "dump {file} and {more}, {}", limits.as_str())?)
-        }
-        Form::Build => {
-            let limits = limits_text(alloc, command.limits)?;
-            Ok(format!(in alloc; "build {file}, {}", limits.as_str())?)
-        }
-        Form::FixCheck => {
-            let limits = limits_text(alloc, command.limits)?;
-            Ok(format!(in alloc; "fixcheck {file}, {}", limits.as_str())?)
+    let mut text = String::new(alloc);
+    for (form, word, _, options) in FORMS {
+        if form == command.form {
+            text.push_str(word)?;
+            put_files(&mut text, command)?;
+            if !options.is_empty() {
+                let options = options_text(alloc, command)?;
+                text.push_str(options.as_str())?;
+            }
         }
     }
+    Ok(text)
+}
+
+fn put_files(text: &mut String, command: &Command) -> Result<()> {
+    for name in command.files.as_slice() {
+        text.push_str(" ")?;
+        text.push_str(name.as_str())?;
+    }
+    Ok(())
+}
+
+fn options_text(alloc: Global, command: &Command) -> Result<String> {
+    let more = command.also.len();
+    let Limits { frame, input } = command.limits;
+    Ok(format!(in alloc; " and {more}, frames of {frame}, input of {input}")?)
 }
 
 /// A row: words. The command that they are, with its limits.

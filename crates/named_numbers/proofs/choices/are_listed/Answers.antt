@@ -3,8 +3,8 @@ use Rattle.std.specs.Prelude.{◌||◌}
 use Rattle.std.specs.Int.{bit_at}
 use Rattle.sbe_types.specs.Shown.{is_listed}
 use Rattle.std.proofs.lemmas.List.{drop_all}
-use Rattle.field_bytes.proofs.Bits.{met_next, none_left}
-use Rattle.field_bytes.proofs.listed.are_listed.Goals as goal
+use Rattle.named_numbers.proofs.Bits.{met_next, none_left}
+use Rattle.named_numbers.proofs.choices.are_listed.Goals as goal
 
 pub loop-choice-preserved : goal.loop-choice-preserved
 loop-choice-preserved c =

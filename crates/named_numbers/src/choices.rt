@@ -2,19 +2,21 @@ ghost use Rattle.std.specs.Prelude.{◌≡◌, ◌<◌, if◌then◌else◌, pos
 ghost use Rattle.std.specs.Int.{bit_at};
 ghost use Rattle.std.specs.Ordering.{int_eq};
 ghost use Rattle.sbe_types.specs.Shown.{has_listed_bits, is_listed};
-ghost use Rattle.field_bytes.specs.Written.{bit_of};
+ghost use Rattle.named_numbers.specs.Bits.{bit_of};
 
 use sbe_types::Named;
 
 /// Whether one of the names has that number.
-pub(crate) fn is_listed(names: &[Named], number: i128) -> bool
+#[inline]
+pub fn is_listed(names: &[Named], number: i128) -> bool
     ensures { result ≡ is_listed names.now number }
 {
     names.iter().any(|name| name.number == number)
 }
 
 /// Whether each bit that is set is a choice.
-pub(crate) fn are_listed(choices: &[Named], bits: u64) -> bool
+#[inline]
+pub fn are_listed(choices: &[Named], bits: u64) -> bool
     ensures { result ≡ has_listed_bits choices.now 64 bits }
 {
     let mut left = bits;
@@ -26,7 +28,7 @@ pub(crate) fn are_listed(choices: &[Named], bits: u64) -> bool
 
 /// The place of a bit, where it is one of 64.
 #[inline(always)]
-fn bit_of(number: &i128) -> Option<u32>
+pub fn bit_of(number: &i128) -> Option<u32>
     ensures { result ≡ bit_of number.now }
 {
     match u32::try_from(*number) {

@@ -11,7 +11,7 @@ use Rattle.std.proofs.lemmas.Bool.{and_parts, cases_lt, eqb-true}
 use Rattle.std.proofs.lemmas.Nat.Bits.{same_from_bits_below, bit_at-zero, bit_at_clear_same, bit_at_clear_other}
 use Rattle.sbe_types.specs.declared.kind.Named.{Named}
 use Rattle.sbe_types.specs.Shown.{is_listed, has_listed_bits}
-use Rattle.field_bytes.specs.Written.{bit_of}
+use Rattle.named_numbers.specs.Bits.{bit_of}
 
 -- the bit is clear, or one of the choices
 abbrev is_met : List Named → ℕ → ℕ → Bool
@@ -80,7 +80,7 @@ placed : (j k : ℕ) (b : Bool) → nat_lt j 64 ≡ b → (if b then Some j else
 placed j k true lt e = (ap pos (some_is e), omega (arith, ltb-true j 64 lt, some_is e))
 placed j k false lt e = absurd cc
 
-place_of : (n : ℤ) (k : ℕ) → bit_of n ≡ Some k → (n ≡ pos k) × (k < 64)
+pub place_of : (n : ℤ) (k : ℕ) → bit_of n ≡ Some k → (n ≡ pos k) × (k < 64)
 place_of (pos j) k h = placed j k (nat_lt j 64) refl h
 place_of (negsuc j) k h = absurd cc
 
