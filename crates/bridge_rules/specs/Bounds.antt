@@ -37,6 +37,7 @@ pub record IsOwnValue (rule : Rule) (own : Value) : Type 0 where
   pub has : item_by rule own ≡ Some item
   pub same : same_value own own ≡ true
 
+-- the types of a rule are narrow enough, and its codes short enough, for its laws to hold
 abbrev pub IsBounded : Rule → Type 0
 IsBounded (integer leaf) = ⊤
 IsBounded (integer_decimal leaf) = IsNarrow leaf

@@ -50,24 +50,31 @@ item_told k d t = by_rule (rule_of k d) (λ rule. text_item rule t)
 
 -- ---- leaves
 
+-- a single value of a primitive: its presence, its null and its range
 abbrev pub leaf_of : Primitive → Presence → ℤ → ℤ → ℤ → LeafOf
 leaf_of prim presence null low high = record { prim = prim; length = 1; shape = Number; presence = presence; null = null; low = low; high = high }
 
+-- a single int32, by its presence
 abbrev pub int32 : Presence → LeafOf
 int32 presence = leaf_of I32 presence (negsuc 2147483647) (negsuc 2147483646) (pos 2147483647)
 
+-- a single int8, by its presence
 abbrev pub int8 : Presence → LeafOf
 int8 presence = leaf_of I8 presence (negsuc 127) (negsuc 126) (pos 127)
 
+-- a single uint8, by its presence
 abbrev pub uint8 : Presence → LeafOf
 uint8 presence = leaf_of U8 presence (pos 255) (pos 0) (pos 254)
 
+-- a required uint16
 abbrev pub uint16 : LeafOf
 uint16 = leaf_of U16 Required (pos 65535) (pos 0) (pos 65534)
 
+-- a required uint64
 abbrev pub uint64 : LeafOf
 uint64 = leaf_of U64 Required (pos 18446744073709551615) (pos 0) (pos 18446744073709551614)
 
+-- a single char, by its presence
 abbrev pub one_char : Presence → LeafOf
 one_char presence = leaf_of Char presence (pos 0) (pos 0) (pos 126)
 
@@ -77,12 +84,15 @@ text4 presence = record { prim = Char; length = 4; shape = RangedText; presence 
 
 -- ---- composites
 
+-- a composite of two members
 abbrev pub two : List ℕ → Kind → List ℕ → Kind → Kind
 two a k b l = Comp' (tt ∷ tt ∷ []) (more_of-Member a None k (more_of-Member b None l end_of-Member))
 
+-- a composite of a mantissa and an exponent
 abbrev pub decimal : Kind → Kind → Kind
 decimal m e = two (codes "mantissa") m (codes "exponent") e
 
+-- a composite of a time and its unit
 abbrev pub time : Kind → Kind → Kind
 time count unit = two (codes "time") count (codes "unit") unit
 
@@ -97,20 +107,25 @@ month presence = Comp' (tt ∷ tt ∷ tt ∷ tt ∷ []) (more_of-Member (codes "
     (more_of-Member (codes "day") None (Leaf (uint8 presence))
     (more_of-Member (codes "week") None (Leaf (uint8 Optional)) end_of-Member))))
 
+-- a constant number
 abbrev pub constant_number : ℤ → Kind
 constant_number n = Const (const.Num n)
 
+-- a constant text
 abbrev pub constant_text : List ℕ → Kind
 constant_text t = Const (const.Text t)
 
+-- a constant that is a valid value of an enum
 abbrev pub constant_code : Primitive → List ℕ → ℕ → Kind
 constant_code prim name n = Const (const.Code prim (record { name = name; number = pos n }))
 
 -- ---- listed values and codes
 
+-- a valid value or a choice: its name and its number
 abbrev pub named : List ℕ → ℕ → Named
 named name n = record { name = name; number = pos n }
 
+-- a code of a code set: its name and its text
 abbrev pub code : List ℕ → List ℕ → NamedCode
 code name t = record { name = name; text = t }
 
@@ -140,8 +155,10 @@ flags = Set U8 (named (codes "Held") 0 ∷ named (codes "AllOrNone") 3 ∷ named
 
 -- ---- values of composites
 
+-- the value of a composite of two members
 abbrev pub pair : Value → Value → Value
 pair v w = value.Comp' (tt ∷ tt ∷ []) (more_of-Value v (more_of-Value w end_of-Value))
 
+-- the value of a composite of four members
 abbrev pub four : Value → Value → Value → Value → Value
 four a b c d = value.Comp' (tt ∷ tt ∷ tt ∷ tt ∷ []) (more_of-Value a (more_of-Value b (more_of-Value c (more_of-Value d end_of-Value))))

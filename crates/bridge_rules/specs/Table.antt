@@ -25,10 +25,12 @@ use Rattle.bridge_rules.specs.Rules.{From, from_1970, from_midnight, always, on_
 use Rattle.bridge_rules.specs.Members.{and_then}
 use Rattle.bridge_rules.specs.Datatypes.{NamedCode, Datatype, whole_number, decimal_number, character, text, boolean, timestamp, time_of_day, calendar_day, month_of_year, raw, code_set, character_set}
 
+-- a rule under a condition
 abbrev pub rule_if : Bool → Rule → Option Rule
 rule_if true rule = Some rule
 rule_if false rule = None
 
+-- one number, and no text or array
 abbrev pub is_number : LeafShape → Bool
 is_number Number = true
 is_number RangedText = false
@@ -36,6 +38,7 @@ is_number EncodedText = false
 is_number Octets = false
 is_number Numbers = false
 
+-- an array of characters
 abbrev pub is_array : LeafShape → Bool
 is_array RangedText = true
 is_array EncodedText = true
@@ -43,10 +46,11 @@ is_array Number = false
 is_array Octets = false
 is_array Numbers = false
 
--- a single integer, and a single character
+-- a single integer
 abbrev pub is_integer : LeafOf → Bool
 is_integer leaf = is_number leaf.shape && not (is_char leaf.prim)
 
+-- a single character
 abbrev pub is_char_leaf : LeafOf → Bool
 is_char_leaf leaf = is_number leaf.shape && is_char leaf.prim
 
@@ -54,6 +58,7 @@ is_char_leaf leaf = is_number leaf.shape && is_char leaf.prim
 abbrev pub text_rule : LeafOf → Option Rule
 text_rule leaf = if is_char_leaf leaf then Some (single_char leaf) else rule_if (is_array leaf.shape) (char_array leaf)
 
+-- the rule of a single number, a character or an array of characters
 abbrev pub leaf_rule : LeafOf → Datatype → Option Rule
 leaf_rule leaf whole_number = rule_if (is_integer leaf) (integer leaf)
 leaf_rule leaf decimal_number = rule_if (is_integer leaf) (integer_decimal leaf)
@@ -71,6 +76,7 @@ abbrev pub named_text : List NamedCode → List ℕ → Option (List ℕ)
 named_text [] name = None
 named_text (c ∷ cs) name = if bytes_eq c.name name then Some c.text else named_text cs name
 
+-- the code of a valid value with this text
 abbrev pub code_with : Named → List ℕ → Code
 code_with name t = record { number = name.number; text = t }
 
@@ -80,6 +86,7 @@ code_of prim codes name (Some t) = code_with name t ∷ []
 code_of prim codes name None =
     if list_any (λ c. bytes_eq c.text (number_text prim name.number)) codes then code_with name (number_text prim name.number) ∷ [] else []
 
+-- the codes of valid values, in their order
 abbrev pub codes_of : Primitive → List NamedCode → List Named → List Code
 codes_of prim codes [] = []
 codes_of prim codes (name ∷ names) = code_of prim codes name (named_text codes name.name) ++ codes_of prim codes names
@@ -93,6 +100,7 @@ abbrev pub choice_code : Named → Option (List ℕ) → List Code
 choice_code name None = []
 choice_code name (Some t) = code_with name t ∷ []
 
+-- the codes of choices, in their order
 abbrev pub choice_codes : List NamedCode → List Named → List Code
 choice_codes codes [] = []
 choice_codes codes (name ∷ names) = choice_code name (named_text codes name.name) ++ choice_codes codes names
@@ -105,6 +113,7 @@ is_digit name = int_le (pos 48) name.number && int_le name.number (pos 57)
 abbrev pub by_codes : (LeafOf → List Named → List Code → Rule) → LeafOf → List Named → List Code → Option Rule
 by_codes rule leaf names codes = rule_if (is_apart same_text codes) (rule leaf names codes)
 
+-- the rule of an enum: by the codes of a code set, by the values themselves, or as yes and no
 abbrev pub enum_rule : LeafOf → List Named → Datatype → Option Rule
 enum_rule leaf names (code_set codes) = by_codes enum_code leaf names (codes_of leaf.prim codes names)
 enum_rule leaf names character = by_codes enum_code leaf names (number_codes leaf.prim names)
@@ -113,6 +122,7 @@ enum_rule leaf names whole_number = if not (is_char leaf.prim) || list_all is_di
 enum_rule leaf names boolean = rule_if (is_apart same_truth names) (enum_boolean leaf names)
 enum_rule leaf names other = None
 
+-- the rule of a set: each code is one character, and no two choices have one
 abbrev pub set_rule : List Named → Datatype → Option Rule
 set_rule names (character_set codes) =
     rule_if (list_all (λ (c : NamedCode). length c.text == 1) codes && is_apart same_text (choice_codes codes names)) (choice_set names (choice_codes codes names))
@@ -137,6 +147,7 @@ decimal_by (Leaf m ∷ Const (const.Num e) ∷ []) = rule_if (is_integer m) (fix
 decimal_by (Leaf m ∷ Leaf e ∷ []) = rule_if (is_integer m && is_integer e) (floating_decimal m e)
 decimal_by kinds = None
 
+-- the primitive is uint8
 abbrev pub is_byte_type : Primitive → Bool
 is_byte_type U8 = true
 is_byte_type Char = false
@@ -163,6 +174,7 @@ moment_by from (Leaf time ∷ Const c ∷ []) = constant_unit from time (const_n
 moment_by from (Leaf time ∷ Leaf unit ∷ []) = rule_if (is_integer time && (is_single_byte unit && not (is_optional unit.presence))) (moment from time (on_wire unit))
 moment_by from kinds = None
 
+-- a single uint8 that may be null
 abbrev pub is_optional_byte : LeafOf → Bool
 is_optional_byte leaf = is_single_byte leaf && is_optional leaf.presence
 
@@ -172,9 +184,11 @@ month_by (Leaf y ∷ Leaf m ∷ Leaf d ∷ Leaf w ∷ []) =
     rule_if (is_integer y && (is_integer m && (is_optional_byte d && is_optional_byte w))) (month_year (record { year = y; month = m; day = d; week = w }))
 month_by kinds = None
 
+-- the kinds of members
 abbrev pub kinds_of : List Member → List Kind
 kinds_of ms = map (λ (m : Member). m.kind) ms
 
+-- the rule of a composite: a decimal, a moment, a time of day or a month, by its members' names
 abbrev pub composite_rule : List Member → Datatype → Option Rule
 composite_rule ms decimal_number = if are_named (codes "mantissa" ∷ codes "exponent" ∷ []) ms then decimal_by (kinds_of ms) else None
 composite_rule ms timestamp = if are_named (codes "time" ∷ codes "unit" ∷ []) ms then moment_by from_1970 (kinds_of ms) else None
@@ -190,11 +204,13 @@ every_number prim = record { prim = prim; length = 1; shape = Number; presence =
 abbrev pub every_byte : ℕ → LeafOf
 every_byte b = record { prim = Char; length = 1; shape = Number; presence = Required; null = pos 0; low = pos 0; high = pos (255 + b) }
 
+-- the rule of a constant text
 abbrev pub text_constant : List ℕ → Datatype → Option Rule
 text_constant t text = Some (constant any_text (value.Text t))
 text_constant (b ∷ []) character = Some (constant (single_char (every_byte b)) (value.Num (pos b)))
 text_constant t other = None
 
+-- the rule of a constant number
 abbrev pub number_constant : ℤ → Datatype → Option Rule
 number_constant n whole_number = Some (constant (integer (every_number I64)) (value.Num n))
 number_constant n decimal_number = Some (constant (integer_decimal (every_number I64)) (value.Num n))

@@ -54,6 +54,7 @@ pub record TimeCount : Type 0 where
   pub count : ℤ
   pub unit : ℕ
 
+-- so many of a unit, where they were read
 abbrev pub time_count : ℕ → Result ℤ V → Result TimeCount V
 time_count unit (Ok n) = Ok (record { count = n; unit = unit })
 time_count unit (Err v) = Err v
@@ -83,6 +84,7 @@ is_value_or_none leaf (Some n) = is_value leaf n
 abbrev pub is_month_of : MonthLeaves → MonthYear → Bool
 is_month_of leaves m = is_value leaves.year m.year && (is_value leaves.month m.month && (is_value_or_none leaves.day m.day && is_value_or_none leaves.week m.week))
 
+-- a month, where the types of its parts admit it
 abbrev pub month_admitted : MonthLeaves → Result MonthYear V → Result MonthYear V
 month_admitted leaves (Ok m) = if is_month_of leaves m then Ok m else Err why.Range
 month_admitted leaves (Err v) = Err v

@@ -44,6 +44,7 @@ on_some f (Some x) = Some (f x)
 abbrev pub as_day : ℕ → ℕ × ℕ → Day
 as_day year rest = record { year = year; month = rest.0; day = rest.1 }
 
+-- two numbers together
 abbrev pub pair : ℕ → ℕ → ℕ × ℕ
 pair a b = (a, b)
 
@@ -67,9 +68,11 @@ abbrev pub fraction_parts : List ℕ → Option (ℕ × ℕ)
 fraction_parts [] = Some (0, 0)
 fraction_parts (b ∷ ds) = if (b == 46) && (nat_lt 0 (length ds) && nat_le (length ds) 12) then both_some_of pair (number_in ds) (Some (length ds)) else None
 
+-- hour and minute, and then second, fraction and its places, as a time of day
 abbrev pub as_clock : ℕ × ℕ → ℕ × (ℕ × ℕ) → Clock
 as_clock front back = record { hour = front.0; minute = front.1; second = back.0; fraction = back.1.0; places = back.1.1 }
 
+-- a second, with its fraction and places
 abbrev pub with_fraction : ℕ → ℕ × ℕ → ℕ × (ℕ × ℕ)
 with_fraction a b = (a, b)
 
@@ -91,9 +94,11 @@ pub record Instant : Type 0 where
   pub nanos : ℤ
   pub digits : ℕ
 
+-- the instant that is so many nanoseconds after a beginning, told with this many places of a second
 abbrev pub instant_at : ℤ → ℕ → ℤ → Instant
 instant_at start places nanos = record { nanos = start +ℤ nanos; digits = min 9 places }
 
+-- the same, where there are nanoseconds
 abbrev pub instant_from : ℤ → ℕ → Result ℤ V → Result Instant V
 instant_from start places (Ok nanos) = Ok (instant_at start places nanos)
 instant_from start places (Err v) = Err v
@@ -106,6 +111,7 @@ clock_instant start clock = instant_from start clock.places (narrowed (pos (coun
 abbrev pub time_read : List ℕ → Result Instant V
 time_read text = if_in_range is_time (clock_instant (pos 0)) (clock_parts text)
 
+-- a day and a time of it
 abbrev pub as_stamp : Day → Clock → Stamp
 as_stamp day clock = record { day = day; clock = clock }
 
@@ -113,6 +119,7 @@ as_stamp day clock = record { day = day; clock = clock }
 abbrev pub as_moment : Instant → Moment
 as_moment i = record { nanos = i.nanos; digits = min 9 i.digits; few = omega arith }
 
+-- an answer with an instant, as fix_dates gives it
 abbrev pub moment_answer : Result Instant V → Result Moment V
 moment_answer (Ok i) = Ok (as_moment i)
 moment_answer (Err v) = Err v
@@ -145,9 +152,11 @@ part_parts (b ∷ []) = None
 part_parts (b ∷ c ∷ []) = if b == 119 then on_some (λ week. part.Week week) (number_in (c ∷ [])) else on_some (λ day. part.Day day) (number_in (b ∷ c ∷ []))
 part_parts (b ∷ c ∷ d ∷ more) = None
 
+-- a year, and then a month with a part of it
 abbrev pub as_month : ℕ → ℕ × Part → Month
 as_month year rest = record { year = year; month = rest.0; part = rest.1 }
 
+-- a month with a part of it
 abbrev pub with_part : ℕ → Part → ℕ × Part
 with_part month part = (month, part)
 
@@ -164,6 +173,7 @@ has_part year month part.Whole = true
 has_part year month (part.Day day) = is_day (record { year = year; month = month; day = day })
 has_part year month (part.Week week) = nat_le 1 week && nat_le week 5
 
+-- the calendar has the month and the part
 abbrev pub is_month : Month → Bool
 is_month month = nat_le 1 month.month && (nat_le month.month 12 && has_part month.year month.month month.part)
 
@@ -188,6 +198,7 @@ unfoldable pub month_in : ℕ → ℕ → ℕ → ℕ → ℕ × ℕ
 month_in zero year month days = (month, days)
 month_in (suc more) year month days = if nat_lt days (month_days year month) then (month, days) else month_in more year (suc month) (days - month_days year month)
 
+-- the day of a year that is so many days after its first
 abbrev pub day_in_year : ℕ × ℕ → Day
 day_in_year found =
     let month = month_in 11 found.0 1 found.1 in
@@ -229,6 +240,7 @@ abbrev pub number_below : ℤ → ℕ → Option ℕ
 number_below (pos n) end = if nat_lt n end then Some n else None
 number_below (negsuc n) end = None
 
+-- the time of day at which so many of a unit have passed since midnight, where there is a count
 abbrev pub clock_counted : ℕ → Option ℕ → Option Clock
 clock_counted unit count = on_some (clock_at unit) count
 
@@ -241,6 +253,7 @@ abbrev pub days_in : ℤ → ℕ → ℤ
 days_in (pos n) units = pos (n / units)
 days_in (negsuc n) units = negsuc (n / units)
 
+-- what is left of a count beside its whole days, of which each has so many
 abbrev pub left_in : ℤ → ℕ → ℕ
 left_in (pos n) units = n % units
 left_in (negsuc n) units = units - suc (n % units)
