@@ -1,0 +1,67 @@
+//! Messages that are drawn, as the bodies that they are written as.
+
+use anyhow::{Result, bail};
+use layout_compile::compile;
+use layout_tables::Layout;
+use row_tables::Row;
+use sbe_schema::read_schema;
+use sbe_types::Msg;
+use schema_check::{Checked, check};
+use std::alloc::Global;
+use std::fs;
+use tree_codec::encode;
+use typed_writer::FrameBuf;
+use vectors::{alter, generate};
+
+/// How many bytes a body may have.
+const LIMIT: usize = 4096;
+
+/// The schema of a file in `schemas`, which has a message.
+fn checked_of(rt: &HostRuntime, name: &str) -> Result<Checked> {
+    let path = format!(in rt.alloc(); "schemas/{name}.json")?;
+    let text = fs::read_to_string(rt, path.as_str())?;
+    let schema = read_schema(rt.alloc(), text.as_bytes())?;
+    match check(rt.alloc(), schema) {
+        Ok(checked) => Ok(checked),
+        Err(_) => bail!("the schema is refused"),
+    }
+}
+
+/// The number of a message's template and its canonical body, or why it has none.
+fn body_text(alloc: Global, layout: &Layout, msg: &Msg) -> Result<String> {
+    let mut buf = FrameBuf::new(alloc, LIMIT)?;
+    let template = msg.template;
+    match encode(layout, msg, &mut buf) {
+        Ok(_) => {
+            let digits = hex::encode(alloc, buf.bytes())?;
+            Ok(format!(in alloc; "{template} {}", digits.as_str())?)
+        }
+        Err(e) => Ok(format!(in alloc; "{template} {:?} {}", e.code, e.detail)?),
+    }
+}
+
+/// The message that a schema has by a seed and an index.
+fn drawn(alloc: Global, checked: &Checked, seed: u64, index: u64) -> Result<Msg> {
+    if checked.messages().is_empty() {
+        bail!("the schema has no message");
+    }
+    Ok(generate(alloc, checked, seed, index)?)
+}
+
+/// A row: the schema, the seed and the index.
+pub fn message_told(rt: &HostRuntime, row: &Row) -> Result<String> {
+    let checked = checked_of(rt, row.text(0)?)?;
+    let layout = compile(rt.alloc(), &checked)?;
+    let seed = row.text(1)?.parse::<u64>()?;
+    let index = row.text(2)?.parse::<u64>()?;
+    let msg = drawn(rt.alloc(), &checked, seed, index)?;
+    body_text(rt.alloc(), &layout, &msg)
+}
+
+/// A row: the body, and the index.
+pub fn altered_told(alloc: Global, row: &Row) -> Result<String> {
+    let mut body = row.bytes(alloc, 0)?;
+    let index = row.text(1)?.parse::<u64>()?;
+    alter(body.as_mut_slice(), index);
+    Ok(hex::encode(alloc, body.as_slice())?)
+}

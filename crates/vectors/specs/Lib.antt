@@ -1,0 +1,5 @@
+pub mod Drawing
+pub mod Values
+pub mod Messages
+pub mod Altered
+pub mod Rows
