@@ -1,0 +1,5 @@
+pub mod Typing
+pub mod Whole
+pub mod TagLists
+pub mod Lawful
+pub mod MessageTables
