@@ -1,19 +1,15 @@
 -- What is at a number of a block, and what is seen there.
-use Rattle.std.proofs.Common.{◌≡◌, ℕ, zero, suc, List, [], ◌∷◌, Option, Some, None, refl, sym, ap, subst, ◌∙◌}
+use Rattle.std.proofs.Common.{◌≡◌, ◌<◌, ℕ, zero, suc, List, [], ◌∷◌, length, Option, Some, None, refl, sym, ap, ◌∙◌, arith}
 use Rattle.std.specs.Prelude.{map, slice_get}
 use Rattle.std.specs.Option.{option_map}
 use Rattle.sbe_types.specs.declared.message.DataVal.{DataVal}
 use Rattle.sbe_types.specs.declared.message.DataVal.TheVariants as dataval
 use Rattle.sbe_types.specs.declared.message.GroupVal.{GroupVal}
 use Rattle.sbe_types.specs.declared.message.GroupVal as groupval
-use Rattle.sbe_types.specs.declared.message.Value.{Value}
-use Rattle.sbe_types.specs.declared.message.Value.TheVariants as value
 use Rattle.sbe_types.specs.declared.schema.Group.{Group, out-Group}
-use Rattle.flyweight_view.specs.declared.values.FieldBytes.{FieldBytes}
-use Rattle.flyweight_view.specs.ShownIn.{IsShownIn}
 use Rattle.flyweight_view.specs.Seen.{Seen, seen_level, bytes_in, group_seen, entries_in}
 use Rattle.bridge_terms.specs.Blocks.{data_value, entries_of, nth_or}
-use Rattle.message_walk.specs.Rows.{entries_seen, value_seen, IsSeenOf}
+use Rattle.message_walk.specs.Rows.{entries_seen, value_seen}
 
 some_is : {A : Type 0} {x y : A} → ◌≡◌ {A = Option A} (Some x) (Some y) → x ≡ y
 some_is h = cc
@@ -23,18 +19,11 @@ nth_is none n [] x h = cc
 nth_is none zero (y ∷ xs) x h = some_is h
 nth_is none (suc n) (y ∷ xs) x h = nth_is none n xs x h
 
--- a field that is seen shows the value that is there
-shown_at : (f : FieldBytes) (o : Option Value) → IsShownIn f o → (v : Value) × (o ≡ Some v) × IsShownIn f (Some v)
-shown_at f None h = absurd h
-shown_at f (Some v) h = (v, refl, h)
-
-pub field_seen : (f : FieldBytes) (none : Value) (n : ℕ) (vs : List Value) → IsShownIn f (slice_get vs n) → IsSeenOf (Some f) (nth_or none n vs)
-field_seen f none n vs h =
-    let there = shown_at f (slice_get vs n) h in
-    subst (λ v. IsShownIn f (Some v)) (sym (nth_is none n vs there.0 there.1)) there.2
-
-pub field_absent : (none : Value) (n : ℕ) (vs : List Value) → slice_get vs n ≡ Some value.Absent → IsSeenOf None (nth_or none n vs)
-field_absent none n vs h = nth_is none n vs value.Absent h
+-- a number at which there is something is in range
+pub in_range : {X : Type 0} (n : ℕ) (xs : List X) (x : X) → slice_get xs n ≡ Some x → n < length xs
+in_range n [] x h = cc
+in_range zero (y ∷ xs) x h = omega arith
+in_range (suc n) (y ∷ xs) x h = omega (arith, in_range n xs x h)
 
 -- the bytes of data that are seen are those of the data that is there
 value_is : (d : DataVal) → value_seen (bytes_in d) ≡ data_value d

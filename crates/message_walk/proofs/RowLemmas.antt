@@ -33,7 +33,7 @@ pub record AtSlot {R : Type 0} (spells : R → Rule → Type 0) (lists : TagList
   pub slot : Slot
   pub rest : Plan
   pub is : IsSlotAt spells (length_in row.lead lists.lengths) slot row.number row.part
-  pub there : IsThere slot.place seen.fields seen.parts
+  pub there : IsThere slot.rule slot.place seen.fields seen.parts
   pub rows : AreRows spells lists rest others
   pub fits : FitsSeen rest seen
   pub places : places_of p (values_of p seen.block) ≡ then_places (slot_places row.lead (text_by slot.rule (value_at slot.place seen.block))) (places_of rest (values_of rest seen.block))

@@ -1,20 +1,22 @@
 -- The rows of a plan, and the views that it is walked over. Own profile.
 use Rattle.std.specs.Prelude.{◌≡◌, ◌<◌, ℕ, List, [], ◌∷◌, ◌++◌, length, slice_get, Option, Some, None, ⊤}
 use Rattle.std.specs.Fmt.{decimal}
+use Rattle.sbe_types.specs.declared.kind.Kind.{Kind}
 use Rattle.sbe_types.specs.declared.kind.Leaf.{Leaf as LeafOf}
 use Rattle.sbe_types.specs.declared.schema.Field.{Field as FieldOf}
 use Rattle.sbe_types.specs.declared.schema.DataField.{DataField}
 use Rattle.sbe_types.specs.declared.schema.Group.{Group, out-Group}
 use Rattle.sbe_types.specs.declared.schema.Level.{out-Level}
+use Rattle.sbe_types.specs.declared.message.Block.{out-Block}
 use Rattle.sbe_types.specs.declared.message.Value.{Value}
 use Rattle.sbe_types.specs.declared.message.Value.TheVariants as value
-use Rattle.flyweight_view.specs.declared.values.FieldBytes.{FieldBytes}
-use Rattle.flyweight_view.specs.ShownIn.{IsShownIn}
 use Rattle.flyweight_view.specs.Seen.{Seen}
+use Rattle.bridge_rules.specs.Datatypes.{Datatype}
 use Rattle.bridge_rules.specs.Rules.{Rule, raw_data, text_data}
+use Rattle.bridge_rules.specs.Table.{rule_of}
 use Rattle.bridge_terms.specs.Parts.{TagLists}
 use Rattle.bridge_terms.specs.Plans.{Plan, Place, in_fields, in_data, Slot, done, single, group}
-use Rattle.bridge_terms.specs.Blocks.{values_of}
+use Rattle.bridge_terms.specs.Blocks.{nth_or, values_of}
 use Rattle.bridge_terms.specs.MessageFields.{begins, length_in}
 use Rattle.bridge_terms.specs.Places.{Places, begun_places, places_of, no_places, then_places, place_of, entries_places}
 use Rattle.message_walk.specs.declared.plan.PlanRow.{PlanRow}
@@ -57,15 +59,26 @@ AreRows spells lists (group g inner rest) rows =
     × (r.number ≡ g.place) × (length_in g.tag lists.lengths ≡ None) × (size_of r.part ≡ Some (length own))
     × AreRows spells lists inner own × AreRows spells lists rest others
 
--- the place is one of a level with these fields and data
-abbrev pub IsThere : Place → List FieldOf → List DataField → Type 0
-IsThere (in_fields i) fields parts = i < length fields
-IsThere (in_data i) fields parts = i < length parts
+-- the rule is that of a kind and a datatype by the table
+pub record IsByTable (k : Kind) (rule : Rule) : Type 0 where
+  pub datatype : Datatype
+  pub is : rule_of k datatype ≡ Some rule
+
+-- the rule is one for the field of that number
+pub record IsForField (rule : Rule) (i : ℕ) (fields : List FieldOf) : Type 0 where
+  pub field : FieldOf
+  pub there : slice_get fields i ≡ Some field
+  pub by_table : IsByTable field.kind rule
+
+-- the place is one of a level with these fields and data, and the rule one for it
+abbrev pub IsThere : Rule → Place → List FieldOf → List DataField → Type 0
+IsThere rule (in_fields i) fields parts = IsForField rule i fields
+IsThere rule (in_data i) fields parts = i < length parts
 
 -- the places of the plan are some of a level with these parts
 abbrev pub Fits : Plan → List FieldOf → List Group → List DataField → Type 0
 Fits done fields groups parts = ⊤
-Fits (single s rest) fields groups parts = IsThere s.place fields parts × Fits rest fields groups parts
+Fits (single s rest) fields groups parts = IsThere s.rule s.place fields parts × Fits rest fields groups parts
 Fits (group g inner rest) fields groups parts =
     ((found : Group) × (slice_get groups g.place ≡ Some found)
     × Fits inner (out-Level (out-Group found).level).fields (out-Level (out-Group found).level).groups (out-Level (out-Group found).level).parts)
@@ -77,10 +90,9 @@ FitsSeen p seen = Fits p seen.fields seen.groups seen.parts
 
 -- ---- views
 
--- what is seen of a field is this value
-abbrev pub IsSeenOf : Option FieldBytes → Value → Type 0
-IsSeenOf None v = v ≡ value.Absent
-IsSeenOf (Some f) v = IsShownIn f (Some v)
+-- the value of the field of that number
+abbrev pub field_of : Seen → ℕ → Value
+field_of seen i = nth_or value.Absent i (out-Block seen.block).fields
 
 -- the value of data that is seen
 abbrev pub value_seen : Option (List ℕ) → Value

@@ -61,9 +61,9 @@ fn put_passage(lead: &Lead, found: Option<&[u8]>, out: &mut FixWriter, halt: &mu
     }
 }
 
-/// Writes a text, if it may be written.
+/// Writes the field of a text, if it may be written.
 #[tactic(auto, using(crate::proofs::DataPuts::judged_fine, crate::proofs::DataPuts::judged_bad, crate::proofs::Values::shown_value))]
-fn put_judged(lead: &Lead, text: &[u8], out: &mut FixWriter, halt: &mut Halt) -> Put
+pub fn put_judged(lead: &Lead, text: &[u8], out: &mut FixWriter, halt: &mut Halt) -> Put
     requires { out.old.phase ≡ Open }
     ensures open { out.new.phase ≡ Open }
     ensures put { (lists : TagLists) → length_in lead.now lists.lengths ≡ None

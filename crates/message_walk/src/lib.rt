@@ -14,6 +14,7 @@ mod put;
 mod trail;
 mod walk;
 
+pub use data::put_judged;
 pub use halt::{Cause, Halt};
 pub use lead::Lead;
 pub use message::put_message;

@@ -1,28 +1,23 @@
 // What is at the places of a block.
-ghost use Rattle.std.specs.Prelude.{◌≡◌, ◌<◌, ◌≤◌, drop, length, map, slice_get, take, Some};
+ghost use Rattle.std.specs.Prelude.{◌≡◌, ◌<◌, ◌≤◌, nat_lt, drop, length, map, slice_get, take, Some};
 ghost use Rattle.std.specs.Option.{option_map};
 ghost use Rattle.sbe_types.specs.declared.message.Block.{out-Block};
 ghost use Rattle.sbe_types.specs.declared.message.DataVal.TheVariants as dataval;
 ghost use Rattle.sbe_types.specs.declared.message.GroupVal.TheVariants as groupval;
-ghost use Rattle.sbe_types.specs.declared.message.Value.TheVariants as value;
 ghost use Rattle.sbe_types.specs.declared.schema.Group.{Group, out-Group};
 ghost use Rattle.bridge_terms.specs.Blocks.{data_value, entries_of, nth_or};
 ghost use Rattle.flyweight_view.specs.Seen.{seen_level};
-ghost use Rattle.message_walk.specs.Rows.{entries_seen, value_seen, IsSeenOf};
+ghost use Rattle.message_walk.specs.Rows.{entries_seen, value_seen};
 
-use flyweight_view::{BlockView, EntriesView, FieldBytes};
+use flyweight_view::{BlockView, EntriesView};
 
-/// The field of that number, none where it is absent.
+/// Whether the block has a field of that number.
 #[inline(always)]
-#[tactic(auto, using(crate::proofs::Nth::field_seen, crate::proofs::Nth::field_absent))]
-pub(crate) fn field_at<'a>(block: &BlockView<'a>, number: usize) -> Option<FieldBytes<'a>>
-    ensures { number < length block.now.fields → IsSeenOf result (nth_or value.Absent number (out-Block block.now.block).fields) }
+pub(crate) fn has_field(block: &BlockView<'_>, number: usize) -> bool
+    ensures { result ≡ nat_lt number (length block.now.fields) }
 {
     let (count, _, _) = block.counts();
-    if number >= count {
-        return None;
-    }
-    block.field(number)
+    number < count
 }
 
 /// The data of that number, none where it is absent.

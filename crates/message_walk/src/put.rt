@@ -1,7 +1,6 @@
 // The field of a value.
 ghost use Rattle.std.specs.Prelude.{◌≡◌, ◌<◌, List, length, None, Ok, Some};
 ghost use Rattle.std.specs.Fmt.{decimal};
-ghost use Rattle.sbe_types.specs.declared.message.Value.{Value};
 ghost use Rattle.tagvalue_codec.specs.declared.write.Phase.TheVariants.{Open};
 ghost use Rattle.tagvalue_codec.specs.Drafts.{IsValue};
 ghost use Rattle.bridge_rules.specs.Rules.{Rule};
@@ -9,12 +8,12 @@ ghost use Rattle.bridge_rules.specs.Texts.{text_by};
 ghost use Rattle.bridge_terms.specs.MessageFields.{length_in};
 ghost use Rattle.bridge_terms.specs.Parts.{TagLists};
 ghost use Rattle.bridge_terms.specs.Places.{place_of};
-ghost use Rattle.message_walk.specs.Rows.{IsSeenOf};
+ghost use Rattle.message_walk.specs.Rows.{field_of, IsForField};
 ghost use Rattle.message_walk.specs.States.{after, outcome, IsPut};
 
 use crate::halt::{Cause, Halt};
 use crate::lead::Lead;
-use flyweight_view::FieldBytes;
+use flyweight_view::BlockView;
 use itoa::Buffer;
 use tagvalue_codec::FixWriter;
 
@@ -33,18 +32,20 @@ pub trait PutValue {
     /// Whether it spells values as a rule does.
     ghost spells: { Self → Rule → Type 0 };
 
-    /// Writes the field of a value, if it gives one. A value that is absent has no bytes.
+    /// Writes the field of the value of field `number` of a block, if it gives one. It needs a field in range.
     fn put(
         &self,
         lead: &Lead,
-        field: Option<FieldBytes<'_>>,
+        block: &BlockView<'_>,
+        number: usize,
         out: &mut FixWriter,
         halt: &mut Halt,
     ) -> Put
-        requires { out.old.phase ≡ Open }
+        requires open { out.old.phase ≡ Open }
+        requires field { number < length block.now.fields }
         ensures open { out.new.phase ≡ Open }
-        ensures put { (lists : TagLists) (rule : Rule) (v : Value) → length_in lead.now lists.lengths ≡ None → spells self.now rule
-            → IsSeenOf field.entry v → IsPut lists out.old lead.now (text_by rule v) (record { put = result; draft = out.new; halt = halt.new }) };
+        ensures put { (lists : TagLists) (rule : Rule) → length_in lead.now lists.lengths ≡ None → spells self.now rule → IsForField rule number block.now.fields
+            → IsPut lists out.old lead.now (text_by rule (field_of block.now number)) (record { put = result; draft = out.new; halt = halt.new }) };
 }
 
 /// Writes a field of that text.

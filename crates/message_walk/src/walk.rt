@@ -16,7 +16,7 @@ ghost use Rattle.message_walk.specs.States.{after, outcome, IsPut};
 use crate::data::put_data;
 use crate::halt::{Cause, Halt};
 use crate::lead::Lead;
-use crate::places::{at_most, data_at, entries_at, field_at, first, front, rest_from};
+use crate::places::{at_most, data_at, entries_at, first, front, has_field, rest_from};
 use crate::plan::{Part, PlanRow};
 use crate::put::{Put, PutValue, put_count};
 use crate::trail::WayStep;
@@ -83,7 +83,7 @@ fn put_row<R: PutValue>(
     requires { out.old.phase ≡ Open }
     ensures open { out.new.phase ≡ Open }
     ensures put { (lists : TagLists) (s : Slot) → IsSlotAt R.spells (length_in row.now.lead lists.lengths) s row.now.number row.now.part
-        → IsThere s.place block.now.fields block.now.parts
+        → IsThere s.rule s.place block.now.fields block.now.parts
         → outcome result out.new halt.new ≡ after lists out.old (slot_places row.now.lead (text_by s.rule (value_at s.place block.now.block))) }
 {
     match put_slot(row, block, out, halt) {
@@ -107,12 +107,17 @@ fn put_slot<R: PutValue>(
     requires { out.old.phase ≡ Open }
     ensures open { out.new.phase ≡ Open }
     ensures put { (lists : TagLists) (s : Slot) → IsSlotAt R.spells (length_in row.now.lead lists.lengths) s row.now.number row.now.part
-        → IsThere s.place block.now.fields block.now.parts
+        → IsThere s.rule s.place block.now.fields block.now.parts
         → IsPut lists out.old row.now.lead (text_by s.rule (value_at s.place block.now.block)) (record { put = result; draft = out.new; halt = halt.new }) }
     ensures group { (size : ℕ) → size_of row.now.part ≡ Some size → (result ≡ Nothing) × (out.new ≡ out.old) }
 {
     match &row.part {
-        Part::Field(rule) => rule.put(&row.lead, field_at(block, row.number), out, halt),
+        Part::Field(rule) => {
+            if !has_field(block, row.number) {
+                return Put::Nothing;
+            }
+            rule.put(&row.lead, block, row.number, out, halt)
+        }
         Part::Data(length) => put_data(length, &row.lead, data_at(block, row.number), out, halt),
         Part::Group(_) => Put::Nothing,
     }

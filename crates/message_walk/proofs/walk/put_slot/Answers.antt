@@ -2,10 +2,10 @@ use Rattle.std.specs.Option.{option_map}
 use Rattle.message_walk.proofs.Slots.{field_slot, data_slot}
 use Rattle.message_walk.proofs.walk.put_slot.Goals as goal
 
-pub returns-in-Field-clause-put : goal.returns-in-Field-clause-put
-returns-in-Field-clause-put g c = λ lists s at there.
-    field_slot g.R.PutValue.spells lists c.args.out.now (record { put = c.put.result; draft = c.put.new.out; halt = c.put.new.halt }) c.args.row.now c.in-Field.rule s c.args.block.now c.field_at.result
-    c.in-Field.is at there c.field_at.ensures (λ rule v unpaired by seen. c.put.ensures.put lists rule v unpaired by seen)
+pub returns-else-not-has_field-clause-put : goal.returns-else-not-has_field-clause-put
+returns-else-not-has_field-clause-put g c = λ lists s at there.
+    field_slot g.R.PutValue.spells lists c.args.out.now (record { put = c.put.result; draft = c.put.new.out; halt = c.put.new.halt }) c.args.row.now c.in-Field.rule s c.args.block.now
+    c.in-Field.is at there (c.put.ensures.put lists)
 
 pub returns-in-Data-clause-put : goal.returns-in-Data-clause-put
 returns-in-Data-clause-put g c = λ lists s at there.

@@ -1,0 +1,34 @@
+-- The rows that are made of rules. Own profile.
+use Rattle.std.specs.Prelude.{ℕ, List, pos, Option, Result, Ok, Err}
+use Rattle.fix_values.specs.declared.rule.V.{V}
+use Rattle.fix_values.specs.declared.rule.NumRule.{NumRule}
+use Rattle.fix_values.specs.declared.rule.NumRule.TheVariants as spelling
+use Rattle.fix_values.specs.Values.{text_of, text_shown}
+use Rattle.date_answers.specs.Answers.{day_shown}
+use Rattle.bridge_rules.specs.Texts.{field_text, judged_text}
+use Rattle.bridge_table.specs.declared.rule.ConstRule.{ConstRule}
+use Rattle.bridge_table.specs.declared.rule.ConstRule.TheVariants as constant
+use Rattle.bridge_table.specs.declared.rule.EnumRule.{EnumRule}
+use Rattle.bridge_table.specs.declared.rule.EnumRule.TheVariants as listed
+use Rattle.value_texts.specs.declared.row.ConstText.{ConstText}
+use Rattle.value_texts.specs.declared.row.ConstText.TheVariants as fixed
+
+-- how the numbers of an enum are spelled
+abbrev pub enum_spelling : EnumRule → NumRule
+enum_spelling (listed.Code leaf codes) = spelling.Code codes
+enum_spelling (listed.Number leaf codes) = spelling.Code codes
+enum_spelling (listed.Boolean leaf names) = spelling.Boolean names
+
+-- a text that was shown, or why there is none
+abbrev pub kept_of : Result Unit V → List ℕ → ConstText
+kept_of (Ok u) text = fixed.Given text
+kept_of (Err v) text = fixed.Missing v
+
+-- the text of a constant, or why it has none
+abbrev pub const_shown : ConstRule → Result (Option (List ℕ)) V
+const_shown (constant.Text t) = field_text (judged_text t (text_shown t))
+const_shown (constant.Character b) = field_text (text_of spelling.Char (pos b))
+const_shown (constant.Integer n) = field_text (text_of spelling.Int n)
+const_shown (constant.Decimal n) = field_text (text_of spelling.Decimal n)
+const_shown (constant.Day n) = field_text (day_shown n)
+const_shown (constant.Enum rule n) = field_text (text_of (enum_spelling rule) n)

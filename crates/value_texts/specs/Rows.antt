@@ -1,0 +1,85 @@
+-- The text that a row writes of a value, and the rules whose texts it writes. Own profile.
+use Rattle.std.specs.Prelude.{◌≡◌, ℕ, Bool, true, false, ⊤, if◌then◌else◌, List, ℤ, Option, Some, None, Result, Ok, Err}
+use Rattle.std.specs.Option.{option_map}
+use Rattle.std.specs.Prelude.{slice_get}
+use Rattle.sbe_types.specs.declared.kind.Kind.{Kind}
+use Rattle.sbe_types.specs.declared.message.Value.{Value}
+use Rattle.schema_facts.specs.InOrder.{IsKindInOrder}
+use Rattle.fix_values.specs.declared.rule.V.{V}
+use Rattle.fix_values.specs.declared.rule.NumRule.{NumRule}
+use Rattle.fix_values.specs.Decimals.{dec, decimal_text}
+use Rattle.fix_values.specs.Values.{is_asked, text_of, text_shown}
+use Rattle.date_answers.specs.Answers.{day_shown}
+use Rattle.flyweight_view.specs.Seen.{Seen}
+use Rattle.bridge_rules.specs.Rules.{Rule}
+use Rattle.bridge_rules.specs.Members.{is_const, mantissa_in, members_in, month_in, number_in, second_number, text_in, unit_in}
+use Rattle.bridge_rules.specs.Texts.{field_text, floating_text, judged_text, moment_text, month_text, text_by, text_if_any}
+use Rattle.bridge_table.specs.Rows.{epoch_of, unit_of}
+use Rattle.message_walk.specs.Rows.{field_of, IsByTable}
+use Rattle.value_texts.specs.declared.row.ValueText.{ValueText}
+use Rattle.value_texts.specs.declared.row.ValueText.TheVariants as row
+use Rattle.value_texts.specs.declared.row.ConstText.{ConstText}
+use Rattle.value_texts.specs.declared.row.ConstText.TheVariants as fixed
+use Rattle.value_texts.specs.Seen.{choices_in, is_word, IsValueOf}
+
+-- the text of a constant, where it may be written
+abbrev pub const_text : ConstText → Result (Option (List ℕ)) V
+const_text (fixed.Given t) = field_text (judged_text t (text_shown t))
+const_text (fixed.Missing v) = Err v
+
+-- the text of a value by its row, or none where it gives no field, or why it has no text
+abbrev pub row_text : ValueText → Value → Result (Option (List ℕ)) V
+row_text (row.Number rule) v = text_if_any (number_in v) (λ n. text_of rule n)
+row_text (row.Choices rule) v = text_if_any (choices_in v) (λ n. text_of rule n)
+row_text (row.Decimal exponent) v = text_if_any (mantissa_in v) (λ m. decimal_text (dec m exponent))
+row_text (row.Floating mantissa exponent) v = text_if_any (mantissa_in v) (λ m. floating_text mantissa exponent (second_number (members_in v)) m)
+row_text row.Passage v = text_if_any (text_in v) (λ t. judged_text t (text_shown t))
+row_text row.Day v = text_if_any (number_in v) day_shown
+row_text (row.Moment from unit) v = text_if_any (mantissa_in v) (λ n. moment_text (epoch_of from) (unit_in (unit_of unit) v) n)
+row_text row.Month v = text_if_any (mantissa_in v) (λ year. month_text (month_in (members_in v)))
+row_text (row.Const t) v = if is_const v then const_text t else Ok None
+
+-- the number may be asked of the rule, if there is one
+abbrev pub CanAsk : NumRule → Option ℤ → Type 0
+CanAsk rule None = ⊤
+CanAsk rule (Some n) = is_asked rule n ≡ true
+
+-- the number of the value may be asked of the row's rule
+abbrev pub CanAskRow : ValueText → Value → Type 0
+CanAskRow (row.Number rule) v = CanAsk rule (number_in v)
+CanAskRow (row.Choices rule) v = ⊤
+CanAskRow (row.Decimal exponent) v = ⊤
+CanAskRow (row.Floating mantissa exponent) v = ⊤
+CanAskRow row.Passage v = ⊤
+CanAskRow row.Day v = ⊤
+CanAskRow (row.Moment from unit) v = ⊤
+CanAskRow row.Month v = ⊤
+CanAskRow (row.Const t) v = ⊤
+
+-- each number of 64 bits may be asked of the rule of a set
+abbrev pub AsksWords : ValueText → Type 0
+AsksWords (row.Choices rule) = (n : ℤ) → is_word n ≡ true → is_asked rule n ≡ true
+AsksWords (row.Number rule) = ⊤
+AsksWords (row.Decimal exponent) = ⊤
+AsksWords (row.Floating mantissa exponent) = ⊤
+AsksWords row.Passage = ⊤
+AsksWords row.Day = ⊤
+AsksWords (row.Moment from unit) = ⊤
+AsksWords row.Month = ⊤
+AsksWords (row.Const t) = ⊤
+
+-- what may be asked of a row about the value of a field, whose kind is in order
+pub record CanAskOf (row : ValueText) (i : ℕ) (seen : Seen) : Type 0 where
+  pub number : (k : Kind) → option_map (λ f. f.kind) (slice_get seen.fields i) ≡ Some k → IsKindInOrder k → IsValueOf k (field_of seen i) → CanAskRow row (field_of seen i)
+  pub words : AsksWords row
+
+-- the row writes the texts of a rule, and its numbers may be asked where the rule is that of a kind by the table
+pub record Spells (row : ValueText) (rule : Rule) : Type 0 where
+  pub text : (v : Value) → text_by rule v ≡ row_text row v
+  pub asked : (k : Kind) (v : Value) → IsByTable k rule → IsKindInOrder k → IsValueOf k v → CanAskRow row v
+  pub words : AsksWords row
+
+-- there is a value
+abbrev pub is_ok_of : {X : Type 0} → Result X V → Bool
+is_ok_of (Ok x) = true
+is_ok_of (Err v) = false

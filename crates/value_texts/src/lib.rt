@@ -1,0 +1,17 @@
+//! The texts of the values of fields: the rows of a plan, each made of a rule of the table of kinds and datatypes.
+#![tactic(auto)]
+
+mod at;
+mod composite;
+mod decimals;
+mod fixed;
+mod making;
+mod moments;
+mod numbers;
+mod row;
+mod seen;
+mod shown;
+mod spelling;
+
+pub use row::{ConstText, ValueText};
+pub use spelling::Spelling;

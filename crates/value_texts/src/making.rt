@@ -1,0 +1,133 @@
+// Rows of rules.
+ghost use Rattle.std.specs.Prelude.{◌≡◌, true, List, IfOk, IfSome};
+ghost use Rattle.sbe_types.specs.declared.kind.Named.{Named as AnyNamed};
+ghost use Rattle.fix_values.specs.Values.{is_asked, text_of};
+ghost use Rattle.date_answers.specs.Answers.{day_shown};
+ghost use Rattle.bridge_rules.specs.Texts.{field_text};
+ghost use Rattle.bridge_table.specs.Rows.{const_with, rule_with};
+ghost use Rattle.value_texts.specs.declared.row.ValueText.TheVariants as rows;
+ghost use Rattle.value_texts.specs.Made.{const_shown, enum_spelling, kept_of};
+ghost use Rattle.value_texts.specs.Rows.{const_text, Spells};
+
+use crate::moments::show_day_number;
+use crate::row::{ConstText, ValueText};
+use crate::spelling::Spelling;
+use bridge_table::{ConstRule, EnumRule, FieldRule};
+use fix_values::{NumRule, Short, V};
+use lists::{List, NoMem};
+use std::alloc::Global;
+
+impl ValueText {
+    /// The row of a rule. None for data, and where the texts of the rule's codes are empty, too long or not apart, as those of a mapping in
+    /// order never are.
+    ///
+    /// # Errors
+    ///
+    /// Out of memory.
+    pub fn new(alloc: Global, rule: FieldRule) -> Result<Option<ValueText>, NoMem>
+        ensures { IfOk result (λ made. IfSome made (λ row. (names : List AnyNamed) → Spells row (rule_with names rule))) }
+    {
+        match rule {
+            FieldRule::Integer(_) => Ok(number(NumRule::Int)),
+            FieldRule::IntegerDecimal(_) => Ok(number(NumRule::Decimal)),
+            FieldRule::SingleChar(_) => Ok(number(NumRule::Char)),
+            FieldRule::FixedDecimal(_, exponent) => Ok(Some(ValueText::Decimal(exponent))),
+            FieldRule::FloatingDecimal(mantissa, exponent) => {
+                Ok(Some(ValueText::Floating(mantissa, exponent)))
+            }
+            FieldRule::CharArray(_) => Ok(Some(ValueText::Passage)),
+            FieldRule::Enum(rule) => Ok(number(enum_rule(rule))),
+            FieldRule::ChoiceSet(codes) => Ok(choices(NumRule::Codes(codes))),
+            FieldRule::DayCount(_) => Ok(Some(ValueText::Day)),
+            FieldRule::Moment(epoch, _, unit) => Ok(Some(ValueText::Moment(epoch, unit))),
+            FieldRule::MonthYear(_) => Ok(Some(ValueText::Month)),
+            FieldRule::Const(rule) => constant(alloc, rule),
+            FieldRule::RawData(_) => Ok(None),
+            FieldRule::TextData(_) => Ok(None),
+        }
+    }
+}
+
+fn number(rule: NumRule) -> Option<ValueText>
+    ensures { IfSome result (λ row. row ≡ rows.Number rule) }
+{
+    match Spelling::new(rule) {
+        Some(spelling) => Some(ValueText::Number(spelling)),
+        None => None,
+    }
+}
+
+fn choices(rule: NumRule) -> Option<ValueText>
+    ensures { IfSome result (λ row. row ≡ rows.Choices rule) }
+{
+    match Spelling::new(rule) {
+        Some(spelling) => Some(ValueText::Choices(spelling)),
+        None => None,
+    }
+}
+
+/// How the numbers of an enum are spelled.
+fn enum_rule(rule: EnumRule) -> NumRule
+    ensures { result ≡ enum_spelling rule }
+{
+    match rule {
+        EnumRule::Code(_, codes) => NumRule::Code(codes),
+        EnumRule::Number(_, codes) => NumRule::Code(codes),
+        EnumRule::Boolean(_, names) => NumRule::Boolean(names),
+    }
+}
+
+/// The row of a constant.
+fn constant(alloc: Global, rule: ConstRule) -> Result<Option<ValueText>, NoMem>
+    ensures { IfOk result (λ made. IfSome made (λ row. (names : List AnyNamed) → Spells row (const_with names rule))) }
+{
+    match constant_text(alloc, rule)? {
+        None => Ok(None),
+        Some(text) => Ok(Some(ValueText::Const(text))),
+    }
+}
+
+/// The text of a constant; none where its codes can't be shown.
+fn constant_text(alloc: Global, rule: ConstRule) -> Result<Option<ConstText>, NoMem>
+    ensures { IfOk result (λ made. IfSome made (λ text. const_text text ≡ const_shown rule)) }
+{
+    match rule {
+        ConstRule::Text(text) => Ok(Some(ConstText::Given(text))),
+        ConstRule::Character(byte) => number_text(alloc, NumRule::Char, byte as i128),
+        ConstRule::Integer(n) => number_text(alloc, NumRule::Int, n),
+        ConstRule::Decimal(n) => number_text(alloc, NumRule::Decimal, n),
+        ConstRule::Day(n) => Ok(Some(day_text(alloc, n)?)),
+        ConstRule::Enum(rule, n) => number_text(alloc, enum_rule(rule), n),
+    }
+}
+
+/// The text of a constant that is a number.
+fn number_text(alloc: Global, rule: NumRule, n: i128) -> Result<Option<ConstText>, NoMem>
+    ensures { is_asked rule n ≡ true → IfOk result (λ made. IfSome made (λ text. const_text text ≡ field_text (text_of rule n))) }
+{
+    let Some(spelling) = Spelling::new(rule) else {
+        return Ok(None);
+    };
+    let mut text = Short::new();
+    let shown = spelling.show(n, &mut text);
+    Ok(Some(kept(alloc, shown, &text)?))
+}
+
+/// The text of a constant that is a day.
+fn day_text(alloc: Global, n: i128) -> Result<ConstText, NoMem>
+    ensures { IfOk result (λ text. const_text text ≡ field_text (day_shown n)) }
+{
+    let mut text = Short::new();
+    let shown = show_day_number(n, &mut text);
+    kept(alloc, shown, &text)
+}
+
+/// A text that was shown, or why there is none.
+fn kept(alloc: Global, shown: Result<(), V>, text: &Short) -> Result<ConstText, NoMem>
+    ensures { IfOk result (λ made. made ≡ kept_of shown text.now) }
+{
+    match shown {
+        Ok(()) => Ok(ConstText::Given(List::from_slice(alloc, text.bytes())?)),
+        Err(why) => Ok(ConstText::Missing(why)),
+    }
+}

@@ -1,0 +1,96 @@
+// How a number is spelled.
+ghost use Rattle.std.specs.Prelude.{◌≡◌, true, None, IfSome};
+ghost use Rattle.tagvalue_codec.specs.declared.write.Phase.TheVariants.{Open};
+ghost use Rattle.bridge_terms.specs.MessageFields.{length_in};
+ghost use Rattle.bridge_terms.specs.Parts.{TagLists};
+ghost use Rattle.message_walk.specs.States.{IsPut};
+ghost use Rattle.fix_values.specs.Values.{is_asked, text_of, Leaves};
+ghost use Rattle.bridge_rules.specs.Texts.{field_text};
+ghost use Rattle.value_texts.specs.Spelled.{is_plain};
+
+use crate::numbers::put_digits;
+use crate::shown::put_shown;
+use fix_values::{NumRule, Short, V, show_num};
+use message_walk::{Halt, Lead, Put};
+use std::marker::Model;
+use tagvalue_codec::FixWriter;
+
+/// A rule by which numbers can be shown.
+#[derive(Drop)]
+pub struct Spelling {
+    rule: NumRule,
+}
+
+impl Model for Spelling {
+    ghost use Rattle.std.specs.Prelude.{◌≡◌, true};
+    ghost use Rattle.fix_values.specs.declared.rule.NumRule.{NumRule as AnyRule};
+    ghost use Rattle.fix_values.specs.Values.{can_show};
+
+    ghost Value = { AnyRule };
+
+    ghost view = { λ spelling. spelling.rule };
+
+    ghost invariant = { λ spelling. can_show spelling.rule ≡ true };
+}
+
+impl Spelling {
+    /// The spelling by a rule; none where numbers can't be shown by it.
+    pub fn new(rule: NumRule) -> Option<Spelling>
+        ensures { IfSome result (λ spelling. spelling ≡ rule) }
+    {
+        if rule.can_show() {
+            return Some(Spelling { rule });
+        }
+        None
+    }
+
+    /// Writes the field of a number. A number that can't be asked of the rule is left out.
+    pub(crate) fn put(&self, n: i128, lead: &Lead, out: &mut FixWriter, halt: &mut Halt) -> Put
+        requires { out.old.phase ≡ Open }
+        ensures open { out.new.phase ≡ Open }
+        ensures put { (lists : TagLists) → length_in lead.now lists.lengths ≡ None → is_asked self.now n ≡ true
+            → IsPut lists out.old lead.now (field_text (text_of self.now n)) (record { put = result; draft = out.new; halt = halt.new }) }
+    {
+        if is_plain(&self.rule) {
+            return put_digits(n, lead, out, halt);
+        }
+        if !is_asked(&self.rule, n) {
+            return Put::Nothing;
+        }
+        let mut text = Short::new();
+        let shown = show_num(&self.rule, n, &mut text);
+        put_shown(shown, &text, lead, out, halt)
+    }
+
+    /// Shows a number. One that can't be asked of the rule is refused.
+    pub(crate) fn show(&self, n: i128, out: &mut Short) -> Result<(), V>
+        ensures { is_asked self.now n ≡ true → Leaves result out.new (text_of self.now n) }
+    {
+        if !is_asked(&self.rule, n) {
+            return Err(V::Range);
+        }
+        show_num(&self.rule, n, out)
+    }
+}
+
+/// Whether numbers are spelled as digits.
+#[inline(always)]
+fn is_plain(rule: &NumRule) -> bool
+    ensures { result ≡ is_plain rule.now }
+{
+    match rule {
+        NumRule::Int | NumRule::Decimal => true,
+        NumRule::Char | NumRule::Boolean(_) | NumRule::Code(_) | NumRule::Codes(_) => false,
+    }
+}
+
+/// Whether the number may be asked of the rule.
+fn is_asked(rule: &NumRule, n: i128) -> bool
+    ensures { result ≡ is_asked rule.now n }
+{
+    match rule {
+        NumRule::Char => 0 <= n && n <= 255,
+        NumRule::Codes(_) => 0 <= n && n <= 18_446_744_073_709_551_615,
+        NumRule::Int | NumRule::Decimal | NumRule::Boolean(_) | NumRule::Code(_) => true,
+    }
+}
