@@ -1,0 +1,4 @@
+pub mod FrameBytes
+pub mod Putting
+pub mod Summing
+pub mod Tested
