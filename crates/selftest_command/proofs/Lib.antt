@@ -1,4 +1,3 @@
-pub mod FrameBytes
 pub mod Putting
 pub mod Summing
 pub mod Tested
