@@ -10,7 +10,7 @@ use Rattle.json_elements.specs.Forms.{text as a_text}
 use Rattle.json_elements.specs.Attributes.{needed}
 use Rattle.json_elements.specs.Elements.{content, named}
 use Rattle.json_elements.specs.Files.{value_of}
-use Rattle.element_children.specs.Children.{Reads, known_children, no_child}
+use Rattle.json_elements.specs.KnownChildren.{Reads, known_children, no_child}
 use Rattle.json_elements.specs.declared.refusal.Cause.TheVariants.{Shape, BadAttribute}
 use Rattle.sbe_schema.proofs.InForm.{Yields, ok_yields, err_yields, then_yields, inside_yields, needed_yields}
 use Rattle.sbe_schema.proofs.TypesInForm.{named_yields}

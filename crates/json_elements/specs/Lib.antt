@@ -2,4 +2,5 @@ pub mod Reading
 pub mod Forms
 pub mod Attributes
 pub mod Elements
+pub mod KnownChildren
 pub mod Files

@@ -1,20 +1,24 @@
 ghost use Rattle.std.specs.Prelude.{◌≡◌};
-ghost use Rattle.serde_json.specs.View.{view};
+ghost use Rattle.json_data.specs.Trees.{data_of};
 ghost use Rattle.json_elements.specs.Reading.{GivesAs};
 ghost use Rattle.json_elements.specs.Files.{is_tag, is_xml, value_of};
 
 use crate::refusal::{Cause, ElementErr, refuse};
-use serde_json::Value;
+use json_data::{Json, JsonFault, JsonSpace};
 use std::alloc::Global;
 
 /// The most bytes that a file may have.
 pub const FILE_LIMIT: usize = 1_048_576;
 
-/// The JSON value of a file. It is refused where it is too long, begins as XML does, or is no JSON
-/// text.
+/// The JSON value of a file, lent from its bytes and from the space that reads it. It is refused where
+/// it is too long, begins as XML does, or is no JSON text.
 #[tactic(auto, using(crate::proofs::Values::value_found, crate::proofs::Values::no_value))]
-pub fn read_value(alloc: Global, bytes: &[u8]) -> Result<Value, ElementErr>
-    ensures { GivesAs view result (value_of bytes.now) }
+pub fn read_value<'a>(
+    alloc: Global,
+    space: &'a mut JsonSpace,
+    bytes: &'a [u8],
+) -> Result<Json<'a>, ElementErr>
+    ensures { GivesAs data_of result (value_of bytes.now) }
 {
     if bytes.len() > FILE_LIMIT {
         return refuse(alloc, Cause::Limit);
@@ -22,14 +26,10 @@ pub fn read_value(alloc: Global, bytes: &[u8]) -> Result<Value, ElementErr>
     if looks_like_xml(bytes) {
         return refuse(alloc, Cause::Xml);
     }
-    match Value::from_slice(alloc, bytes) {
+    match space.read(bytes) {
         Ok(value) => Ok(value),
-        Err(e) => {
-            if e.is_memory() {
-                return Err(ElementErr::Memory);
-            }
-            refuse(alloc, Cause::NotJson)
-        }
+        Err(JsonFault::NotJson) => refuse(alloc, Cause::NotJson),
+        Err(JsonFault::Memory) => Err(ElementErr::Memory),
     }
 }
 

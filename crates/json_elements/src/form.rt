@@ -1,13 +1,13 @@
 ghost use Rattle.std.specs.Prelude.{◌≡◌, ◌==◌, slice_index};
 ghost use Rattle.serde_json.specs.Data.{Data};
-ghost use Rattle.serde_json.specs.View.{view};
+ghost use Rattle.json_data.specs.Trees.{data_of};
 ghost use Rattle.json_elements.specs.Reading.{Reading, Gives, GivesAs};
 ghost use Rattle.json_elements.specs.Forms.{whole, whole_text, id_number, limited, text, text_or_number};
 
 use crate::refusal::{Cause, ElementErr, refuse};
 use itoa::Buffer;
+use json_data::Json;
 use lists::{List, Text};
-use serde_json::Value;
 use std::alloc::Global;
 
 /// A form that the value of an attribute may have.
@@ -18,8 +18,8 @@ pub trait Form {
     ghost form: { Data → Reading Self.Out };
 
     /// Reads a value. A refusal has no steps yet: it is of the value itself.
-    fn read(alloc: Global, value: &Value) -> Result<Self::Out, ElementErr>
-        ensures { Gives result (form (view value.now)) };
+    fn read(alloc: Global, value: &Json<'_>) -> Result<Self::Out, ElementErr>
+        ensures { Gives result (form (data_of value.now)) };
 }
 
 /// A whole number of 128 bits: a JSON integer, or a string of decimal digits with an optional `-`.
@@ -30,7 +30,7 @@ impl Form for WholeNumber {
 
     ghost form = { whole };
 
-    fn read(alloc: Global, value: &Value) -> Result<i128, ElementErr> {
+    fn read(alloc: Global, value: &Json<'_>) -> Result<i128, ElementErr> {
         read_whole(alloc, value)
     }
 }
@@ -43,7 +43,7 @@ impl Form for IdNumber {
 
     ghost form = { id_number };
 
-    fn read(alloc: Global, value: &Value) -> Result<u32, ElementErr> {
+    fn read(alloc: Global, value: &Json<'_>) -> Result<u32, ElementErr> {
         let n = read_whole(alloc, value)?;
         if n < 0 || n > u32::MAX as i128 {
             return refuse(alloc, Cause::BadAttribute);
@@ -60,7 +60,7 @@ impl Form for JsonText {
 
     ghost form = { text };
 
-    fn read(alloc: Global, value: &Value) -> Result<Text, ElementErr> {
+    fn read(alloc: Global, value: &Json<'_>) -> Result<Text, ElementErr> {
         let text = str_of(alloc, value)?;
         Ok(List::from_slice(alloc, text.as_bytes())?)
     }
@@ -74,10 +74,10 @@ impl Form for TextOrNumber {
 
     ghost form = { text_or_number };
 
-    fn read(alloc: Global, value: &Value) -> Result<Text, ElementErr> {
+    fn read(alloc: Global, value: &Json<'_>) -> Result<Text, ElementErr> {
         match value {
-            Value::String(text) => Ok(List::from_slice(alloc, text.as_str().as_bytes())?),
-            Value::Number(_) => {
+            Json::String(text) => Ok(List::from_slice(alloc, text.as_bytes())?),
+            Json::Number(_) => {
                 let n = read_whole(alloc, value)?;
                 Ok(List::from_slice(alloc, Buffer::new().format(n).as_bytes())?)
             }
@@ -87,8 +87,8 @@ impl Form for TextOrNumber {
 }
 
 /// A whole number from 0 on; one above `most` breaks a limit.
-pub fn read_limited(alloc: Global, value: &Value, most: u32) -> Result<u32, ElementErr>
-    ensures { Gives result (limited most (view value.now)) }
+pub fn read_limited(alloc: Global, value: &Json<'_>, most: u32) -> Result<u32, ElementErr>
+    ensures { Gives result (limited most (data_of value.now)) }
 {
     let n = read_whole(alloc, value)?;
     if n < 0 {
@@ -101,8 +101,8 @@ pub fn read_limited(alloc: Global, value: &Value, most: u32) -> Result<u32, Elem
 }
 
 /// The text of a JSON string.
-pub fn str_of(alloc: Global, value: &Value) -> Result<&str, ElementErr>
-    ensures { GivesAs (λ s. s.now) result (text (view value.now)) }
+pub fn str_of<'a>(alloc: Global, value: &Json<'a>) -> Result<&'a str, ElementErr>
+    ensures { GivesAs (λ s. s.now) result (text (data_of value.now)) }
 {
     match value.as_str() {
         Some(text) => Ok(text),
@@ -110,20 +110,15 @@ pub fn str_of(alloc: Global, value: &Value) -> Result<&str, ElementErr>
     }
 }
 
-fn read_whole(alloc: Global, value: &Value) -> Result<i128, ElementErr>
-    ensures { Gives result (whole (view value.now)) }
+fn read_whole(alloc: Global, value: &Json<'_>) -> Result<i128, ElementErr>
+    ensures { Gives result (whole (data_of value.now)) }
 {
     match value {
-        Value::Number(number) => {
-            if let Some(n) = number.as_u64() {
-                return Ok(n as i128);
-            }
-            match number.as_i64() {
-                Some(n) => Ok(n as i128),
-                None => refuse(alloc, Cause::BadAttribute),
-            }
-        }
-        Value::String(text) => whole_of_text(alloc, text.as_str()),
+        Json::Number(number) => match number.as_i128() {
+            Some(n) => Ok(n),
+            None => refuse(alloc, Cause::BadAttribute),
+        },
+        Json::String(text) => whole_of_text(alloc, text),
         _ => refuse(alloc, Cause::BadAttribute),
     }
 }

@@ -1,4 +1,5 @@
-ghost use Rattle.std.specs.Prelude.{◌≡◌, ◌++◌, codes, decimal, Result, IfOk, OnOk};
+ghost use Rattle.std.specs.Prelude.{◌≡◌, ◌++◌, [], codes, decimal, Result, IfOk, OnOk};
+ghost use Rattle.json_elements.specs.declared.refusal.ElementErr.TheVariants.{Refused};
 ghost use Rattle.json_elements.specs.Reading.{Reading, Gives, GoesOut, refuse, inside, at_child, step_text, pointer};
 
 use itoa::Buffer;
@@ -60,7 +61,14 @@ impl From<NoMem> for ElementErr {
 pub fn refuse<T>(alloc: Global, cause: Cause) -> Result<T, ElementErr>
     ensures { Gives result (refuse cause) }
 {
-    Err(ElementErr::Refused(cause, List::new(alloc)))
+    Err(refused(alloc, cause))
+}
+
+/// The same, apart from what was to be read.
+pub(crate) fn refused(alloc: Global, cause: Cause) -> ElementErr
+    ensures { result ≡ Refused cause [] }
+{
+    ElementErr::Refused(cause, List::new(alloc))
 }
 
 /// What was read one step below, seen from here.

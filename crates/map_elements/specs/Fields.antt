@@ -5,7 +5,7 @@ use Rattle.json_elements.specs.Reading.{Reading, ◌>>=◌}
 use Rattle.json_elements.specs.Forms.{text}
 use Rattle.json_elements.specs.Attributes.{needed, optional}
 use Rattle.json_elements.specs.Elements.{content}
-use Rattle.element_children.specs.Children.{Reads, known_children, no_child}
+use Rattle.json_elements.specs.KnownChildren.{Reads, known_children, no_child}
 use Rattle.map_types.specs.declared.tree.DatatypeEl.{DatatypeEl}
 use Rattle.map_types.specs.declared.tree.CodeEl.{CodeEl}
 use Rattle.map_types.specs.declared.tree.CodeSetEl.{CodeSetEl}

@@ -6,7 +6,7 @@ use Rattle.json_elements.specs.Reading.{Reading, ◌>>=◌, refuse, inside}
 use Rattle.json_elements.specs.Forms.{text}
 use Rattle.json_elements.specs.Attributes.{needed}
 use Rattle.json_elements.specs.Elements.{content}
-use Rattle.element_children.specs.Children.{Reads, known_children}
+use Rattle.json_elements.specs.KnownChildren.{Reads, known_children}
 use Rattle.map_types.specs.declared.tree.StructureEl.{StructureEl}
 use Rattle.map_types.specs.declared.tree.MessageEl.{MessageEl}
 use Rattle.map_elements.specs.declared.element_name.ElementName.{ElementName}

@@ -4,7 +4,7 @@ use Rattle.serde_json.specs.Data.{Data}
 use Rattle.json_elements.specs.Reading.{Reading, ◌>>=◌, inside}
 use Rattle.json_elements.specs.Attributes.{needed}
 use Rattle.json_elements.specs.Elements.{content}
-use Rattle.element_children.specs.Children.{Reads, known_children, no_child}
+use Rattle.json_elements.specs.KnownChildren.{Reads, known_children, no_child}
 use Rattle.map_types.specs.declared.tree.RefItem.{RefItem}
 use Rattle.map_types.specs.declared.tree.RefItem.TheVariants as item
 use Rattle.map_elements.specs.declared.element_name.ElementName.{ElementName}

@@ -6,7 +6,7 @@ use Rattle.json_elements.specs.declared.refusal.Cause.TheVariants.{Shape}
 use Rattle.json_elements.specs.Reading.{Reading, ◌>>=◌, refuse, inside}
 use Rattle.json_elements.specs.Elements.{named}
 use Rattle.json_elements.specs.Files.{value_of}
-use Rattle.element_children.specs.Children.{Reads}
+use Rattle.json_elements.specs.KnownChildren.{Reads}
 use Rattle.map_types.specs.declared.tree.Repository.{Repository}
 use Rattle.map_types.specs.declared.tree.RepositoryItem.{RepositoryItem}
 use Rattle.map_types.specs.declared.tree.RepositoryItem.TheVariants as part

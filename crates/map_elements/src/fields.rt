@@ -1,13 +1,14 @@
-ghost use Rattle.serde_json.specs.View.{view};
+ghost use Rattle.json_data.specs.Trees.{data_of};
 ghost use Rattle.json_elements.specs.Reading.{Gives};
 ghost use Rattle.map_elements.specs.Fields.{datatype_from, datatype_child, code_from, code_child, code_set_from, code_set_child, field_from, field_child};
 
 use crate::element_name::ElementName;
 use crate::form::{CodeValue, MapId};
-use element_children::{Child, NoChild, read_children};
-use json_elements::{ElementErr, JsonText, content_of, inside, needed, optional};
+use json_data::Json;
+use json_elements::{
+    Child, ElementErr, JsonText, NoChild, content_of, inside, needed, optional, read_children,
+};
 use map_types::{CodeEl, CodeSetEl, DatatypeEl, FieldEl};
-use serde_json::Value;
 use std::alloc::Global;
 
 /// Datatypes.
@@ -22,7 +23,7 @@ impl Child for DatatypeChild {
         alloc: Global,
         before: &[DatatypeEl],
         name: &str,
-        element: &Value,
+        element: &Json<'_>,
     ) -> Result<Option<DatatypeEl>, ElementErr> {
         match ElementName::of(name) {
             ElementName::Datatype => Ok(Some(inside("datatype", read_datatype(alloc, element))?)),
@@ -31,8 +32,8 @@ impl Child for DatatypeChild {
     }
 }
 
-fn read_datatype(alloc: Global, element: &Value) -> Result<DatatypeEl, ElementErr>
-    ensures { Gives result (datatype_from (view element.now)) }
+fn read_datatype(alloc: Global, element: &Json<'_>) -> Result<DatatypeEl, ElementErr>
+    ensures { Gives result (datatype_from (data_of element.now)) }
 {
     let children = content_of(alloc, element)?;
     let name = needed::<JsonText>(alloc, element, "name")?;
@@ -52,7 +53,7 @@ impl Child for CodeSetChild {
         alloc: Global,
         before: &[CodeSetEl],
         name: &str,
-        element: &Value,
+        element: &Json<'_>,
     ) -> Result<Option<CodeSetEl>, ElementErr> {
         match ElementName::of(name) {
             ElementName::CodeSet => Ok(Some(inside("codeSet", read_code_set(alloc, element))?)),
@@ -61,8 +62,8 @@ impl Child for CodeSetChild {
     }
 }
 
-fn read_code_set(alloc: Global, element: &Value) -> Result<CodeSetEl, ElementErr>
-    ensures { Gives result (code_set_from (view element.now)) }
+fn read_code_set(alloc: Global, element: &Json<'_>) -> Result<CodeSetEl, ElementErr>
+    ensures { Gives result (code_set_from (data_of element.now)) }
 {
     let children = content_of(alloc, element)?;
     let name = needed::<JsonText>(alloc, element, "name")?;
@@ -87,7 +88,7 @@ impl Child for CodeChild {
         alloc: Global,
         before: &[CodeEl],
         name: &str,
-        element: &Value,
+        element: &Json<'_>,
     ) -> Result<Option<CodeEl>, ElementErr> {
         match ElementName::of(name) {
             ElementName::Code => Ok(Some(inside("code", read_code(alloc, element))?)),
@@ -96,8 +97,8 @@ impl Child for CodeChild {
     }
 }
 
-fn read_code(alloc: Global, element: &Value) -> Result<CodeEl, ElementErr>
-    ensures { Gives result (code_from (view element.now)) }
+fn read_code(alloc: Global, element: &Json<'_>) -> Result<CodeEl, ElementErr>
+    ensures { Gives result (code_from (data_of element.now)) }
 {
     let children = content_of(alloc, element)?;
     let name = needed::<JsonText>(alloc, element, "name")?;
@@ -118,7 +119,7 @@ impl Child for FieldChild {
         alloc: Global,
         before: &[FieldEl],
         name: &str,
-        element: &Value,
+        element: &Json<'_>,
     ) -> Result<Option<FieldEl>, ElementErr> {
         match ElementName::of(name) {
             ElementName::Field => Ok(Some(inside("field", read_field(alloc, element))?)),
@@ -127,8 +128,8 @@ impl Child for FieldChild {
     }
 }
 
-fn read_field(alloc: Global, element: &Value) -> Result<FieldEl, ElementErr>
-    ensures { Gives result (field_from (view element.now)) }
+fn read_field(alloc: Global, element: &Json<'_>) -> Result<FieldEl, ElementErr>
+    ensures { Gives result (field_from (data_of element.now)) }
 {
     let children = content_of(alloc, element)?;
     let id = needed::<MapId>(alloc, element, "id")?;

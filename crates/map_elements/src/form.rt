@@ -2,9 +2,9 @@ ghost use Rattle.std.specs.Prelude.{◌≡◌, nat_eq};
 ghost use Rattle.std.specs.List.{list_any};
 ghost use Rattle.map_elements.specs.Names.{an_id, a_msg_type, a_code_value};
 
+use json_data::Json;
 use json_elements::{Cause, ElementErr, Form, WholeNumber, refuse, str_of};
 use lists::{List, Text};
-use serde_json::Value;
 use std::alloc::Global;
 
 /// The greatest id.
@@ -21,7 +21,7 @@ impl Form for MapId {
 
     ghost form = { an_id };
 
-    fn read(alloc: Global, value: &Value) -> Result<u32, ElementErr> {
+    fn read(alloc: Global, value: &Json<'_>) -> Result<u32, ElementErr> {
         let n = WholeNumber::read(alloc, value)?;
         if n < 1 || n > ID_LIMIT as i128 {
             return refuse(alloc, Cause::BadAttribute);
@@ -38,7 +38,7 @@ impl Form for MsgType {
 
     ghost form = { a_msg_type };
 
-    fn read(alloc: Global, value: &Value) -> Result<Text, ElementErr> {
+    fn read(alloc: Global, value: &Json<'_>) -> Result<Text, ElementErr> {
         let text = str_of(alloc, value)?.as_bytes();
         if has_soh(text) || text.is_empty() || text.len() > TEXT_LIMIT {
             return refuse(alloc, Cause::BadAttribute);
@@ -55,7 +55,7 @@ impl Form for CodeValue {
 
     ghost form = { a_code_value };
 
-    fn read(alloc: Global, value: &Value) -> Result<Text, ElementErr> {
+    fn read(alloc: Global, value: &Json<'_>) -> Result<Text, ElementErr> {
         let text = str_of(alloc, value)?.as_bytes();
         if text.is_empty() || text.len() > TEXT_LIMIT {
             return refuse(alloc, Cause::BadAttribute);

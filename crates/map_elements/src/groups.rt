@@ -1,16 +1,17 @@
-ghost use Rattle.serde_json.specs.View.{view};
+ghost use Rattle.json_data.specs.Trees.{data_of};
 ghost use Rattle.json_elements.specs.Reading.{Gives};
 ghost use Rattle.map_elements.specs.Groups.{component_from, component_child, group_item, group_child, group_from, group_list_child};
 
 use crate::element_name::ElementName;
 use crate::form::MapId;
 use crate::references::{RefChild, read_id};
-use element_children::{Child, read_children};
-use json_elements::{Cause, ElementErr, JsonText, content_of, inside, needed, refuse};
+use json_data::Json;
+use json_elements::{
+    Cause, Child, ElementErr, JsonText, content_of, inside, needed, read_children, refuse,
+};
 use map_types::{
     ComponentEl, ComponentRefEl, FieldRefEl, GroupEl, GroupItem, GroupRefEl, NumInGroupEl,
 };
-use serde_json::Value;
 use std::alloc::Global;
 
 /// Components.
@@ -25,7 +26,7 @@ impl Child for ComponentChild {
         alloc: Global,
         before: &[ComponentEl],
         name: &str,
-        element: &Value,
+        element: &Json<'_>,
     ) -> Result<Option<ComponentEl>, ElementErr> {
         match ElementName::of(name) {
             ElementName::Component => {
@@ -36,8 +37,8 @@ impl Child for ComponentChild {
     }
 }
 
-fn read_component(alloc: Global, element: &Value) -> Result<ComponentEl, ElementErr>
-    ensures { Gives result (component_from (view element.now)) }
+fn read_component(alloc: Global, element: &Json<'_>) -> Result<ComponentEl, ElementErr>
+    ensures { Gives result (component_from (data_of element.now)) }
 {
     let children = content_of(alloc, element)?;
     let id = needed::<MapId>(alloc, element, "id")?;
@@ -58,7 +59,7 @@ impl Child for GroupListChild {
         alloc: Global,
         before: &[GroupEl],
         name: &str,
-        element: &Value,
+        element: &Json<'_>,
     ) -> Result<Option<GroupEl>, ElementErr> {
         match ElementName::of(name) {
             ElementName::Group => Ok(Some(inside("group", read_group(alloc, element))?)),
@@ -67,8 +68,8 @@ impl Child for GroupListChild {
     }
 }
 
-fn read_group(alloc: Global, element: &Value) -> Result<GroupEl, ElementErr>
-    ensures { Gives result (group_from (view element.now)) }
+fn read_group(alloc: Global, element: &Json<'_>) -> Result<GroupEl, ElementErr>
+    ensures { Gives result (group_from (data_of element.now)) }
 {
     let children = content_of(alloc, element)?;
     let id = needed::<MapId>(alloc, element, "id")?;
@@ -92,7 +93,7 @@ impl Child for GroupChild {
         alloc: Global,
         before: &[GroupItem],
         name: &str,
-        element: &Value,
+        element: &Json<'_>,
     ) -> Result<Option<GroupItem>, ElementErr> {
         read_group_item(alloc, before.is_empty(), ElementName::of(name), element)
     }
@@ -102,9 +103,9 @@ fn read_group_item(
     alloc: Global,
     first: bool,
     name: ElementName,
-    element: &Value,
+    element: &Json<'_>,
 ) -> Result<Option<GroupItem>, ElementErr>
-    ensures { Gives result (group_item first name (view element.now)) }
+    ensures { Gives result (group_item first name (data_of element.now)) }
 {
     match name {
         ElementName::NumInGroup => {

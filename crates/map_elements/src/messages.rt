@@ -1,4 +1,4 @@
-ghost use Rattle.serde_json.specs.View.{view};
+ghost use Rattle.json_data.specs.Trees.{data_of};
 ghost use Rattle.json_elements.specs.Reading.{Gives};
 ghost use Rattle.map_elements.specs.Messages.{structure_child, message_from, message_child};
 
@@ -6,10 +6,11 @@ use crate::element_name::ElementName;
 use crate::form::MsgType;
 use crate::members::read_members;
 use crate::references::RefChild;
-use element_children::{Child, read_children};
-use json_elements::{Cause, ElementErr, JsonText, content_of, inside, needed, refuse};
+use json_data::Json;
+use json_elements::{
+    Cause, Child, ElementErr, JsonText, content_of, inside, needed, read_children, refuse,
+};
 use map_types::{MessageEl, StructureEl};
-use serde_json::Value;
 use std::alloc::Global;
 
 /// Messages.
@@ -24,7 +25,7 @@ impl Child for MessageChild {
         alloc: Global,
         before: &[MessageEl],
         name: &str,
-        element: &Value,
+        element: &Json<'_>,
     ) -> Result<Option<MessageEl>, ElementErr> {
         match ElementName::of(name) {
             ElementName::Message => Ok(Some(inside("message", read_message(alloc, element))?)),
@@ -33,8 +34,8 @@ impl Child for MessageChild {
     }
 }
 
-fn read_message(alloc: Global, element: &Value) -> Result<MessageEl, ElementErr>
-    ensures { Gives result (message_from (view element.now)) }
+fn read_message(alloc: Global, element: &Json<'_>) -> Result<MessageEl, ElementErr>
+    ensures { Gives result (message_from (data_of element.now)) }
 {
     let children = content_of(alloc, element)?;
     let name = needed::<JsonText>(alloc, element, "name")?;
@@ -59,7 +60,7 @@ impl Child for StructureChild {
         alloc: Global,
         before: &[StructureEl],
         name: &str,
-        element: &Value,
+        element: &Json<'_>,
     ) -> Result<Option<StructureEl>, ElementErr> {
         match ElementName::of(name) {
             ElementName::Structure => {

@@ -1,18 +1,17 @@
-ghost use Rattle.serde_json.specs.View.{view};
+ghost use Rattle.json_data.specs.Trees.{data_of};
 ghost use Rattle.json_elements.specs.Reading.{Gives};
 ghost use Rattle.map_elements.specs.References.{id_from, reference, ref_child};
 
 use crate::element_name::ElementName;
 use crate::form::MapId;
-use element_children::{Child, NoChild, read_children};
-use json_elements::{ElementErr, content_of, inside, needed};
+use json_data::Json;
+use json_elements::{Child, ElementErr, NoChild, content_of, inside, needed, read_children};
 use map_types::{ComponentRefEl, FieldRefEl, GroupRefEl, RefItem};
-use serde_json::Value;
 use std::alloc::Global;
 
 /// The id of a reference or of a count.
-pub fn read_id(alloc: Global, element: &Value) -> Result<u32, ElementErr>
-    ensures { Gives result (id_from (view element.now)) }
+pub fn read_id(alloc: Global, element: &Json<'_>) -> Result<u32, ElementErr>
+    ensures { Gives result (id_from (data_of element.now)) }
 {
     let children = content_of(alloc, element)?;
     let id = needed::<MapId>(alloc, element, "id")?;
@@ -32,7 +31,7 @@ impl Child for RefChild {
         alloc: Global,
         before: &[RefItem],
         name: &str,
-        element: &Value,
+        element: &Json<'_>,
     ) -> Result<Option<RefItem>, ElementErr> {
         read_reference(alloc, ElementName::of(name), element)
     }
@@ -41,9 +40,9 @@ impl Child for RefChild {
 fn read_reference(
     alloc: Global,
     name: ElementName,
-    element: &Value,
+    element: &Json<'_>,
 ) -> Result<Option<RefItem>, ElementErr>
-    ensures { Gives result (reference name (view element.now)) }
+    ensures { Gives result (reference name (data_of element.now)) }
 {
     match name {
         ElementName::FieldRef => {

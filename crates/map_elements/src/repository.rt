@@ -1,4 +1,4 @@
-ghost use Rattle.serde_json.specs.View.{view};
+ghost use Rattle.json_data.specs.Trees.{data_of};
 ghost use Rattle.json_elements.specs.Reading.{Gives};
 ghost use Rattle.json_elements.specs.Elements.{named};
 ghost use Rattle.map_elements.specs.Names.{element_of};
@@ -9,25 +9,25 @@ use crate::fields::{CodeSetChild, DatatypeChild, FieldChild};
 use crate::groups::{ComponentChild, GroupListChild};
 use crate::members::read_members;
 use crate::messages::MessageChild;
-use element_children::Child;
-use json_elements::{Cause, ElementErr, inside, lone_of, read_value, refuse};
+use json_data::{Json, JsonSpace};
+use json_elements::{Cause, Child, ElementErr, inside, lone_of, read_value, refuse};
 use map_types::{
     CodeSetsEl, ComponentsEl, DatatypesEl, FieldsEl, GroupsEl, MessagesEl, Repository,
     RepositoryItem,
 };
-use serde_json::Value;
 use std::alloc::Global;
 
 /// The repository of a file, or the first element or attribute that isn't of its form.
 pub fn read_repository(alloc: Global, bytes: &[u8]) -> Result<Repository, ElementErr>
     ensures { Gives result (repository_of bytes.now) }
 {
-    let value = read_value(alloc, bytes)?;
+    let mut space = JsonSpace::new(alloc);
+    let value = read_value(alloc, &mut space, bytes)?;
     read_root(alloc, &value)
 }
 
-fn read_root(alloc: Global, value: &Value) -> Result<Repository, ElementErr>
-    ensures { Gives result (named (λ name. root (element_of name)) (view value.now)) }
+fn read_root(alloc: Global, value: &Json<'_>) -> Result<Repository, ElementErr>
+    ensures { Gives result (named (λ name. root (element_of name)) (data_of value.now)) }
 {
     match lone_of(value) {
         None => refuse(alloc, Cause::Shape),
@@ -38,8 +38,8 @@ fn read_root(alloc: Global, value: &Value) -> Result<Repository, ElementErr>
     }
 }
 
-fn read_lists(alloc: Global, element: &Value) -> Result<Repository, ElementErr>
-    ensures { Gives result (repository_from (view element.now)) }
+fn read_lists(alloc: Global, element: &Json<'_>) -> Result<Repository, ElementErr>
+    ensures { Gives result (repository_from (data_of element.now)) }
 {
     let children = read_members::<RepositoryChild>(alloc, element)?;
     Ok(Repository { children })
@@ -57,7 +57,7 @@ impl Child for RepositoryChild {
         alloc: Global,
         before: &[RepositoryItem],
         name: &str,
-        element: &Value,
+        element: &Json<'_>,
     ) -> Result<Option<RepositoryItem>, ElementErr> {
         read_list(alloc, ElementName::of(name), element)
     }
@@ -66,9 +66,9 @@ impl Child for RepositoryChild {
 fn read_list(
     alloc: Global,
     name: ElementName,
-    element: &Value,
+    element: &Json<'_>,
 ) -> Result<Option<RepositoryItem>, ElementErr>
-    ensures { Gives result (repository_item name (view element.now)) }
+    ensures { Gives result (repository_item name (data_of element.now)) }
 {
     match name {
         ElementName::Datatypes => {

@@ -1,5 +1,5 @@
 -- Passes over nodes, whose tags go by numbers.
-use Rattle.std.proofs.Common.{◌≡◌, ◌⊎◌, inl, inr, ⊎_elim, ℕ, zero, suc, Bool, true, false, List, [], ◌∷◌, ◌++◌, Option, Some, None, length, set, replicate, map, min, refl, sym, ap, ◌∙◌, subst, arith, ◌+◌, ◌-◌, ◌<◌, ◌≤◌, nat_eq, append_assoc, append-nil, length-set}
+use Rattle.std.proofs.Common.{◌≡◌, ◌⊎◌, inl, inr, ⊎_elim, ℕ, zero, suc, Bool, true, false, List, [], ◌∷◌, ◌++◌, Option, Some, None, length, set, replicate, map, refl, sym, ap, ◌∙◌, subst, arith, ◌+◌, ◌-◌, ◌<◌, ◌≤◌, nat_eq, nat_lt, append_assoc, append-nil, length-set}
 use Rattle.std.specs.Prelude.{slice_get, if◌then◌else◌, option_map, unwrap_or, position}
 use Rattle.std.specs.Int.RustNames.{bit_and, bit_or}
 use Rattle.std.proofs.lemmas.Bool.Decides.{nat_tests}
@@ -10,7 +10,7 @@ use Rattle.reference_graph.specs.declared.graph.Link.TheVariants.{Field, To}
 use Rattle.reference_graph.specs.declared.graph.Node.{Node}
 use Rattle.reference_graph.specs.Graphs.{of_node, of_link, of_links, folded}
 use Rattle.reference_graph.specs.Structures.{tags, counted_tags, tags_of, is_ambiguous}
-use Rattle.reference_graph.specs.Numbering.{number_of, numbered_link, numbered_node}
+use Rattle.reference_graph.specs.Numbering.{number_by, number_of, numbered_link, numbered_node}
 use Rattle.reference_graph.specs.Marking.{mark, count_mark, entry_word, link_word, with_word, links_word, node_word, times, one_if, IsMarked, numbers_at, AreMarked, Passed, AreClear, AreDistinct}
 use Rattle.reference_graph.proofs.Marks.{marks_none, marks_one, marks_both, marks_front, mark_above, none_twice, times_append}
 use Rattle.reference_graph.proofs.Settling.{beyond, not_within}
@@ -181,8 +181,16 @@ module _ (last : ℕ) (all : List ℕ) (graph : List Node) where
   rest_times n None ts = omega arith
   rest_times n (Some t) ts = omega arith
 
+  test_within : (i : ℕ) (b : Bool) → nat_lt i last ≡ b → (if b then i + 1 else 0) < last + 1
+  test_within i true is = grind (arith, nat_tests, is)
+  test_within i false is = omega arith
+
+  place_within : (o : Option ℕ) → number_by last o < last + 1
+  place_within None = omega arith
+  place_within (Some i) = test_within i (nat_lt i last) refl
+
   number_within : (t : ℕ) → number t < last + 1
-  number_within t = omega arith
+  number_within t = place_within (position (nat_eq t) all)
 
   none_past : (n : ℕ) (ts : List ℕ) → last < n → times n (map number ts) ≡ 0
   none_past n [] h = refl

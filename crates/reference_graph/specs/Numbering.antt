@@ -1,12 +1,21 @@
 -- The numbers of tags, in whose place a tag can be a bit of a word.
-use Rattle.std.specs.Prelude.{ℕ, min, nat_eq, unwrap_or, position, List, map, option_map}
+use Rattle.std.specs.Prelude.{ℕ, ◌+◌, nat_eq, nat_lt, if◌then◌else◌, position, List, map, Option, Some, None, option_map}
 use Rattle.reference_graph.specs.declared.graph.Link.{Link}
 use Rattle.reference_graph.specs.declared.graph.Link.TheVariants.{Field, To}
 use Rattle.reference_graph.specs.declared.graph.Node.{Node}
 
--- the place of a tag among these, and 0 where it is none of them; no number is above the last, which many tags may share
+-- the number of the tag at a place: the place counted from 1, where that is up to the last
+abbrev pub number_at : ℕ → ℕ → ℕ
+number_at last i = if nat_lt i last then i + 1 else 0
+
+-- the number of a tag, by its place
+abbrev pub number_by : ℕ → Option ℕ → ℕ
+number_by last None = 0
+number_by last (Some i) = number_at last i
+
+-- the number of a tag among these. The tags past the last number share 0, and so does a tag that is none of them.
 abbrev pub number_of : ℕ → List ℕ → ℕ → ℕ
-number_of last all tag = min (unwrap_or (position (nat_eq tag) all) 0) last
+number_of last all tag = number_by last (position (nat_eq tag) all)
 
 -- a link with the number of its tag in the tag's place
 abbrev pub numbered_link : ℕ → List ℕ → Link → Link

@@ -1,7 +1,7 @@
 ghost use Rattle.std.specs.Prelude.{◌≡◌, ◌+◌, ◌<◌, ◌≤◌, length, replicate, slice_get, Some, None, IfOk};
 ghost use Rattle.reference_graph.specs.Marking.{mark, count_mark, link_word, links_word, node_word, Passed, AreClear, AreDistinct};
 
-use crate::graph::{Link, Node};
+use crate::graph::{Link, Node, count_links};
 use crate::numbers::{numbered_nodes, tags_in};
 use lists::NoMem;
 use std::alloc::Global;
@@ -9,9 +9,12 @@ use std::alloc::Global;
 /// How many numbers one pass looks at.
 pub const WIDTH: u32 = 128;
 
-/// The most numbers, so that passes are few. Tags past them share the last, and what has two of those
-/// is gone through.
-pub const MOST_NUMBERS: u32 = 16_384;
+/// The highest number, so that passes are at most 128. Tags without a number of their own share 0, and
+/// what has two of those is gone through.
+pub const LAST_NUMBER: u32 = 16_383;
+
+/// The most links that all passes together look at. A mapping of 1 MiB whose fields are all declared needs no more.
+const MOST_LOOKS: usize = 2_200_000;
 
 /// For each node a word, unless some tag may be in its structure twice.
 pub type Words = Vec<Option<u128>>;
@@ -23,15 +26,23 @@ pub fn find_distinct(alloc: Global, nodes: &[Node], order: &[usize]) -> Result<W
     ensures { IfOk result (λ words. AreDistinct nodes.now words.items) }
 {
     let tags = tags_in(alloc, nodes)?;
-    let last = tags.len().min(MOST_NUMBERS);
+    let last = last_number(tags.len(), count_links(nodes));
     let numbered = numbered_nodes(alloc, last, &tags, nodes)?;
     let words = find_clear(alloc, numbered.as_slice(), order, last)?;
     Ok(words)
 }
 
+/// The last number that is given, for so many tags and links. A pass looks at each link.
+fn last_number(tags: u32, links: usize) -> u32
+    ensures { result ≤ LAST_NUMBER }
+{
+    let numbers = (MOST_LOOKS / links.max(1)).saturating_mul(WIDTH as usize);
+    tags.min(numbers.saturating_sub(1).min(LAST_NUMBER as usize) as u32)
+}
+
 /// Which nodes have no number up to the last twice.
 fn find_clear(alloc: Global, nodes: &[Node], order: &[usize], last: u32) -> Result<Words, NoMem>
-    requires { last ≤ MOST_NUMBERS }
+    requires { last ≤ LAST_NUMBER }
     ensures { IfOk result (λ words. AreClear nodes.now (last + 1) words.items) }
 {
     let mut words = all_clear(alloc, nodes.len())?;

@@ -1,4 +1,4 @@
-use crate::graph::{Link, Node};
+use crate::graph::{Link, Node, count_links};
 use lists::NoMem;
 use std::alloc::Global;
 
@@ -39,11 +39,7 @@ fn first_visits(alloc: Global, nodes: &[Node]) -> Result<Vec<Visit>, NoMem> {
 
 /// An upper bound of the visits: one for each node and one for each link to it, and one to leave each.
 fn most_visits(nodes: &[Node]) -> usize {
-    let mut most = nodes.len().saturating_add(nodes.len());
-    for node in nodes {
-        most = most.saturating_add(node.links.len());
-    }
-    most
+    count_links(nodes).saturating_add(nodes.len().saturating_mul(2))
 }
 
 /// Visits a node, unless it was visited before: what it refers to is next, and then it is left.

@@ -1,15 +1,15 @@
 ghost use Rattle.std.specs.Prelude.{◌≡◌};
 ghost use Rattle.std.specs.List.{list_all};
-ghost use Rattle.serde_json.specs.View.{view};
+ghost use Rattle.json_data.specs.Trees.{data_of};
 ghost use Rattle.json_elements.specs.Reading.{Gives};
 ghost use Rattle.sbe_schema.specs.Forms.{is_letter, is_name_byte, is_name, is_short, a_name, value_ref_in, both_names, a_value_ref, primitive_in, a_primitive, presence_in, a_presence, byte_order_in, a_byte_order, a_length, a_place};
 
+use json_data::Json;
 use json_elements::{Cause, ElementErr, Form, read_limited, refuse, str_of};
 use lists::{List, Text};
 use sbe_types::{
     LENGTH_LIMIT, NAME_LIMIT, Order, PLACE_LIMIT, Presence, Prim, PrimitiveType, ValueRef,
 };
-use serde_json::Value;
 use std::alloc::Global;
 
 /// A name: a letter or `_`, then letters, digits and `_`, at most 64 bytes.
@@ -20,7 +20,7 @@ impl Form for Name {
 
     ghost form = { a_name };
 
-    fn read(alloc: Global, value: &Value) -> Result<Text, ElementErr> {
+    fn read(alloc: Global, value: &Json<'_>) -> Result<Text, ElementErr> {
         let name = str_of(alloc, value)?.as_bytes();
         if !has_name_form(name) {
             return refuse(alloc, Cause::BadAttribute);
@@ -64,7 +64,7 @@ impl Form for DottedName {
 
     ghost form = { a_value_ref };
 
-    fn read(alloc: Global, value: &Value) -> Result<ValueRef, ElementErr> {
+    fn read(alloc: Global, value: &Json<'_>) -> Result<ValueRef, ElementErr> {
         let text = str_of(alloc, value)?;
         dotted(alloc, text)
     }
@@ -104,7 +104,7 @@ impl Form for PrimitiveWord {
 
     ghost form = { a_primitive };
 
-    fn read(alloc: Global, value: &Value) -> Result<PrimitiveType, ElementErr> {
+    fn read(alloc: Global, value: &Json<'_>) -> Result<PrimitiveType, ElementErr> {
         match str_of(alloc, value)? {
             "char" => Ok(PrimitiveType::Integral(Prim::Char)),
             "int8" => Ok(PrimitiveType::Integral(Prim::I8)),
@@ -130,7 +130,7 @@ impl Form for PresenceWord {
 
     ghost form = { a_presence };
 
-    fn read(alloc: Global, value: &Value) -> Result<Presence, ElementErr> {
+    fn read(alloc: Global, value: &Json<'_>) -> Result<Presence, ElementErr> {
         match str_of(alloc, value)? {
             "required" => Ok(Presence::Required),
             "optional" => Ok(Presence::Optional),
@@ -148,7 +148,7 @@ impl Form for OrderWord {
 
     ghost form = { a_byte_order };
 
-    fn read(alloc: Global, value: &Value) -> Result<Order, ElementErr> {
+    fn read(alloc: Global, value: &Json<'_>) -> Result<Order, ElementErr> {
         match str_of(alloc, value)? {
             "littleEndian" => Ok(Order::Little),
             "bigEndian" => Ok(Order::Big),
@@ -165,7 +165,7 @@ impl Form for ArrayLength {
 
     ghost form = { a_length };
 
-    fn read(alloc: Global, value: &Value) -> Result<u32, ElementErr> {
+    fn read(alloc: Global, value: &Json<'_>) -> Result<u32, ElementErr> {
         read_limited(alloc, value, LENGTH_LIMIT)
     }
 }
@@ -178,7 +178,7 @@ impl Form for BytePlace {
 
     ghost form = { a_place };
 
-    fn read(alloc: Global, value: &Value) -> Result<u32, ElementErr> {
+    fn read(alloc: Global, value: &Json<'_>) -> Result<u32, ElementErr> {
         read_limited(alloc, value, PLACE_LIMIT)
     }
 }

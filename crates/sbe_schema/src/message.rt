@@ -1,5 +1,5 @@
 ghost use Rattle.std.specs.Prelude.{◌≡◌, codes};
-ghost use Rattle.serde_json.specs.View.{view, items_view};
+ghost use Rattle.json_data.specs.Trees.{data_of, items_of};
 ghost use Rattle.json_elements.specs.Reading.{Gives, at_child};
 ghost use Rattle.json_elements.specs.Attributes.{with_default};
 ghost use Rattle.json_elements.specs.Elements.{each, branches};
@@ -8,17 +8,17 @@ ghost use Rattle.sbe_schema.specs.Messages.{field_from, data_from, group_from, p
 
 use crate::element_name::ElementName;
 use crate::form::{BytePlace, DottedName, Name, PresenceWord};
+use json_data::Json;
 use json_elements::{
     Cause, ElementErr, IdNumber, JsonText, at_child, content_of, inside, limit_children, lone_of,
     needed, optional, refuse, refuse_children, with_default,
 };
 use lists::{List, Text};
 use sbe_types::{DataEl, FieldEl, GroupEl, MessageEl, PART_LIMIT, PartItem};
-use serde_json::Value;
 use std::alloc::Global;
 
-pub fn read_message(alloc: Global, element: &Value) -> Result<MessageEl, ElementErr>
-    ensures { Gives result (message_from (view element.now)) }
+pub fn read_message(alloc: Global, element: &Json<'_>) -> Result<MessageEl, ElementErr>
+    ensures { Gives result (message_from (data_of element.now)) }
 {
     let children = content_of(alloc, element)?;
     let name = needed::<Name>(alloc, element, "name")?;
@@ -38,8 +38,8 @@ pub fn read_message(alloc: Global, element: &Value) -> Result<MessageEl, Element
     })
 }
 
-fn read_field(alloc: Global, element: &Value) -> Result<FieldEl, ElementErr>
-    ensures { Gives result (field_from (view element.now)) }
+fn read_field(alloc: Global, element: &Json<'_>) -> Result<FieldEl, ElementErr>
+    ensures { Gives result (field_from (data_of element.now)) }
 {
     let children = content_of(alloc, element)?;
     let name = needed::<Name>(alloc, element, "name")?;
@@ -61,8 +61,8 @@ fn read_field(alloc: Global, element: &Value) -> Result<FieldEl, ElementErr>
     })
 }
 
-fn read_data(alloc: Global, element: &Value) -> Result<DataEl, ElementErr>
-    ensures { Gives result (data_from (view element.now)) }
+fn read_data(alloc: Global, element: &Json<'_>) -> Result<DataEl, ElementErr>
+    ensures { Gives result (data_from (data_of element.now)) }
 {
     let children = content_of(alloc, element)?;
     let name = needed::<Name>(alloc, element, "name")?;
@@ -80,9 +80,9 @@ fn read_data(alloc: Global, element: &Value) -> Result<DataEl, ElementErr>
 
 #[cycle(parts)]
 #[tactic(auto, using(crate::proofs::Children::branches_each))]
-fn read_group(alloc: Global, element: &Value) -> Result<GroupEl, ElementErr>
+fn read_group(alloc: Global, element: &Json<'_>) -> Result<GroupEl, ElementErr>
     ensures { Gives result
-        (group_from (view element.now) (branches by_part (view element.now))) }
+        (group_from (data_of element.now) (branches by_part (data_of element.now))) }
 {
     let children = content_of(alloc, element)?;
     let name = needed::<Name>(alloc, element, "name")?;
@@ -102,17 +102,17 @@ fn read_group(alloc: Global, element: &Value) -> Result<GroupEl, ElementErr>
     })
 }
 
-fn read_dimension_type(alloc: Global, element: &Value) -> Result<Text, ElementErr>
+fn read_dimension_type(alloc: Global, element: &Json<'_>) -> Result<Text, ElementErr>
     ensures { Gives result
-        (with_default (codes "groupSizeEncoding") a_name (codes "dimensionType") (view element.now)) }
+        (with_default (codes "groupSizeEncoding") a_name (codes "dimensionType") (data_of element.now)) }
 {
     let otherwise = List::from_slice(alloc, b"groupSizeEncoding")?;
     with_default::<Name>(alloc, element, "dimensionType", otherwise)
 }
 
 #[cycle(parts)]
-fn read_parts(alloc: Global, items: &[Value]) -> Result<List<PartItem>, ElementErr>
-    ensures { Gives result (each part_of 0 (items_view items.now)) }
+fn read_parts(alloc: Global, items: &[Json<'_>]) -> Result<List<PartItem>, ElementErr>
+    ensures { Gives result (each part_of 0 (items_of items.now)) }
 {
     let mut parts = List::new(alloc);
     for (i, item) in items.iter().enumerate() {
@@ -122,16 +122,16 @@ fn read_parts(alloc: Global, items: &[Value]) -> Result<List<PartItem>, ElementE
 }
 
 #[cycle(parts)]
-fn part_at(alloc: Global, i: usize, item: &Value) -> Result<PartItem, ElementErr>
-    ensures { Gives result (at_child i (part_of (view item.now))) }
+fn part_at(alloc: Global, i: usize, item: &Json<'_>) -> Result<PartItem, ElementErr>
+    ensures { Gives result (at_child i (part_of (data_of item.now))) }
 {
     at_child(i, read_part(alloc, item))
 }
 
 #[cycle(parts)]
 #[tactic(auto, using(crate::proofs::Children::tree_seen, crate::proofs::Children::tree_unseen))]
-fn read_part(alloc: Global, item: &Value) -> Result<PartItem, ElementErr>
-    ensures { Gives result (part_of (view item.now)) }
+fn read_part(alloc: Global, item: &Json<'_>) -> Result<PartItem, ElementErr>
+    ensures { Gives result (part_of (data_of item.now)) }
 {
     match lone_of(item) {
         None => refuse(alloc, Cause::Shape),
@@ -143,10 +143,10 @@ fn read_part(alloc: Global, item: &Value) -> Result<PartItem, ElementErr>
 fn read_named_part(
     alloc: Global,
     name: ElementName,
-    element: &Value,
+    element: &Json<'_>,
 ) -> Result<PartItem, ElementErr>
     ensures { Gives result
-        (part_child name (view element.now) (branches by_part (view element.now))) }
+        (part_child name (data_of element.now) (branches by_part (data_of element.now))) }
 {
     match name {
         ElementName::Field => {

@@ -1,5 +1,5 @@
 ghost use Rattle.std.specs.Prelude.{◌≡◌, IfOk, ◌≤◌, codes, length};
-ghost use Rattle.serde_json.specs.View.{view, items_view};
+ghost use Rattle.json_data.specs.Trees.{data_of, items_of};
 ghost use Rattle.json_elements.specs.Reading.{Gives, at_child};
 ghost use Rattle.json_elements.specs.Attributes.{with_default};
 ghost use Rattle.json_elements.specs.Elements.{lone, named, at_most, each};
@@ -13,13 +13,13 @@ use crate::form::{Name, OrderWord};
 use crate::message::read_message;
 use crate::schema_err::SchemaErr;
 use crate::types::{Standing, read_composite, read_enum, read_set, read_type};
+use json_data::{Json, JsonSpace};
 use json_elements::{
     Cause, ElementErr, IdNumber, JsonText, at_child, content_of, inside, limit_children, lone_of,
     needed, path_of, read_value, refuse, with_default,
 };
 use lists::{List, Text};
 use sbe_types::{MESSAGE_LIMIT, Order, Schema, SchemaItem, TYPE_LIMIT, TypesEl, TypesItem};
-use serde_json::Value;
 use std::alloc::Global;
 
 /// The tree of a schema file, or the first refusal with its place, as a JSON pointer. What a file
@@ -42,12 +42,13 @@ pub fn read_schema(alloc: Global, bytes: &[u8]) -> Result<Schema, SchemaErr>
 fn read_file(alloc: Global, bytes: &[u8]) -> Result<Schema, ElementErr>
     ensures { Gives result (schema_of bytes.now) }
 {
-    let value = read_value(alloc, bytes)?;
+    let mut space = JsonSpace::new(alloc);
+    let value = read_value(alloc, &mut space, bytes)?;
     read_root(alloc, &value)
 }
 
-fn read_root(alloc: Global, value: &Value) -> Result<Schema, ElementErr>
-    ensures { Gives result (named (λ name. root (element_of name)) (view value.now)) }
+fn read_root(alloc: Global, value: &Json<'_>) -> Result<Schema, ElementErr>
+    ensures { Gives result (named (λ name. root (element_of name)) (data_of value.now)) }
 {
     match lone_of(value) {
         None => refuse(alloc, Cause::Shape),
@@ -60,8 +61,8 @@ fn read_root(alloc: Global, value: &Value) -> Result<Schema, ElementErr>
     }
 }
 
-fn read_message_schema(alloc: Global, element: &Value) -> Result<Schema, ElementErr>
-    ensures { Gives result (schema_from (view element.now)) }
+fn read_message_schema(alloc: Global, element: &Json<'_>) -> Result<Schema, ElementErr>
+    ensures { Gives result (schema_from (data_of element.now)) }
 {
     let children = content_of(alloc, element)?;
     let id = needed::<IdNumber>(alloc, element, "id")?;
@@ -81,16 +82,16 @@ fn read_message_schema(alloc: Global, element: &Value) -> Result<Schema, Element
     })
 }
 
-fn read_header_type(alloc: Global, element: &Value) -> Result<Text, ElementErr>
+fn read_header_type(alloc: Global, element: &Json<'_>) -> Result<Text, ElementErr>
     ensures { Gives result
-        (with_default (codes "messageHeader") a_name (codes "headerType") (view element.now)) }
+        (with_default (codes "messageHeader") a_name (codes "headerType") (data_of element.now)) }
 {
     let otherwise = List::from_slice(alloc, b"messageHeader")?;
     with_default::<Name>(alloc, element, "headerType", otherwise)
 }
 
-fn limit_messages(alloc: Global, items: &[Value]) -> Result<(), ElementErr>
-    ensures { Gives result (at_most MESSAGE_LIMIT (message_count (items_view items.now))) }
+fn limit_messages(alloc: Global, items: &[Json<'_>]) -> Result<(), ElementErr>
+    ensures { Gives result (at_most MESSAGE_LIMIT (message_count (items_of items.now))) }
 {
     if count_messages(items) > MESSAGE_LIMIT {
         return refuse(alloc, Cause::Limit);
@@ -98,8 +99,8 @@ fn limit_messages(alloc: Global, items: &[Value]) -> Result<(), ElementErr>
     Ok(())
 }
 
-fn count_messages(items: &[Value]) -> usize
-    ensures count { result ≡ message_count (items_view items.now) }
+fn count_messages(items: &[Json<'_>]) -> usize
+    ensures count { result ≡ message_count (items_of items.now) }
     ensures few { result ≤ length items.now }
 {
     let mut count = 0;
@@ -109,8 +110,8 @@ fn count_messages(items: &[Value]) -> usize
     count
 }
 
-fn one_if_message(item: &Value) -> usize
-    ensures count { result ≡ message_count_in (lone (view item.now)) }
+fn one_if_message(item: &Json<'_>) -> usize
+    ensures count { result ≡ message_count_in (lone (data_of item.now)) }
     ensures few { result ≤ 1 }
 {
     match lone_of(item) {
@@ -122,8 +123,8 @@ fn one_if_message(item: &Value) -> usize
     }
 }
 
-fn read_outer_parts(alloc: Global, items: &[Value]) -> Result<List<SchemaItem>, ElementErr>
-    ensures { Gives result (outer_parts TYPE_LIMIT 0 (items_view items.now)) }
+fn read_outer_parts(alloc: Global, items: &[Json<'_>]) -> Result<List<SchemaItem>, ElementErr>
+    ensures { Gives result (outer_parts TYPE_LIMIT 0 (items_of items.now)) }
 {
     let mut parts = List::new(alloc);
     let mut room = TYPE_LIMIT;
@@ -148,15 +149,15 @@ fn outer_part_at(
     alloc: Global,
     room: usize,
     i: usize,
-    item: &Value,
+    item: &Json<'_>,
 ) -> Result<SchemaItem, ElementErr>
-    ensures { Gives result (at_child i (outer_part room (view item.now))) }
+    ensures { Gives result (at_child i (outer_part room (data_of item.now))) }
 {
     at_child(i, read_outer_part(alloc, room, item))
 }
 
-fn read_outer_part(alloc: Global, room: usize, item: &Value) -> Result<SchemaItem, ElementErr>
-    ensures { Gives result (outer_part room (view item.now)) }
+fn read_outer_part(alloc: Global, room: usize, item: &Json<'_>) -> Result<SchemaItem, ElementErr>
+    ensures { Gives result (outer_part room (data_of item.now)) }
 {
     match lone_of(item) {
         None => refuse(alloc, Cause::Shape),
@@ -168,9 +169,9 @@ fn read_named_outer(
     alloc: Global,
     room: usize,
     name: ElementName,
-    element: &Value,
+    element: &Json<'_>,
 ) -> Result<SchemaItem, ElementErr>
-    ensures { Gives result (schema_child room name (view element.now)) }
+    ensures { Gives result (schema_child room name (data_of element.now)) }
 {
     match name {
         ElementName::Types => {
@@ -186,8 +187,8 @@ fn read_named_outer(
 }
 
 /// A `types` element, where `room` types more may be declared.
-fn read_types(alloc: Global, room: usize, element: &Value) -> Result<TypesEl, ElementErr>
-    ensures { Gives result (types_from room (view element.now)) }
+fn read_types(alloc: Global, room: usize, element: &Json<'_>) -> Result<TypesEl, ElementErr>
+    ensures { Gives result (types_from room (data_of element.now)) }
 {
     let children = content_of(alloc, element)?;
     limit_children(alloc, children, room)?;
@@ -195,8 +196,8 @@ fn read_types(alloc: Global, room: usize, element: &Value) -> Result<TypesEl, El
     Ok(TypesEl { children })
 }
 
-fn read_declared(alloc: Global, items: &[Value]) -> Result<List<TypesItem>, ElementErr>
-    ensures { Gives result (each declared 0 (items_view items.now)) }
+fn read_declared(alloc: Global, items: &[Json<'_>]) -> Result<List<TypesItem>, ElementErr>
+    ensures { Gives result (each declared 0 (items_of items.now)) }
 {
     let mut types = List::new(alloc);
     for (i, item) in items.iter().enumerate() {
@@ -205,14 +206,14 @@ fn read_declared(alloc: Global, items: &[Value]) -> Result<List<TypesItem>, Elem
     Ok(types)
 }
 
-fn declared_at(alloc: Global, i: usize, item: &Value) -> Result<TypesItem, ElementErr>
-    ensures { Gives result (at_child i (declared (view item.now))) }
+fn declared_at(alloc: Global, i: usize, item: &Json<'_>) -> Result<TypesItem, ElementErr>
+    ensures { Gives result (at_child i (declared (data_of item.now))) }
 {
     at_child(i, read_declared_type(alloc, item))
 }
 
-fn read_declared_type(alloc: Global, item: &Value) -> Result<TypesItem, ElementErr>
-    ensures { Gives result (declared (view item.now)) }
+fn read_declared_type(alloc: Global, item: &Json<'_>) -> Result<TypesItem, ElementErr>
+    ensures { Gives result (declared (data_of item.now)) }
 {
     match lone_of(item) {
         None => refuse(alloc, Cause::Shape),
@@ -223,9 +224,9 @@ fn read_declared_type(alloc: Global, item: &Value) -> Result<TypesItem, ElementE
 fn read_named_type(
     alloc: Global,
     name: ElementName,
-    element: &Value,
+    element: &Json<'_>,
 ) -> Result<TypesItem, ElementErr>
-    ensures { Gives result (types_child name (view element.now)) }
+    ensures { Gives result (types_child name (data_of element.now)) }
 {
     let declared = Standing::Declared;
     match name {

@@ -1,11 +1,12 @@
 ghost use Rattle.std.specs.Prelude.{◌≡◌};
-ghost use Rattle.serde_json.specs.View.{view, items_view};
+ghost use Rattle.json_data.specs.Trees.{data_of, items_of};
 ghost use Rattle.json_elements.specs.Reading.{Gives, at_child};
 ghost use Rattle.json_elements.specs.Elements.{each, branches};
 ghost use Rattle.sbe_schema.specs.Types.{offset_from, since_from, type_from, ref_from, valid_value_from, enum_child, valid_value, enum_from, choice_from, set_child, choice, set_from, composite_from, composite_child, by_member, member_of};
 
 use crate::element_name::ElementName;
 use crate::form::{ArrayLength, BytePlace, DottedName, Name, PresenceWord, PrimitiveWord};
+use json_data::Json;
 use json_elements::{
     Cause, ElementErr, IdNumber, JsonText, TextOrNumber, WholeNumber, at_child, content_of, inside,
     limit_children, lone_of, needed, optional, refuse, refuse_children, with_default,
@@ -15,7 +16,6 @@ use sbe_types::{
     ChoiceEl, CompositeEl, EnumEl, MEMBER_LIMIT, MemberItem, RefEl, SetEl, TypeEl, VALUE_LIMIT,
     ValidValueEl,
 };
-use serde_json::Value;
 use std::alloc::Global;
 
 /// Where a type stands.
@@ -27,8 +27,12 @@ pub enum Standing {
     Member,
 }
 
-pub fn read_type(alloc: Global, standing: Standing, element: &Value) -> Result<TypeEl, ElementErr>
-    ensures { Gives result (type_from standing (view element.now)) }
+pub fn read_type(
+    alloc: Global,
+    standing: Standing,
+    element: &Json<'_>,
+) -> Result<TypeEl, ElementErr>
+    ensures { Gives result (type_from standing (data_of element.now)) }
 {
     let children = content_of(alloc, element)?;
     let name = needed::<Name>(alloc, element, "name")?;
@@ -63,9 +67,9 @@ pub fn read_type(alloc: Global, standing: Standing, element: &Value) -> Result<T
 fn read_offset(
     alloc: Global,
     standing: Standing,
-    element: &Value,
+    element: &Json<'_>,
 ) -> Result<Option<u32>, ElementErr>
-    ensures { Gives result (offset_from standing (view element.now)) }
+    ensures { Gives result (offset_from standing (data_of element.now)) }
 {
     match standing {
         Standing::Declared => Ok(None),
@@ -73,8 +77,8 @@ fn read_offset(
     }
 }
 
-fn read_since(alloc: Global, standing: Standing, element: &Value) -> Result<u32, ElementErr>
-    ensures { Gives result (since_from standing (view element.now)) }
+fn read_since(alloc: Global, standing: Standing, element: &Json<'_>) -> Result<u32, ElementErr>
+    ensures { Gives result (since_from standing (data_of element.now)) }
 {
     match standing {
         Standing::Declared => Ok(0),
@@ -82,8 +86,8 @@ fn read_since(alloc: Global, standing: Standing, element: &Value) -> Result<u32,
     }
 }
 
-fn read_ref(alloc: Global, element: &Value) -> Result<RefEl, ElementErr>
-    ensures { Gives result (ref_from (view element.now)) }
+fn read_ref(alloc: Global, element: &Json<'_>) -> Result<RefEl, ElementErr>
+    ensures { Gives result (ref_from (data_of element.now)) }
 {
     let children = content_of(alloc, element)?;
     let name = needed::<Name>(alloc, element, "name")?;
@@ -99,8 +103,12 @@ fn read_ref(alloc: Global, element: &Value) -> Result<RefEl, ElementErr>
     })
 }
 
-pub fn read_enum(alloc: Global, standing: Standing, element: &Value) -> Result<EnumEl, ElementErr>
-    ensures { Gives result (enum_from standing (view element.now)) }
+pub fn read_enum(
+    alloc: Global,
+    standing: Standing,
+    element: &Json<'_>,
+) -> Result<EnumEl, ElementErr>
+    ensures { Gives result (enum_from standing (data_of element.now)) }
 {
     let children = content_of(alloc, element)?;
     let name = needed::<Name>(alloc, element, "name")?;
@@ -118,8 +126,8 @@ pub fn read_enum(alloc: Global, standing: Standing, element: &Value) -> Result<E
     })
 }
 
-fn read_valid_values(alloc: Global, items: &[Value]) -> Result<List<ValidValueEl>, ElementErr>
-    ensures { Gives result (each valid_value 0 (items_view items.now)) }
+fn read_valid_values(alloc: Global, items: &[Json<'_>]) -> Result<List<ValidValueEl>, ElementErr>
+    ensures { Gives result (each valid_value 0 (items_of items.now)) }
 {
     let mut values = List::new(alloc);
     for (i, item) in items.iter().enumerate() {
@@ -128,14 +136,14 @@ fn read_valid_values(alloc: Global, items: &[Value]) -> Result<List<ValidValueEl
     Ok(values)
 }
 
-fn valid_value_at(alloc: Global, i: usize, item: &Value) -> Result<ValidValueEl, ElementErr>
-    ensures { Gives result (at_child i (valid_value (view item.now))) }
+fn valid_value_at(alloc: Global, i: usize, item: &Json<'_>) -> Result<ValidValueEl, ElementErr>
+    ensures { Gives result (at_child i (valid_value (data_of item.now))) }
 {
     at_child(i, read_enum_child(alloc, item))
 }
 
-fn read_enum_child(alloc: Global, item: &Value) -> Result<ValidValueEl, ElementErr>
-    ensures { Gives result (valid_value (view item.now)) }
+fn read_enum_child(alloc: Global, item: &Json<'_>) -> Result<ValidValueEl, ElementErr>
+    ensures { Gives result (valid_value (data_of item.now)) }
 {
     match lone_of(item) {
         None => refuse(alloc, Cause::Shape),
@@ -146,8 +154,8 @@ fn read_enum_child(alloc: Global, item: &Value) -> Result<ValidValueEl, ElementE
     }
 }
 
-fn read_valid_value(alloc: Global, element: &Value) -> Result<ValidValueEl, ElementErr>
-    ensures { Gives result (valid_value_from (view element.now)) }
+fn read_valid_value(alloc: Global, element: &Json<'_>) -> Result<ValidValueEl, ElementErr>
+    ensures { Gives result (valid_value_from (data_of element.now)) }
 {
     let children = content_of(alloc, element)?;
     let name = needed::<Name>(alloc, element, "name")?;
@@ -156,8 +164,8 @@ fn read_valid_value(alloc: Global, element: &Value) -> Result<ValidValueEl, Elem
     Ok(ValidValueEl { name, text })
 }
 
-pub fn read_set(alloc: Global, standing: Standing, element: &Value) -> Result<SetEl, ElementErr>
-    ensures { Gives result (set_from standing (view element.now)) }
+pub fn read_set(alloc: Global, standing: Standing, element: &Json<'_>) -> Result<SetEl, ElementErr>
+    ensures { Gives result (set_from standing (data_of element.now)) }
 {
     let children = content_of(alloc, element)?;
     let name = needed::<Name>(alloc, element, "name")?;
@@ -174,8 +182,8 @@ pub fn read_set(alloc: Global, standing: Standing, element: &Value) -> Result<Se
     })
 }
 
-fn read_choices(alloc: Global, items: &[Value]) -> Result<List<ChoiceEl>, ElementErr>
-    ensures { Gives result (each choice 0 (items_view items.now)) }
+fn read_choices(alloc: Global, items: &[Json<'_>]) -> Result<List<ChoiceEl>, ElementErr>
+    ensures { Gives result (each choice 0 (items_of items.now)) }
 {
     let mut choices = List::new(alloc);
     for (i, item) in items.iter().enumerate() {
@@ -184,14 +192,14 @@ fn read_choices(alloc: Global, items: &[Value]) -> Result<List<ChoiceEl>, Elemen
     Ok(choices)
 }
 
-fn choice_at(alloc: Global, i: usize, item: &Value) -> Result<ChoiceEl, ElementErr>
-    ensures { Gives result (at_child i (choice (view item.now))) }
+fn choice_at(alloc: Global, i: usize, item: &Json<'_>) -> Result<ChoiceEl, ElementErr>
+    ensures { Gives result (at_child i (choice (data_of item.now))) }
 {
     at_child(i, read_set_child(alloc, item))
 }
 
-fn read_set_child(alloc: Global, item: &Value) -> Result<ChoiceEl, ElementErr>
-    ensures { Gives result (choice (view item.now)) }
+fn read_set_child(alloc: Global, item: &Json<'_>) -> Result<ChoiceEl, ElementErr>
+    ensures { Gives result (choice (data_of item.now)) }
 {
     match lone_of(item) {
         None => refuse(alloc, Cause::Shape),
@@ -202,8 +210,8 @@ fn read_set_child(alloc: Global, item: &Value) -> Result<ChoiceEl, ElementErr>
     }
 }
 
-fn read_choice(alloc: Global, element: &Value) -> Result<ChoiceEl, ElementErr>
-    ensures { Gives result (choice_from (view element.now)) }
+fn read_choice(alloc: Global, element: &Json<'_>) -> Result<ChoiceEl, ElementErr>
+    ensures { Gives result (choice_from (data_of element.now)) }
 {
     let children = content_of(alloc, element)?;
     let name = needed::<Name>(alloc, element, "name")?;
@@ -217,10 +225,10 @@ fn read_choice(alloc: Global, element: &Value) -> Result<ChoiceEl, ElementErr>
 pub fn read_composite(
     alloc: Global,
     standing: Standing,
-    element: &Value,
+    element: &Json<'_>,
 ) -> Result<CompositeEl, ElementErr>
     ensures { Gives result
-        (composite_from standing (view element.now) (branches by_member (view element.now))) }
+        (composite_from standing (data_of element.now) (branches by_member (data_of element.now))) }
 {
     let children = content_of(alloc, element)?;
     let name = needed::<Name>(alloc, element, "name")?;
@@ -237,8 +245,8 @@ pub fn read_composite(
 }
 
 #[cycle(members)]
-fn read_members(alloc: Global, items: &[Value]) -> Result<List<MemberItem>, ElementErr>
-    ensures { Gives result (each member_of 0 (items_view items.now)) }
+fn read_members(alloc: Global, items: &[Json<'_>]) -> Result<List<MemberItem>, ElementErr>
+    ensures { Gives result (each member_of 0 (items_of items.now)) }
 {
     let mut members = List::new(alloc);
     for (i, item) in items.iter().enumerate() {
@@ -248,16 +256,16 @@ fn read_members(alloc: Global, items: &[Value]) -> Result<List<MemberItem>, Elem
 }
 
 #[cycle(members)]
-fn member_at(alloc: Global, i: usize, item: &Value) -> Result<MemberItem, ElementErr>
-    ensures { Gives result (at_child i (member_of (view item.now))) }
+fn member_at(alloc: Global, i: usize, item: &Json<'_>) -> Result<MemberItem, ElementErr>
+    ensures { Gives result (at_child i (member_of (data_of item.now))) }
 {
     at_child(i, read_member(alloc, item))
 }
 
 #[cycle(members)]
 #[tactic(auto, using(crate::proofs::Children::tree_seen, crate::proofs::Children::tree_unseen))]
-fn read_member(alloc: Global, item: &Value) -> Result<MemberItem, ElementErr>
-    ensures { Gives result (member_of (view item.now)) }
+fn read_member(alloc: Global, item: &Json<'_>) -> Result<MemberItem, ElementErr>
+    ensures { Gives result (member_of (data_of item.now)) }
 {
     match lone_of(item) {
         None => refuse(alloc, Cause::Shape),
@@ -269,10 +277,10 @@ fn read_member(alloc: Global, item: &Value) -> Result<MemberItem, ElementErr>
 fn read_named_member(
     alloc: Global,
     name: ElementName,
-    element: &Value,
+    element: &Json<'_>,
 ) -> Result<MemberItem, ElementErr>
     ensures { Gives result
-        (composite_child name (view element.now) (branches by_member (view element.now))) }
+        (composite_child name (data_of element.now) (branches by_member (data_of element.now))) }
 {
     let member = Standing::Member;
     match name {

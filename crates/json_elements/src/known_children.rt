@@ -1,13 +1,14 @@
 ghost use Rattle.std.specs.Prelude.{◌≡◌, ℕ, List, [], Option};
 ghost use Rattle.serde_json.specs.Data.{Data};
-ghost use Rattle.serde_json.specs.View.{view, items_view};
+ghost use Rattle.json_data.specs.Trees.{data_of, items_of};
 ghost use Rattle.json_elements.specs.Reading.{Reading, Gives, at_child};
 ghost use Rattle.json_elements.specs.Elements.{named};
-ghost use Rattle.element_children.specs.Children.{known_children, no_child};
+ghost use Rattle.json_elements.specs.KnownChildren.{known_children, no_child};
 
-use json_elements::{Cause, ElementErr, at_child, lone_of, refuse};
+use crate::element::lone_of;
+use crate::refusal::{Cause, ElementErr, at_child, refuse};
+use json_data::Json;
 use lists::List;
-use serde_json::Value;
 use std::alloc::Global;
 
 /// The children that an element may have.
@@ -23,9 +24,9 @@ pub trait Child {
         alloc: Global,
         before: &[Self::Out],
         name: &str,
-        element: &Value,
+        element: &Json<'_>,
     ) -> Result<Option<Self::Out>, ElementErr>
-        ensures { Gives result (child before.now name.now (view element.now)) };
+        ensures { Gives result (child before.now name.now (data_of element.now)) };
 }
 
 /// No children: every name is passed over.
@@ -40,15 +41,18 @@ impl Child for NoChild {
         alloc: Global,
         before: &[()],
         name: &str,
-        element: &Value,
+        element: &Json<'_>,
     ) -> Result<Option<()>, ElementErr> {
         Ok(None)
     }
 }
 
 /// The children of known names, in their order.
-pub fn read_children<C: Child>(alloc: Global, items: &[Value]) -> Result<List<C::Out>, ElementErr>
-    ensures { Gives result (known_children C.child [] 0 (items_view items.now)) }
+pub fn read_children<C: Child>(
+    alloc: Global,
+    items: &[Json<'_>],
+) -> Result<List<C::Out>, ElementErr>
+    ensures { Gives result (known_children C.child [] 0 (items_of items.now)) }
 {
     let mut children: List<C::Out> = List::new(alloc);
     for (i, item) in items.iter().enumerate() {
@@ -64,9 +68,9 @@ fn child_at<C: Child>(
     alloc: Global,
     before: &[C::Out],
     i: usize,
-    item: &Value,
+    item: &Json<'_>,
 ) -> Result<Option<C::Out>, ElementErr>
-    ensures { Gives result (at_child i (named (C.child before.now) (view item.now))) }
+    ensures { Gives result (at_child i (named (C.child before.now) (data_of item.now))) }
 {
     at_child(i, child_of::<C>(alloc, before, item))
 }
@@ -74,9 +78,9 @@ fn child_at<C: Child>(
 fn child_of<C: Child>(
     alloc: Global,
     before: &[C::Out],
-    item: &Value,
+    item: &Json<'_>,
 ) -> Result<Option<C::Out>, ElementErr>
-    ensures { Gives result (named (C.child before.now) (view item.now)) }
+    ensures { Gives result (named (C.child before.now) (data_of item.now)) }
 {
     match lone_of(item) {
         None => refuse(alloc, Cause::Shape),
