@@ -31,7 +31,7 @@ use Rattle.sbe_wire.proofs.Messages.{named_is}
 use Rattle.layout_tables.specs.Heads.{header_width}
 use Rattle.layout_tables.specs.Paths.{Inside, in_level, in_group, in_kind, in_nothing, NamedPart, field_part, group_part, data_part, member_part, level_parts, parts_inside, to_part, path_from, IsPathOf}
 use Rattle.layout_tables.proofs.Items.{long_map, get_behind}
-use Rattle.flyweight_view.specs.Heads.{head_number, found_told, named_told}
+use Rattle.body_walk.specs.Heads.{head_number, found_told, named_told}
 use Rattle.dump_lines.specs.Refused.{message_meant, IsWay}
 use Rattle.dump_lines.specs.Dumped.{FaultsHaveWays}
 

@@ -8,7 +8,7 @@ use Rattle.sbe_wire.specs.declared.codes.FCode.{FCode}
 use Rattle.sbe_wire.specs.declared.codes.FCode.TheVariants.{ShortHeader, SchemaId, Template, BlockShort, Truncated, Range, EnumUnknown, SetUnknown, TextByte, Count, Length, Trailing}
 use Rattle.sbe_wire.specs.Faults.{Fault}
 use Rattle.layout_tables.specs.Paths.{IsPathOf, path_text}
-use Rattle.flyweight_view.specs.Heads.{template_told}
+use Rattle.body_walk.specs.Heads.{template_told}
 use Rattle.refused_items.specs.Refused.{Refused}
 
 -- the code of a fault

@@ -1,4 +1,4 @@
-ghost use Rattle.std.specs.Prelude.{◌≡◌, ◌++◌, codes};
+ghost use Rattle.std.specs.Prelude.{◌≡◌, ◌++◌, slice_get, Some, codes};
 ghost use Rattle.printers.specs.Prints.{Prints};
 ghost use Rattle.dump_lines.specs.Dumped.{before_message, behind_message, seen_line};
 
@@ -7,19 +7,20 @@ use flyweight_view::MsgView;
 use json_values::put_count;
 use printers::Printer;
 use sbe_base::Sink;
-use tree_json::put_open_line;
+use tree_json::LineLayout;
 
-/// Prints the line of a message of a schema with that id.
+/// Prints the line of a message of a schema.
 pub fn put_message<O: Sink>(
     printer: &mut Printer<'_, O>,
     schemas: &Schemas,
-    id: u32,
+    lines: &LineLayout,
     view: &MsgView<'_>,
 )
-    ensures { Prints O.state printer.old printer.new (before_message schemas.now.also id ++ (seen_line view.now ++ behind_message schemas.now.also)) }
+    requires { slice_get lines.now.messages view.now.message.template ≡ Some view.now.level }
+    ensures { Prints O.state printer.old printer.new (before_message schemas.now.also lines.now.id ++ (seen_line view.now ++ behind_message schemas.now.also)) }
 {
-    put_before(printer, schemas, id);
-    put_open_line(printer, view);
+    put_before(printer, schemas, lines.id());
+    lines.put_open_line(printer, view);
     put_behind(printer, schemas);
 }
 

@@ -1,11 +1,12 @@
 ghost use Rattle.printers.specs.Prints.{Prints};
-ghost use Rattle.flyweight_view.specs.Viewed.{refused};
+ghost use Rattle.body_walk.specs.Refusals.{refused};
 ghost use Rattle.refused_items.specs.Refused.{refused_line};
 ghost use Rattle.dump_lines.specs.Refused.{IsWay, of_fault_in, way_text};
 
 use crate::codes::fault_code;
 use flyweight_view::{LastRefusal, Refusal};
 use layout_tables::Layout;
+use path_text::put_path;
 use printers::Printer;
 use refused_items::{put_refused_front, put_refused_number};
 use sbe_base::Sink;
@@ -47,7 +48,7 @@ fn put_way<O: Sink>(printer: &mut Printer<'_, O>, layout: &Layout, refusal: &Ref
     ensures { Prints O.state printer.old printer.new (way_text layout.now refusal.now.template refusal.now.path) }
 {
     match refusal.template {
-        Some(template) => layout.put_path(printer, template, &refusal.path),
+        Some(template) => put_path(printer, layout, template, &refusal.path),
         None => {}
     }
 }

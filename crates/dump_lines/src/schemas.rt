@@ -3,20 +3,20 @@ ghost use Rattle.std.specs.List.{list_any};
 ghost use Rattle.dump_lines.specs.Chosen.{has_id, schema_for, schema_with};
 ghost use Rattle.dump_lines.specs.Dumped.{AreInOrder};
 
-use layout_tables::Layout;
 use lists::{List, NoMem};
 use std::alloc::Global;
+use tree_json::LineLayout;
 
 /// The schemas of a run, in the order of its words.
 #[derive(Drop)]
 pub struct Schemas {
-    pub first: Layout,
-    pub also: List<Layout>,
+    pub first: LineLayout,
+    pub also: List<LineLayout>,
 }
 
 impl Schemas {
     /// One schema alone.
-    pub fn new(alloc: Global, first: Layout) -> Schemas
+    pub fn new(alloc: Global, first: LineLayout) -> Schemas
         ensures schemas { result ≡ record { first = first; also = [] } }
         ensures order { AreInOrder result }
     {
@@ -28,7 +28,7 @@ impl Schemas {
     }
 
     /// Adds one more; for want of memory all stays as it was.
-    pub fn push(&mut self, layout: Layout) -> Result<(), NoMem>
+    pub fn push(&mut self, layout: LineLayout) -> Result<(), NoMem>
         requires { AreInOrder self.old }
         ensures schemas { OnOk result (self.new ≡ record { first = self.old.first; also = self.old.also ++ layout ∷ [] }) }
         ensures order { OnOk result (AreInOrder self.new) }
@@ -52,7 +52,7 @@ impl Schemas {
     }
 
     /// The schema that a body is read by: the one whose id its header says, and the first where none has it.
-    pub fn schema_for(&self, body: &[u8]) -> &Layout
+    pub fn schema_for(&self, body: &[u8]) -> &LineLayout
         ensures { result.now ≡ schema_for self.now body.now }
     {
         if self.also.is_empty() {
@@ -65,7 +65,7 @@ impl Schemas {
     }
 
     /// The first schema of that id, and the first of all where none has it.
-    fn with_id(&self, id: u32) -> &Layout
+    fn with_id(&self, id: u32) -> &LineLayout
         ensures { result.now ≡ schema_with self.now id }
     {
         if self.first.id() == id {
@@ -80,7 +80,7 @@ impl Schemas {
 
 /// The first of these schemas that has the id.
 #[tactic(auto, using(crate::proofs::Finding::id_same, crate::proofs::Finding::id_differs, crate::proofs::Finding::found_at, crate::proofs::Finding::passed_at, crate::proofs::Finding::none_at))]
-fn find_id(layouts: &[Layout], id: u32) -> Option<&Layout>
+fn find_id(layouts: &[LineLayout], id: u32) -> Option<&LineLayout>
     ensures some { IfSome result (λ layout. find (has_id id) layouts.now ≡ Some layout.now) }
     ensures none { IfNone result (find (has_id id) layouts.now ≡ None) }
 {

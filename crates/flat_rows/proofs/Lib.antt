@@ -1,13 +1,11 @@
-pub mod Coded
-pub mod Computing
 pub mod Growing
-pub mod Hex
 pub mod Inside
 pub mod Listed
 pub mod Looks
 pub mod LaneRuns
 pub mod MembersFit
-pub mod PiecesFit
-pub mod PiecesShow
 pub mod RowsJudged
+pub mod ValidBytes
+pub mod ValuesFit
+pub mod ValuesShow
 pub mod Widths

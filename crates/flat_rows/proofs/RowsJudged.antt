@@ -1,23 +1,19 @@
 -- Rows whose bytes show values.
-use Rattle.std.proofs.Common.{◌≡◌, ◌<◌, ◌+◌, ◌-◌, ℕ, zero, suc, Bool, List, [], ◌∷◌, length, take, drop, get_or, sym, ap, subst, arith}
+use Rattle.std.proofs.Common.{◌≡◌, ◌<◌, ◌+◌, ◌-◌, ℕ, zero, suc, Bool, List, [], ◌∷◌, length, take, drop, get_or, map, sym, ap, subst, arith}
 use Rattle.std.specs.List.{AllByRecursion}
 use Rattle.sbe_types.specs.declared.kind.Order.TheVariants.{Little}
 use Rattle.sbe_types.specs.Places.{width}
 use Rattle.flat_rows.specs.declared.rows.FlatRow.{FlatRow}
-use Rattle.flat_rows.specs.Judged.{bytes_there, ShowsSome, SlotsShow}
-use Rattle.flat_rows.specs.Tables.{slots_from, IsRow, AreRows}
+use Rattle.flat_rows.specs.Judged.{bytes_there, ScalarsShow, ShowsSome}
+use Rattle.flat_rows.specs.Tables.{scalar_of}
 
 -- each row's bytes show a value
 abbrev pub RowsShow : Bool → List ℕ → List FlatRow → Type 0
 RowsShow known block rows = AllByRecursion (λ (r : FlatRow). ShowsSome Little known r.kind (bytes_there r.kind r.place block)) rows
 
-pub rows_slots : (known : Bool) (block bytes : List ℕ) (start : ℕ) (rows : List FlatRow) → RowsShow known block rows → SlotsShow Little known (slots_from start bytes rows) block
-rows_slots known block bytes start [] h = tt
-rows_slots known block bytes start (r ∷ rs) h = (h.0, rows_slots known block bytes r.end rs h.1)
-
-pub each_row : (start n : ℕ) (rows : List FlatRow) → AreRows start n rows → AllByRecursion IsRow rows
-each_row start n [] h = tt
-each_row start n (r ∷ rs) h = (h.1, each_row r.end n rs h.2)
+pub rows_values : (known : Bool) (block : List ℕ) (rows : List FlatRow) → RowsShow known block rows → ScalarsShow Little known (map scalar_of rows) block
+rows_values known block [] h = tt
+rows_values known block (r ∷ rs) h = (h.0, rows_values known block rs h.1)
 
 -- the rows from a place on, with the row there
 pub there : {X : Type 0} (xs : List X) (i : ℕ) (x : X) → i < length xs → x ≡ get_or xs i x → drop i xs ≡ x ∷ drop (i + 1) xs
@@ -31,7 +27,7 @@ pub first_of : {X : Type 0} (P : X → Type 0) (xs : List X) (i : ℕ) (x : X) �
 first_of P xs i x h is all = subst (AllByRecursion P) (there xs i x h is) all
 
 -- the bytes of a row, by where they end
-pub row_bytes : (row : FlatRow) (block bytes : List ℕ) → row.behind ≡ row.place + width row.kind → bytes ≡ take (row.behind - row.place) (drop row.place block) → bytes ≡ bytes_there row.kind row.place block
+pub row_bytes : (row : FlatRow) (block bytes : List ℕ) → row.end ≡ row.place + width row.kind → bytes ≡ take (row.end - row.place) (drop row.place block) → bytes ≡ bytes_there row.kind row.place block
 row_bytes row block bytes ends is =
-    let wide : row.behind - row.place ≡ width row.kind = omega (arith, ends) in
+    let wide : row.end - row.place ≡ width row.kind = omega (arith, ends) in
     subst (λ w. bytes ≡ take w (drop row.place block)) wide is

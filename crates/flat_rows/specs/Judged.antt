@@ -1,5 +1,5 @@
--- The bytes of each piece show a value. The values are those of the definitions.
-use Rattle.std.specs.Prelude.{◌≡◌, ℕ, Bool, true, List, [], ◌∷◌, take, drop, ⊤}
+-- The bytes of each value of a block show one. The values are those of the definitions.
+use Rattle.std.specs.Prelude.{◌≡◌, ℕ, Bool, true, List, take, drop}
 use Rattle.std.specs.List.{AllByRecursion}
 use Rattle.sbe_types.specs.declared.kind.Kind.{Kind}
 use Rattle.sbe_types.specs.declared.kind.Order.{Order}
@@ -8,7 +8,7 @@ use Rattle.sbe_types.specs.declared.schema.Field.{Field}
 use Rattle.sbe_types.specs.Places.{width}
 use Rattle.sbe_types.specs.Shows.{Shows}
 use Rattle.sbe_wire.specs.Versions.{is_alive}
-use Rattle.flat_rows.specs.Pieces.{Piece, literal, shown, Slot}
+use Rattle.flat_rows.specs.Scalars.{Scalar}
 
 -- all fields stand at that version
 abbrev pub AllAlive : ℕ → List Field → Type 0
@@ -22,13 +22,6 @@ bytes_there kind place block = take (width kind) (drop place block)
 abbrev pub ShowsSome : Order → Bool → Kind → List ℕ → Type 0
 ShowsSome order known kind bytes = (v : Value) × Shows order known kind v bytes
 
--- each value of the pieces is shown by its bytes in the block
-abbrev pub AllShow : Order → Bool → List Piece → List ℕ → Type 0
-AllShow order known [] block = ⊤
-AllShow order known (literal bytes ∷ ps) block = AllShow order known ps block
-AllShow order known (shown kind place ∷ ps) block = ShowsSome order known kind (bytes_there kind place block) × AllShow order known ps block
-
--- the same of values with what stands before them
-abbrev pub SlotsShow : Order → Bool → List Slot → List ℕ → Type 0
-SlotsShow order known [] block = ⊤
-SlotsShow order known (s ∷ ss) block = ShowsSome order known s.kind (bytes_there s.kind s.place block) × SlotsShow order known ss block
+-- each value is shown by its bytes in the block
+abbrev pub ScalarsShow : Order → Bool → List Scalar → List ℕ → Type 0
+ScalarsShow order known scalars block = AllByRecursion (λ (s : Scalar). ShowsSome order known s.kind (bytes_there s.kind s.place block)) scalars

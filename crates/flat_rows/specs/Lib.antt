@@ -1,8 +1,7 @@
-pub mod Texts
-pub mod Pieces
+pub mod Bytes
+pub mod Scalars
 pub mod Judged
 pub mod Quick
-pub mod Codes
 pub mod Runs
 pub mod Tables
 pub mod Worked

@@ -1,5 +1,5 @@
 -- Fields on which the definitions are computed. Own profile.
-use Rattle.std.specs.Prelude.{ℕ, Option, Some, None, List, [], ◌∷◌, map, ℤ, pos, negsuc, codes}
+use Rattle.std.specs.Prelude.{ℕ, Bool, true, false, Option, Some, None, List, [], ◌∷◌, map, ℤ, pos, negsuc, codes}
 use Rattle.sbe_types.specs.declared.kind.ConstValue.{ConstValue}
 use Rattle.sbe_types.specs.declared.kind.ConstValue.TheVariants as constant
 use Rattle.sbe_types.specs.declared.kind.Kind.{Kind, Leaf, Enum, Set, Const, Comp', end_of-Member, more_of-Member}
@@ -11,8 +11,8 @@ use Rattle.sbe_types.specs.declared.kind.Presence.TheVariants.{Required, Optiona
 use Rattle.sbe_types.specs.declared.kind.Primitive.{Primitive}
 use Rattle.sbe_types.specs.declared.kind.Primitive.TheVariants.{Char, I32, U8, U16}
 use Rattle.sbe_types.specs.declared.schema.Field.{Field}
-use Rattle.flat_rows.specs.Codes.{byte_name}
-use Rattle.flat_rows.specs.Pieces.{Slot, Joined}
+use Rattle.flat_rows.specs.Bytes.{is_valid_byte}
+use Rattle.flat_rows.specs.Scalars.{Scalar, scalar_at}
 
 -- a required leaf of so many primitives
 abbrev pub leaf : Primitive → ℕ → LeafShape → LeafOf
@@ -62,38 +62,25 @@ mixed =
     ∷ field (codes "t") None text ∷ field (codes "o") (Some 10) pair ∷ field (codes "px") None price
     ∷ fixed (codes "c") (constant.Text (codes "U\"D")) ∷ fixed (codes "d") (constant.Code Char (named (codes "Sell") (pos 50))) ∷ fixed (codes "h") (constant.Text (97 ∷ 255 ∷ [])) ∷ []
 
--- a value with what stands before it
-abbrev pub slot : List ℕ → Kind → ℕ → Slot
-slot before kind place = record { before = before; kind = kind; place = place }
+-- their values in wire order
+abbrev pub mixed_scalars : List Scalar
+mixed_scalars =
+    scalar_at (number U16) 0 ∷ scalar_at side 2 ∷ scalar_at flags 3 ∷ scalar_at text 4 ∷ scalar_at pair 10 ∷ scalar_at (number I32) 14 ∷ scalar_at (number U8) 20 ∷ []
 
--- their values between a bracket and a comma, each with what stands before it
-abbrev pub mixed_joined : Joined
-mixed_joined =
-    record {
-      slots =
-          slot (codes "{\"n\":") (number U16) 0 ∷ slot (codes ",\"k\":-4,\"e\":") side 2 ∷ slot (codes ",\"s\":") flags 3 ∷ slot (codes ",\"t\":") text 4
-          ∷ slot (codes ",\"o\":") pair 10 ∷ slot (codes ",\"px\":{\"mantissa\":") (number I32) 14 ∷ slot (codes ",\"exponent\":-2,\"in\":{\"x\":") (number U8) 20 ∷ [];
-      last = codes "}},\"c\":\"U\\\"D\",\"d\":\"Sell\",\"h\":{\"hex\":\"61ff\"}},";
-    }
-
--- what a block without fields has
-abbrev pub nothing : Joined
-nothing = record { slots = []; last = codes "}" }
-
--- an enum over this primitive whose names stand at 0, 65 twice, 200 and 255, and which may be null at 200
+-- an enum over this primitive whose names are 0, 65 twice, 200 and 255, and which may be null at 200
 abbrev pub doubled : Primitive → Kind
 doubled prim =
     Enum (record { prim = prim; length = 1; shape = Number; presence = Optional; null = pos 200; low = pos 0; high = pos 255 })
     (named (codes "Nought") (pos 0) ∷ named (codes "First") (pos 65) ∷ named (codes "Second") (pos 65) ∷ named (codes "Null") (pos 200) ∷ named (codes "Last") (pos 255) ∷ [])
 
--- the names that it has for these bytes and for one more
-abbrev pub names_at : Kind → List (Option (List ℕ))
-names_at kind = map (byte_name kind) (0 ∷ 1 ∷ 65 ∷ 200 ∷ 255 ∷ [])
+-- whether these bytes and two more are valid values of it
+abbrev pub valid_at : Kind → List Bool
+valid_at kind = map (is_valid_byte kind) (0 ∷ 1 ∷ 65 ∷ 200 ∷ 255 ∷ [])
 
--- of two names with one number the first, and none for the null
-abbrev pub doubled_names : List (Option (List ℕ))
-doubled_names = Some (codes "Nought") ∷ None ∷ Some (codes "First") ∷ None ∷ Some (codes "Last") ∷ []
+-- its own and its null, and no other
+abbrev pub doubled_valid : List Bool
+doubled_valid = true ∷ false ∷ true ∷ true ∷ true ∷ []
 
 -- none at all
-abbrev pub no_names : List (Option (List ℕ))
-no_names = None ∷ None ∷ None ∷ None ∷ None ∷ []
+abbrev pub none_valid : List Bool
+none_valid = false ∷ false ∷ false ∷ false ∷ false ∷ []

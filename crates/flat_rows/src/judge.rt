@@ -7,13 +7,12 @@ ghost use Rattle.sbe_types.specs.Places.{width};
 ghost use Rattle.sbe_types.specs.LeafBad.{leaf_bad};
 ghost use Rattle.sbe_types.specs.Shown.{is_listed, is_null};
 ghost use Rattle.schema_facts.specs.InOrder.{IsKindInOrder, IsLeafInOrder};
-ghost use Rattle.flat_rows.specs.Codes.{HasText};
-ghost use Rattle.flat_rows.specs.Judged.{bytes_there, ShowsSome, SlotsShow};
+ghost use Rattle.flat_rows.specs.Judged.{bytes_there, ScalarsShow, ShowsSome};
 ghost use Rattle.flat_rows.specs.Quick.{is_between, is_none, is_text_within, is_word, IsByte};
 ghost use Rattle.flat_rows.specs.Tables.{stands_for, IsRow, IsTable, RowsFit};
 
-use crate::codes::place_of;
-use crate::rows::{Codes, FlatRow, FlatRows, Look, Quick};
+use crate::bytes::is_valid;
+use crate::rows::{FlatRow, FlatRows, Look, Quick};
 use crate::runs::{LANES, is_lane_text, run_between};
 use byteorder::{ByteOrder, LittleEndian};
 use sbe_types::{Kind, Leaf, LeafCause, LeafFault, NamedList, Order, Prim, get_num, leaf_judge};
@@ -23,7 +22,7 @@ pub fn fits(table: &FlatRows, block: &[u8]) -> bool
     ensures { IsTrue result ↔ RowsFit (length block.now) table.now.rows.items }
 {
     for row in table.rows.as_slice() {
-        if row.behind as usize > block.len() {
+        if row.end as usize > block.len() {
             return false;
         }
     }
@@ -35,7 +34,7 @@ pub fn fits(table: &FlatRows, block: &[u8]) -> bool
 pub fn shows_all(table: &FlatRows, known: bool, block: &[u8]) -> bool
     requires table { IsTable table.now }
     requires fits { RowsFit (length block.now) table.now.rows.items }
-    ensures { result ≡ true → SlotsShow Little known (stands_for table.now).slots block.now }
+    ensures { result ≡ true → ScalarsShow Little known (stands_for table.now) block.now }
 {
     for row in table.rows.as_slice() {
         if !shows_row(row, known, block) {
@@ -49,10 +48,10 @@ pub fn shows_all(table: &FlatRows, known: bool, block: &[u8]) -> bool
 #[inline(always)]
 fn shows_row(row: &FlatRow, known: bool, block: &[u8]) -> bool
     requires row { IsRow row.now }
-    requires fits { row.now.behind ≤ length block.now }
+    requires fits { row.now.end ≤ length block.now }
     ensures { result ≡ true → ShowsSome Little known row.now.kind (bytes_there row.now.kind row.now.place block.now) }
 {
-    shows_value(row, known, &block[row.place as usize..row.behind as usize])
+    shows_value(row, known, &block[row.place as usize..row.end as usize])
 }
 
 /// Whether one look shows that bytes are a value of a row.
@@ -168,21 +167,10 @@ fn shows_listed(known: bool, row: &FlatRow, bytes: &[u8]) -> bool
     requires wide { length bytes.now ≡ width row.now.kind }
     ensures { result ≡ true → ShowsSome Little known row.now.kind bytes.now }
 {
-    if has_text(&row.codes, bytes) {
+    if is_valid(&row.valid, bytes) {
         return true;
     }
     shows_kind_listed(known, &row.kind, bytes)
-}
-
-/// Whether a text is kept of a value of one byte.
-#[inline(always)]
-fn has_text(codes: &Codes, bytes: &[u8]) -> bool
-    ensures { result ≡ true → HasText codes.now bytes.now }
-{
-    if bytes.len() != 1 {
-        return false;
-    }
-    place_of(codes, bytes[0]) > 0
 }
 
 /// Whether bytes are a value of a kind that is an enum.

@@ -1,4 +1,4 @@
-//! Laws of pieces.
+//! Laws of the values of a block.
 
 ghost use Rattle.std.specs.Prelude.{◌≡◌, ◌≤◌, ℕ, List, length};
 ghost use Rattle.sbe_types.specs.declared.message.Value.{Value};
@@ -8,19 +8,19 @@ ghost use Rattle.sbe_wire.specs.Lays.{BlockLays};
 ghost use Rattle.sbe_wire.specs.Placed.{ArePlaced};
 ghost use Rattle.sbe_wire.specs.Versions.{floor};
 ghost use Rattle.flat_rows.specs.declared.rows.FlatRows.{FlatRows};
-ghost use Rattle.flat_rows.specs.Pieces.{joined, pieces_between};
-ghost use Rattle.flat_rows.specs.Judged.{AllAlive, SlotsShow};
+ghost use Rattle.flat_rows.specs.Scalars.{scalars_of};
+ghost use Rattle.flat_rows.specs.Judged.{AllAlive, ScalarsShow};
 ghost use Rattle.flat_rows.specs.Tables.{stands_for, IsTable, RowsFit};
 
 /// Where the bytes of each value show one, and all fields stand, the bytes are a block of the fields.
-pub fn pieces_that_show_are_a_block()
-    ensures { (mode : Mode) (before behind : List ℕ) (fields : List Field) (block : List ℕ) → ArePlaced 0 fields → AllAlive mode.version fields
-        → floor mode.version fields ≤ length block → SlotsShow mode.order mode.known (joined (pieces_between before behind fields)).slots block
+pub fn values_that_show_are_a_block()
+    ensures { (mode : Mode) (fields : List Field) (block : List ℕ) → ArePlaced 0 fields → AllAlive mode.version fields
+        → floor mode.version fields ≤ length block → ScalarsShow mode.order mode.known (scalars_of fields) block
         → (vs : List Value) × BlockLays mode fields vs block }
 {}
 
 /// Where all fields stand, the values of their table lie in each block that reaches the floor.
 pub fn values_lie_in_the_block()
-    ensures { (table : FlatRows) (version n : ℕ) (before behind : List ℕ) (fields : List Field) → ArePlaced 0 fields → AllAlive version fields → floor version fields ≤ n
-        → IsTable table → stands_for table ≡ joined (pieces_between before behind fields) → RowsFit n table.rows.items }
+    ensures { (table : FlatRows) (version n : ℕ) (fields : List Field) → ArePlaced 0 fields → AllAlive version fields → floor version fields ≤ n
+        → IsTable table → stands_for table ≡ scalars_of fields → RowsFit n table.rows.items }
 {}

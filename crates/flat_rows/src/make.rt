@@ -1,63 +1,43 @@
-// The table of a block's fields, made piece by piece.
+// The table of a block's fields, made value by value.
 ghost use Rattle.std.specs.Prelude.{◌≡◌, ◌≤◌, ◌+◌, ◌∷◌, [], false, IfOk, OnOk};
 ghost use Rattle.std.specs.List.{AllByRecursion};
 ghost use Rattle.sbe_types.specs.declared.kind.Kind.{Comp};
 ghost use Rattle.sbe_types.specs.declared.schema.Field.{Field};
 ghost use Rattle.sbe_types.specs.Places.{width, is_const};
-ghost use Rattle.schema_facts.specs.InOrder.{IsConstantInOrder, IsKindInOrder};
+ghost use Rattle.schema_facts.specs.InOrder.{IsKindInOrder};
 ghost use Rattle.schema_facts.specs.Measured.{largest, AreNarrowFields};
-ghost use Rattle.flat_rows.specs.Texts.{key_of, constant_text};
-ghost use Rattle.flat_rows.specs.Pieces.{literal, shown, joined, kind_pieces, pieces_between};
-ghost use Rattle.flat_rows.specs.Tables.{stands_for, Grows, IsRow, IsTable};
+ghost use Rattle.flat_rows.specs.Scalars.{kind_scalars, scalar_at, scalars_of};
+ghost use Rattle.flat_rows.specs.Tables.{scalar_of, stands_for, Grows, IsRow, IsTable};
 
-use crate::codes::codes_of;
+use crate::bytes::valid_bytes;
 use crate::places::{begin_of, end_behind, width_of};
 use crate::quick::quick_of;
 use crate::rows::{FlatRow, FlatRows};
-use crate::texts::{put_constant, put_key};
 use lists::NoMem;
-use sbe_types::{ConstValue, Field, Kind, List, Member};
+use sbe_types::{Field, Kind, List, Member};
 use std::alloc::Global;
 
-/// The table of the fields of a block between two texts. The fields are in order and end within 1,048,576 bytes. What is
-/// wanting is memory alone.
-pub fn flat_rows_of(
-    alloc: Global,
-    before: &[u8],
-    fields: &[Field],
-    behind: &[u8],
-) -> Result<FlatRows, NoMem>
+/// The table of the fields of a block. The fields are in order and end within 1,048,576 bytes. The only error is out of memory.
+pub fn flat_rows_of(alloc: Global, fields: &[Field]) -> Result<FlatRows, NoMem>
     requires order { AllByRecursion (λ (f : Field). IsKindInOrder f.kind) fields.now }
     requires narrow { AreNarrowFields 0 fields.now }
     ensures table { IfOk result (λ table. IsTable table) }
-    ensures pieces { IfOk result (λ table. stands_for table ≡ joined (pieces_between before.now behind.now fields.now)) }
+    ensures values { IfOk result (λ table. stands_for table ≡ scalars_of fields.now) }
 {
     let mut table = FlatRows {
-        bytes: Vec::new(alloc),
         rows: Vec::new(alloc),
     };
-    add_bytes(&mut table, before)?;
     let mut end = 0;
-    let mut later = false;
     for field in fields {
-        add_key(&mut table, later, field.name.as_slice())?;
         let past = end_behind(end, field.offset, &field.kind);
-        add_kind(
-            alloc,
-            &mut table,
-            &field.kind,
-            0,
-            begin_of(end, field.offset),
-        )?;
+        let begin = begin_of(end, field.offset);
+        add_kind(alloc, &mut table, &field.kind, 0, begin)?;
         end = past;
-        later = true;
     }
-    add_bytes(&mut table, b"}")?;
-    add_bytes(&mut table, behind)?;
     Ok(table)
 }
 
-/// Adds the pieces of a kind that begins behind a place of the block.
+/// Adds the values of a kind that begins after a place of the block.
 #[cycle(make)]
 fn add_kind(
     alloc: Global,
@@ -68,10 +48,10 @@ fn add_kind(
 ) -> Result<(), NoMem>
     requires order { IsKindInOrder kind.now }
     requires within { is_const kind.now ≡ false → at + begin + width kind.now ≤ largest }
-    ensures { OnOk result (Grows table.old table.new (kind_pieces kind.now (at + begin))) }
+    ensures { OnOk result (Grows table.old table.new (kind_scalars kind.now (at + begin))) }
 {
     match kind {
-        Kind::Const(constant) => add_constant(alloc, table, constant),
+        Kind::Const(_) => Ok(()),
         Kind::Comp(members) => add_members(alloc, table, members, at + begin),
         Kind::Leaf(_) | Kind::Enum(_, _) | Kind::Set(_, _) => {
             add_value(alloc, table, kind, at + begin)
@@ -79,7 +59,7 @@ fn add_kind(
     }
 }
 
-/// Adds the pieces of a composite that begins at a place of the block.
+/// Adds the values of a composite that begins at a place of the block.
 #[cycle(make)]
 fn add_members(
     alloc: Global,
@@ -89,19 +69,14 @@ fn add_members(
 ) -> Result<(), NoMem>
     requires order { IsKindInOrder (Comp members.now) }
     requires within { at + width (Comp members.now) ≤ largest }
-    ensures { OnOk result (Grows table.old table.new (kind_pieces (Comp members.now) at)) }
+    ensures { OnOk result (Grows table.old table.new (kind_scalars (Comp members.now) at)) }
 {
-    add_bytes(table, b"{")?;
     let mut end = 0;
-    let mut later = false;
     for member in members.as_slice() {
-        add_key(table, later, member.name.as_slice())?;
-        let behind = end_behind(end, member.offset, &member.kind);
+        let past = end_behind(end, member.offset, &member.kind);
         add_kind(alloc, table, &member.kind, at, begin_of(end, member.offset))?;
-        end = behind;
-        later = true;
+        end = past;
     }
-    add_bytes(table, b"}")?;
     Ok(())
 }
 
@@ -109,58 +84,27 @@ fn add_members(
 fn add_value(alloc: Global, table: &mut FlatRows, kind: &Kind, at: u32) -> Result<(), NoMem>
     requires order { IsKindInOrder kind.now }
     requires within { at + width kind.now ≤ largest }
-    ensures { OnOk result (Grows table.old table.new (shown kind.now at ∷ [])) }
+    ensures { OnOk result (Grows table.old table.new (scalar_at kind.now at ∷ [])) }
 {
-    let many = table.bytes.len();
-    if many > u32::MAX as usize {
-        return Err(NoMem);
-    }
-    let row = row_of(alloc, many as u32, kind, at)?;
+    let row = row_of(alloc, kind, at)?;
     table.rows.push(row)?;
     Ok(())
 }
 
-/// The row of a value that begins at a place of the block, behind bytes that end at `end`.
-fn row_of(alloc: Global, end: u32, kind: &Kind, at: u32) -> Result<FlatRow, NoMem>
+/// The row of a value that begins at a place of the block.
+pub fn row_of(alloc: Global, kind: &Kind, at: u32) -> Result<FlatRow, NoMem>
     requires order { IsKindInOrder kind.now }
     requires within { at + width kind.now ≤ largest }
     ensures row { IfOk result (λ row. IsRow row) }
-    ensures end { IfOk result (λ row. row.end ≡ end) }
-    ensures value { IfOk result (λ row. shown row.kind row.place ≡ shown kind.now at) }
+    ensures value { IfOk result (λ row. scalar_of row ≡ scalar_at kind.now at) }
 {
     let kept = kind.copy(alloc)?;
-    let codes = codes_of(alloc, kind)?;
+    let valid = valid_bytes(alloc, kind)?;
     Ok(FlatRow {
-        end,
         place: at,
-        behind: at + width_of(kind),
+        end: at + width_of(kind),
         quick: quick_of(kind),
-        codes,
+        valid,
         kind: kept,
     })
-}
-
-/// Adds a key.
-fn add_key(table: &mut FlatRows, later: bool, name: &[u8]) -> Result<(), NoMem>
-    ensures { OnOk result (Grows table.old table.new (literal (key_of later name.now) ∷ [])) }
-{
-    put_key(&mut table.bytes, later, name)?;
-    Ok(())
-}
-
-/// Adds a constant.
-fn add_constant(alloc: Global, table: &mut FlatRows, constant: &ConstValue) -> Result<(), NoMem>
-    requires { IsConstantInOrder constant.now }
-    ensures { OnOk result (Grows table.old table.new (literal (constant_text constant.now) ∷ [])) }
-{
-    put_constant(alloc, &mut table.bytes, constant)?;
-    Ok(())
-}
-
-/// Adds bytes that stand in each line alike.
-fn add_bytes(table: &mut FlatRows, bytes: &[u8]) -> Result<(), NoMem>
-    ensures { OnOk result (Grows table.old table.new (literal bytes.now ∷ [])) }
-{
-    table.bytes.extend_from_slice(bytes)?;
-    Ok(())
 }

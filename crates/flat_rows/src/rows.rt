@@ -32,35 +32,22 @@ pub struct Quick {
     pub high: i64,
 }
 
-/// The names of an enum of one byte, looked up by the byte.
-#[derive(Drop)]
-pub struct Codes {
-    /// For each byte which of the texts is its name, counted from 1, or 0 where none is kept. It is empty where none is kept of
-    /// any byte.
-    pub index: Vec<u8>,
-    /// The texts, each of 16 bytes: a name between quotes, spaces behind it, and in the last byte how many bytes the name has
-    /// with its quotes.
-    pub texts: Vec<u8>,
-}
-
-/// A value of a block, behind bytes that stand before it in each line.
+/// A value of a block.
 #[derive(Drop)]
 pub struct FlatRow {
-    /// Where the bytes before it end in the table's bytes. They begin where those of the row before end.
-    pub end: u32,
     /// Where the value's bytes begin in the block.
     pub place: u32,
     /// Where they end.
-    pub behind: u32,
+    pub end: u32,
     pub quick: Quick,
-    pub codes: Codes,
+    /// For each byte whether it is a valid value or the null of an enum of one byte: 1 where it is, and else 0. Empty for
+    /// other kinds.
+    pub valid: Vec<u8>,
     pub kind: Kind,
 }
 
-/// The fields of a block as values, composites opened, and what stands between them in each line.
+/// The values of a block in wire order, composites opened and constants left out.
 #[derive(Drop)]
 pub struct FlatRows {
-    /// The bytes before each value, one behind another, and then those behind the last one.
-    pub bytes: Vec<u8>,
     pub rows: Vec<FlatRow>,
 }

@@ -1,25 +1,25 @@
-//! The definitions of pieces and of names by the byte, computed on worked fields.
+//! The definitions of values and of valid bytes, computed on worked fields.
 
-ghost use Rattle.std.specs.Prelude.{◌≡◌, [], codes};
-ghost use Rattle.flat_rows.specs.Pieces.{joined, pieces_between};
+ghost use Rattle.std.specs.Prelude.{◌≡◌, []};
 ghost use Rattle.sbe_types.specs.declared.kind.Primitive.TheVariants.{Char, I8, U8, U16};
-ghost use Rattle.flat_rows.specs.Worked.{mixed, mixed_joined, nothing, doubled, doubled_names, names_at, no_names, number};
+ghost use Rattle.flat_rows.specs.Scalars.{scalars_of};
+ghost use Rattle.flat_rows.specs.Worked.{mixed, mixed_scalars, doubled, doubled_valid, valid_at, none_valid, number};
 
 /// A field of each kind, constants of each kind, a composite in a composite, and stated offsets.
-pub fn pieces_of_worked_fields()
-    ensures { joined (pieces_between (codes "{") (codes ",") mixed) ≡ mixed_joined }
+pub fn values_of_worked_fields()
+    ensures { scalars_of mixed ≡ mixed_scalars }
 {}
 
-/// Without fields there is the closing bracket alone.
-pub fn no_fields_are_a_bracket()
-    ensures { joined (pieces_between [] [] []) ≡ nothing }
+/// A block without fields has no values.
+pub fn no_fields_have_no_values()
+    ensures { scalars_of [] ≡ [] }
 {}
 
-/// The names of an enum by the byte: over a char and a uint8 the first of each number, but none of the null; else none.
-pub fn names_of_worked_bytes()
-    ensures char { names_at (doubled Char) ≡ doubled_names }
-    ensures byte { names_at (doubled U8) ≡ doubled_names }
-    ensures signed { names_at (doubled I8) ≡ no_names }
-    ensures wide { names_at (doubled U16) ≡ no_names }
-    ensures number { names_at (number U8) ≡ no_names }
+/// The valid values of an enum by the byte: over a char and a uint8 each number and the null; else none.
+pub fn valid_bytes_of_worked_enums()
+    ensures char { valid_at (doubled Char) ≡ doubled_valid }
+    ensures byte { valid_at (doubled U8) ≡ doubled_valid }
+    ensures signed { valid_at (doubled I8) ≡ none_valid }
+    ensures wide { valid_at (doubled U16) ≡ none_valid }
+    ensures number { valid_at (number U8) ≡ none_valid }
 {}

@@ -24,10 +24,10 @@ use Rattle.flyweight_view.specs.declared.plan.Plan.{Plan}
 use Rattle.flyweight_view.specs.declared.plan.Plan.TheVariants as plan
 use Rattle.flyweight_view.specs.declared.plan.Slot.{Slot}
 use Rattle.flyweight_view.specs.declared.plan.Span.{Span}
-use Rattle.flyweight_view.specs.Planned.{fields_of, block_of, seen_by, seen_at, values_at, IsSeen, IsMembersPlan}
+use Rattle.flyweight_view.specs.inner.Planned.{fields_of, block_of, seen_by, seen_at, values_at, IsSeen, IsMembersPlan}
 use Rattle.flyweight_view.specs.Seen.{member_field, seen_members, members_of, values_in, composite_seen, field_seen}
-use Rattle.flyweight_view.specs.Slots.{SlotIs}
-use Rattle.flyweight_view.proofs.MembersReady.{row_in}
+use Rattle.flyweight_view.specs.inner.Slots.{SlotIs}
+use Rattle.body_walk.proofs.MembersReady.{row_in}
 use Rattle.flyweight_view.proofs.MembersTold.{members_lie, members_placed, members_reach}
 use Rattle.flyweight_view.proofs.SlotsTold.{ValueOf, none_there}
 

@@ -15,15 +15,16 @@ use Rattle.layout_tables.specs.Rowed.{RowFor}
 use Rattle.layout_tables.proofs.GroupWalk.{GroupsFrom, group_is}
 use Rattle.layout_tables.proofs.Items.{drop_at, all_dropped}
 use Rattle.group_codec.specs.declared.dim.Dim.{Dim}
-use Rattle.flyweight_view.specs.declared.groups.Spot.{Spot}
-use Rattle.flyweight_view.specs.declared.layer.Layer.{Layer}
-use Rattle.flyweight_view.specs.Groups.{groups_by, group_entered, next_groups, groups_at, groups_left, StandThere}
-use Rattle.flyweight_view.specs.Layers.{entries_seen, IsLayer}
-use Rattle.flyweight_view.specs.Lefts.{items_of, rest_of, groups_seen}
-use Rattle.flyweight_view.specs.Seen.{entries_in}
+use Rattle.flyweight_view.specs.declared.ends.Spot.{Spot}
+use Rattle.body_walk.specs.declared.layer.Layer.{Layer}
+use Rattle.flyweight_view.specs.inner.Groups.{groups_by, group_entered, next_groups, groups_at, groups_left, StandThere}
+use Rattle.flyweight_view.specs.inner.Layers.{entries_seen}
+use Rattle.body_walk.specs.inner.Layers.{IsLayer}
+use Rattle.flyweight_view.specs.inner.Lefts.{items_of, rest_of}
+use Rattle.flyweight_view.specs.Seen.{groups_seen, entries_in}
 use Rattle.flyweight_view.proofs.GroupsTold.{from_number, seen_entered}
 use Rattle.flyweight_view.proofs.Lefts.{First, each_next}
-use Rattle.flyweight_view.proofs.Opens.{Child, child_here, child_next, level_within}
+use Rattle.body_walk.proofs.Opens.{Child, child_here, child_next, level_within}
 
 -- the level of a group's entries, in the same body
 abbrev pub inner_of : Layer → ℕ → Level → Layer

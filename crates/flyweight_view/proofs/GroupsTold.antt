@@ -26,12 +26,12 @@ use Rattle.layout_tables.specs.Parts.{group_number}
 use Rattle.layout_tables.proofs.Nodes.{flat_more}
 use Rattle.layout_tables.proofs.GroupWalk.{GroupsFrom, groups_begin, group_is, here}
 use Rattle.group_codec.specs.declared.dim.Dim.{Dim}
-use Rattle.flyweight_view.specs.declared.layer.Layer.{Layer}
+use Rattle.body_walk.specs.declared.layer.Layer.{Layer}
 use Rattle.sbe_wire.specs.declared.mode.Mode.{Mode}
-use Rattle.flyweight_view.specs.Cursor.{entries_read, dim_told}
-use Rattle.flyweight_view.specs.Groups.{groups_by, group_entered}
-use Rattle.flyweight_view.specs.Layers.{blocks_read, blocks_at, entries_seen, LieThere}
-use Rattle.flyweight_view.specs.Lefts.{items_of, rest_of}
+use Rattle.body_walk.specs.inner.Cursor.{entries_read, dim_told}
+use Rattle.flyweight_view.specs.inner.Groups.{groups_by, group_entered}
+use Rattle.flyweight_view.specs.inner.Layers.{blocks_read, blocks_at, entries_seen, LieThere}
+use Rattle.flyweight_view.specs.inner.Lefts.{items_of, rest_of}
 use Rattle.flyweight_view.specs.Seen.{seen_level, entries_in}
 use Rattle.flyweight_view.proofs.Lefts.{never_ok, step_ok, later_same, made_there}
 

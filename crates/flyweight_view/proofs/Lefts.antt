@@ -7,9 +7,9 @@ use Rattle.sbe_types.specs.declared.path.Step.TheVariants as way
 use Rattle.sbe_wire.specs.Faults.{Fault}
 use Rattle.sbe_wire.specs.Reading.{Reader, later, inside, and_then, then_read, nothing, read_in, times_read, each_read}
 use Rattle.sbe_wire.proofs.Combine.{ok_is, later_ok, inside_ok}
-use Rattle.flyweight_view.specs.Cursor.{placed, skim}
-use Rattle.flyweight_view.specs.Lefts.{items_of, rest_of}
-use Rattle.flyweight_view.proofs.Cursor.{Leaves}
+use Rattle.body_walk.specs.inner.Cursor.{placed, skim}
+use Rattle.flyweight_view.specs.inner.Lefts.{items_of, rest_of}
+use Rattle.body_walk.proofs.Cursor.{Leaves}
 
 -- ---- answers
 
@@ -134,10 +134,6 @@ each_many {X} {Y} p i [] b r h = ap (λ (z : List Y × List ℕ). length z.0) (s
 each_many p i (x ∷ xs) b r h =
     let c = cons_ok (way.Part i) (p x) (each_read p (suc i) xs) b r h in
     ap length c.whole ∙ ap suc (each_many p (suc i) xs c.rest (c.xs, r.1) c.others)
-
-pub none_there : {X : Type 0} (xs : List X) → length xs ≡ 0 → xs ≡ []
-none_there [] h = refl
-none_there (x ∷ xs) h = absurd (omega (arith, h))
 
 -- ---- places
 

@@ -9,15 +9,16 @@ use Rattle.sbe_wire.specs.Faults.{Fault}
 use Rattle.sbe_wire.specs.Reading.{Reader, times_read, tail_read}
 use Rattle.sbe_wire.proofs.Combine.{ok_is}
 use Rattle.group_codec.specs.declared.dim.Dim.{Dim}
-use Rattle.flyweight_view.specs.declared.layer.Layer.{Layer}
+use Rattle.body_walk.specs.declared.layer.Layer.{Layer}
 use Rattle.sbe_wire.specs.declared.mode.Mode.{Mode}
 use Rattle.flyweight_view.specs.declared.plan.Plan.TheVariants as plan
-use Rattle.flyweight_view.specs.Cursor.{entries_read}
-use Rattle.flyweight_view.specs.Layers.{blocks_at, entries_seen, IsLayer, LieThere}
-use Rattle.flyweight_view.specs.Lefts.{items_of, rest_of}
-use Rattle.flyweight_view.specs.Planned.{block_of, IsSeen}
+use Rattle.body_walk.specs.inner.Cursor.{entries_read}
+use Rattle.flyweight_view.specs.inner.Layers.{blocks_at, entries_seen, LieThere}
+use Rattle.body_walk.specs.inner.Layers.{IsLayer}
+use Rattle.flyweight_view.specs.inner.Lefts.{items_of, rest_of}
+use Rattle.flyweight_view.specs.inner.Planned.{block_of, IsSeen}
 use Rattle.flyweight_view.specs.Seen.{seen_level}
-use Rattle.flyweight_view.proofs.LevelsReady.{level_ready}
+use Rattle.body_walk.proofs.LevelsReady.{level_ready}
 use Rattle.flyweight_view.proofs.Lefts.{First, times_next, times_many}
 use Rattle.flyweight_view.proofs.Tails.{entry_parts, IsFlat, flat_entry, flat_end}
 

@@ -21,16 +21,16 @@ use Rattle.var_data.specs.declared.data.DataErr.{DataErr}
 use Rattle.var_data.specs.declared.data.DataErr.TheVariants as bad
 use Rattle.var_data.specs.Ranges.{data_range}
 use Rattle.layout_tables.proofs.Items.{drop_at, all_dropped, long_map}
-use Rattle.flyweight_view.specs.declared.layer.Layer.{Layer}
+use Rattle.body_walk.specs.declared.layer.Layer.{Layer}
 use Rattle.sbe_wire.specs.declared.mode.Mode.{Mode}
-use Rattle.flyweight_view.specs.Cursor.{placed, range_answer}
-use Rattle.flyweight_view.specs.Layers.{IsLayer}
-use Rattle.flyweight_view.specs.Lefts.{items_of, rest_of}
-use Rattle.flyweight_view.specs.Parts.{parts_by, part_entered, range_bytes, range_end, IsRange, LineUp, AreLeft, left_in, next_parts, parts_at, parts_left}
+use Rattle.body_walk.specs.inner.Cursor.{placed, range_answer}
+use Rattle.body_walk.specs.inner.Layers.{IsLayer}
+use Rattle.flyweight_view.specs.inner.Lefts.{items_of, rest_of}
+use Rattle.flyweight_view.specs.inner.Parts.{parts_by, part_entered, range_bytes, range_end, IsRange, LineUp, AreLeft, left_in, next_parts, parts_at, parts_left}
 use Rattle.flyweight_view.specs.Seen.{bytes_in}
 use Rattle.flyweight_view.proofs.Lefts.{First, each_next, each_many, ok_there}
-use Rattle.flyweight_view.proofs.LevelsReady.{level_ready}
-use Rattle.flyweight_view.proofs.Walks.{part_walked}
+use Rattle.body_walk.proofs.LevelsReady.{level_ready}
+use Rattle.body_walk.proofs.Walks.{part_walked}
 
 -- ---- a part
 

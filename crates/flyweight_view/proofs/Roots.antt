@@ -13,11 +13,11 @@ use Rattle.sbe_wire.specs.Versions.{acting, floor, mode_of}
 use Rattle.sbe_wire.proofs.Combine.{ok_is, bind_ok, later_ok}
 use Rattle.layout_tables.specs.Heads.{header_width}
 use Rattle.sbe_wire.specs.declared.mode.Mode.{Mode}
-use Rattle.flyweight_view.specs.Cursor.{entries_read}
-use Rattle.flyweight_view.specs.Heads.{head_number}
-use Rattle.flyweight_view.specs.Planned.{block_of as block_read}
-use Rattle.flyweight_view.specs.Read.{message_in, IsRead}
-use Rattle.flyweight_view.proofs.Bodies.{by_header, named_at}
+use Rattle.body_walk.specs.inner.Cursor.{entries_read}
+use Rattle.body_walk.specs.Heads.{head_number}
+use Rattle.flyweight_view.specs.inner.Planned.{block_of as block_read}
+use Rattle.body_walk.specs.Walked.{message_in, IsRead}
+use Rattle.body_walk.proofs.Bodies.{by_header, named_at}
 
 -- where a block lies, and how its values are read
 pub record Spot : Type 0 where

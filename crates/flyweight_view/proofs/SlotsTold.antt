@@ -30,11 +30,11 @@ use Rattle.field_values.specs.Told.{all_elements, elements_in}
 use Rattle.flyweight_view.specs.declared.plan.Plan.{Plan}
 use Rattle.flyweight_view.specs.declared.plan.Slot.{Slot}
 use Rattle.flyweight_view.specs.declared.plan.Span.{Span}
-use Rattle.flyweight_view.specs.Fields.{IsFieldRow, AreFieldRows}
-use Rattle.flyweight_view.specs.Planned.{fields_of, tail_of, block_of, block_told, values_at, bytes_of, IsSeen, IsMembersPlan}
+use Rattle.body_walk.specs.inner.Fields.{IsFieldRow, AreFieldRows}
+use Rattle.flyweight_view.specs.inner.Planned.{fields_of, tail_of, block_of, block_told, values_at, bytes_of, IsSeen, IsMembersPlan}
 use Rattle.flyweight_view.specs.Seen.{member_field}
-use Rattle.flyweight_view.specs.Slots.{SlotIs, SlotShows}
-use Rattle.flyweight_view.proofs.MembersReady.{ends_behind}
+use Rattle.flyweight_view.specs.inner.Slots.{SlotIs, SlotShows}
+use Rattle.body_walk.proofs.MembersReady.{ends_behind}
 
 -- ---- a block that is read
 

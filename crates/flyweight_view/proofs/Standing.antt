@@ -13,7 +13,7 @@ use Rattle.layout_tables.specs.declared.rows.DimRow.{DimRow}
 use Rattle.layout_tables.specs.Heads.{number_at}
 use Rattle.layout_tables.specs.Rowed.{as_spot, DimIs}
 use Rattle.group_codec.proofs.DimRows.{named_is}
-use Rattle.flyweight_view.specs.Cursor.{dim_told}
+use Rattle.body_walk.specs.inner.Cursor.{dim_told}
 
 -- a result that can't be a fault
 pub never_a_fault : {X : Type 0} (r : Result X Fault) → ((f : Fault) → Err f ≡ r → ⊥) → (x : X) × (Ok x ≡ r)

@@ -16,10 +16,10 @@ use Rattle.sbe_wire.specs.Faults.{Fault}
 use Rattle.sbe_wire.specs.Reading.{Reader, then_read, nothing, and_judged, times_read, each_read, fields_read, block_read, Tail, block_of as block_made, entry_read, tail_read, groups_read}
 use Rattle.sbe_wire.proofs.Combine.{ok_is, bind_ok}
 use Rattle.sbe_wire.specs.declared.mode.Mode.{Mode}
-use Rattle.flyweight_view.specs.Cursor.{entries_read}
-use Rattle.flyweight_view.specs.Groups.{groups_by}
-use Rattle.flyweight_view.specs.Lefts.{rest_of}
-use Rattle.flyweight_view.specs.Parts.{parts_by}
+use Rattle.body_walk.specs.inner.Cursor.{entries_read}
+use Rattle.flyweight_view.specs.inner.Groups.{groups_by}
+use Rattle.flyweight_view.specs.inner.Lefts.{rest_of}
+use Rattle.flyweight_view.specs.inner.Parts.{parts_by}
 use Rattle.flyweight_view.proofs.Lefts.{step_ok, cons_ok, cons_made, each_any, times_next}
 
 -- ---- a block and its tail

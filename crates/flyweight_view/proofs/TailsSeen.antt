@@ -11,18 +11,19 @@ use Rattle.sbe_types.specs.declared.schema.Level.{out-Level}
 use Rattle.sbe_wire.specs.Faults.{Fault}
 use Rattle.sbe_wire.specs.Reading.{Tail, each_read}
 use Rattle.sbe_wire.proofs.Combine.{ok_is}
-use Rattle.flyweight_view.specs.declared.groups.Spot.{Spot}
-use Rattle.flyweight_view.specs.declared.layer.Layer.{Layer}
+use Rattle.flyweight_view.specs.declared.ends.Spot.{Spot}
+use Rattle.body_walk.specs.declared.layer.Layer.{Layer}
 use Rattle.flyweight_view.specs.declared.plan.Plan.{Plan}
 use Rattle.flyweight_view.specs.declared.plan.Plan.TheVariants as plan
 use Rattle.flyweight_view.specs.declared.plan.Span.{Span}
-use Rattle.flyweight_view.specs.Groups.{groups_by, groups_at, groups_left, StandThere}
-use Rattle.flyweight_view.specs.Layers.{IsLayer}
-use Rattle.flyweight_view.specs.Lefts.{items_of, rest_of, groups_seen}
-use Rattle.flyweight_view.specs.Parts.{parts_at, parts_by, parts_left, LineUp}
-use Rattle.flyweight_view.specs.Planned.{fields_of, groups_of, parts_of, tail_of, block_of, block_told, IsPlan, IsSeen}
-use Rattle.flyweight_view.specs.Seen.{Seen, bytes_in, entries_in, group_seen}
-use Rattle.flyweight_view.proofs.Lefts.{ok_from, each_many, none_there}
+use Rattle.flyweight_view.specs.inner.Groups.{groups_by, groups_at, groups_left, StandThere}
+use Rattle.body_walk.specs.inner.Layers.{IsLayer}
+use Rattle.flyweight_view.specs.inner.Lefts.{items_of, rest_of}
+use Rattle.flyweight_view.specs.Seen.{groups_seen, Seen, bytes_in, entries_in, group_seen}
+use Rattle.flyweight_view.specs.inner.Parts.{parts_at, parts_by, parts_left, LineUp}
+use Rattle.flyweight_view.specs.inner.Planned.{fields_of, groups_of, parts_of, tail_of, block_of, block_told, IsPlan, IsSeen}
+use Rattle.flyweight_view.proofs.Lefts.{ok_from, each_many}
+use Rattle.body_walk.proofs.Opens.{none_there}
 use Rattle.flyweight_view.proofs.Tails.{EntryParts, entry_parts, TailParts, tail_parts}
 
 -- the level of a plan, in the body of a span

@@ -1,5 +1,5 @@
 -- What a view of a block shows: its parts by the schema, and their values. From SBE 1.0, Message structure.
-use Rattle.std.specs.Prelude.{ℕ, Option, Some, None, List, [], map}
+use Rattle.std.specs.Prelude.{ℕ, Option, Some, None, List, [], ◌∷◌, map}
 use Rattle.sbe_types.specs.declared.kind.Kind.{Kind, Leaf, Enum, Set, Const, Comp', items-the_row-Member}
 use Rattle.sbe_types.specs.declared.kind.Member.{Member}
 use Rattle.sbe_types.specs.declared.schema.Field.{Field}
@@ -85,6 +85,12 @@ abbrev pub group_seen : Option Group → Option GroupVal → Option (Option (Lis
 group_seen (Some g) (Some v) = Some (entries_in (out-Group g).level v)
 group_seen (Some g) None = None
 group_seen None v = None
+
+-- what is seen of groups, of each that has a value
+abbrev pub groups_seen : List Group → List GroupVal → List (Option (List Seen))
+groups_seen [] vs = []
+groups_seen (g ∷ gs) [] = []
+groups_seen (g ∷ gs) (v ∷ vs) = entries_in (out-Group g).level v ∷ groups_seen gs vs
 
 -- ---- messages
 

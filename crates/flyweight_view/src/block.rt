@@ -6,10 +6,9 @@ ghost use Rattle.schema_facts.specs.CheckedLevels.{group_name};
 ghost use Rattle.schema_facts.specs.InOrder.{IsKindInOrder};
 ghost use Rattle.field_values.specs.Told.{all_elements, element_of, number_in, state_of, text_in};
 ghost use Rattle.flyweight_view.specs.ByTable.{IsTableBlock};
-ghost use Rattle.flyweight_view.specs.Lefts.{groups_seen};
-ghost use Rattle.flyweight_view.specs.Seen.{bytes_in, field_seen, group_seen};
+ghost use Rattle.flyweight_view.specs.Seen.{groups_seen, bytes_in, field_seen, group_seen};
 ghost use Rattle.flyweight_view.specs.ShownIn.{IsShownIn};
-ghost use Rattle.flyweight_view.specs.Planned.{seen_at, IsSeen};
+ghost use Rattle.flyweight_view.specs.inner.Planned.{seen_at, IsSeen};
 
 use crate::by_table::{TableBlock, table_block};
 use crate::entries::EntriesView;
@@ -47,7 +46,7 @@ impl<'a> Model for BlockView<'a> {
 
     ghost coded = { Prim.hlevel (codes, kinds.the_row.coded, groups.the_row.coded, levels.the_row.coded, values.the_row.coded, blocks.the_row.coded) };
 
-    ghost use Rattle.flyweight_view.specs.Blocks.{seen_of, IsShown};
+    ghost use Rattle.flyweight_view.specs.inner.Blocks.{seen_of, IsShown};
 
     ghost view = { seen_of };
 

@@ -7,20 +7,27 @@ ghost use Rattle.layout_tables.specs.Heads.{number_at};
 ghost use Rattle.layout_tables.specs.Parts.{dim_at};
 ghost use Rattle.layout_tables.specs.Rowed.{as_spot};
 ghost use Rattle.group_codec.specs.Dims.{IsDimRow};
-ghost use Rattle.flyweight_view.specs.Cursor.{entries_read};
-ghost use Rattle.flyweight_view.specs.Groups.{group_entered, groups_at, groups_by, groups_left, StandThere};
-ghost use Rattle.flyweight_view.specs.Layers.{blocks_at, entries_seen, IsLayer, LieThere};
-ghost use Rattle.flyweight_view.specs.Lefts.{rest_of};
-ghost use Rattle.flyweight_view.specs.Planned.{block_of};
+ghost use Rattle.body_walk.specs.inner.Cursor.{entries_read};
+ghost use Rattle.flyweight_view.specs.inner.Groups.{group_entered, groups_at, groups_by, groups_left, StandThere};
+ghost use Rattle.flyweight_view.specs.inner.Layers.{blocks_at, entries_seen, LieThere};
+ghost use Rattle.body_walk.specs.inner.Layers.{IsLayer};
+ghost use Rattle.flyweight_view.specs.inner.Lefts.{rest_of};
+ghost use Rattle.flyweight_view.specs.inner.Planned.{block_of};
 ghost use Rattle.flyweight_view.specs.Seen.{seen_level};
 
-use crate::groups::Spot;
-use crate::layer::Layer;
-use crate::parts::parts_end;
-use crate::walk::first_child;
+use crate::ranges::parts_end;
+use body_walk::{Layer, first_child, is_flat};
 use group_codec::Dim;
 use layout_tables::{DimRow, number_at};
-use sbe_types::{Group, Level, Order};
+use sbe_types::{Group, Order};
+
+/// The next group of a level: its number there, the number of its entries' level, and where it begins.
+#[derive(Clone, Copy)]
+pub(crate) struct Spot {
+    pub(crate) next: usize,
+    pub(crate) child: usize,
+    pub(crate) at: usize,
+}
 
 /// A group of a level: the level of its entries, their dimension, and where the next group begins.
 #[derive(Clone, Copy)]
@@ -137,14 +144,6 @@ fn entry_end(layer: &Layer<'_>, left: Dim) -> usize
     };
     let at = groups_end(layer, spot);
     parts_end(layer, at)
-}
-
-/// Whether a level has neither groups nor data.
-#[inline(always)]
-pub(crate) fn is_flat(level: &Level) -> bool
-    ensures { result ≡ (length (out-Level level.now).groups == 0) && (length (out-Level level.now).parts == 0) }
-{
-    level.groups.is_empty() && level.parts.is_empty()
 }
 
 // ---- groups

@@ -1,16 +1,17 @@
 // Views of the entries of a group.
 ghost use Rattle.std.specs.Prelude.{◌≡◌, ◌<◌, length, drop, IfSome, IfNone};
 ghost use Rattle.flyweight_view.specs.ByTable.{TakesTable};
-ghost use Rattle.flyweight_view.specs.Cursor.{entries_read};
-ghost use Rattle.flyweight_view.specs.Layers.{entries_seen, IsLayer, LieThere};
-ghost use Rattle.flyweight_view.specs.Planned.{block_of};
+ghost use Rattle.body_walk.specs.inner.Cursor.{entries_read};
+ghost use Rattle.flyweight_view.specs.inner.Layers.{entries_seen, LieThere};
+ghost use Rattle.body_walk.specs.inner.Layers.{IsLayer};
+ghost use Rattle.flyweight_view.specs.inner.Planned.{block_of};
 ghost use Rattle.flyweight_view.specs.Seen.{seen_level};
 
 use crate::block::BlockView;
 use crate::by_table::TableBlock;
-use crate::ends::{flat_behind, is_flat, others_of};
-use crate::layer::Layer;
+use crate::ends::{flat_behind, others_of};
 use crate::plan::{Plan, Span};
+use body_walk::{Layer, is_flat};
 use group_codec::Dim;
 use std::marker::Model;
 
@@ -35,7 +36,7 @@ impl<'a> Model for EntriesView<'a> {
 
     ghost coded = { Prim.hlevel (codes, kinds.the_row.coded, groups.the_row.coded, levels.the_row.coded, values.the_row.coded, blocks.the_row.coded) };
 
-    ghost use Rattle.flyweight_view.specs.Entries.{entries_of, AreEntries};
+    ghost use Rattle.flyweight_view.specs.inner.Entries.{entries_of, AreEntries};
 
     ghost view = { entries_of };
 

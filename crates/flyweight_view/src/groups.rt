@@ -2,27 +2,18 @@
 ghost use Rattle.std.specs.Prelude.{◌≡◌, ◌<◌, [], ◌∷◌, length, slice_get, Some, IfSome};
 ghost use Rattle.std.specs.Option.{option_map};
 ghost use Rattle.sbe_types.specs.declared.message.Block.{out-Block};
-ghost use Rattle.flyweight_view.specs.Groups.{groups_left, StandThere};
-ghost use Rattle.flyweight_view.specs.Layers.{entries_seen, IsLayer, LieThere};
-ghost use Rattle.flyweight_view.specs.Lefts.{groups_seen};
-ghost use Rattle.flyweight_view.specs.Planned.{block_of, block_told, groups_of, IsSeen};
-ghost use Rattle.flyweight_view.specs.Seen.{group_seen};
+ghost use Rattle.flyweight_view.specs.inner.Groups.{groups_left, StandThere};
+ghost use Rattle.flyweight_view.specs.inner.Layers.{entries_seen, LieThere};
+ghost use Rattle.body_walk.specs.inner.Layers.{IsLayer};
+ghost use Rattle.flyweight_view.specs.Seen.{groups_seen, group_seen};
+ghost use Rattle.flyweight_view.specs.inner.Planned.{block_of, block_told, groups_of, IsSeen};
 
-use crate::ends::open_group;
+use crate::ends::{Spot, open_group};
 use crate::entries::EntriesView;
-use crate::layer::Layer;
 use crate::plan::{Plan, Span};
-use crate::walk::first_child;
+use body_walk::{Layer, first_child};
 use group_codec::Dim;
 use std::marker::Model;
-
-/// The next group of a level: its number there, the number of its entries' level, and where it begins.
-#[derive(Clone, Copy)]
-pub(crate) struct Spot {
-    pub(crate) next: usize,
-    pub(crate) child: usize,
-    pub(crate) at: usize,
-}
 
 /// The groups of a block that are left, each found behind the one before it. It lends from the body.
 #[derive(Drop)]
@@ -46,7 +37,7 @@ impl<'a> Model for GroupsView<'a> {
 
     ghost coded = { Prim.hlevel (codes, kinds.the_row.coded, groups.the_row.coded, levels.the_row.coded, values.the_row.coded, blocks.the_row.coded) };
 
-    ghost use Rattle.flyweight_view.specs.Groups.{groups_of_view, AreGroups};
+    ghost use Rattle.flyweight_view.specs.inner.Groups.{groups_of_view, AreGroups};
 
     ghost view = { groups_of_view };
 

@@ -6,10 +6,11 @@ ghost use Rattle.sbe_types.specs.declared.schema.Level.{out-Level};
 ghost use Rattle.sbe_types.specs.Places.{width, is_const, field_place};
 ghost use Rattle.sbe_wire.specs.Versions.{floor, is_alive};
 ghost use Rattle.schema_facts.specs.CheckedLevels.{group_name};
-ghost use Rattle.flyweight_view.specs.Fields.{IsFieldRow};
-ghost use Rattle.flyweight_view.specs.Planned.{bytes_of, fields_of, groups_of, parts_of, IsSeen, IsLevelPlan, IsMembersPlan};
+ghost use Rattle.body_walk.specs.inner.Fields.{IsFieldRow};
+ghost use Rattle.flyweight_view.specs.inner.Planned.{bytes_of, fields_of, groups_of, parts_of, IsSeen, IsMembersPlan};
+ghost use Rattle.body_walk.specs.inner.Layers.{HasLevel};
 ghost use Rattle.flyweight_view.specs.Seen.{member_field};
-ghost use Rattle.flyweight_view.specs.Slots.{SlotIs};
+ghost use Rattle.flyweight_view.specs.inner.Slots.{SlotIs};
 
 use flat_rows::width_of;
 use layout_tables::{FieldRow, Layout, member_place};
@@ -97,7 +98,7 @@ fn level_slot<'a>(
     level: &'a Level,
     i: usize,
 ) -> Slot<'a>
-    requires plan { IsLevelPlan layout.now number level.now }
+    requires plan { HasLevel layout.now number level.now }
     requires reaches { floor span.now.mode.version (out-Level level.now).fields ≤ span.now.size }
     requires near { span.now.at + span.now.size ≤ length span.now.body.now }
     requires field { i < length (out-Level level.now).fields }
@@ -117,7 +118,7 @@ fn field_row<'a>(
     level: &Level,
     i: usize,
 ) -> &'a FieldRow
-    requires plan { IsLevelPlan layout.now number level.now }
+    requires plan { HasLevel layout.now number level.now }
     requires reaches { floor span.now.mode.version (out-Level level.now).fields ≤ span.now.size }
     requires field { i < length (out-Level level.now).fields }
     ensures row { (f : Field) → slice_get (out-Level level.now).fields i ≡ Some f → IsFieldRow span.now.mode.version span.now.size f result.now }

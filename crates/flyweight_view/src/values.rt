@@ -5,7 +5,7 @@ ghost use Rattle.std.specs.Option.{option_map, option_and_then, IsSome};
 ghost use Rattle.sbe_types.specs.declared.message.Value.TheVariants.{Absent};
 ghost use Rattle.schema_facts.specs.InOrder.{IsKindInOrder};
 ghost use Rattle.field_values.specs.Told.{all_elements, element_of, number_in, state_of, text_in};
-ghost use Rattle.flyweight_view.specs.Planned.{fields_of, seen_at, values_at, IsSeen};
+ghost use Rattle.flyweight_view.specs.inner.Planned.{fields_of, seen_at, values_at, IsSeen};
 ghost use Rattle.flyweight_view.specs.Seen.{field_seen, members_of};
 ghost use Rattle.flyweight_view.specs.ShownIn.{IsShownIn};
 

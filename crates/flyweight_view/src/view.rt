@@ -1,47 +1,27 @@
+// Views of messages.
 ghost use Rattle.std.specs.Prelude.{◌≡◌, IfOk, IfErr, IfSome, IfNone, Some, slice_get};
 ghost use Rattle.std.specs.Result.{result_ok};
 ghost use Rattle.sbe_types.specs.declared.schema.Level.{out-Level};
 ghost use Rattle.sbe_wire.specs.Faults.{FirstFault};
 ghost use Rattle.sbe_wire.specs.Lays.{Lays};
 ghost use Rattle.schema_facts.specs.IsChecked.{IsChecked};
-ghost use Rattle.flyweight_view.specs.Heads.{template_told};
+ghost use Rattle.body_walk.specs.Heads.{template_told};
+ghost use Rattle.body_walk.specs.Refusals.{refused};
+ghost use Rattle.body_walk.specs.Walked.{message_in, IsWalked};
 ghost use Rattle.flyweight_view.specs.Seen.{seen_level};
-ghost use Rattle.flyweight_view.specs.Viewed.{refused};
 
 use crate::block::BlockView;
-use crate::header::{Start, find_template, mode_of, root_of, walk_message};
-use crate::last_refusal::LastRefusal;
+use crate::plan::{Plan, Span};
+use body_walk::{LastRefusal, Refusal, Walked, walk_body};
 use layout_tables::Layout;
-use sbe_types::{Level, Path};
-use sbe_wire::{FCode, Mode};
 use std::marker::Model;
-
-/// Why a body is no message: its first faulty part in wire order.
-#[derive(Drop)]
-pub struct Refusal {
-    pub code: FCode,
-    /// The number of the message with the header's template id; none where the header names none of this schema.
-    pub template: Option<usize>,
-    /// The way to the part; empty for the root block, the header and what stands behind the message.
-    pub path: Path,
-    /// The place of the fault, counted from the body's first byte.
-    pub offset: usize,
-    /// The number that is refused, or how many bytes are wanted, there, or too many.
-    pub detail: i128,
-}
 
 /// A message that lies in a body, as lent from it.
 #[derive(Drop)]
 pub struct MsgView<'a> {
     layout: &'a Layout,
-    level: &'a Level,
     body: &'a [u8],
-    template: usize,
-    start: Start,
-    /// The number of the root's level.
-    root: usize,
-    /// How its values are read.
-    mode: Mode,
+    walked: Walked<'a>,
 }
 
 impl<'a> Model for MsgView<'a> {
@@ -57,7 +37,7 @@ impl<'a> Model for MsgView<'a> {
 
     ghost coded = { Prim.hlevel (codes, kinds.the_row.coded, groups.the_row.coded, levels.the_row.coded, values.the_row.coded, blocks.the_row.coded) };
 
-    ghost use Rattle.flyweight_view.specs.Viewed.{viewed, IsViewed};
+    ghost use Rattle.flyweight_view.specs.inner.Viewed.{viewed, IsViewed};
 
     ghost view = { viewed };
 
@@ -69,36 +49,28 @@ impl<'a> MsgView<'a> {
     pub fn template(&self) -> usize
         ensures { result ≡ self.now.message.template }
     {
-        self.template
+        self.walked.template
     }
 
     /// The version in its header.
     pub fn version(&self) -> u32
         ensures { result ≡ self.now.message.version }
     {
-        self.start.version
+        self.walked.start.version
     }
 
     /// The name of its template.
     pub fn name(&self) -> &'a [u8]
         ensures { result.now ≡ (out-Level self.now.level).name }
     {
-        self.level.name.as_slice()
+        self.walked.level.name.as_slice()
     }
 
     /// Its root's block.
     pub fn root(&self) -> BlockView<'a>
         ensures { result ≡ seen_level self.now.level self.now.message.block }
     {
-        root_of(
-            self.layout,
-            self.level,
-            self.template,
-            self.start,
-            self.root,
-            self.mode,
-            self.body,
-        )
+        root_of(self.layout, self.body, &self.walked)
     }
 
     /// The layout of its schema, which is in order.
@@ -133,40 +105,34 @@ pub fn validate<'a>(layout: &'a Layout, body: &'a [u8]) -> Result<MsgView<'a>, R
 /// Looks at a body as [`validate`] does: a view of the message that lies in it, exactly where one lies in it. Else
 /// `last` keeps its first faulty part in wire order.
 #[inline(always)]
-#[tactic(auto, using(crate::proofs::ReadyTold::ready_schema))]
 pub fn look<'a>(layout: &'a Layout, body: &'a [u8], last: &mut LastRefusal) -> Option<MsgView<'a>>
     ensures lies { IfSome result (λ view. Lays layout.now view.message body.now) }
     ensures level { IfSome result (λ view. slice_get layout.now.messages view.message.template ≡ Some view.level) }
     ensures fault { IfNone result (FirstFault layout.now last.new.fault body.now) }
     ensures template { IfNone result (last.new.template ≡ result_ok (template_told layout.now body.now)) }
 {
-    let _schema = layout.schema();
-    let named = match find_template(layout, body, &mut last.found) {
-        Some(named) => named,
-        None => {
-            last.template = None;
-            return None;
-        }
-    };
-    let level = layout.message(named.template);
-    let root = layout.root(named.template);
-    let mode = mode_of(layout, named.start.version);
-    match walk_message(layout, named.template, named.start, body, &mut last.found) {
-        Some(version) => Some(MsgView {
+    match walk_body(layout, body, last) {
+        Some(walked) => Some(MsgView {
             layout,
-            level,
             body,
-            template: named.template,
-            start: Start {
-                block: named.start.block,
-                version,
-            },
-            root,
-            mode,
+            walked,
         }),
-        None => {
-            last.template = Some(named.template);
-            None
-        }
+        None => None,
     }
+}
+
+/// The root's block of a body that is a message.
+fn root_of<'a>(layout: &'a Layout, body: &'a [u8], walked: &Walked<'a>) -> BlockView<'a>
+    requires { IsWalked layout.now body.now walked.now }
+    ensures { result ≡ seen_level walked.now.level.now (message_in layout.now body.now).block }
+{
+    let _schema = layout.schema();
+    let wide = layout.header_row().width as usize;
+    let span = Span {
+        mode: walked.mode,
+        body,
+        at: wide,
+        size: walked.start.block as usize,
+    };
+    BlockView::new(span, Plan::Level(layout, walked.root, walked.level))
 }

@@ -9,8 +9,9 @@ use Rattle.sbe_types.specs.declared.kind.Named.{Named}
 use Rattle.sbe_types.specs.declared.kind.Order.TheVariants.{Little}
 use Rattle.sbe_types.specs.Numbers.{number_of}
 use Rattle.schema_facts.specs.InOrder.{IsKindInOrder}
-use Rattle.flat_rows.specs.Codes.{first_name, byte_name, between_quotes, IsTextOf}
-use Rattle.flat_rows.proofs.Coded.{named_byte, byte_shown}
+use Rattle.flat_rows.proofs.ValidBytes.{byte_shown}
+use Rattle.json_rows.specs.Codes.{first_name, byte_name, between_quotes, IsTextOf}
+use Rattle.json_rows.proofs.Coded.{named_byte}
 use Rattle.json_values.specs.Names.{AreNamed}
 use Rattle.json_values.specs.Plain.{plain_text}
 use Rattle.json_fields.specs.Shown.{enum_shown, PrintsShown}

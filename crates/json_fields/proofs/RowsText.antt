@@ -1,7 +1,6 @@
 -- The rows of a table, printed one behind another.
-use Rattle.std.proofs.Common.{◌≡◌, ◌≤◌, ◌-◌, ℕ, ℤ, Bool, true, false, cond, List, [], ◌∷◌, ◌++◌, length, take, drop, get_or, refl, sym, ap, ◌∙◌, subst, arith, append_assoc}
-use Rattle.std.proofs.lemmas.List.{append-nil, take_rest}
-use Rattle.std.specs.List.{AllByRecursion}
+use Rattle.std.proofs.Common.{◌≡◌, ◌≤◌, ◌<◌, ◌+◌, ℕ, ℤ, Bool, true, false, cond, List, [], ◌∷◌, ◌++◌, length, map, drop, get_or, refl, sym, ap, ◌∙◌, subst, arith, append_assoc}
+use Rattle.std.proofs.lemmas.List.{append-nil}
 use Rattle.serde_json.specs.Data.{null}
 use Rattle.sbe_types.specs.declared.kind.Kind.{Kind, Leaf}
 use Rattle.sbe_types.specs.declared.kind.Order.TheVariants.{Little}
@@ -24,10 +23,10 @@ use Rattle.flat_rows.specs.declared.rows.Quick.{Quick}
 use Rattle.flat_rows.specs.Quick.{is_word, is_none, KeepsNumber, KeepsText, IsQuickNumber}
 use Rattle.flat_rows.proofs.Looks.{null_is}
 use Rattle.flat_rows.proofs.RowsJudged.{there}
-use Rattle.flat_rows.specs.declared.rows.FlatRow.{FlatRow}
-use Rattle.flat_rows.specs.Pieces.{Slot}
+use Rattle.json_rows.specs.declared.rows.TextRow.{TextRow}
+use Rattle.json_rows.specs.Pieces.{Slot}
 use Rattle.flat_rows.specs.Judged.{bytes_there}
-use Rattle.flat_rows.specs.Tables.{AreRows}
+use Rattle.json_rows.specs.Tables.{value_of, AreTextRows, IsTextRow, TextsFit}
 use Rattle.json_fields.specs.Printed.{SlotsText}
 
 -- of all values those before the rest were printed, whichever values their bytes show
@@ -70,18 +69,20 @@ goes_over {all} {block} {O} {state} {start} {now} {next} rest last is g k known 
 
 -- ---- rows
 
-rows_end : (start n : ℕ) (rows : List FlatRow) → AreRows start n rows → start ≤ n
-rows_end start n [] h = h
-rows_end start n (r ∷ rs) h = let rest = rows_end r.end n rs h.2 in omega (arith, h.0, rest)
+-- what is known of the rows from number i on, of which this is the first
+pub record RowHere (n k i : ℕ) (rows : List TextRow) (r : TextRow) : Type 0 where
+  pub next : drop i rows ≡ r ∷ drop (i + 1) rows
+  pub text : IsTextRow n (value_of r) r
+  pub fits : r.value.end ≤ k
+  pub are : AreTextRows n (map value_of (drop (i + 1) rows)) (drop (i + 1) rows)
+  pub fit : TextsFit k (drop (i + 1) rows)
 
--- the literal before each row ends within the bytes
-pub each_end : (start n : ℕ) (rows : List FlatRow) → AreRows start n rows → AllByRecursion (λ (r : FlatRow). r.end ≤ n) rows
-each_end start n [] h = tt
-each_end start n (r ∷ rs) h = (rows_end r.end n rs h.2, each_end r.end n rs h.2)
-
--- the first row of some, and the others
-pub row_first : (rows : List FlatRow) (r : FlatRow) → 1 ≤ length rows → r ≡ get_or rows 0 r → rows ≡ r ∷ take (length rows - 1) (drop 1 rows)
-row_first rows r some is = there rows 0 r some is ∙ ap (λ rest. r ∷ rest) (sym (take_rest rows 1))
+pub row_here : (n k i : ℕ) (rows : List TextRow) (r : TextRow) → i < length rows → r ≡ get_or rows i r → AreTextRows n (map value_of (drop i rows)) (drop i rows) → TextsFit k (drop i rows) → RowHere n k i rows r
+row_here n k i rows r low is are fit =
+    let next = there rows i r low is in
+    let here = subst (λ rs. AreTextRows n (map value_of rs) rs) next are in
+    let room = subst (TextsFit k) next fit in
+    record { next = next; text = here.0; fits = room.0; are = here.1; fit = room.1 }
 
 -- ---- numbers
 

@@ -5,7 +5,7 @@ use Rattle.sbe_types.specs.declared.message.Value.{Value}
 use Rattle.sbe_types.specs.Shows.{Shows}
 use Rattle.json_values.specs.Values.{value_data}
 use Rattle.json_values.specs.Plain.{shown_text}
-use Rattle.flat_rows.specs.Pieces.{Piece, literal, shown, Slot, Joined}
+use Rattle.json_rows.specs.Pieces.{Piece, literal, shown, Slot, Joined}
 use Rattle.flat_rows.specs.Judged.{bytes_there}
 
 -- the text of pieces: a literal as it is, and a value as its bytes show it

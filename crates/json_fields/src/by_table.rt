@@ -1,5 +1,5 @@
 // The fields of a block, printed by the rows of their table.
-ghost use Rattle.std.specs.Prelude.{◌≡◌, ◌≤◌, ℕ, Bool, List, if◌then◌else◌, length};
+ghost use Rattle.std.specs.Prelude.{◌≡◌, ◌≤◌, ℕ, Bool, List, if◌then◌else◌, length, true};
 ghost use Rattle.serde_json.specs.Data.{null};
 ghost use Rattle.sbe_types.specs.declared.kind.Order.TheVariants.{Little};
 ghost use Rattle.sbe_types.specs.Places.{width};
@@ -9,68 +9,81 @@ ghost use Rattle.json_values.specs.Plain.{plain_text};
 ghost use Rattle.json_fields.specs.Shown.{PrintsShown};
 ghost use Rattle.printers.specs.Prints.{Prints};
 ghost use Rattle.flat_rows.specs.Judged.{bytes_there};
-ghost use Rattle.flat_rows.specs.Quick.{is_none, KeepsText};
-ghost use Rattle.flat_rows.specs.Tables.{stands_for, IsRow, IsTable, RowsFit};
+ghost use Rattle.flat_rows.specs.Quick.{is_none, is_word, KeepsNumber, KeepsText};
+ghost use Rattle.flat_rows.specs.Tables.{IsRow};
+ghost use Rattle.json_rows.specs.Codes.{AreCodes};
+ghost use Rattle.json_rows.specs.Tables.{values_of, with_texts, IsTextTable, TextsFit};
 ghost use Rattle.json_fields.specs.Printed.{JoinedText};
 
 use crate::kinds::{put_listed, put_shown, put_text_in};
-use flat_rows::{FlatRow, FlatRows, Look, Quick, is_none, number_in, text_of_code};
+use flat_rows::{FlatRow, Look, Quick, is_none, number_in};
+use json_rows::{Codes, TextRow, TextRows, text_of_code};
 use json_values::{put_null, put_small_number};
 use printers::Printer;
 use sbe_base::Sink;
 use sbe_types::{Kind, Order, Prim, get_num};
 
-/// Prints the values of a block by their table, each behind what stands before it, and then what stands behind the last
-/// one. Numbers have the lowest byte first.
-pub fn put_rows<O: Sink>(printer: &mut Printer<'_, O>, table: &FlatRows, block: &[u8])
-    requires table { IsTable table.now }
-    requires fits { RowsFit (length block.now) table.now.rows.items }
-    ensures { (known : Bool) (text : List ℕ) → JoinedText Little known (stands_for table.now) block.now text
+/// Prints the values of a block by their table, each after the text before it, and then the text after the last one. Numbers
+/// have the lowest byte first.
+pub fn put_rows<O: Sink>(printer: &mut Printer<'_, O>, table: &TextRows, block: &[u8])
+    requires table { IsTextTable (values_of table.now) table.now }
+    requires fits { TextsFit (length block.now) table.now.rows.items }
+    ensures { (known : Bool) (text : List ℕ) → JoinedText Little known (with_texts (values_of table.now) table.now) block.now text
         → Prints O.state printer.old printer.new text }
 {
-    let mut start = 0;
-    let mut left = table.rows.as_slice();
-    'rows: while let [row, rest @ ..] = left {
-        let end = row.end as usize;
-        printer.put_lead(table.bytes.as_slice(), start, end - start);
+    for row in table.rows.as_slice() {
+        let start = row.start as usize;
+        printer.put_lead(table.bytes.as_slice(), start, row.end as usize - start);
         put_row(printer, row, block);
-        start = end;
-        left = rest;
     }
-    printer.put(&table.bytes[start..]);
+    printer.put(&table.bytes[table.last as usize..]);
 }
 
 /// Prints the value of a row.
 #[inline(always)]
-fn put_row<O: Sink>(printer: &mut Printer<'_, O>, row: &FlatRow, block: &[u8])
-    requires row { IsRow row.now }
-    requires fits { row.now.behind ≤ length block.now }
-    ensures { PrintsShown Little row.now.kind (bytes_there row.now.kind row.now.place block.now) (Prints O.state printer.old printer.new) }
+fn put_row<O: Sink>(printer: &mut Printer<'_, O>, row: &TextRow, block: &[u8])
+    requires row { IsRow row.now.value }
+    requires codes { AreCodes row.now.codes row.now.value.kind }
+    requires fits { row.now.value.end ≤ length block.now }
+    ensures { PrintsShown Little row.now.value.kind (bytes_there row.now.value.kind row.now.value.place block.now) (Prints O.state printer.old printer.new) }
 {
-    let bytes = &block[row.place as usize..row.behind as usize];
-    put_value(printer, row, bytes);
+    let value = &row.value;
+    match value.quick.look {
+        Look::I8 => put_number(printer, value, Prim::I8, block),
+        Look::I16 => put_number(printer, value, Prim::I16, block),
+        Look::I32 => put_number(printer, value, Prim::I32, block),
+        Look::I64 => put_number(printer, value, Prim::I64, block),
+        Look::U8 => put_number(printer, value, Prim::U8, block),
+        Look::U16 => put_number(printer, value, Prim::U16, block),
+        Look::U32 => put_number(printer, value, Prim::U32, block),
+        Look::Text => put_row_text(printer, value, bytes_of(value, block)),
+        Look::Enum => put_row_name(printer, value, &row.codes, bytes_of(value, block)),
+        Look::Other => put_by_kind(printer, &value.kind, bytes_of(value, block)),
+    }
 }
 
-/// Prints the value that the bytes of a row show.
+/// The bytes of a row.
 #[inline(always)]
-fn put_value<O: Sink>(printer: &mut Printer<'_, O>, row: &FlatRow, bytes: &[u8])
+fn bytes_of<'b>(row: &FlatRow, block: &'b [u8]) -> &'b [u8]
     requires row { IsRow row.now }
-    requires wide { length bytes.now ≡ width row.now.kind }
-    ensures { PrintsShown Little row.now.kind bytes.now (Prints O.state printer.old printer.new) }
+    requires fits { row.now.end ≤ length block.now }
+    ensures value { result.now ≡ bytes_there row.now.kind row.now.place block.now }
+    ensures wide { length result.now ≡ width row.now.kind }
 {
-    let quick = &row.quick;
-    match quick.look {
-        Look::I8 => put_word(printer, quick, number_in(Prim::I8, bytes)),
-        Look::I16 => put_word(printer, quick, number_in(Prim::I16, bytes)),
-        Look::I32 => put_word(printer, quick, number_in(Prim::I32, bytes)),
-        Look::I64 => put_word(printer, quick, number_in(Prim::I64, bytes)),
-        Look::U8 => put_word(printer, quick, number_in(Prim::U8, bytes)),
-        Look::U16 => put_word(printer, quick, number_in(Prim::U16, bytes)),
-        Look::U32 => put_word(printer, quick, number_in(Prim::U32, bytes)),
-        Look::Text => put_row_text(printer, row, bytes),
-        Look::Enum => put_row_name(printer, row, bytes),
-        Look::Other => put_by_kind(printer, &row.kind, bytes),
-    }
+    &block[row.place as usize..row.end as usize]
+}
+
+/// Prints a number of this primitive, or null.
+#[inline(always)]
+fn put_number<O: Sink>(printer: &mut Printer<'_, O>, row: &FlatRow, prim: Prim, block: &[u8])
+    requires row { IsRow row.now }
+    requires fits { row.now.end ≤ length block.now }
+    requires word { is_word prim ≡ true }
+    requires number { KeepsNumber prim row.now.quick row.now.kind }
+    ensures { PrintsShown Little row.now.kind (bytes_there row.now.kind row.now.place block.now) (Prints O.state printer.old printer.new) }
+{
+    let n = number_in(prim, bytes_of(row, block));
+    put_word(printer, &row.quick, n);
 }
 
 /// Prints a text.
@@ -91,13 +104,14 @@ fn put_row_text<O: Sink>(printer: &mut Printer<'_, O>, row: &FlatRow, bytes: &[u
 
 /// Prints an enum's value.
 #[inline(always)]
-fn put_row_name<O: Sink>(printer: &mut Printer<'_, O>, row: &FlatRow, bytes: &[u8])
+fn put_row_name<O: Sink>(printer: &mut Printer<'_, O>, row: &FlatRow, codes: &Codes, bytes: &[u8])
     requires row { IsRow row.now }
+    requires codes { AreCodes codes.now row.now.kind }
     requires wide { length bytes.now ≡ width row.now.kind }
     ensures { PrintsShown Little row.now.kind bytes.now (Prints O.state printer.old printer.new) }
 {
     if bytes.len() == 1 {
-        if let Some((text, run)) = text_of_code(row, bytes[0]) {
+        if let Some((text, run)) = text_of_code(codes, bytes[0]) {
             printer.put_front(text, run, b"", b"");
             return;
         }

@@ -127,7 +127,6 @@ pushed_grown around a b dim level of p =
       floor_is = p.this.floor_is;
       groups = p.this.groups;
       parts = p.this.parts;
-      keys = p.this.keys;
       flat_is = p.this.flat_is;
       end = p.this.end ∙ ap (λ n. length a + n) long;
     } in

@@ -2,4 +2,3 @@ pub mod Counters
 pub mod Grows
 pub mod Ids
 pub mod DataParts
-pub mod KeyRows

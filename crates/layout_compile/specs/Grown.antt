@@ -10,7 +10,6 @@ use Rattle.schema_facts.specs.InOrder.{IsKindInOrder}
 use Rattle.schema_facts.specs.Levels.{Node, nodes, nodes_of}
 use Rattle.schema_facts.specs.Measured.{IsMeasuredLevel}
 use Rattle.layout_tables.specs.Flats.{IsFlat}
-use Rattle.layout_tables.specs.Keys.{names_of, KeysAre}
 use Rattle.layout_tables.specs.Rowed.{RowIs, FieldsAre, newest_of, part_row}
 
 -- the kinds of fields are in order
@@ -50,7 +49,6 @@ pub record LevelIs (around : Around) (n : ℕ) (level : Level) (row : LevelRow) 
   pub floor_is : row.floor ≡ floor row.newest (out-Level level).fields
   pub groups : row.groups ≡ length (out-Level level).groups
   pub parts : row.parts.items ≡ map part_row (out-Level level).parts
-  pub keys : KeysAre (names_of level) row.keys
   pub flat_is : IsFlat level row.flat
   pub end : row.end ≡ n + length (nodes around.template None level)
 

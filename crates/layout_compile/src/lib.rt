@@ -2,7 +2,6 @@
 #![tactic(auto)]
 
 mod flats;
-mod keys;
 mod numbers;
 mod tables;
 mod templates;

@@ -13,7 +13,6 @@ ghost use Rattle.layout_compile.specs.Grown.{Grown, LevelIs, Pushed, AreInOrder,
 ghost use Rattle.layout_tables.specs.Tables.{AreTables};
 
 use crate::flats::level_flat;
-use crate::keys::keys_of;
 use crate::numbers::{firsts_of, places_of};
 use crate::templates::ids_of;
 use flat_rows::{begin_of, end_behind, end_of};
@@ -264,7 +263,6 @@ fn level_row(alloc: Global, around: Around, n: usize, level: &Level) -> Result<L
 {
     let fields = field_rows(alloc, level.fields.as_slice())?;
     let parts = part_rows(alloc, level.parts.as_slice())?;
-    let keys = keys_of(alloc, level)?;
     let flat = level_flat(alloc, level)?;
     let Some(many) = count_level(level) else {
         return Err(NoMem);
@@ -285,7 +283,6 @@ fn level_row(alloc: Global, around: Around, n: usize, level: &Level) -> Result<L
         dim: around.dim,
         fields,
         parts,
-        keys,
         flat,
     })
 }

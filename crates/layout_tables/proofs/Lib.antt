@@ -8,8 +8,6 @@ pub mod Counts
 pub mod DataParts
 pub mod GroupWalk
 pub mod LeastRows
-pub mod PathParts
-pub mod PathSteps
-pub mod KeyRows
+pub mod PartNames
 pub mod Computing
 pub mod Small

@@ -1,10 +1,9 @@
 pub mod Paths
-pub mod Keys
+pub mod Names
 pub mod Rowed
 pub mod Flats
 pub mod Parts
 pub mod Heads
 pub mod Least
 pub mod Tables
-pub mod Walks
 pub mod Rows

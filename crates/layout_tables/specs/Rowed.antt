@@ -17,7 +17,6 @@ use Rattle.layout_tables.specs.declared.rows.PartRow.{PartRow}
 use Rattle.layout_tables.specs.declared.rows.LevelRow.{LevelRow}
 use Rattle.schema_facts.specs.Levels.{Node, all_nodes, nodes}
 use Rattle.layout_tables.specs.Flats.{IsFlat}
-use Rattle.layout_tables.specs.Keys.{names_of, KeysAre}
 use Rattle.schema_facts.specs.Measured.{IsCounter}
 
 -- the spot that a row tells
@@ -106,7 +105,6 @@ pub record RowIs (n : ℕ) (row : LevelRow) (node : Node) : Type 0 where
   pub floor_is : row.floor ≡ floor row.newest (out-Level node.level).fields
   pub groups : row.groups ≡ length (out-Level node.level).groups
   pub parts : row.parts.items ≡ map part_row (out-Level node.level).parts
-  pub keys : KeysAre (names_of node.level) row.keys
   pub flat_is : IsFlat node.level row.flat
   pub end : row.end ≡ n + length (nodes node.template node.dim node.level)
 

@@ -15,7 +15,7 @@ ghost use Rattle.schema_facts.specs.Counted.{count_in};
 ghost use Rattle.schema_facts.specs.Entries.{entry_least};
 ghost use Rattle.schema_facts.specs.IsChecked.{IsChecked};
 ghost use Rattle.schema_facts.specs.Levels.{fields_at, groups_at, parts_at};
-ghost use Rattle.layout_tables.specs.Keys.{names_at};
+ghost use Rattle.layout_tables.specs.Names.{names_at};
 ghost use Rattle.layout_tables.specs.Parts.{parts_in_all};
 ghost use Rattle.sbe_types.specs.declared.schema.Group.{out-Group};
 ghost use Rattle.std.specs.Option.{option_map, IsSome};

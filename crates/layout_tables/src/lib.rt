@@ -8,15 +8,12 @@ mod kinds;
 pub mod laws;
 mod layout;
 mod parts;
-mod paths;
 mod rows;
 pub mod worked;
 
 pub use heads::{number_at, small_number};
 pub use kinds::member_place;
 pub use layout::{Layout, of_tables};
-pub use paths::level_name;
 pub use rows::{
-    DimRow, FieldRow, HeaderRow, KeyRow, KeyTable, LevelRow, PartPlace, PartRow, SpotRow, Tables,
-    floor_of,
+    DimRow, FieldRow, HeaderRow, LevelRow, PartPlace, PartRow, SpotRow, Tables, floor_of,
 };

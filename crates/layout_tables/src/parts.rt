@@ -1,12 +1,10 @@
 // What a layout tells of a level's parts, out of the schema.
-ghost use Rattle.std.specs.Prelude.{◌≡◌, ◌<◌, ◌≤◌, ◌-◌, length, take, drop, slice_get, Some};
+ghost use Rattle.std.specs.Prelude.{◌≡◌, ◌<◌, length, slice_get, Some};
 ghost use Rattle.std.specs.Option.{option_map};
 ghost use Rattle.sbe_types.specs.declared.schema.Level.{out-Level};
-ghost use Rattle.layout_tables.specs.Keys.{names_at, key_text};
 ghost use Rattle.schema_facts.specs.Levels.{all_nodes, fields_at, groups_at, parts_at, level_at};
 
 use crate::layout::Layout;
-use crate::rows::KeyRow;
 use sbe_types::{DataField, Field, Group, Kind};
 
 impl Layout {
@@ -45,25 +43,14 @@ impl Layout {
         self.level(level).parts.as_slice()
     }
 
-    /// The key of part `i` of a level in a line of JSON, the quoted name and a colon; its fields count first, then
-    /// its groups, then its data. It needs both in range.
-    pub fn key(&self, level: usize, i: usize) -> &[u8]
-        requires level { level < length (all_nodes self.now) }
-        requires part { i < length (names_at self.now level) }
-        ensures { option_map key_text (slice_get (names_at self.now level) i) ≡ Some result.now }
-    {
-        let keys = &self.row(level).keys;
-        key_in(keys.bytes.as_slice(), keys.rows[i])
-    }
-
     /// The name of field `i` of a level. It needs both in range.
+    #[tactic(auto, using(crate::proofs::Told::item_of))]
     pub fn field_name(&self, level: usize, i: usize) -> &[u8]
         requires level { level < length (all_nodes self.now) }
         requires field { i < length (fields_at self.now level) }
         ensures { option_map (λ f. f.name) (slice_get (fields_at self.now level) i) ≡ Some result.now }
     {
-        let key = self.key(level, i);
-        &key[1..key.len() - 2]
+        self.fields(level)[i].name.as_slice()
     }
 
     /// The kind of field `i` of a level. It needs both in range.
@@ -75,13 +62,4 @@ impl Layout {
     {
         &self.fields(level)[i].kind
     }
-}
-
-/// The key that a row tells.
-fn key_in(bytes: &[u8], row: KeyRow) -> &[u8]
-    requires ordered { row.start ≤ row.end }
-    requires within { row.end ≤ length bytes.now }
-    ensures { result.now ≡ take (row.end - row.start) (drop row.start bytes.now) }
-{
-    &bytes[row.start as usize..row.end as usize]
 }

@@ -65,20 +65,6 @@ pub struct PartPlace {
     pub part: u32,
 }
 
-/// Where a key stands in the bytes of its table: from `start` on, up to `end`.
-#[derive(Clone, Copy)]
-pub struct KeyRow {
-    pub start: u32,
-    pub end: u32,
-}
-
-/// The keys of a level's parts, one behind another in one run of bytes.
-#[derive(Drop)]
-pub struct KeyTable {
-    pub bytes: Vec<u8>,
-    pub rows: Vec<KeyRow>,
-}
-
 /// A level. The levels of its groups come right behind it, each with those of its own groups.
 #[derive(Drop)]
 pub struct LevelRow {
@@ -99,9 +85,7 @@ pub struct LevelRow {
     pub dim: Option<DimRow>,
     pub fields: Vec<FieldRow>,
     pub parts: Vec<PartRow>,
-    /// The keys of its fields, groups and data.
-    pub keys: KeyTable,
-    /// Its fields as values, with what stands between and around them in each line of JSON.
+    /// The values of its block, composites opened, in wire order.
     pub flat: FlatRows,
 }
 

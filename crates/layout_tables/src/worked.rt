@@ -1,12 +1,12 @@
 //! The definitions, computed on a worked schema.
 
-ghost use Rattle.std.specs.Prelude.{◌≡◌, ◌+◌, Some, None, [], ◌∷◌, codes, option_map, slice_get};
+ghost use Rattle.std.specs.Prelude.{◌≡◌, ◌+◌, Some, None, [], ◌∷◌, codes, slice_get};
 ghost use Rattle.sbe_types.specs.Places.{field_place};
 ghost use Rattle.sbe_wire.specs.Versions.{floor};
 ghost use Rattle.schema_facts.specs.Entries.{entry_least};
 ghost use Rattle.schema_facts.specs.Levels.{root_of};
 ghost use Rattle.layout_tables.specs.Heads.{header_number};
-ghost use Rattle.layout_tables.specs.Keys.{key_text, names_at};
+ghost use Rattle.layout_tables.specs.Names.{names_at};
 ghost use Rattle.layout_tables.specs.Parts.{group_number, part_number};
 ghost use Rattle.layout_tables.specs.Paths.{path_found, path_text};
 ghost use Rattle.layout_tables.specs.Rowed.{newest_of};
@@ -63,11 +63,11 @@ pub fn paths_are_written_out()
     ensures nothing { path_found worked 0 to_nothing ≡ None }
 {}
 
-/// A key is the quoted name and a colon; a level's groups count behind its fields.
-pub fn keys_are_quoted()
-    ensures field { option_map key_text (slice_get (names_at worked 0) 0) ≡ Some (codes "\"side\":") }
-    ensures group { option_map key_text (slice_get (names_at worked 0) 5) ≡ Some (codes "\"legs\":") }
-    ensures data { option_map key_text (slice_get (names_at worked 0) 7) ≡ Some (codes "\"memo\":") }
+/// A level's groups count after its fields, and then its data.
+pub fn parts_are_named_in_order()
+    ensures field { slice_get (names_at worked 0) 0 ≡ Some (codes "side") }
+    ensures group { slice_get (names_at worked 0) 5 ≡ Some (codes "legs") }
+    ensures data { slice_get (names_at worked 0) 7 ≡ Some (codes "memo") }
 {}
 
 /// The schema id is read from a whole header alone.

@@ -25,9 +25,9 @@ use Rattle.var_data.specs.declared.data.DataErr.{DataErr}
 use Rattle.var_data.specs.declared.data.DataErr.TheVariants as bad
 use Rattle.var_data.specs.Ranges.{data_range}
 use Rattle.sbe_wire.specs.declared.mode.Mode.{Mode}
-use Rattle.flyweight_view.specs.Cursor.{placed, skim, steps_told, parts_told, data_told, range_answer, dim_told}
-use Rattle.flyweight_view.proofs.Cursor.{Leaves, at_if, at_all, leaves_then, leaves_nothing, leaves_judged, leaves_bytes, leaves_times, leaves_each, skim_then, skim_made, skim_nothing, skim_judged, times_walked}
-use Rattle.flyweight_view.proofs.Walks.{data_leaves, parts_walked}
+use Rattle.body_walk.specs.inner.Cursor.{placed, skim, steps_told, parts_told, data_told, range_answer, dim_told}
+use Rattle.body_walk.proofs.Cursor.{Leaves, at_if, at_all, leaves_then, leaves_nothing, leaves_judged, leaves_bytes, leaves_times, leaves_each, skim_then, skim_made, skim_nothing, skim_judged, times_walked}
+use Rattle.body_walk.proofs.Walks.{data_leaves, parts_walked}
 use Rattle.level_skip.specs.Passing.{passed, entry_passed, tail_passed, groups_passed, group_passed}
 use Rattle.level_skip.specs.Behind.{behind, bytes_behind, steps_behind, groups_behind, part_behind, parts_behind}
 

@@ -19,12 +19,12 @@ use Rattle.sbe_wire.specs.Versions.{is_alive, floor, form_of}
 use Rattle.sbe_wire.specs.Reading.{Reader, ◌>>=◌, later, inside, and_then, then_read, nothing, and_judged, read_judged, bytes_read, read_in, times_read, each_read, fields_read, block_read, data_read, dimension_read, Tail, block_of, entry_read, tail_read, groups_read, group_read}
 use Rattle.std.proofs.Math.Seq.{drop-append_seam}
 use Rattle.std.specs.Result.{result_ok}
-use Rattle.flyweight_view.specs.Cursor.{placed}
+use Rattle.body_walk.specs.inner.Cursor.{placed}
 use Rattle.level_skip.specs.Behind.{behind}
 use Rattle.sbe_wire.proofs.Blocks.{entry_reads}
 use Rattle.sbe_wire.proofs.Combine.{bind_ok, later_ok, inside_ok}
 use Rattle.sbe_wire.proofs.Levels.{tail_reads, placed_fields, ignores}
-use Rattle.flyweight_view.proofs.Cursor.{snd_is}
+use Rattle.body_walk.proofs.Cursor.{snd_is}
 use Rattle.level_skip.specs.Passing.{passed, entry_passed, tail_passed, groups_passed, group_passed, level_passed}
 
 -- ---- what one reader reads, another passes over

@@ -23,9 +23,9 @@ use Rattle.layout_tables.specs.declared.rows.PartRow.{PartRow}
 use Rattle.layout_tables.specs.Rowed.{part_row}
 use Rattle.layout_tables.proofs.Items.{drop_is, item_there}
 use Rattle.var_data.proofs.DataRows.{at_each}
-use Rattle.flyweight_view.specs.Cursor.{placed, dim_told}
-use Rattle.flyweight_view.proofs.LevelsReady.{node_at}
-use Rattle.flyweight_view.proofs.Lefts.{none_there}
+use Rattle.body_walk.specs.inner.Cursor.{placed, dim_told}
+use Rattle.body_walk.proofs.LevelsReady.{node_at}
+use Rattle.body_walk.proofs.Opens.{none_there}
 use Rattle.level_skip.specs.Passing.{entry_in, tail_passed, group_passed, level_passed}
 use Rattle.level_skip.specs.Behind.{behind, bytes_behind, steps_behind, groups_behind, part_behind, parts_behind}
 use Rattle.level_skip.proofs.Ends.{entry_is, tail_is, group_is, entries_behind}

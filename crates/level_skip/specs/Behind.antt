@@ -8,7 +8,7 @@ use Rattle.sbe_wire.specs.Reading.{Reader}
 use Rattle.sbe_wire.specs.Versions.{is_alive}
 use Rattle.layout_tables.specs.declared.rows.PartRow.{PartRow}
 use Rattle.var_data.specs.Ranges.{data_range}
-use Rattle.flyweight_view.specs.Cursor.{skim}
+use Rattle.body_walk.specs.inner.Cursor.{skim}
 use Rattle.level_skip.specs.Passing.{group_passed}
 
 -- the place behind what a reader reads at a place

@@ -11,7 +11,7 @@ ghost use Rattle.schema_facts.specs.Measured.{IsSmall};
 ghost use Rattle.layout_tables.specs.Parts.{dim_at};
 ghost use Rattle.layout_tables.specs.Rowed.{DimIs};
 ghost use Rattle.group_codec.specs.Dims.{IsDimRow};
-ghost use Rattle.flyweight_view.specs.Cursor.{dim_told};
+ghost use Rattle.body_walk.specs.inner.Cursor.{dim_told};
 ghost use Rattle.level_skip.specs.Passing.{entry_in, group_passed, level_passed};
 ghost use Rattle.level_skip.specs.Behind.{behind, bytes_behind, groups_behind, part_behind, parts_behind, steps_behind};
 

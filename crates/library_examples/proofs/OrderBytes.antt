@@ -22,9 +22,9 @@ use Rattle.schema_facts.specs.Levels.{fields_at, fields_in, groups_in, level_at,
 use Rattle.layout_tables.specs.Parts.{dim_at}
 use Rattle.layout_tables.proofs.GroupWalk.{group_is, groups_begin}
 use Rattle.layout_tables.proofs.Items.{item_there}
-use Rattle.flyweight_view.specs.Ready.{IsReadySchema}
-use Rattle.flyweight_view.proofs.Bodies.{root_level}
-use Rattle.flyweight_view.proofs.Opens.{child_here, item_at, level_within}
+use Rattle.body_walk.specs.inner.Ready.{IsReadySchema}
+use Rattle.body_walk.proofs.Bodies.{root_level}
+use Rattle.body_walk.proofs.Opens.{child_here, item_at, level_within}
 use Rattle.typed_writer.specs.declared.stack.Frame.{Frame}
 use Rattle.typed_writer.specs.declared.stack.Frame.TheVariants.{Tail}
 use Rattle.typed_writer.specs.Empty.{behind, empty_block}

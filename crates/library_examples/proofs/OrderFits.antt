@@ -31,8 +31,8 @@ use Rattle.writing_laws.specs.Writable.{AreWritableFields, AreWritableGroups, Is
 use Rattle.writing_laws.proofs.KindFits.{kind_fits}
 use Rattle.writing_laws.proofs.Refusals.{in_none, or_none, some_none}
 use Rattle.writable_schemas.proofs.CheckedSchemas.{schema_writable}
-use Rattle.flyweight_view.specs.Ready.{IsReadySchema}
-use Rattle.flyweight_view.proofs.Opens.{item_at, level_within}
+use Rattle.body_walk.specs.inner.Ready.{IsReadySchema}
+use Rattle.body_walk.proofs.Opens.{item_at, level_within}
 use Rattle.kind_bytes.specs.Misfits.{field_misfit}
 use Rattle.typed_writer.specs.declared.stack.Frame.{Frame}
 use Rattle.typed_writer.specs.declared.stack.Frame.TheVariants.{Tail}

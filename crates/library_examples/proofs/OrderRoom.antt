@@ -15,7 +15,7 @@ use Rattle.sbe_types.specs.declared.message.GroupVal.{GroupVal}
 use Rattle.sbe_types.specs.declared.message.GroupVal.TheVariants as groupval
 use Rattle.sbe_wire.specs.Canonical.{entries_in}
 use Rattle.layout_tables.specs.Parts.{dim_at}
-use Rattle.flyweight_view.proofs.Opens.{item_at}
+use Rattle.body_walk.proofs.Opens.{item_at}
 use Rattle.std.specs.Option.{option_map}
 use Rattle.std.proofs.lemmas.List.{length-map}
 use Rattle.sbe_types.specs.declared.schema.Level.{Level, out-Level}
@@ -23,7 +23,7 @@ use Rattle.sbe_types.specs.declared.schema.WireSchema.{WireSchema}
 use Rattle.sbe_types.specs.Places.{is_const}
 use Rattle.sbe_wire.specs.Misfit.{Taken, ◌then◌, each_taken, fields_misfit, misfit, part_taken, parts_taken, refusal_of, tail_taken, taken_in, value_misfit}
 use Rattle.schema_facts.specs.Levels.{fields_in, groups_in, level_at, parts_in, root_of}
-use Rattle.flyweight_view.specs.Ready.{IsReadySchema}
+use Rattle.body_walk.specs.inner.Ready.{IsReadySchema}
 use Rattle.typed_writer.specs.declared.states.StartErr.{StartErr}
 use Rattle.typed_writer.specs.declared.states.TailErr.{TailErr}
 use Rattle.typed_writer.specs.declared.stack.Frame.{Frame}

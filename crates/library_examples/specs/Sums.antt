@@ -13,7 +13,7 @@ use Rattle.sbe_wire.specs.Faults.{FirstFault}
 use Rattle.sbe_wire.specs.Lays.{Lays}
 use Rattle.field_values.specs.Told.{number_in}
 use Rattle.flyweight_view.specs.Seen.{Seen, seen_level, group_seen}
-use Rattle.flyweight_view.specs.Viewed.{refused}
+use Rattle.body_walk.specs.Refusals.{refused}
 use Rattle.library_examples.specs.declared.sums.SumErr.{SumErr}
 use Rattle.library_examples.specs.declared.sums.SumErr.TheVariants.{Refused, Over}
 

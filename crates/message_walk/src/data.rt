@@ -29,7 +29,8 @@ fn put_raw(
     requires { out.old.phase ≡ Open }
     ensures open { out.new.phase ≡ Open }
     ensures put { (lists : TagLists) (leaf : Leaf) → length_in lead.now lists.lengths ≡ Some length_lead.now
-        → IsPut lists out.old lead.now (text_by (raw_data leaf) (value_seen (option_map (λ b. b.now) found.entry))) (record { put = result; draft = out.new; halt = halt.new }) }
+        → IsPut lists out.old lead.now (text_by (raw_data leaf) (value_seen (option_map (λ b. b.now) found.entry)))
+        (record { put = result; draft = out.new; halt = halt.new }) }
 {
     match found {
         None => Put::Nothing,
@@ -48,7 +49,8 @@ fn put_passage(lead: &Lead, found: Option<&[u8]>, out: &mut FixWriter, halt: &mu
     requires { out.old.phase ≡ Open }
     ensures open { out.new.phase ≡ Open }
     ensures put { (lists : TagLists) (leaf : Leaf) → length_in lead.now lists.lengths ≡ None
-        → IsPut lists out.old lead.now (text_by (text_data leaf) (value_seen (option_map (λ b. b.now) found.entry))) (record { put = result; draft = out.new; halt = halt.new }) }
+        → IsPut lists out.old lead.now (text_by (text_data leaf) (value_seen (option_map (λ b. b.now) found.entry)))
+        (record { put = result; draft = out.new; halt = halt.new }) }
 {
     match found {
         None => Put::Nothing,
@@ -90,9 +92,11 @@ pub(crate) fn put_data(
     requires { out.old.phase ≡ Open }
     ensures open { out.new.phase ≡ Open }
     ensures raw { (own : ℕ) (lists : TagLists) (leaf : Leaf) → length_lead.now ≡ Some own → length_in lead.now lists.lengths ≡ Some own
-        → IsPut lists out.old lead.now (text_by (raw_data leaf) (value_seen (option_map (λ b. b.now) found.entry))) (record { put = result; draft = out.new; halt = halt.new }) }
+        → IsPut lists out.old lead.now (text_by (raw_data leaf) (value_seen (option_map (λ b. b.now) found.entry)))
+        (record { put = result; draft = out.new; halt = halt.new }) }
     ensures passage { (lists : TagLists) (leaf : Leaf) → length_lead.now ≡ None → length_in lead.now lists.lengths ≡ None
-        → IsPut lists out.old lead.now (text_by (text_data leaf) (value_seen (option_map (λ b. b.now) found.entry))) (record { put = result; draft = out.new; halt = halt.new }) }
+        → IsPut lists out.old lead.now (text_by (text_data leaf) (value_seen (option_map (λ b. b.now) found.entry)))
+        (record { put = result; draft = out.new; halt = halt.new }) }
 {
     match length_lead {
         Some(length_lead) => put_raw(length_lead, lead, found, out, halt),

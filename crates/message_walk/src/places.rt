@@ -23,7 +23,8 @@ pub(crate) fn has_field(block: &BlockView<'_>, number: usize) -> bool
 /// The data of that number, none where it is absent.
 #[tactic(auto, using(crate::proofs::Nth::data_seen))]
 pub(crate) fn data_at<'a>(block: &BlockView<'a>, number: usize) -> Option<&'a [u8]>
-    ensures { number < length block.now.parts → value_seen (option_map (λ b. b.now) result) ≡ data_value (nth_or dataval.Absent number (out-Block block.now.block).parts) }
+    ensures { number < length block.now.parts
+        → value_seen (option_map (λ b. b.now) result) ≡ data_value (nth_or dataval.Absent number (out-Block block.now.block).parts) }
 {
     let (_, _, count) = block.counts();
     if number >= count {

@@ -44,7 +44,8 @@ pub trait PutValue {
         requires open { out.old.phase ≡ Open }
         requires field { number < length block.now.fields }
         ensures open { out.new.phase ≡ Open }
-        ensures put { (lists : TagLists) (rule : Rule) → length_in lead.now lists.lengths ≡ None → spells self.now rule → IsForField rule number block.now.fields
+        ensures put { (lists : TagLists) (rule : Rule) → length_in lead.now lists.lengths ≡ None → spells self.now rule
+            → IsForField rule number block.now.fields
             → IsPut lists out.old lead.now (text_by rule (field_of block.now number)) (record { put = result; draft = out.new; halt = halt.new }) };
 }
 

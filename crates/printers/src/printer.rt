@@ -67,16 +67,18 @@ impl<'a, O: Sink> Printer<'a, O> {
         requires { start + run ≤ length text.now }
         ensures { Prints O.state self.old self.new (take run (drop start text.now)) }
     {
-        if start + SHORT_LEAD_BYTES > text.len() {
-            self.put_apart(&text[start..start + run]);
-        } else if run <= SHORT_LEAD_BYTES && self.chunk.len() + SHORT_LEAD_BYTES <= CHUNK_BYTES {
+        if run > SHORT_LEAD_BYTES {
+            self.put_long_lead(text, start, run);
+        } else if start + SHORT_LEAD_BYTES <= text.len()
+            && self.chunk.len() + SHORT_LEAD_BYTES <= CHUNK_BYTES
+        {
             self.chunk.add_lead::<SHORT_LEAD_BYTES>(text, start, run);
         } else {
-            self.put_long_lead(text, start, run);
+            self.put_apart(&text[start..start + run]);
         }
     }
 
-    /// Prints `run` bytes of a text, which are more than a few, or come where the chunk is nearly full.
+    /// Prints `run` bytes of a text, which are more than a few.
     #[inline(always)]
     fn put_long_lead(&mut self, text: &[u8], start: usize, run: usize)
         requires { start + run ≤ length text.now }

@@ -8,10 +8,11 @@ use crate::schema_file::load_checked;
 use command_words::{Name, NameList};
 use dump_lines::Schemas;
 use layout_compile::compile;
-use layout_tables::Layout;
+use lists::NoMem;
 use sbe_base::Files;
 use schema_check::Checked;
 use std::alloc::Global;
+use tree_json::LineLayout;
 
 /// The schemas of a file and of further ones, loaded and judged in this order.
 pub fn load_schemas<F: Files>(
@@ -31,10 +32,10 @@ pub fn load_schemas<F: Files>(
         Ok(first) => first,
         Err(stop) => return Err(stop.of(FileRole::Schema)),
     };
-    let Ok(layout) = compile(alloc, &first) else {
+    let Ok(lines) = line_layout(alloc, &first) else {
         return Err(JobStop::NoMemory);
     };
-    let schemas = Schemas::new(alloc, layout);
+    let schemas = Schemas::new(alloc, lines);
     load_also(alloc, &first, schemas, also.as_slice(), files)
 }
 
@@ -75,7 +76,7 @@ fn load_joining<F: Files>(
     schemas: &Schemas,
     name: &str,
     files: &mut F,
-) -> Result<Layout, LoadStop>
+) -> Result<LineLayout, LoadStop>
     requires { first.now ≡ schemas.now.first }
     ensures kept { (F.state files.new).told ≡ (F.state files.old).told }
     ensures loads { LoadsJoining (F.state files.old).told schemas.now name.now result }
@@ -92,8 +93,15 @@ fn load_joining<F: Files>(
     if !first.same_form(&checked) {
         return Err(LoadStop::Refused(FileRefusal::FormDiffers));
     }
-    match compile(alloc, &checked) {
-        Ok(layout) => Ok(layout),
+    match line_layout(alloc, &checked) {
+        Ok(lines) => Ok(lines),
         Err(_) => Err(LoadStop::NoMemory),
     }
+}
+
+/// The layout of a checked schema with the texts of its lines.
+fn line_layout(alloc: Global, checked: &Checked) -> Result<LineLayout, NoMem>
+    ensures { IfOk result (λ lines. lines ≡ checked.now) }
+{
+    LineLayout::new(alloc, compile(alloc, checked)?)
 }

@@ -66,21 +66,8 @@ fn add_level(
         layout.min_entry(level, 2)
     );
     add(out, line)?;
-    add_keys(out, layout, level)?;
     add_fields(alloc, out, layout, level)?;
     add_parts(alloc, out, layout, level)
-}
-
-#[tactic(auto, using(layout_tables::proofs::KeyRows::names_all))]
-fn add_keys(out: &mut String, layout: &Layout, level: usize) -> Result<(), AllocError>
-    requires { level < length (all_nodes layout.now) }
-{
-    let (fields, groups, parts) = layout.counts(level);
-    out.push_str("  keys ")?;
-    for i in 0..fields.saturating_add(groups).saturating_add(parts) {
-        out.push_str(shown(layout.key(level, i)))?;
-    }
-    out.push_str("\n")
 }
 
 fn add_fields(

@@ -10,8 +10,7 @@ use Rattle.sbe_types.specs.declared.message.Block.{Block}
 use Rattle.sbe_types.specs.declared.message.GroupVal.{GroupVal, items-the_row-Block}
 use Rattle.sbe_types.specs.declared.message.GroupVal as groupval
 use Rattle.schema_facts.specs.CheckedLevels.{groups_deep, row_deep}
-use Rattle.flyweight_view.specs.Seen.{Seen, seen_level, entries_in}
-use Rattle.flyweight_view.specs.Lefts.{groups_seen}
+use Rattle.flyweight_view.specs.Seen.{Seen, seen_level, entries_in, groups_seen}
 use Rattle.tree_codec.specs.Trees.{deepest, deepest_in}
 
 row_is : (n : _) (row : Row_of-Group n) → deepest (items-the_row-Group n row) ≡ row_deep row

@@ -6,7 +6,7 @@ use Rattle.sbe_types.specs.declared.path.Step.{Step}
 use Rattle.sbe_types.specs.declared.path.Step.TheVariants as way
 use Rattle.sbe_types.specs.declared.schema.Field.{Field}
 use Rattle.sbe_wire.specs.Misfit.{Misfit, or_else, misfit_in, value_misfit, fields_misfit}
-use Rattle.flyweight_view.specs.Kinds.{IsReady}
+use Rattle.body_walk.specs.inner.Kinds.{IsReady}
 use Rattle.tree_codec.specs.declared.unfit.Unfit.{Unfit}
 use Rattle.tree_codec.specs.Fitting.{AreReady}
 use Rattle.tree_codec.specs.Shapes.{misfit_of}

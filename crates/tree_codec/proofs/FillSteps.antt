@@ -19,8 +19,8 @@ use Rattle.sbe_types.specs.Wire.{wire_bytes, const_bytes}
 use Rattle.sbe_wire.specs.Misfit.{misfit_in, other_kind, const_misfit, value_misfit, fields_misfit}
 use Rattle.sbe_wire.specs.Placed.{ArePlaced}
 use Rattle.schema_facts.specs.Levels.{level_at, fields_at, fields_in}
-use Rattle.flyweight_view.specs.Ready.{IsReadySchema}
-use Rattle.flyweight_view.proofs.LevelsReady.{level_ready}
+use Rattle.body_walk.specs.inner.Ready.{IsReadySchema}
+use Rattle.body_walk.proofs.LevelsReady.{level_ready}
 use Rattle.kind_bytes.specs.Misfits.{field_misfit}
 use Rattle.typed_writer.specs.Held.{Held}
 use Rattle.typed_writer.specs.States.{SetsFields, level_of, block_at}

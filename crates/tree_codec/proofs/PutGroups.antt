@@ -18,7 +18,7 @@ use Rattle.schema_facts.specs.IsChecked.{IsChecked}
 use Rattle.schema_facts.specs.Levels.{level_at, fields_at, fields_in, groups_at, groups_in}
 use Rattle.layout_tables.specs.Parts.{dim_at, group_number}
 use Rattle.flyweight_view.proofs.GroupsTold.{from_number}
-use Rattle.flyweight_view.proofs.Opens.{Child, child_here, level_within}
+use Rattle.body_walk.proofs.Opens.{Child, child_here, level_within}
 use Rattle.typed_writer.specs.declared.stack.Frame.TheVariants.{Fields, Tail, Entries}
 use Rattle.typed_writer.specs.declared.states.TailErr.{TailErr}
 use Rattle.typed_writer.specs.declared.states.TailErr.TheVariants as tail_err

@@ -29,7 +29,7 @@ use Rattle.group_codec.proofs.DimRows.{row_dim, never_none}
 use Rattle.tree_codec.specs.declared.unfit.Unfit.{Unfit}
 use Rattle.tree_codec.specs.Rooms.{dim_room, groups_room, entry_room}
 use Rattle.tree_codec.specs.Shapes.{misfit_of}
-use Rattle.flyweight_view.specs.Ready.{IsReadySchema}
+use Rattle.body_walk.specs.inner.Ready.{IsReadySchema}
 use Rattle.tree_codec.proofs.CountSmall.{count_small}
 use Rattle.sbe_types.specs.declared.message.GroupVal.{items_hidden-the_row-Block-1}
 use Rattle.sbe_types.specs.declared.message.GroupVal.TheVariants as groupval

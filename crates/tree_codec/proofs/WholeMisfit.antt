@@ -15,7 +15,7 @@ use Rattle.schema_rules.specs.PartRules.{most_groups}
 use Rattle.schema_facts.specs.CheckedLevels.{groups_deep, HasFewParts}
 use Rattle.schema_facts.specs.Levels.{Node, nodes, nodes_below, nodes_of, nodes_from}
 use Rattle.var_data.proofs.DataRows.{at_each}
-use Rattle.flyweight_view.specs.Ready.{IsReadySchema}
+use Rattle.body_walk.specs.inner.Ready.{IsReadySchema}
 use Rattle.tree_codec.specs.Shapes.{Throughout, ThroughoutRow, ThroughoutGroup}
 
 -- ---- the whole message

@@ -3,8 +3,8 @@ use Rattle.std.specs.Prelude.{◌≡◌, ℕ, List, ⊤}
 use Rattle.std.specs.Result.{result_ok}
 use Rattle.sbe_types.specs.declared.schema.WireSchema.{WireSchema}
 use Rattle.sbe_wire.specs.Faults.{FirstFault}
-use Rattle.flyweight_view.specs.Heads.{template_told}
-use Rattle.flyweight_view.specs.Viewed.{refused}
+use Rattle.body_walk.specs.Heads.{template_told}
+use Rattle.body_walk.specs.Refusals.{refused}
 use Rattle.tree_codec.specs.declared.decoding.DecodeErr.{DecodeErr}
 use Rattle.tree_codec.specs.declared.decoding.DecodeErr.TheVariants.{Refused, Memory}
 

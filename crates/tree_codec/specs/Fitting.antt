@@ -2,7 +2,7 @@
 use Rattle.std.specs.Prelude.{List}
 use Rattle.std.specs.List.{AllByRecursion}
 use Rattle.sbe_types.specs.declared.schema.Field.{Field}
-use Rattle.flyweight_view.specs.Kinds.{IsReady}
+use Rattle.body_walk.specs.inner.Kinds.{IsReady}
 
 -- the kinds of fields are in order, and their composites have few members
 abbrev pub AreReady : List Field → Type 0

@@ -1,7 +1,7 @@
 ghost use Rattle.std.specs.Prelude.{◌≡◌, [], length, Some, None, IfOk, OnOk, OnErr};
 ghost use Rattle.sbe_wire.specs.Canonical.{canonical};
 ghost use Rattle.sbe_wire.specs.Misfit.{misfit, refusal_of};
-ghost use Rattle.flyweight_view.specs.Ready.{IsReadySchema};
+ghost use Rattle.body_walk.specs.inner.Ready.{IsReadySchema};
 ghost use Rattle.tree_codec.specs.Sized.{sized};
 
 use crate::fills::fill_block;
@@ -18,7 +18,7 @@ use typed_writer::FrameBuf;
 ///
 /// The first misfit, exactly where the message has no canonical body within the buffer's limit. The buffer is then
 /// empty.
-#[tactic(auto, using(flyweight_view::proofs::ReadyTold::ready_schema))]
+#[tactic(auto, using(body_walk::proofs::ReadyTold::ready_schema))]
 pub fn encode(layout: &Layout, msg: &Msg, buf: &mut FrameBuf) -> Result<usize, EncodeErr>
     ensures told { misfit layout.now msg.now buf.old.limit ≡ refusal_of (sized result) }
     ensures written { OnOk result (canonical layout.now msg.now ≡ Some buf.new.bytes) }

@@ -4,7 +4,7 @@ ghost use Rattle.sbe_types.specs.declared.message.Block.{out-Block};
 ghost use Rattle.sbe_types.specs.declared.schema.Level.{out-Level};
 ghost use Rattle.sbe_wire.specs.Misfit.{fields_misfit};
 ghost use Rattle.schema_facts.specs.Levels.{level_at};
-ghost use Rattle.flyweight_view.specs.Ready.{IsReadySchema};
+ghost use Rattle.body_walk.specs.inner.Ready.{IsReadySchema};
 ghost use Rattle.typed_writer.specs.States.{SetsFields, level_of};
 ghost use Rattle.tree_codec.specs.Puts.{Fills, HoldsNext, task_of};
 

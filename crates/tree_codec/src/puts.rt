@@ -5,7 +5,7 @@ ghost use Rattle.sbe_types.specs.declared.schema.Level.{out-Level};
 ghost use Rattle.sbe_wire.specs.Misfit.{block_shape, each_misfit, group_shape};
 ghost use Rattle.schema_facts.specs.Levels.{groups_at, level_at};
 ghost use Rattle.layout_tables.specs.Parts.{dim_at};
-ghost use Rattle.flyweight_view.specs.Ready.{IsReadySchema};
+ghost use Rattle.body_walk.specs.inner.Ready.{IsReadySchema};
 ghost use Rattle.typed_writer.specs.declared.stack.Frame.TheVariants.{Entries as EntriesFrame, Tail as TailFrame};
 ghost use Rattle.typed_writer.specs.States.{AppendsEntries, AppendsParts, entries_left, level_of, parts_done, parts_in_tail};
 ghost use Rattle.typed_writer.specs.Steps.{next_data, next_group};

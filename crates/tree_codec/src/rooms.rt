@@ -13,7 +13,7 @@ ghost use Rattle.schema_rules.specs.PartRules.{most_groups};
 ghost use Rattle.schema_facts.specs.CheckedLevels.{groups_deep, HasFewParts};
 ghost use Rattle.schema_facts.specs.Levels.{all_nodes, level_at};
 ghost use Rattle.layout_tables.specs.Parts.{dim_at};
-ghost use Rattle.flyweight_view.specs.Ready.{IsReadySchema};
+ghost use Rattle.body_walk.specs.inner.Ready.{IsReadySchema};
 ghost use Rattle.tree_codec.specs.Fitting.{AreReady};
 ghost use Rattle.tree_codec.specs.Rooms.{dim_room, entry_room, groups_room, went};
 

@@ -1,7 +1,7 @@
 ghost use Rattle.std.specs.Prelude.{◌≡◌, ◌≤◌, ◌*◌, ◌+◌, length, slice_get, Ok, Some, None, IfOk, IfSome, IfNone};
 ghost use Rattle.sbe_types.specs.declared.schema.Level.{Level};
 ghost use Rattle.sbe_wire.specs.Misfit.{block_shape, misfit, refusal_of, root_taken};
-ghost use Rattle.flyweight_view.specs.Ready.{IsReadySchema};
+ghost use Rattle.body_walk.specs.inner.Ready.{IsReadySchema};
 ghost use Rattle.tree_codec.specs.Rooms.{went};
 ghost use Rattle.tree_codec.specs.Sized.{sized, sized_err};
 ghost use Rattle.tree_codec.specs.Shapes.{misfit_of};
@@ -28,7 +28,7 @@ pub struct EncodeErr {
 /// # Errors
 ///
 /// The first misfit, exactly where the message has no canonical body of at most `limit` bytes.
-#[tactic(auto, using(flyweight_view::proofs::ReadyTold::ready_schema))]
+#[tactic(auto, using(body_walk::proofs::ReadyTold::ready_schema))]
 pub fn body_size(layout: &Layout, msg: &Msg, limit: usize) -> Result<usize, EncodeErr>
     ensures told { misfit layout.now msg.now limit ≡ refusal_of (sized result) }
     ensures size { IfOk result (λ n. (level : Level) → slice_get layout.now.messages msg.now.template ≡ Some level

@@ -1,5 +1,5 @@
 -- How deep the groups of a view lie.
-use Rattle.std.proofs.Common.{◌≡◌, ◌≤◌, ◌<◌, ℕ, suc, max, List, [], ◌∷◌, length, Option, Some, None, refl, ap, ◌∙◌, subst, arith}
+use Rattle.std.proofs.Common.{◌≡◌, ◌≤◌, ◌<◌, ◌+◌, ℕ, zero, suc, max, List, [], ◌∷◌, length, get_or, Option, Some, None, refl, ap, ◌∙◌, subst, arith}
 use Rattle.std.specs.Prelude.{⊤, map}
 use denote.Hole.Carrier as carrier
 use Rattle.sbe_types.specs.declared.schema.Group as groups
@@ -10,8 +10,7 @@ use Rattle.sbe_types.specs.declared.message.Block.{Block}
 use Rattle.sbe_types.specs.declared.message.GroupVal.{GroupVal, items-the_row-Block}
 use Rattle.sbe_types.specs.declared.message.GroupVal as groupval
 use Rattle.schema_facts.specs.CheckedLevels.{groups_deep, row_deep}
-use Rattle.flyweight_view.specs.Seen.{Seen, seen_level, entries_in}
-use Rattle.flyweight_view.specs.Lefts.{groups_seen}
+use Rattle.flyweight_view.specs.Seen.{Seen, seen_level, entries_in, groups_seen}
 use Rattle.tree_json.specs.Deep.{deepest, deepest_in}
 
 row_is : (n : _) (row : Row_of-Group n) → deepest (items-the_row-Group n row) ≡ row_deep row
@@ -19,7 +18,7 @@ unfolding groups_deep groups.out-Group carrier.out
 row_is n end_of-Group = refl
 row_is n (more_of-Group (Group' dim level) rest) = ap (max (suc (groups_deep level))) (row_is _ rest)
 
-level_is : (level : Level) → deepest (out-Level level).groups ≡ groups_deep level
+pub level_is : (level : Level) → deepest (out-Level level).groups ≡ groups_deep level
 unfolding groups_deep levels.out-Level carrier.out
 level_is (Level' name id semantic since block_length fields n groups parts) = ap deepest (items_shown-the_row-Group-0 n groups) ∙ row_is _ groups
 
@@ -58,3 +57,9 @@ first_within n o os all is some h = one n o os some (subst (AreWithin n) is h)
 pub some_deep : (gs : List Group) → 0 < length gs → 0 < deepest gs
 some_deep [] h = absurd (omega (arith, h))
 some_deep (g ∷ gs) h = omega arith
+
+-- a group of a list, by its place
+pub item_deep : (gs : List Group) (i : ℕ) (g : Group) → i < length gs → g ≡ get_or gs i g → groups_deep (out-Group g).level < deepest gs
+item_deep [] i g h is = absurd (omega (arith, h))
+item_deep (x ∷ xs) zero g h is = let same : groups_deep (out-Group g).level ≡ groups_deep (out-Group x).level = ap (λ (y : Group). groups_deep (out-Group y).level) is in omega (arith, same)
+item_deep (x ∷ xs) (suc i) g h is = omega (arith, item_deep xs i g (omega (arith, h)) is)

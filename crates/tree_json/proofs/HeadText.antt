@@ -9,7 +9,11 @@ use Rattle.sbe_types.specs.declared.message.GroupVal.{GroupVal}
 use Rattle.sbe_types.specs.declared.schema.DataField.{DataField}
 use Rattle.sbe_types.specs.declared.schema.Group.{Group}
 use Rattle.flat_rows.specs.Tables.{stands_for}
-use Rattle.layout_tables.specs.Flats.{text_before, text_behind}
+use Rattle.json_rows.specs.declared.rows.TextRows.{TextRows}
+use Rattle.json_rows.specs.Tables.{scalars_in, values_of, with_texts, AreTextRows, HasPieces, TextsFit}
+use Rattle.json_rows.proofs.Growing.{fits_too, own_joined}
+use Rattle.json_rows.proofs.PieceValues.{values_in}
+use Rattle.tree_json.specs.Texts.{seen_pieces, text_before, text_behind}
 use Rattle.flyweight_view.specs.declared.by_table.TableBlock.{TableBlock}
 use Rattle.flyweight_view.specs.ByTable.{IsTableBlock}
 use Rattle.flyweight_view.specs.Seen.{Seen}
@@ -29,15 +33,33 @@ own_first : (parts : List DataField) (vs : List DataVal) (rest : List ℕ) → o
 own_first [] vs rest = refl
 own_first (p ∷ ps) vs rest = ap (λ t. cond t [] (data_front (p ∷ ps) vs) ++ (cond t (codes "{\"data\":{},\"fields\":{") (codes ",\"fields\":{") ++ rest)) (is_some p ps)
 
--- the values by their table make the fields' text
-pub table_text : (b : TableBlock) (s : Seen) (is : IsTableBlock b s) →
-    JoinedText Little is.known (stands_for b.table.now) b.bytes.now (text_before s.parts ++ (entries_text false (zipped field_entry s.fields (out-Block s.block).fields) ++ text_behind s.groups))
-table_text b s is =
+-- the values of a table are those of the pieces
+values_are : (b : TableBlock) (s : Seen) → IsTableBlock b s → scalars_in (seen_pieces s) ≡ stands_for b.table.now
+values_are b s is = values_in (text_before s.parts) (text_behind s.groups) s.fields ∙ sym is.stands
+
+-- the texts of a level fit its block
+pub texts_fit : (b : TableBlock) (s : Seen) → IsTableBlock b s → (t : TextRows) → HasPieces (seen_pieces s) t → TextsFit (length b.bytes.now) t.rows.items
+texts_fit b s is t h =
+    fits_too (length b.bytes.now) (length t.bytes.items) b.table.now.rows.items t.rows.items is.table_is is.fits
+    (subst (λ ss. AreTextRows (length t.bytes.items) ss t.rows.items) (values_are b s is) h.table.rows)
+
+-- the values by their texts make the fields' text
+pub table_text : (b : TableBlock) (s : Seen) (is : IsTableBlock b s) (t : TextRows) → HasPieces (seen_pieces s) t →
+    JoinedText Little is.known (with_texts (values_of t) t) b.bytes.now (text_before s.parts ++ (entries_text false (zipped field_entry s.fields (out-Block s.block).fields) ++ text_behind s.groups))
+table_text b s is t h =
     let vs = (out-Block s.block).fields in
     let fields = entries_text false (zipped field_entry s.fields vs) in
     let text = text_before s.parts ++ (fields ++ text_behind s.groups) in
-    subst (λ j. JoinedText Little is.known j b.bytes.now text) (sym is.stands)
-    (between_text Little is.known b.bytes.now (text_before s.parts) (text_behind s.groups) s.fields fields (fields_text Little is.known b.bytes.now is.version 0 s.fields vs false is.placed is.alive is.lay))
+    subst (λ j. JoinedText Little is.known j b.bytes.now text) (sym (own_joined (seen_pieces s) t h))
+    (between_text Little is.known b.bytes.now (text_before s.parts) (text_behind s.groups) s.fields fields
+    (fields_text Little is.known b.bytes.now is.version 0 s.fields vs false is.placed is.alive is.lay))
+
+-- the same of bytes that are the table's
+pub bytes_text : (b : TableBlock) (s : Seen) (is : IsTableBlock b s) (t : TextRows) → HasPieces (seen_pieces s) t → (bytes : List ℕ) → b.bytes.now ≡ bytes →
+    JoinedText Little is.known (with_texts (values_of t) t) bytes (text_before s.parts ++ (entries_text false (zipped field_entry s.fields (out-Block s.block).fields) ++ text_behind s.groups))
+bytes_text b s is t h bytes same =
+    let text = text_before s.parts ++ (entries_text false (zipped field_entry s.fields (out-Block s.block).fields) ++ text_behind s.groups) in
+    subst (λ x. JoinedText Little is.known (with_texts (values_of t) t) x text) same (table_text b s is t h)
 
 pub head_by_table : (s : Seen) → own_data s.parts (out-Block s.block).parts ++ (text_before s.parts ++ (entries_text false (zipped field_entry s.fields (out-Block s.block).fields) ++ text_behind s.groups)) ≡ seen_head s
 head_by_table s = own_first s.parts (out-Block s.block).parts (entries_text false (zipped field_entry s.fields (out-Block s.block).fields) ++ text_behind s.groups)

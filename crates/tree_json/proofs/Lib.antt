@@ -7,3 +7,5 @@ pub mod Views
 pub mod ViewSteps
 pub mod PiecesText
 pub mod HeadText
+pub mod LevelTextsOf
+pub mod Printable

@@ -23,8 +23,8 @@ use Rattle.tree_json.specs.Lines.{field_entry}
 use Rattle.json_values.specs.Plain.{plain_text, shown_text, entries_text}
 use Rattle.json_fields.proofs.MembersShown.{entry_goes}
 use Rattle.json_fields.proofs.FromBytes.{is_shown}
-use Rattle.flat_rows.specs.Texts.{key_of, is_seen, hex_text, constant_text}
-use Rattle.flat_rows.specs.Pieces.{Piece, literal, shown, kind_pieces, member_pieces, field_pieces, pieces_of, pieces_between, Slot, Joined, nothing_joined, with_piece, with_pieces, joined}
+use Rattle.json_rows.specs.Texts.{key_of, is_seen, hex_text, constant_text}
+use Rattle.json_rows.specs.Pieces.{Piece, literal, shown, kind_pieces, member_pieces, field_pieces, pieces_of, pieces_between, Slot, Joined, nothing_joined, with_piece, with_pieces, joined}
 use Rattle.flat_rows.specs.Judged.{AllAlive, bytes_there}
 use Rattle.flat_rows.proofs.Inside.{kind_inside}
 use Rattle.json_fields.specs.Printed.{PiecesText, SlotsText, JoinedText}

@@ -3,3 +3,4 @@ pub mod Names
 pub mod Rows
 pub mod Deep
 pub mod Views
+pub mod Texts

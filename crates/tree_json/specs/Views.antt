@@ -7,7 +7,7 @@ use Rattle.sbe_types.specs.declared.schema.Group.{Group}
 use Rattle.sbe_types.specs.declared.message.Block.{out-Block}
 use Rattle.sbe_types.specs.declared.message.DataVal.{DataVal}
 use Rattle.sbe_types.specs.declared.message.GroupVal.{GroupVal}
-use Rattle.layout_tables.specs.Flats.{text_behind}
+use Rattle.tree_json.specs.Texts.{text_behind}
 use Rattle.flyweight_view.specs.Seen.{Seen}
 use Rattle.json_values.specs.Values.{Entry, listed, zipped, text_data}
 use Rattle.tree_json.specs.Lines.{field_entry, part_entry, group_entry, group_name, items_by, three_entries}

@@ -5,8 +5,8 @@ ghost use Rattle.serde_json.specs.Written.{comma_if};
 ghost use Rattle.sbe_types.specs.declared.message.Block.{out-Block};
 ghost use Rattle.sbe_types.specs.declared.message.Value.{Value};
 ghost use Rattle.sbe_types.specs.declared.schema.Field.{Field};
-ghost use Rattle.flat_rows.specs.Tables.{IsTable, RowsFit};
-ghost use Rattle.layout_tables.specs.Flats.{text_behind};
+ghost use Rattle.json_rows.specs.Tables.{values_of, HasPieces, IsTextTable, TextsFit};
+ghost use Rattle.flyweight_view.specs.declared.by_table.TableBlock.{TableBlock};
 ghost use Rattle.flyweight_view.specs.ByTable.{IsTableBlock};
 ghost use Rattle.flyweight_view.specs.Seen.{Seen};
 ghost use Rattle.tree_json.specs.Deep.{deepest_in};
@@ -14,38 +14,61 @@ ghost use Rattle.json_values.specs.Values.{zipped, text_data};
 ghost use Rattle.tree_json.specs.Lines.{field_entry, group_entry, items_by};
 ghost use Rattle.json_values.specs.Plain.{plain_text, plain_items, entry_text, entries_text, later_behind};
 ghost use Rattle.tree_json.specs.Views.{data_front, own_data, seen_data, seen_head, seen_front, entries_data, PrintsFront};
+ghost use Rattle.tree_json.specs.Texts.{seen_pieces, text_behind, AreTexts, AreTextsOf, AreTextsOfAll, AreTextsOfGroup};
 ghost use Rattle.printers.specs.Prints.{Prints};
 
-use flyweight_view::{BlockView, EntriesView, TableBlock};
+use crate::kept::Kept;
+use crate::texts::LevelTexts;
+use flyweight_view::{BlockView, EntriesView};
 use json_fields::{put_rows, put_shown};
+use json_rows::TextRows;
 use json_values::{put_comma, put_key, put_text};
 use printers::Printer;
 use sbe_base::Sink;
 
-/// Prints the object of a message's root or of an entry, without the closing bracket.
+/// Prints the object of a message's root or of an entry, without the closing bracket. Without texts each field is printed by
+/// its kind.
 #[cycle(block)]
 #[inline(always)]
-pub(crate) fn put_front<O: Sink>(printer: &mut Printer<'_, O>, block: &BlockView<'_>)
+pub(crate) fn put_front<O: Sink, T: Kept + Copy>(
+    printer: &mut Printer<'_, O>,
+    texts: T,
+    block: &BlockView<'_>,
+)
+    requires { AreTexts (T.texts texts) block.now }
     ensures { Prints O.state printer.old printer.new (seen_front block.now) }
 {
-    put_head(printer, block);
+    put_head(printer, texts, block);
     let (_, count, _) = block.counts();
     if count == 0 {
         return;
     }
     // A copy of its own, so that nothing is stored where there are no groups.
-    put_groups(printer, &block.again());
+    put_groups(printer, texts, &block.again());
 }
 
-/// Prints the data and the fields of a block, and the opening of its groups; without groups the bracket behind them too.
+/// Prints the data and the fields of a block, and the opening of its groups; without groups the bracket after them too.
 #[inline(always)]
-fn put_head<O: Sink>(printer: &mut Printer<'_, O>, block: &BlockView<'_>)
+fn put_head<O: Sink, T: Kept + Copy>(printer: &mut Printer<'_, O>, texts: T, block: &BlockView<'_>)
+    requires { AreTexts (T.texts texts) block.now }
+    ensures { Prints O.state printer.old printer.new (seen_head block.now) }
+{
+    match texts.level() {
+        Some(texts) => put_head_by(printer, texts, block),
+        None => put_by_kinds(printer, &block.again()),
+    }
+}
+
+/// The same by the texts of the block's level.
+#[inline(always)]
+fn put_head_by<O: Sink>(printer: &mut Printer<'_, O>, texts: &LevelTexts, block: &BlockView<'_>)
+    requires { AreTextsOf block.now texts.now }
     ensures { Prints O.state printer.old printer.new (seen_head block.now) }
 {
     match block.by_table() {
         Some(values) => {
             put_own_data(printer, block);
-            put_rows(printer, values.table, values.bytes);
+            put_rows(printer, &texts.fields, values.bytes);
         }
         None => put_by_kinds(printer, &block.again()),
     }
@@ -167,26 +190,40 @@ fn put_field<O: Sink>(
 /// Prints the groups of a block that are there, with the bracket behind them.
 #[cycle(block)]
 #[inline(never)]
-fn put_groups<O: Sink>(printer: &mut Printer<'_, O>, block: &BlockView<'_>)
+fn put_groups<O: Sink, T: Kept + Copy>(
+    printer: &mut Printer<'_, O>,
+    texts: T,
+    block: &BlockView<'_>,
+)
+    requires { AreTexts (T.texts texts) block.now }
     ensures { Prints O.state printer.old printer.new (entries_text false (zipped group_entry block.now.groups (out-Block block.now.block).groups)) }
 {
     let (_, count, _) = block.counts();
     let mut groups = block.groups();
     let mut later = false;
     for i in 0..count {
-        later = put_group(printer, later, block.group_name(i), groups.next_group());
+        let inner = texts.group(i);
+        later = put_group(
+            printer,
+            inner,
+            later,
+            block.group_name(i),
+            groups.next_group(),
+        );
     }
     printer.put(b"}");
 }
 
-/// Prints a group behind its name, unless it is absent, and tells whether a member stands now.
+/// Prints a group after its name, unless it is absent, and tells whether a member stands now.
 #[cycle(block)]
-fn put_group<O: Sink>(
+fn put_group<O: Sink, T: Kept + Copy>(
     printer: &mut Printer<'_, O>,
+    texts: T,
     later: bool,
     name: &[u8],
     entries: Option<EntriesView<'_>>,
 ) -> bool
+    requires { AreTextsOfGroup (T.texts texts) entries }
     ensures later { result ≡ later_behind later (option_map entries_data entries.entry) }
     ensures text { Prints O.state printer.old printer.new (entry_text later (name.now, option_map entries_data entries.entry)) }
 {
@@ -194,7 +231,7 @@ fn put_group<O: Sink>(
         None => later,
         Some(entries) => {
             put_key(printer, later, name);
-            put_entries(printer, entries);
+            put_entries(printer, texts, entries);
             true
         }
     }
@@ -202,66 +239,112 @@ fn put_group<O: Sink>(
 
 /// Prints the entries of a group, as an array.
 #[cycle(block)]
-fn put_entries<O: Sink>(printer: &mut Printer<'_, O>, entries: EntriesView<'_>)
+fn put_entries<O: Sink, T: Kept + Copy>(
+    printer: &mut Printer<'_, O>,
+    texts: T,
+    entries: EntriesView<'_>,
+)
+    requires { AreTextsOfAll (T.texts texts) entries }
     ensures { Prints O.state printer.old printer.new (plain_text (entries_data entries.entry)) }
 {
     printer.put(b"[");
     let mut entries = entries;
-    let later = put_flat_entries(printer, &mut entries);
+    let later = put_first_entries(printer, texts, &mut entries);
     if entries.len() == 0 {
         printer.put(b"]");
         return;
     }
-    put_views(printer, later, entries);
+    put_views(printer, texts, later, entries);
 }
 
 /// Prints the entries that are left behind others, by a view of each, and the closing bracket.
 #[cycle(block)]
 #[inline(never)]
-fn put_views<O: Sink>(printer: &mut Printer<'_, O>, later: bool, entries: EntriesView<'_>)
+fn put_views<O: Sink, T: Kept + Copy>(
+    printer: &mut Printer<'_, O>,
+    texts: T,
+    later: bool,
+    entries: EntriesView<'_>,
+)
+    requires { AreTextsOfAll (T.texts texts) entries }
     ensures { Prints O.state printer.old printer.new (plain_items later (items_by seen_data entries.entry)) }
 {
     let mut later = later;
     for entry in entries {
-        put_entry(printer, later, &entry);
+        put_entry(printer, texts, later, &entry);
         later = true;
     }
     printer.put(b"]");
 }
 
-/// Prints the first of some entries, as far as a table shows them, and tells whether one stands now.
+/// Prints the first of some entries, as far as a table shows them and there are texts, and tells whether one stands now.
 #[inline(always)]
-fn put_flat_entries<O: Sink>(printer: &mut Printer<'_, O>, entries: &mut EntriesView<'_>) -> bool
+fn put_first_entries<O: Sink, T: Kept + Copy>(
+    printer: &mut Printer<'_, O>,
+    texts: T,
+    entries: &mut EntriesView<'_>,
+) -> bool
+    requires { AreTextsOfAll (T.texts texts) entries.old }
+    ensures low { deepest_in entries.new ≤ deepest_in entries.old }
+    ensures left { AreTextsOfAll (T.texts texts) entries.new }
+    ensures text { PrintsFront result entries.old entries.new (Prints O.state printer.old printer.new) }
+{
+    match texts.level() {
+        Some(texts) => put_flat_entries(printer, texts, entries),
+        None => false,
+    }
+}
+
+/// The same by the texts of their level.
+#[inline(always)]
+fn put_flat_entries<O: Sink>(
+    printer: &mut Printer<'_, O>,
+    texts: &LevelTexts,
+    entries: &mut EntriesView<'_>,
+) -> bool
+    requires { AreTextsOfAll (Some texts.now) entries.old }
+    ensures left { AreTextsOfAll (Some texts.now) entries.new }
     ensures low { deepest_in entries.new ≤ deepest_in entries.old }
     ensures text { PrintsFront result entries.old entries.new (Prints O.state printer.old printer.new) }
 {
     let mut later = false;
     'entries: while let Some(block) = entries.next_table() {
-        put_flat_entry(printer, later, block);
+        put_flat_entry(printer, &texts.fields, later, block.bytes);
         later = true;
     }
     later
 }
 
-/// Prints the object of an entry without groups and data by its table, behind a comma where another stands before.
+/// Prints the object of an entry without groups and data by its texts, after a comma where another stands before.
 #[inline(always)]
-fn put_flat_entry<O: Sink>(printer: &mut Printer<'_, O>, later: bool, block: TableBlock<'_>)
-    requires table { IsTable block.table.now }
-    requires fits { RowsFit (length block.bytes.now) block.table.now.rows.items }
-    ensures { (s : Seen) → IsTableBlock block.entry s → length s.groups ≡ 0 → length s.parts ≡ 0
+fn put_flat_entry<O: Sink>(
+    printer: &mut Printer<'_, O>,
+    texts: &TextRows,
+    later: bool,
+    block: &[u8],
+)
+    requires table { IsTextTable (values_of texts.now) texts.now }
+    requires fits { TextsFit (length block.now) texts.now.rows.items }
+    ensures { (b : TableBlock) (s : Seen) → b.bytes.now ≡ block.now → IsTableBlock b s → HasPieces (seen_pieces s) texts.now → length s.groups ≡ 0 → length s.parts ≡ 0
         → Prints O.state printer.old printer.new (comma_if later ++ plain_text (seen_data s)) }
 {
     put_comma(printer, later);
-    put_rows(printer, block.table, block.bytes);
+    put_rows(printer, texts, block);
     printer.put(b"}");
 }
 
 /// Prints the object of an entry, behind a comma where another stands before.
 #[cycle(block)]
-fn put_entry<O: Sink>(printer: &mut Printer<'_, O>, later: bool, entry: &BlockView<'_>)
+fn put_entry<O: Sink, T: Kept + Copy>(
+    printer: &mut Printer<'_, O>,
+    texts: T,
+    later: bool,
+    entry: &BlockView<'_>,
+)
+    requires { AreTexts (T.texts texts) entry.now }
     ensures { Prints O.state printer.old printer.new (comma_if later ++ plain_text (seen_data entry.now)) }
 {
     put_comma(printer, later);
-    put_front(printer, entry);
+    put_front(printer, texts, entry);
     printer.put(b"}");
 }

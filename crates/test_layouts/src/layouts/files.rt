@@ -46,7 +46,6 @@ pub const ORDER: Row = Row {
 message 0 id 20 level 0
 message 1 id 10 level 4
 level 0 Order since 0 block 18 floors 12 12 18 least 16 20 28
-  keys "side":"kind":"price":"sizes":"late":"legs":"fees":"memo":
   field side since 0 at Some(0)
   field kind since 0 at None
   field price since 0 at Some(1)
@@ -56,18 +55,14 @@ level 0 Order since 0 block 18 floors 12 12 18 least 16 20 28
   group 1 is level 3 since 1 with 2 members
   data 0 is 0
 level 1 legs since 0 block 1 floors 1 1 1 least 7 7 7
-  keys "ratio":"subs":"note":
   field ratio since 0 at Some(0)
   group 0 is level 2 since 0 with 2 members
   data 0 is 1
 level 2 subs since 0 block 5 floors 5 5 5 least 5 5 5
-  keys "price":
   field price since 0 at Some(0)
 level 3 fees since 1 block 4 floors 0 4 4 least 0 4 4
-  keys "amount":
   field amount since 1 at Some(0)
 level 4 Ping since 0 block 1 floors 1 1 1 least 1 1 1
-  keys "n":
   field n since 0 at Some(0)
 data 0 memo since 2 length U16
 data 1 note since 0 length U16

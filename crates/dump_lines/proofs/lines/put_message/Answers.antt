@@ -1,6 +1,6 @@
 use Rattle.std.proofs.Common.{◌≡◌, ap, sym, ◌++◌, ◌∙◌, append_assoc}
 use Rattle.std.specs.Prelude.{codes}
-use Rattle.dump_lines.specs.Dumped.{behind_message, seen_line}
+use Rattle.dump_lines.specs.Dumped.{before_message, behind_message, seen_line}
 use Rattle.printers.proofs.Printing.{then_prints, reprinted}
 use Rattle.dump_lines.proofs.lines.put_message.Goals as goal
 
@@ -9,4 +9,4 @@ returns g c =
     let line = c.put_open_line.ensures in
     let behind = behind_message c.args.schemas.now.also in
     let whole : line.done ++ (codes "}" ++ behind) ≡ seen_line c.args.view.now ++ behind = sym (append_assoc line.done (codes "}") behind) ∙ ap (λ text. text ++ behind) line.whole in
-    then_prints c.put_before.ensures (reprinted whole (then_prints line.printed c.put_behind.ensures))
+    then_prints (reprinted (ap (before_message c.args.schemas.now.also) c.id.ensures) c.put_before.ensures) (reprinted whole (then_prints line.printed c.put_behind.ensures))

@@ -1,9 +1,9 @@
-use Rattle.std.proofs.Common.{false, drop}
+use Rattle.std.proofs.Common.{drop}
 use Rattle.std.specs.List.{AllByRecursion}
 use Rattle.sbe_types.specs.declared.schema.Field.{Field}
 use Rattle.schema_facts.specs.InOrder.{IsKindInOrder}
 use Rattle.schema_facts.specs.Measured.{AreNarrowFields}
-use Rattle.flat_rows.specs.Pieces.{field_pieces}
+use Rattle.flat_rows.specs.Scalars.{field_scalars}
 use Rattle.flat_rows.proofs.Growing.{GoesOn}
 use Rattle.flat_rows.proofs.make.flat_rows_of.Given as goal
 
@@ -11,5 +11,5 @@ abbrev pub invariant-loop-field : goal.invariant-loop-field
 invariant-loop-field l = record {
   order : AllByRecursion (λ (f : Field). IsKindInOrder f.kind) (drop l.field-index l.fields);
   narrow : AreNarrowFields l.end (drop l.field-index l.fields);
-  goes : GoesOn l.initial.table l.table (field_pieces l.later l.end (drop l.field-index l.fields)) (field_pieces false 0 l.fields);
+  goes : GoesOn l.initial.table l.table (field_scalars l.end (drop l.field-index l.fields)) (field_scalars 0 l.fields);
 }

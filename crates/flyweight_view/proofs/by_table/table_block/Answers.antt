@@ -1,7 +1,7 @@
 use Rattle.std.proofs.Common.{sym, subst}
-use Rattle.flyweight_view.specs.Planned.{IsPlan}
-use Rattle.flyweight_view.proofs.BlockRows.{RowOf, level_shown, some_then}
-use Rattle.flyweight_view.proofs.Opens.{level_within}
+use Rattle.flyweight_view.specs.inner.Planned.{IsPlan}
+use Rattle.flyweight_view.proofs.TablesSeen.{RowOf, level_shown, some_then}
+use Rattle.body_walk.proofs.Opens.{level_within}
 use Rattle.flyweight_view.proofs.by_table.table_block.Goals as goal
 
 pub row-requires : goal.row-requires

@@ -2,11 +2,11 @@ use Rattle.std.proofs.Common.{◌∙◌, refl, sym, ap, arith}
 use Rattle.flyweight_view.specs.declared.plan.Plan.{Plan}
 use Rattle.flyweight_view.specs.declared.plan.Plan.TheVariants as plan
 use Rattle.flyweight_view.specs.declared.plan.Span.{Span}
-use Rattle.flyweight_view.specs.Lefts.{rest_of}
+use Rattle.flyweight_view.specs.inner.Lefts.{rest_of}
 use Rattle.flyweight_view.proofs.GroupSteps.{none_left, child_is, from, next_child, entered_there, group_read_there, step_stands, step_seen, step_rests}
-use Rattle.flyweight_view.proofs.LevelsReady.{level_ready}
+use Rattle.body_walk.proofs.LevelsReady.{level_ready}
 use Rattle.flyweight_view.proofs.Nexts.{first_seen, others_lie, others_seen, others_rests, none_behind}
-use Rattle.flyweight_view.proofs.Opens.{level_within}
+use Rattle.body_walk.proofs.Opens.{level_within}
 use Rattle.flyweight_view.proofs.TailsSeen.{first_stands, parts_line, parts_rest}
 use Rattle.flyweight_view.proofs.ends.+ends.Goals as goal
 

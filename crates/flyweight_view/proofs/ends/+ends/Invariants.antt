@@ -1,8 +1,8 @@
 use Rattle.std.proofs.Common.{◌≡◌, ◌+◌, ◌-◌, ◌*◌, length}
 use Rattle.schema_facts.specs.Levels.{all_nodes}
-use Rattle.flyweight_view.specs.Groups.{groups_at, StandThere}
-use Rattle.flyweight_view.specs.Layers.{blocks_at, LieThere}
-use Rattle.flyweight_view.specs.Lefts.{rest_of}
+use Rattle.flyweight_view.specs.inner.Groups.{groups_at, StandThere}
+use Rattle.flyweight_view.specs.inner.Layers.{blocks_at, LieThere}
+use Rattle.flyweight_view.specs.inner.Lefts.{rest_of}
 use Rattle.flyweight_view.proofs.ends.+ends.Given as goal
 
 abbrev pub invariant-groups_end-loop : goal.invariant-groups_end-loop

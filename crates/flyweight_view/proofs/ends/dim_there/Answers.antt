@@ -13,13 +13,13 @@ use Rattle.layout_tables.specs.Heads.{number_at}
 use Rattle.layout_tables.specs.Rowed.{as_spot, DimIs}
 use Rattle.group_codec.specs.declared.dim.Dim.{Dim}
 use Rattle.sbe_types.specs.declared.schema.Group.{Group}
-use Rattle.flyweight_view.specs.declared.layer.Layer.{Layer}
-use Rattle.flyweight_view.specs.Cursor.{entries_read, dim_told}
-use Rattle.flyweight_view.specs.Groups.{groups_by}
+use Rattle.body_walk.specs.declared.layer.Layer.{Layer}
+use Rattle.body_walk.specs.inner.Cursor.{entries_read, dim_told}
+use Rattle.flyweight_view.specs.inner.Groups.{groups_by}
 use Rattle.flyweight_view.proofs.Standing.{never_a_fault, stood_room, stood_numbers, stood_reaches}
 use Rattle.flyweight_view.proofs.GroupsTold.{group_gone, group_told, group_never, lie_there}
-use Rattle.flyweight_view.proofs.LevelsReady.{row_since}
-use Rattle.flyweight_view.proofs.Opens.{group_dim}
+use Rattle.body_walk.proofs.LevelsReady.{row_since}
+use Rattle.body_walk.proofs.Opens.{group_dim}
 use Rattle.flyweight_view.proofs.ends.dim_there.Goals as goal
 
 pub returns-then-row-layer-clause-told : goal.returns-then-row-layer-clause-told

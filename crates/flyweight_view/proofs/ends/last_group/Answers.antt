@@ -1,6 +1,6 @@
 use Rattle.std.proofs.Common.{arith}
 use Rattle.flyweight_view.proofs.GroupSteps.{child_is, next_child, group_read_there, last_stands, last_seen}
-use Rattle.flyweight_view.proofs.LevelsReady.{level_ready}
+use Rattle.body_walk.proofs.LevelsReady.{level_ready}
 use Rattle.flyweight_view.proofs.ends.last_group.Goals as goal
 
 pub dim_there-dim-requires-clause-layer : goal.dim_there-dim-requires-clause-layer

@@ -1,8 +1,7 @@
 use Rattle.std.proofs.Common.{◌≡◌, ◌<◌, length, drop, List, Option, sym, ap, ◌∙◌, arith}
 use Rattle.sbe_types.specs.declared.message.Block.{out-Block}
-use Rattle.flyweight_view.specs.Lefts.{groups_seen}
-use Rattle.flyweight_view.specs.Planned.{block_of, block_told, groups_of}
-use Rattle.flyweight_view.specs.Seen.{Seen}
+use Rattle.flyweight_view.specs.Seen.{groups_seen, Seen}
+use Rattle.flyweight_view.specs.inner.Planned.{block_of, block_told, groups_of}
 use Rattle.flyweight_view.proofs.TailsSeen.{all_groups, group_there, drop_on, more_left}
 use Rattle.flyweight_view.proofs.groups.group_of.Goals as goal
 

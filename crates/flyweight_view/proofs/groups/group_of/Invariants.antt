@@ -1,7 +1,7 @@
 use Rattle.std.proofs.Common.{◌≡◌, drop}
 use Rattle.sbe_types.specs.declared.message.Block.{out-Block}
-use Rattle.flyweight_view.specs.Lefts.{groups_seen}
-use Rattle.flyweight_view.specs.Planned.{block_of, block_told, groups_of}
+use Rattle.flyweight_view.specs.Seen.{groups_seen}
+use Rattle.flyweight_view.specs.inner.Planned.{block_of, block_told, groups_of}
 use Rattle.flyweight_view.proofs.groups.group_of.Given as goal
 
 abbrev pub invariant-loop : goal.invariant-loop

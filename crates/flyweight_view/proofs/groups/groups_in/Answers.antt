@@ -1,5 +1,5 @@
 use Rattle.std.proofs.Common.{◌∙◌}
-use Rattle.flyweight_view.specs.declared.layer.Layer.{Layer}
+use Rattle.body_walk.specs.declared.layer.Layer.{Layer}
 use Rattle.flyweight_view.proofs.TailsSeen.{layer_is, first_stands, first_left}
 use Rattle.flyweight_view.proofs.groups.groups_in.Goals as goal
 

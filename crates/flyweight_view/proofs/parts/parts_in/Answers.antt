@@ -1,10 +1,9 @@
 use Rattle.std.proofs.Common.{◌≡◌, [], ◌∙◌, arith}
 use Rattle.std.proofs.lemmas.Bool.Decides.{nat_tests}
 use Rattle.sbe_types.specs.declared.schema.Level.{out-Level}
-use Rattle.flyweight_view.specs.declared.layer.Layer.{Layer}
+use Rattle.body_walk.specs.declared.layer.Layer.{Layer}
 use Rattle.flyweight_view.proofs.TailsSeen.{layer_is, first_stands, parts_line, parts_first, without_parts}
-use Rattle.flyweight_view.proofs.Lefts.{none_there}
-use Rattle.flyweight_view.proofs.Opens.{level_within}
+use Rattle.body_walk.proofs.Opens.{none_there, level_within}
 use Rattle.flyweight_view.proofs.parts.parts_in.Goals as goal
 
 pub groups_end-at-requires-clause-stand : goal.groups_end-at-requires-clause-stand

@@ -6,9 +6,9 @@ use Rattle.sbe_types.specs.declared.schema.Level.{out-Level}
 use Rattle.sbe_types.specs.Places.{field_place}
 use Rattle.schema_facts.specs.Levels.{fields_at, fields_in}
 use Rattle.layout_tables.proofs.Told.{fields_there, place_there, place_told}
-use Rattle.flyweight_view.proofs.FieldsTold.{rows_ready}
-use Rattle.flyweight_view.proofs.LevelsReady.{level_ready, row_fields}
-use Rattle.flyweight_view.proofs.Opens.{level_within}
+use Rattle.body_walk.proofs.FieldsTold.{rows_ready}
+use Rattle.body_walk.proofs.LevelsReady.{level_ready, row_fields}
+use Rattle.body_walk.proofs.Opens.{level_within}
 use Rattle.flyweight_view.proofs.SlotsTold.{row_here}
 use Rattle.flyweight_view.proofs.plan.field_row.Goals as goal
 

@@ -2,7 +2,7 @@ use Rattle.std.proofs.Common.{refl, sym, ◌∙◌, subst}
 use Rattle.sbe_types.specs.declared.schema.Level.{out-Level}
 use Rattle.sbe_types.specs.Places.{is_const}
 use Rattle.schema_facts.specs.InOrder.{IsKindInOrder}
-use Rattle.flyweight_view.specs.Planned.{bytes_of}
+use Rattle.flyweight_view.specs.inner.Planned.{bytes_of}
 use Rattle.flyweight_view.proofs.SlotsTold.{slot_bytes}
 use Rattle.flyweight_view.proofs.plan.level_slot.Goals as goal
 

@@ -1,21 +1,15 @@
-use Rattle.std.proofs.Common.{◌≡◌, ◌≤◌, length}
-use Rattle.std.specs.List.{AllByRecursion}
+use Rattle.std.proofs.Common.{length, drop, map}
 use Rattle.printers.specs.Prints.{Prints}
-use Rattle.flat_rows.specs.declared.rows.FlatRow.{FlatRow}
-use Rattle.flat_rows.specs.Tables.{slots_from, last_from, AreRows, RowsFit}
+use Rattle.json_rows.specs.Tables.{slots_of, value_of, AreTextRows, TextsFit}
 use Rattle.json_fields.proofs.RowsText.{Goes}
 use Rattle.json_fields.proofs.by_table.put_rows.Given as goal
 
-abbrev pub invariant-rows : goal.invariant-rows
-invariant-rows g l =
+abbrev pub invariant-loop-row : goal.invariant-loop-row
+invariant-loop-row g l =
     record {
-      are : AreRows l.start (length l.table.bytes.items) l.left;
-      fit : RowsFit (length l.block) l.left;
-      ends : AllByRecursion (λ (r : FlatRow). r.end ≤ length l.table.bytes.items) l.left;
-      last : last_from l.start l.table.bytes.items l.left ≡ last_from 0 l.table.bytes.items l.table.rows.items;
-      goes : Goes (slots_from 0 l.table.bytes.items l.table.rows.items) (slots_from l.start l.table.bytes.items l.left) l.block
+      are : AreTextRows (length l.table.bytes.items) (map value_of (drop l.row-index l.table.rows.items)) (drop l.row-index l.table.rows.items);
+      fit : TextsFit (length l.block) (drop l.row-index l.table.rows.items);
+      goes : Goes (slots_of l.table.bytes.items (map value_of l.table.rows.items) l.table.rows.items)
+          (slots_of l.table.bytes.items (map value_of (drop l.row-index l.table.rows.items)) (drop l.row-index l.table.rows.items)) l.block
           (Prints g.O.Sink.state l.initial.printer l.printer);
     }
-
-abbrev pub decreases-rows : goal.decreases-rows
-decreases-rows g l = length l.left

@@ -6,9 +6,9 @@ use Rattle.sbe_types.specs.declared.schema.Level.{out-Level}
 use Rattle.sbe_wire.specs.Versions.{floor}
 use Rattle.schema_facts.specs.Levels.{fields_in}
 use Rattle.layout_tables.proofs.GroupWalk.{GroupsFrom, groups_begin}
-use Rattle.flyweight_view.specs.Cursor.{dim_told}
-use Rattle.flyweight_view.proofs.LevelsReady.{row_parts, row_since}
-use Rattle.flyweight_view.proofs.Opens.{group_dim, child_here, child_next, level_within}
+use Rattle.body_walk.specs.inner.Cursor.{dim_told}
+use Rattle.body_walk.proofs.LevelsReady.{row_parts, row_since}
+use Rattle.body_walk.proofs.Opens.{group_dim, child_here, child_next, level_within}
 use Rattle.level_skip.specs.Passing.{entry_in}
 use Rattle.level_skip.specs.Behind.{behind, steps_behind, groups_behind, parts_behind}
 use Rattle.level_skip.proofs.Steps.{entry_short, entry_whole, entry_stopped, groups_next, group_dead, group_entered, group_refused, steps_more, flat_is, flat_level, lengths_small}

@@ -3,7 +3,7 @@ use mir.Syntax.{w128}
 use Rattle.std.proofs.lemmas.Int.{to_z-of_z}
 use Rattle.sbe_types.specs.declared.message.Value.TheVariants as value
 use Rattle.schema_facts.specs.Levels.{root_of}
-use Rattle.flyweight_view.proofs.ReadyTold.{ready_schema}
+use Rattle.body_walk.proofs.ReadyTold.{ready_schema}
 use Rattle.typed_writer.specs.declared.stack.Frame.TheVariants.{Tail}
 use Rattle.typed_writer.specs.States.{SetsFields, level_of}
 use Rattle.typed_writer.specs.Steps.{Adds, DataRefused, SetsField, misfit_at}

@@ -2,7 +2,7 @@ use Rattle.std.proofs.Common.{rules, refl, ap, sym, ◌∙◌}
 use Rattle.schema_facts.specs.Levels.{level_at, root_of}
 use Rattle.typed_writer.specs.Held.{Held}
 use Rattle.typed_writer.specs.States.{parts_done}
-use Rattle.flyweight_view.proofs.Bodies.{root_level}
+use Rattle.body_walk.proofs.Bodies.{root_level}
 use Rattle.tree_codec.proofs.FillSteps.{some_none}
 use Rattle.tree_codec.proofs.PutRoots.{begin_never_refused, message_roomy, message_written, root_all_set, root_begun, root_tail_level, root_tail_room, template_there}
 use Rattle.tree_codec.proofs.ShapesBelow.{shaped}

@@ -5,7 +5,7 @@ use Rattle.sbe_wire.specs.Misfit.{block_shape, each_taken, parts_taken, refusal_
 use Rattle.schema_facts.specs.Levels.{level_at}
 use Rattle.typed_writer.specs.States.{entries_left, level_of, parts_done}
 use Rattle.typed_writer.specs.Steps.{GroupRefused, Groups, next_group}
-use Rattle.flyweight_view.proofs.LevelsReady.{group_shallow}
+use Rattle.body_walk.proofs.LevelsReady.{group_shallow}
 use Rattle.tree_codec.specs.Rooms.{entry_room, groups_room}
 use Rattle.tree_codec.proofs.PutGroups.{entries_end, entries_next, entries_start, entry_counted, entry_is_left, entry_is_of, group_counted, group_is_left, groups_end, groups_have_room, groups_next, groups_start, never_absent, next_child, count_small, group_opened, group_never_refused, entries_have_room, group_puts}
 use Rattle.tree_codec.proofs.PutParts.{tail_puts, tail_room}

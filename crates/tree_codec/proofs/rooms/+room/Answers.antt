@@ -7,8 +7,8 @@ use Rattle.std.specs.Prelude.{codes}
 use Rattle.sbe_wire.specs.Misfit.{block_shape}
 use Rattle.sbe_wire.specs.Named.{is_admitted}
 use Rattle.layout_tables.proofs.GroupWalk.{GroupsFrom, groups_begin}
-use Rattle.flyweight_view.proofs.LevelsReady.{level_ready, group_shallow}
-use Rattle.flyweight_view.proofs.Opens.{child_here, child_next, level_within}
+use Rattle.body_walk.proofs.LevelsReady.{level_ready, group_shallow}
+use Rattle.body_walk.proofs.Opens.{child_here, child_next, level_within}
 use Rattle.tree_codec.specs.Rooms.{dim_room, groups_room}
 use Rattle.tree_codec.specs.Shapes.{misfit_of}
 use Rattle.tree_codec.proofs.RoomSteps.{got, entries_are, entry_went, entry_stopped, group_went, group_stopped, no_group, group_entries, group_dim_refused, group_none, tail_went, tail_stopped}

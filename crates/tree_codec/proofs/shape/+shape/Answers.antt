@@ -3,7 +3,7 @@ use Rattle.sbe_types.specs.declared.message.Block.{Block, out-Block}
 use Rattle.sbe_types.specs.declared.schema.Level.{out-Level}
 use Rattle.sbe_wire.specs.Misfit.{Misfit, block_shape}
 use Rattle.schema_facts.specs.CheckedLevels.{HasFewParts}
-use Rattle.flyweight_view.proofs.LevelsReady.{group_shallow}
+use Rattle.body_walk.proofs.LevelsReady.{group_shallow}
 use Rattle.tree_codec.proofs.LevelShapes.{here, below, group_refused, group_passed, entry_refused, entry_passed, few_entries}
 use Rattle.tree_codec.proofs.shape.+shape.Goals as goal
 

@@ -1,6 +1,6 @@
 use Rattle.std.proofs.Common.{arith}
-use Rattle.flyweight_view.proofs.Bodies.{root_level}
-use Rattle.flyweight_view.proofs.LevelsReady.{level_ready}
+use Rattle.body_walk.proofs.Bodies.{root_level}
+use Rattle.body_walk.proofs.LevelsReady.{level_ready}
 use Rattle.tree_codec.proofs.WholeMisfit.{root_shallow}
 use Rattle.tree_codec.proofs.sizing.take_root.Goals as goal
 

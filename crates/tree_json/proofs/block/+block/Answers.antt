@@ -11,6 +11,8 @@ use Rattle.json_values.specs.Plain.{entry_text, entries_text, plain_items}
 use Rattle.tree_json.specs.Views.{entries_entry, entries_data, seen_data}
 use Rattle.printers.proofs.Printing.{then_prints, reprinted, prints_nothing}
 use Rattle.json_values.proofs.Entries.{goes_on, ends_so, item_next}
+use Rattle.tree_json.specs.Texts.{AreTexts, AreTextsOfAll, AreTextsOfGroup}
+use Rattle.tree_json.proofs.LevelTextsOf.{GroupsHave, groups_have, texts_within}
 use Rattle.tree_json.proofs.Depth.{AreWithin, seen_within, first_within, some_deep}
 use Rattle.tree_json.proofs.Blocks.{front_closed}
 use Rattle.tree_json.proofs.HeadText.{front_is, no_groups, some_groups}
@@ -32,7 +34,10 @@ put_front-returns g t c =
     reprinted (front_is s) (then_prints c.put_head.ensures (reprinted some groups))
 
 pub put_front-put_groups-requires : goal.put_front-put_groups-requires
-put_front-put_groups-requires g t c = λ κs h. (omega (arith, ap (λ (b : Seen). deepest b.groups) c.again.ensures, c.decreases), h)
+put_front-put_groups-requires g t c = λ κs lives. (
+  omega (arith, ap (λ (b : Seen). deepest b.groups) c.again.ensures, c.decreases),
+  (lives.0, (lives.1, subst (AreTexts (g.T.Kept.texts c.args.texts)) (sym c.again.ensures) c.requires)),
+)
 
 pub put_entry-returns : goal.put_entry-returns
 put_entry-returns g t c =
@@ -44,15 +49,21 @@ put_groups-loop-i-init g t c =
     record {
       count = omega (arith, c.groups-groups.ensures.count);
       within = subst (AreWithin (deepest groups)) (sym c.groups-groups.ensures.seen) (seen_within (deepest groups) groups (out-Block c.args.block.now.block).groups (omega arith));
+      texts = subst (GroupsHave (g.T.Kept.texts c.args.texts) 0) (sym c.groups-groups.ensures.seen) (groups_have (g.T.Kept.texts c.args.texts) c.args.block.now c.requires);
       written = ([], prints_nothing, refl);
     }
+
+pub put_groups-group-inner-requires : goal.put_groups-group-inner-requires
+put_groups-group-inner-requires g t c =
+    texts_within (g.T.Kept.texts c.args.texts) c.args.block.now c.loop-i.i c.requires (omega (arith, c.loop-i-test.true, ap (λ r. r.1) c.counts-count.ensures))
 
 pub put_groups-put_group-later-requires : goal.put_groups-put_group-later-requires
 put_groups-put_group-later-requires g t c =
     let groups = c.args.block.now.groups in
     let some = some_deep groups (omega (arith, c.loop-i-test.true, ap (λ r. r.1) c.counts-count.ensures)) in
     let low = first_within (deepest groups) c.next_group.result c.next_group.new.self c.loop-i.groups c.next_group.ensures some c.loop-i.invariant.within in
-    λ κs h. (omega (arith, low.0, c.decreases), h)
+    let texts = subst (GroupsHave (g.T.Kept.texts c.args.texts) c.loop-i.i) c.next_group.ensures c.loop-i.invariant.texts in
+    λ κs lives. (omega (arith, low.0, c.decreases), (lives.0, (lives.1, subst (λ o. AreTextsOfGroup o c.next_group.result) (sym c.group-inner.ensures) texts.0)))
 
 pub put_groups-loop-i-preserved : goal.put_groups-loop-i-preserved
 put_groups-loop-i-preserved g t c =
@@ -65,9 +76,11 @@ put_groups-loop-i-preserved g t c =
     let group = part_of group_name (slice_get groups c.loop-i.i) c.group_name.result.now c.group_name.ensures in
     let next = view_next entries_entry later c.loop-i.i groups group.0 entries c.next_group.new.self c.loop-i.groups group.1 c.next_group.ensures in
     let one = reprinted (ap (λ name. entry_text later (name, option_map entries_data entries)) (sym group.2)) c.put_group-later.ensures.text in
+    let texts = subst (GroupsHave (g.T.Kept.texts c.args.texts) c.loop-i.i) c.next_group.ensures so_far.texts in
     record {
       count = omega (arith, so_far.count, ap length c.next_group.ensures);
       within = low.1;
+      texts = texts.1;
       written = (_, then_prints so_far.written.1 one, rw c.put_group-later.ensures.later (goes_on so_far.written.0 _ _ _ _ next so_far.written.2));
     }
 
@@ -81,26 +94,31 @@ put_groups-returns g t c =
     reprinted (ends_so so_far.0 _ _ _ none so_far.2 ∙ whole) (then_prints so_far.1 c.put.ensures)
 
 pub put_entries-put_views-requires : goal.put_entries-put_views-requires
-put_entries-put_views-requires g t c = λ κs h. (omega (arith, c.put_flat_entries-later.ensures.low, c.decreases), h)
+put_entries-put_views-requires g t c = λ κs lives. (omega (arith, c.put_first_entries-later.ensures.low, c.decreases), (lives.0, (lives.1, c.put_first_entries-later.ensures.left)))
 
 pub put_entries-returns-then-len-eq0 : goal.put_entries-returns-then-len-eq0
 put_entries-returns-then-len-eq0 g t c =
-    let front = c.put_flat_entries-later.ensures.text in
-    let none = none_left c.put_flat_entries-later.result c.put_flat_entries-later.new.entries (omega (arith, c.if-len-eq0.true, c.len.ensures)) in
+    let front = c.put_first_entries-later.ensures.text in
+    let none = none_left c.put_first_entries-later.result c.put_first_entries-later.new.entries (omega (arith, c.if-len-eq0.true, c.len.ensures)) in
     then_prints c.put.ensures (reprinted (ap (λ l. front.done ++ l) none ∙ front.whole) (then_prints front.printed c.put-then-len-eq0.ensures))
 
 pub put_entries-returns : goal.put_entries-returns
 put_entries-returns g t c =
-    let front = c.put_flat_entries-later.ensures.text in
+    let front = c.put_first_entries-later.ensures.text in
     then_prints c.put.ensures (reprinted front.whole (then_prints front.printed c.put_views.ensures))
 
 pub put_views-loop-entry-init : goal.put_views-loop-entry-init
 put_views-loop-entry-init g t c =
     let same = c.into_iter-entry-iterator.ensures.into_iter_gives in
-    record { low = omega (arith, ap deepest_in same); written = ([], prints_nothing, ap (λ es. plain_items c.args.later (items_by seen_data es)) same) }
+    record { low = omega (arith, ap deepest_in same); texts = subst (AreTextsOfAll (g.T.Kept.texts c.args.texts)) (sym same) c.requires; written = ([], prints_nothing, ap (λ es. plain_items c.args.later (items_by seen_data es)) same) }
 
 pub put_views-put_entry-requires : goal.put_views-put_entry-requires
-put_views-put_entry-requires g t c = λ κs h. (omega (arith, c.loop-entry.invariant.low, ap deepest_in c.in-Some.ensures.steps, c.decreases), h)
+put_views-put_entry-requires g t c =
+    let so_far = c.loop-entry.invariant in
+    λ κs lives. (
+      omega (arith, so_far.low, ap deepest_in c.in-Some.ensures.steps, c.decreases),
+      (lives.0, (lives.1, (subst (AreTextsOfAll (g.T.Kept.texts c.args.texts)) c.in-Some.ensures.steps so_far.texts).0)),
+    )
 
 pub put_views-loop-entry-preserved : goal.put_views-loop-entry-preserved
 put_views-loop-entry-preserved g t c =
@@ -111,6 +129,7 @@ put_views-loop-entry-preserved g t c =
     let next = sym (ap (λ es. plain_items later (items_by seen_data es)) steps ∙ item_next later (seen_data c.in-Some.entry) (items_by seen_data rest)) in
     record {
       low = omega (arith, so_far.low, ap deepest_in steps);
+      texts = (subst (AreTextsOfAll (g.T.Kept.texts c.args.texts)) steps so_far.texts).1;
       written = (_, then_prints so_far.written.1 c.put_entry.ensures, goes_on so_far.written.0 _ _ _ _ next so_far.written.2);
     }
 

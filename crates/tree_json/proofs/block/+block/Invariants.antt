@@ -5,7 +5,9 @@ use Rattle.tree_json.specs.Lines.{items_by}
 use Rattle.json_values.specs.Plain.{entries_text, plain_items}
 use Rattle.tree_json.specs.Views.{seen_data, entries_entry}
 use Rattle.printers.specs.Prints.{Prints}
+use Rattle.tree_json.specs.Texts.{AreTextsOfAll}
 use Rattle.tree_json.proofs.Depth.{deepest_of, AreWithin}
+use Rattle.tree_json.proofs.LevelTextsOf.{GroupsHave}
 use Rattle.tree_json.proofs.block.+block.Given as goal
 
 abbrev pub invariant-put_groups-loop-i : goal.invariant-put_groups-loop-i
@@ -13,6 +15,7 @@ invariant-put_groups-loop-i g l =
     record {
       count : l.i + length l.groups ≡ length l.block.groups;
       within : AreWithin (deepest l.block.groups) l.groups;
+      texts : GroupsHave (g.T.Kept.texts l.texts) l.i l.groups;
       written : (done : List ℕ)
           × Prints g.O.Sink.state l.initial.printer l.printer done
           × (done ++ entries_text l.later (zipped entries_entry (drop l.i l.block.groups) l.groups) ≡ entries_text false (zipped entries_entry l.block.groups l.initial.groups));
@@ -22,6 +25,7 @@ abbrev pub invariant-put_views-loop-entry : goal.invariant-put_views-loop-entry
 invariant-put_views-loop-entry g l =
     record {
       low : deepest_in l.entry-iterator ≤ deepest_in l.fn.entries;
+      texts : AreTextsOfAll (g.T.Kept.texts l.texts) l.entry-iterator;
       written : (done : List ℕ)
           × Prints g.O.Sink.state l.initial.printer l.printer done
           × (done ++ plain_items l.later (items_by seen_data l.entry-iterator) ≡ plain_items l.fn.later (items_by seen_data l.fn.entries));

@@ -1,7 +1,7 @@
 use Rattle.std.proofs.Common.{sym, subst, ◌∙◌}
 use Rattle.std.proofs.Common.{drop}
-use Rattle.flyweight_view.specs.Cursor.{entries_read}
-use Rattle.flyweight_view.specs.Planned.{block_of}
+use Rattle.body_walk.specs.inner.Cursor.{entries_read}
+use Rattle.flyweight_view.specs.inner.Planned.{block_of}
 use Rattle.flyweight_view.specs.Seen.{seen_level}
 use Rattle.flyweight_view.specs.ByTable.{IsTableBlock}
 use Rattle.flyweight_view.proofs.Nexts.{flat_is}

@@ -1,5 +1,5 @@
 use Rattle.std.proofs.Common.{length, ap, arith}
-use Rattle.flyweight_view.proofs.Lefts.{none_there}
+use Rattle.body_walk.proofs.Opens.{none_there}
 use Rattle.flyweight_view.proofs.Nexts.{entries_many}
 use Rattle.flyweight_view.proofs.entries.EntriesViewIterator.next.Goals as goal
 

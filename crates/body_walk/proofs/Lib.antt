@@ -1,0 +1,16 @@
+pub mod Trails
+pub mod Bits
+pub mod LeafTold
+pub mod KindTold
+pub mod MembersReady
+pub mod FieldsTold
+pub mod Cursor
+pub mod Walks
+pub mod LevelsReady
+pub mod Bodies
+pub mod HeadSpots
+pub mod Opens
+pub mod ReadyTold
+pub mod AtOnce
+pub mod Alive
+pub mod BlockRows

@@ -1,0 +1,4 @@
+pub mod Heads
+pub mod Refusals
+pub mod Walked
+pub mod inner

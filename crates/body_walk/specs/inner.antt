@@ -1,0 +1,10 @@
+-- Definitions that inner clauses alone cite.
+pub mod Told
+pub mod Kinds
+pub mod Fields
+pub mod Cursor
+pub mod Ready
+pub mod Starts
+pub mod HeadNumbers
+pub mod Blocks
+pub mod Layers

@@ -1,0 +1,62 @@
+ghost use Rattle.std.specs.Prelude.{◌≡◌};
+ghost use Rattle.body_walk.specs.Refusals.{refused};
+
+use crate::found::Found;
+use sbe_types::Path;
+use sbe_wire::FCode;
+use std::marker::Model;
+
+/// Why a body is no message: its first faulty part in wire order.
+#[derive(Drop)]
+pub struct Refusal {
+    pub code: FCode,
+    /// The number of the message with the header's template id; none where the header names none of this schema.
+    pub template: Option<usize>,
+    /// The way to the part; empty for the root block, the header and what follows the message.
+    pub path: Path,
+    /// The place of the fault, counted from the body's first byte.
+    pub offset: usize,
+    /// The number that is refused, or how many bytes are wanted, there, or too many.
+    pub detail: i128,
+}
+
+/// Why the body that was looked at last is no message. It is lent, so that a body that is a message costs nothing of it.
+#[derive(Drop)]
+pub struct LastRefusal {
+    pub(crate) template: Option<usize>,
+    pub(crate) found: Found,
+}
+
+impl Model for LastRefusal {
+    ghost use Rattle.body_walk.specs.inner.Told.{fault_of};
+    ghost use Rattle.body_walk.specs.Refusals.{Misread};
+
+    ghost Value = { Misread };
+
+    ghost view = { λ last. record { template = last.template; fault = fault_of last.found } };
+}
+
+impl LastRefusal {
+    /// The place of a refusal, before a body was looked at.
+    pub fn new() -> LastRefusal {
+        LastRefusal {
+            template: None,
+            found: Found::new(),
+        }
+    }
+
+    /// The refusal of the body that was looked at last.
+    #[cold]
+    pub fn refusal(&self) -> Refusal
+        ensures fault { refused result ≡ self.now.fault }
+        ensures template { result.template ≡ self.now.template }
+    {
+        Refusal {
+            code: self.found.code,
+            template: self.template,
+            path: self.found.path.to_path(),
+            offset: self.found.offset,
+            detail: self.found.detail,
+        }
+    }
+}

@@ -1,7 +1,0 @@
-use Rattle.std.proofs.Common.{refl}
-use Rattle.flat_rows.proofs.Computing.{computing}
-use Rattle.flat_rows.proofs.worked.no_fields_are_a_bracket.Goals as goal
-
-pub returns : goal.returns
-unfolding computing
-returns c = refl

@@ -1,0 +1,24 @@
+-- What a view of a block shows.
+use Rattle.std.specs.Prelude.{◌≡◌, ◌≤◌}
+use Rattle.sbe_types.specs.declared.kind.Order.TheVariants.{Little}
+use Rattle.layout_tables.specs.declared.rows.LevelRow.{LevelRow}
+use Rattle.flyweight_view.specs.declared.block.BlockView.TheInside.{Inside}
+use Rattle.flyweight_view.specs.declared.by_table.TableBlock.{TableBlock}
+use Rattle.flyweight_view.specs.declared.plan.Span.{Span}
+use Rattle.flyweight_view.specs.inner.Planned.{bytes_of, seen_at, IsSeen}
+use Rattle.flyweight_view.specs.Seen.{Seen}
+
+-- what the bytes at its place show
+abbrev pub seen_of : Inside → Seen
+seen_of v = seen_at v.span v.plan
+
+-- the block lies there
+abbrev pub IsShown : Inside → Type 0
+IsShown v = IsSeen v.span v.plan
+
+-- a block is that of a span, all fields of the row stand in it, and its numbers have the lowest byte first
+pub record IsRowBlock (s : Span) (row : LevelRow) (b : TableBlock) : Type 0 where
+  pub order : s.mode.order ≡ Little
+  pub newest : row.newest ≤ s.mode.version
+  pub table_is : b.table.now ≡ row.flat
+  pub bytes_are : b.bytes.now ≡ bytes_of s

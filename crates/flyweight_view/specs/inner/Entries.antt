@@ -1,0 +1,15 @@
+-- What a view of entries shows.
+use Rattle.std.specs.Prelude.{List}
+use Rattle.flyweight_view.specs.declared.entries.EntriesView.TheInside.{Inside}
+use Rattle.body_walk.specs.inner.Layers.{IsLayer}
+use Rattle.flyweight_view.specs.inner.Layers.{LieThere, entries_seen}
+use Rattle.flyweight_view.specs.Seen.{Seen}
+
+-- the entries that are left
+abbrev pub entries_of : Inside → List Seen
+entries_of e = entries_seen e.layer e.left
+
+-- they lie there
+pub record AreEntries (e : Inside) : Type 0 where
+  pub layer : IsLayer e.layer
+  pub lie : LieThere e.layer e.left

@@ -1,0 +1,37 @@
+-- Pieces and names on which the definitions are computed. Own profile.
+use Rattle.std.specs.Prelude.{ℕ, Option, Some, None, List, [], ◌∷◌, map, codes}
+use Rattle.sbe_types.specs.declared.kind.Kind.{Kind}
+use Rattle.sbe_types.specs.declared.kind.Primitive.TheVariants.{I32, U8, U16}
+use Rattle.flat_rows.specs.Worked.{number, side, flags, text, pair}
+use Rattle.json_rows.specs.Codes.{byte_name}
+use Rattle.json_rows.specs.Pieces.{Slot, Joined}
+
+-- a value with what stands before it
+abbrev pub slot : List ℕ → Kind → ℕ → Slot
+slot before kind place = record { before = before; kind = kind; place = place }
+
+-- their values between a bracket and a comma, each with what stands before it
+abbrev pub mixed_joined : Joined
+mixed_joined =
+    record {
+      slots =
+          slot (codes "{\"n\":") (number U16) 0 ∷ slot (codes ",\"k\":-4,\"e\":") side 2 ∷ slot (codes ",\"s\":") flags 3 ∷ slot (codes ",\"t\":") text 4
+          ∷ slot (codes ",\"o\":") pair 10 ∷ slot (codes ",\"px\":{\"mantissa\":") (number I32) 14 ∷ slot (codes ",\"exponent\":-2,\"in\":{\"x\":") (number U8) 20 ∷ [];
+      last = codes "}},\"c\":\"U\\\"D\",\"d\":\"Sell\",\"h\":{\"hex\":\"61ff\"}},";
+    }
+
+-- what a block without fields has
+abbrev pub nothing : Joined
+nothing = record { slots = []; last = codes "}" }
+
+-- the names that it has for these bytes and for one more
+abbrev pub names_at : Kind → List (Option (List ℕ))
+names_at kind = map (byte_name kind) (0 ∷ 1 ∷ 65 ∷ 200 ∷ 255 ∷ [])
+
+-- of two names with one number the first, and none for the null
+abbrev pub doubled_names : List (Option (List ℕ))
+doubled_names = Some (codes "Nought") ∷ None ∷ Some (codes "First") ∷ None ∷ Some (codes "Last") ∷ []
+
+-- none at all
+abbrev pub no_names : List (Option (List ℕ))
+no_names = None ∷ None ∷ None ∷ None ∷ None ∷ []

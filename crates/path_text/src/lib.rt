@@ -1,0 +1,6 @@
+//! The texts of paths: the way to a part of a message, as it is printed.
+#![tactic(auto)]
+
+mod paths;
+
+pub use paths::put_path;

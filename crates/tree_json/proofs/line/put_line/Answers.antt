@@ -1,5 +1,0 @@
-use Rattle.printers.proofs.Printing.{then_prints, reprinted}
-use Rattle.tree_json.proofs.line.put_line.Goals as goal
-
-pub returns : goal.returns
-returns g c = reprinted c.put_open_line.ensures.whole (then_prints c.put_open_line.ensures.printed c.put.ensures)
