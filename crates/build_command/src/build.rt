@@ -1,5 +1,5 @@
 ghost use Rattle.std.specs.Prelude.{◌≡◌};
-ghost use Rattle.schema_files.specs.Files.{JobCause};
+ghost use Rattle.schema_files.specs.Files.{JobCause, NamesLast};
 ghost use Rattle.command_files.specs.Files.{LoadsFiles};
 ghost use Rattle.command_steps.specs.Stands.{IsBounded};
 ghost use Rattle.command_steps.specs.Replies.{no_line};
@@ -54,6 +54,7 @@ pub fn load_build<F: Files>(
     ensures kept { (F.state files.new).told ≡ (F.state files.old).told }
     ensures loads { LoadsFiles (build_files name.now limits.frame) (F.state files.old).told result }
     ensures cause { JobCause (F.state files.old).faults (F.state files.new).faults result }
+    ensures names { NamesLast (F.load_count files.old) (F.load_count files.new) result }
 {
     let checked = match load_checked(alloc, files, name) {
         Ok(checked) => checked,

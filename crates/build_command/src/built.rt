@@ -53,20 +53,17 @@ pub fn answer_built<O: Sink, N: Sink>(
     if line.is_empty() {
         return Ok(Verdict::Answered);
     }
-    if body_of_line(&target.layout, line, space.buffer.limit(), &mut space.draft) {
-        return answer_body(&target.layout, space.draft.bytes(), output);
+    let layout = target.printed.lines().layout();
+    if body_of_line(
+        &target.printed,
+        line,
+        space.buffer.limit(),
+        &mut space.draft,
+    ) {
+        return answer_body(layout, space.draft.bytes(), output);
     }
     match msg_of_line_with(alloc, &target.checked, line, &mut space.json) {
-        Ok(message) => {
-            answer_message(
-                &target.layout,
-                item,
-                &message,
-                &mut space.buffer,
-                output,
-                notes,
-            )
-        }
+        Ok(message) => answer_message(layout, item, &message, &mut space.buffer, output, notes),
         Err(LineFault::Refused(code, place)) => {
             match put_unread(notes, item, code, place.as_slice()) {
                 Ok(()) => Ok(Verdict::Refused),

@@ -14,7 +14,7 @@ ghost use Rattle.build_command.specs.Rows.{unknown_template, one_byte_more};
 /// Its row in the table of forms.
 pub fn words()
     ensures { rows_of (codes "build")
-        ≡ record { form = form.Build; word = codes "build"; files = 1; options = codes "--max-frame" ∷ codes "--max-input" ∷ [] } ∷ [] }
+        ≡ record { form = form.Build; word = codes "build"; files = 1; numbers = 0; options = codes "--max-frame" ∷ codes "--max-input" ∷ [] } ∷ [] }
 {}
 
 /// A line that names no message of the schema, and a message that doesn't fit a frame.

@@ -1,17 +1,18 @@
 ghost use Rattle.std.specs.Prelude.{◌≡◌, IfOk};
 
 use layout_compile::compile;
-use layout_tables::Layout;
 use lists::NoMem;
+use printed_lines::PrintedLines;
 use schema_check::Checked;
 use std::alloc::Global;
 use std::marker::Model;
+use tree_json::LineLayout;
 
-/// The schema of the messages that are built, and its layout.
+/// The schema of the messages that are built, and its layout with the texts of its lines.
 #[derive(Drop)]
 pub struct Target {
     pub(crate) checked: Checked,
-    pub(crate) layout: Layout,
+    pub(crate) printed: PrintedLines,
 }
 
 impl Model for Target {
@@ -27,7 +28,7 @@ impl Model for Target {
 
     ghost view = { λ target. target.checked };
 
-    ghost invariant = { λ target. target.layout ≡ target.checked };
+    ghost invariant = { λ target. target.printed ≡ target.checked };
 }
 
 impl Target {
@@ -35,9 +36,8 @@ impl Target {
     pub fn new(alloc: Global, checked: Checked) -> Result<Target, NoMem>
         ensures { IfOk result (λ target. target ≡ checked) }
     {
-        match compile(alloc, &checked) {
-            Ok(layout) => Ok(Target { checked, layout }),
-            Err(e) => Err(e),
-        }
+        let lines = LineLayout::new(alloc, compile(alloc, &checked)?)?;
+        let printed = PrintedLines::new(lines);
+        Ok(Target { checked, printed })
     }
 }

@@ -13,6 +13,7 @@ use json_values::put_text;
 use layout_tables::Layout;
 use line_values::JCode;
 use open_framing::HEAD_BYTES;
+use path_text::put_path;
 use printers::{Chunk, Printer};
 use refused_items::{put_refused_back, put_refused_front, put_refused_number};
 use sbe_base::{Sink, WriteFault};
@@ -84,7 +85,7 @@ fn put_misfit_line<O: Sink>(
 {
     put_refused_front(printer, item, misfit_code(why.code), None);
     printer.put(b"\"");
-    layout.put_path(printer, template, &why.path);
+    put_path(printer, layout, template, &why.path);
     put_back(printer, why.code, &why.detail);
 }
 

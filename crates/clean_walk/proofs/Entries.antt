@@ -2,11 +2,12 @@
 use Rattle.std.proofs.Common.{◌≡◌, ◌<◌, ℕ, ◌+◌, ◌-◌, List, length, take, drop, get_or, Option, Some, None, IfSome, sym, ap, ◌∙◌, subst, arith}
 use Rattle.std.specs.Prelude.{codes, slice_get}
 use Rattle.std.specs.List.{All}
+use Rattle.std.proofs.lemmas.List.Elements.{All-get_or}
 use Rattle.std.proofs.lemmas.Option.{slice_get-get_or}
 use Rattle.byte_digits.specs.Digits.{IsBytes}
 use Rattle.sbe_types.specs.declared.kind.Member.{Member}
+use Rattle.sbe_types.specs.declared.kind.Order.{Order}
 use Rattle.sbe_types.specs.declared.schema.DataField.{DataField}
-use Rattle.sbe_types.specs.declared.schema.Field.{Field}
 use Rattle.sbe_types.specs.declared.schema.Group.{Group, out-Group}
 use Rattle.sbe_types.specs.declared.schema.Level.{Level, out-Level}
 use Rattle.sbe_types.specs.declared.schema.WireSchema.{WireSchema}
@@ -24,7 +25,8 @@ use Rattle.clean_bodies.specs.Whole.{Chain, Times}
 use Rattle.clean_bodies.proofs.CleanGroups.{entry_whole}
 use Rattle.clean_bodies.proofs.CleanLevels.{tail_whole, group_step, good_groups, good_parts}
 use Rattle.clean_bodies.proofs.CleanMessages.{message_clean}
-use Rattle.clean_walk.specs.Heads.{GroupSays}
+use Rattle.clean_walk.specs.declared.heads.Numbers.TheVariants.{Header}
+use Rattle.clean_walk.specs.Heads.{GroupSays, number_of_name}
 use Rattle.clean_walk.specs.Places.{place_in}
 use Rattle.clean_walk.proofs.Saying.{say_front}
 
@@ -33,26 +35,30 @@ pub if_more : (P Q : ℕ → Type 0) → ((n : ℕ) → P n → Q n) → (o : Op
 if_more P Q more None h = tt
 if_more P Q more (Some n) h = more n h
 
-pub groups_good : (version : ℕ) (level : Level) (gs : List Group) → gs ≡ (out-Level level).groups
-    → IsGoodLevel version level → All (IsGoodGroup version) gs
-groups_good version level gs same known = subst (All (IsGoodGroup version)) (sym same) (good_groups version level known)
-
 pub parts_good : (version : ℕ) (level : Level) (ps : List DataField) → ps ≡ (out-Level level).parts
     → IsGoodLevel version level → All (IsWritablePart version) ps
 parts_good version level ps same known = subst (All (IsWritablePart version)) (sym same) (good_parts version level known)
 
-pub entry_walked : (place : Place) (level : Level) (fs : List Field) (gs : List Group) (ps : List DataField) (at mid next : ℕ)
-    → fs ≡ (out-Level level).fields → gs ≡ (out-Level level).groups → ps ≡ (out-Level level).parts
-    → IsGoodLevel place.version level → IsBytes place.body
-    → IsCleanBlock fs (take (at + (out-Level level).block_length - at) (drop at place.body))
-    → Chain Group (GroupStep place) gs (at + (out-Level level).block_length) mid
+pub entry_walked : (place : Place) (level : Level) (ps : List DataField) (at size mid next : ℕ) → size ≡ (out-Level level).block_length
+    → ps ≡ (out-Level level).parts → IsGoodLevel place.version level → IsBytes place.body
+    → IsCleanBlock (out-Level level).fields (take (at + size - at) (drop at place.body))
+    → Chain Group (GroupStep place) (out-Level level).groups (at + size) mid
     → Chain DataField (PartStep place) ps mid next → EntryStep place level at next
-entry_walked place level fs gs ps at mid next fields groups parts good bytes clean first second =
+entry_walked place level ps at size mid next is parts good bytes clean first second =
+    let fields = (out-Level level).fields in
+    let groups = (out-Level level).groups in
     let wide : ℕ = (out-Level level).block_length in
-    let long : at + wide - at ≡ wide = omega arith in
+    let long : at + size - at ≡ wide = omega (arith, is) in
     entry_whole place level good bytes at next
-    (subst (λ l. IsCleanBlock l (take wide (drop at place.body))) fields (subst (λ n. IsCleanBlock fs (take n (drop at place.body))) long clean))
-    (tail_whole place level (at + wide) mid next (subst (λ l. Chain Group (GroupStep place) l (at + wide) mid) groups first) (subst (λ l. Chain DataField (PartStep place) l mid next) parts second))
+    (subst (λ n. IsCleanBlock fields (take n (drop at place.body))) long clean)
+    (tail_whole place level (at + wide) mid next (subst (λ n. Chain Group (GroupStep place) groups (at + n) mid) is first) (subst (λ l. Chain DataField (PartStep place) l mid next) parts second))
+
+-- a group of a level, by its place
+pub group_good : (version : ℕ) (level : Level) (gs : List Group) (i : ℕ) (g : Group) → gs ≡ (out-Level level).groups → i < length gs → g ≡ get_or gs i g
+    → IsGoodLevel version level → IsGoodGroup version g
+group_good version level gs i g same below is known =
+    let all : All (IsGoodGroup version) gs = subst (All (IsGoodGroup version)) (sym same) (good_groups version level known) in
+    subst (IsGoodGroup version) (sym is) (All-get_or (IsGoodGroup version) gs i g below all)
 
 pub group_walked : (place : Place) (g : Group) (count at behind next : ℕ) → IsGoodGroup place.version g
     → IsBytes place.body → GroupSays place.order place.body g count at → behind ≡ at + members_end 0 (out-Group g).dim
@@ -73,6 +79,16 @@ root_walked schema level body ms size next good named bytes same end says entry 
     message_clean schema level body next good named bytes
     (say_front schema.order (header_numbers schema level) (members_end 0 members) body 0 members there (omega arith))
     (subst (λ n. EntryStep (place_in schema body) level n next) size_is entry)
+
+-- the numbers of a header by what was told of the schema
+pub numbers_of_header : (schema : WireSchema) (level : Level) (id version : ℕ) (order : Order) (ms : List Member) (body : List ℕ) → id ≡ schema.id → version ≡ schema.version → order ≡ schema.order →
+    SayNumbers order (number_of_name (Header (out-Level level).block_length (out-Level level).id id version)) 0 ms body → SayNumbers schema.order (header_numbers schema level) 0 ms body
+numbers_of_header schema level id version order ms body same_id same_version same_order says =
+    let block = (out-Level level).block_length in
+    let template = (out-Level level).id in
+    subst (λ v. SayNumbers schema.order (number_of_name (Header block template schema.id v)) 0 ms body) same_version
+    (subst (λ n. SayNumbers schema.order (number_of_name (Header block template n version)) 0 ms body) same_id
+    (subst (λ o. SayNumbers o (number_of_name (Header block template id version)) 0 ms body) same_order says))
 
 -- ---- the root of a message
 

@@ -1,6 +1,6 @@
 pub mod AllZeros
-pub mod Members
-pub mod Fields
+pub mod Gaps
+pub mod Rows
 pub mod Saying
 pub mod Parts
 pub mod Entries

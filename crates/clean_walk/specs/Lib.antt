@@ -1,3 +1,3 @@
 pub mod Heads
-pub mod Members
 pub mod Places
+pub mod Values

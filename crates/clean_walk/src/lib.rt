@@ -1,9 +1,8 @@
-//! Whether the bytes of a body are the canonical ones of the message that lies in it: one walk by the schema.
+//! Whether the bytes of a body are the canonical ones of the message that lies in it: one walk by the layout's rows.
 #![tactic(auto)]
 
 mod blocks;
 mod heads;
-mod kinds;
 mod names;
 mod places;
 mod walk;

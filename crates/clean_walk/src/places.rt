@@ -1,48 +1,9 @@
-// Widths of kinds, the places of parts, and their numbers.
+// The places of members, and their numbers.
 ghost use Rattle.std.specs.Prelude.{◌≡◌, IfSome, length, pos};
 ghost use Rattle.sbe_types.specs.Numbers.{number_of, prim_width};
-ghost use Rattle.sbe_types.specs.Places.{width, begin_of as begins_at, end_past, is_const, members_end};
+ghost use Rattle.sbe_types.specs.Places.{begin_of as begins_at};
 
-use sbe_types::{Kind, Member, Order, Prim, get_num};
-
-/// How many bytes a value of the kind takes; none where that is no number of the machine.
-#[cycle(width)]
-#[inline(always)]
-pub(crate) fn width_of(kind: &Kind) -> Option<usize>
-    ensures { IfSome result (λ n. n ≡ width kind.now) }
-{
-    match kind {
-        Kind::Leaf(leaf) => leaf.prim.width().checked_mul(leaf.length as usize),
-        Kind::Enum(leaf, _) => Some(leaf.prim.width()),
-        Kind::Set(prim, _) => Some(prim.width()),
-        Kind::Const(_) => Some(0),
-        Kind::Comp(members) => end_of(members.as_slice()),
-    }
-}
-
-/// Where members end; none where that is no number of the machine.
-#[cycle(width)]
-pub(crate) fn end_of(members: &[Member]) -> Option<usize>
-    ensures { IfSome result (λ n. n ≡ members_end 0 members.now) }
-{
-    let mut end = 0usize;
-    for member in members {
-        end = past(end, member)?;
-    }
-    Some(end)
-}
-
-/// Where a member ends behind members that end at `end`.
-#[cycle(width)]
-#[inline(always)]
-fn past(end: usize, member: &Member) -> Option<usize>
-    ensures { IfSome result (λ next. next ≡ end_past end member.now.offset member.now.kind) }
-{
-    if is_constant(&member.kind) {
-        return Some(end);
-    }
-    begin_of(end, member.offset).checked_add(width_of(&member.kind)?)
-}
+use sbe_types::{Order, Prim, get_num};
 
 /// Where a part begins behind parts that end at `end`.
 #[inline(always)]
@@ -52,17 +13,6 @@ pub(crate) fn begin_of(end: usize, offset: Option<u32>) -> usize
     match offset {
         Some(place) => place as usize,
         None => end,
-    }
-}
-
-/// Whether the kind is a constant, which takes no bytes.
-#[inline(always)]
-pub(crate) fn is_constant(kind: &Kind) -> bool
-    ensures { result ≡ is_const kind.now }
-{
-    match kind {
-        Kind::Const(_) => true,
-        Kind::Leaf(_) | Kind::Enum(_, _) | Kind::Set(_, _) | Kind::Comp(_) => false,
     }
 }
 

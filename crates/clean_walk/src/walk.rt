@@ -1,4 +1,4 @@
-ghost use Rattle.std.specs.Prelude.{◌≡◌, ◌≤◌, ◌+◌, true, length, codes, IfSome};
+ghost use Rattle.std.specs.Prelude.{◌≡◌, ◌≤◌, ◌+◌, true, length, codes, slice_get, IfSome, Some};
 ghost use Rattle.std.specs.List.{All};
 ghost use Rattle.byte_digits.specs.Digits.{IsBytes};
 ghost use Rattle.sbe_types.specs.declared.schema.DataField.{DataField};
@@ -6,7 +6,7 @@ ghost use Rattle.sbe_types.specs.declared.schema.Group.{Group, out-Group};
 ghost use Rattle.sbe_types.specs.declared.schema.Level.{out-Level};
 ghost use Rattle.sbe_types.specs.Places.{members_end};
 ghost use Rattle.writing_laws.specs.Writable.{HasNamed, IsWritablePart};
-ghost use Rattle.schema_facts.specs.IsChecked.{IsChecked};
+ghost use Rattle.schema_facts.specs.Levels.{level_at};
 ghost use Rattle.clean_bodies.specs.Bodies.{IsCanonicalOf, IsCanonicalRoot};
 ghost use Rattle.clean_bodies.specs.Good.{IsGoodGroup, IsGoodLevel};
 ghost use Rattle.clean_bodies.specs.Steps.{EntryStep, GroupStep, PartStep};
@@ -18,40 +18,43 @@ use crate::blocks::is_clean_block;
 use crate::heads::{Numbers, count_in, end_said};
 use crate::places::natural_at;
 use crate::zeros::are_bytes;
-use sbe_types::{DataField, Group, Level, Order, WireSchema};
+use body_walk::first_child;
+use layout_tables::Layout;
+use sbe_types::{DataField, Group, Level, Order};
 
 /// Whether a body's bytes are the canonical ones of the message of this template and of the schema's own version that lies in
-/// it, if one does. A no tells nothing of the body.
-pub fn is_clean_body(schema: &WireSchema, template: usize, body: &[u8]) -> bool
-    requires { IsChecked schema.now }
-    ensures { result ≡ true → IsCanonicalOf schema.now template body.now }
+/// it, if one does. `false` is inconclusive.
+pub fn is_clean_body(layout: &Layout, template: usize, body: &[u8]) -> bool
+    ensures { result ≡ true → IsCanonicalOf layout.now template body.now }
 {
     are_bytes(body);
+    let schema = layout.schema();
     let levels = schema.messages.as_slice();
     if template >= levels.len() {
         return false;
     }
-    is_clean_root(schema, &levels[template], body)
+    is_clean_root(layout, layout.root(template), &levels[template], body)
 }
 
-/// The same of the root of a message.
-fn is_clean_root(schema: &WireSchema, level: &Level, body: &[u8]) -> bool
-    requires good { IsGoodLevel schema.now.version level.now }
-    requires header { HasNamed schema.now.header.members (codes "blockLength") }
+/// The same of the root of a message, which is the level of that number.
+fn is_clean_root(layout: &Layout, n: usize, level: &Level, body: &[u8]) -> bool
+    requires level { level_at layout.now n ≡ Some level.now }
+    requires good { IsGoodLevel layout.now.version level.now }
+    requires header { HasNamed layout.now.header.members (codes "blockLength") }
     requires bytes { IsBytes body.now }
-    ensures { result ≡ true → IsCanonicalRoot schema.now level.now body.now }
+    ensures { result ≡ true → IsCanonicalRoot layout.now level.now body.now }
 {
-    let members = schema.header.members.as_slice();
+    let members = layout.header().members.as_slice();
     let numbers = Numbers::Header {
         block: level.block_length,
         template: level.id,
-        schema: schema.id,
-        version: schema.version,
+        schema: layout.id(),
+        version: layout.version(),
     };
-    let Some(size) = end_said(schema.order, members, numbers, body) else {
+    let Some(size) = end_said(layout.order(), members, numbers, body) else {
         return false;
     };
-    match entry_end(schema, level, body, size) {
+    match entry_end(layout, n, level, body, size) {
         Some(_) => true,
         None => false,
     }
@@ -59,84 +62,84 @@ fn is_clean_root(schema: &WireSchema, level: &Level, body: &[u8]) -> bool
 
 /// Where an entry ends that begins at a place of the body, if its bytes are clean.
 #[cycle(walk)]
-fn entry_end(schema: &WireSchema, level: &Level, body: &[u8], at: usize) -> Option<usize>
-    requires good { IsGoodLevel schema.now.version level.now }
+fn entry_end(layout: &Layout, n: usize, level: &Level, body: &[u8], at: usize) -> Option<usize>
+    requires level { level_at layout.now n ≡ Some level.now }
+    requires good { IsGoodLevel layout.now.version level.now }
     requires bytes { IsBytes body.now }
     requires at { at ≤ length body.now }
-    ensures whole { IfSome result (EntryStep (place_in schema.now body.now) level.now at) }
+    ensures whole { IfSome result (EntryStep (place_in layout.now body.now) level.now at) }
     ensures within { IfSome result (λ next. next ≤ length body.now) }
 {
-    let size = level.block_length as usize;
+    let row = layout.row(n);
+    let size = row.block as usize;
     if body.len() - at < size {
         return None;
     }
     let behind = at + size;
-    if !is_clean_block(level.fields.as_slice(), &body[at..behind]) {
+    if !is_clean_block(&row.flat, &body[at..behind]) {
         return None;
     }
-    let next = groups_end(schema, groups_of(schema, level), body, behind)?;
-    parts_end(schema, level.parts.as_slice(), body, next)
+    let next = groups_end(layout, n, level, body, behind)?;
+    parts_end(layout, level.parts.as_slice(), body, next)
 }
 
-/// The groups of a level.
-fn groups_of<'a>(schema: &WireSchema, level: &'a Level) -> &'a [Group]
-    requires { IsGoodLevel schema.now.version level.now }
-    ensures groups { result.now ≡ (out-Level level.now).groups }
-    ensures good { All (IsGoodGroup schema.now.version) result.now }
-{
-    level.groups.as_slice()
-}
-
-/// Where groups end.
+/// Where the groups of a level end.
 #[cycle(walk)]
-fn groups_end(schema: &WireSchema, groups: &[Group], body: &[u8], at: usize) -> Option<usize>
-    requires good { All (IsGoodGroup schema.now.version) groups.now }
+fn groups_end(layout: &Layout, n: usize, level: &Level, body: &[u8], at: usize) -> Option<usize>
+    requires level { level_at layout.now n ≡ Some level.now }
+    requires good { IsGoodLevel layout.now.version level.now }
     requires bytes { IsBytes body.now }
     requires at { at ≤ length body.now }
-    ensures whole { IfSome result (Chain Group (GroupStep (place_in schema.now body.now)) groups.now at) }
+    ensures whole { IfSome result (Chain Group (GroupStep (place_in layout.now body.now)) (out-Level level.now).groups at) }
     ensures within { IfSome result (λ next. next ≤ length body.now) }
 {
+    let groups = level.groups.as_slice();
+    let mut child = first_child(layout, n);
     let mut next = at;
     for group in groups {
-        match group_end(schema, group, body, next) {
+        match group_end(layout, child, group, body, next) {
             Some(end) => next = end,
             None => return None,
         }
+        child = layout.row(child).end;
     }
     Some(next)
 }
 
-/// Where a group ends.
+/// Where a group ends, whose entries' level has that number.
 #[cycle(walk)]
-fn group_end(schema: &WireSchema, group: &Group, body: &[u8], at: usize) -> Option<usize>
-    requires good { IsGoodGroup schema.now.version group.now }
+fn group_end(layout: &Layout, n: usize, group: &Group, body: &[u8], at: usize) -> Option<usize>
+    requires level { level_at layout.now n ≡ Some (out-Group group.now).level }
+    requires good { IsGoodGroup layout.now.version group.now }
     requires bytes { IsBytes body.now }
     requires at { at ≤ length body.now }
-    ensures whole { IfSome result (GroupStep (place_in schema.now body.now) group.now at) }
+    ensures whole { IfSome result (GroupStep (place_in layout.now body.now) group.now at) }
     ensures within { IfSome result (λ next. next ≤ length body.now) }
 {
-    let (count, behind) = dim_end(schema.order, group, body, at)?;
-    entries_end(schema, &group.level, count, body, behind)
+    let (count, behind) = dim_end(layout.order(), group, body, at)?;
+    entries_end(layout, n, &group.level, count, body, behind)
 }
 
 /// Where so many entries end.
 #[cycle(walk)]
 fn entries_end(
-    schema: &WireSchema,
+    layout: &Layout,
+    n: usize,
     level: &Level,
     count: u32,
     body: &[u8],
     at: usize,
 ) -> Option<usize>
-    requires good { IsGoodLevel schema.now.version level.now }
+    requires level { level_at layout.now n ≡ Some level.now }
+    requires good { IsGoodLevel layout.now.version level.now }
     requires bytes { IsBytes body.now }
     requires at { at ≤ length body.now }
-    ensures whole { IfSome result (Times (EntryStep (place_in schema.now body.now) level.now) count at) }
+    ensures whole { IfSome result (Times (EntryStep (place_in layout.now body.now) level.now) count at) }
     ensures within { IfSome result (λ next. next ≤ length body.now) }
 {
     let mut next = at;
     for done in 0..count {
-        match entry_end(schema, level, body, next) {
+        match entry_end(layout, n, level, body, next) {
             Some(end) => next = end,
             None => return None,
         }
@@ -163,16 +166,16 @@ fn dim_end(order: Order, group: &Group, body: &[u8], at: usize) -> Option<(u32, 
 }
 
 /// Where data parts end.
-fn parts_end(schema: &WireSchema, parts: &[DataField], body: &[u8], at: usize) -> Option<usize>
-    requires good { All (IsWritablePart schema.now.version) parts.now }
+fn parts_end(layout: &Layout, parts: &[DataField], body: &[u8], at: usize) -> Option<usize>
+    requires good { All (IsWritablePart layout.now.version) parts.now }
     requires bytes { IsBytes body.now }
     requires at { at ≤ length body.now }
-    ensures whole { IfSome result (Chain DataField (PartStep (place_in schema.now body.now)) parts.now at) }
+    ensures whole { IfSome result (Chain DataField (PartStep (place_in layout.now body.now)) parts.now at) }
     ensures within { IfSome result (λ next. next ≤ length body.now) }
 {
     let mut next = at;
     for part in parts {
-        match part_end(schema, part, body, next) {
+        match part_end(layout, part, body, next) {
             Some(end) => next = end,
             None => return None,
         }
@@ -181,11 +184,11 @@ fn parts_end(schema: &WireSchema, parts: &[DataField], body: &[u8], at: usize) -
 }
 
 /// Where a data part ends.
-fn part_end(schema: &WireSchema, part: &DataField, body: &[u8], at: usize) -> Option<usize>
-    requires good { IsWritablePart schema.now.version part.now }
+fn part_end(layout: &Layout, part: &DataField, body: &[u8], at: usize) -> Option<usize>
+    requires good { IsWritablePart layout.now.version part.now }
     requires bytes { IsBytes body.now }
     requires at { at ≤ length body.now }
-    ensures whole { IfSome result (PartStep (place_in schema.now body.now) part.now at) }
+    ensures whole { IfSome result (PartStep (place_in layout.now body.now) part.now at) }
     ensures within { IfSome result (λ next. next ≤ length body.now) }
 {
     let prim = part.length.prim;
@@ -194,7 +197,7 @@ fn part_end(schema: &WireSchema, part: &DataField, body: &[u8], at: usize) -> Op
         return None;
     }
     let start = at + size;
-    let many = natural_at(schema.order, prim, &body[at..start])?;
+    let many = natural_at(layout.order(), prim, &body[at..start])?;
     if body.len() - start < many as usize {
         return None;
     }

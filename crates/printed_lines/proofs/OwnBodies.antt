@@ -1,12 +1,14 @@
 -- The body of a message that was read, printed again and found canonical.
 use Rattle.std.proofs.Common.{◌≡◌, ℕ, ◌≤◌, List, Option, Some, Ok, length, sym, ap, ◌∙◌, subst}
 use Rattle.std.specs.Prelude.{slice_get}
+use Rattle.std.specs.List.{All}
+use Rattle.std.proofs.lemmas.List.Elements.{All-get_or}
+use Rattle.std.proofs.lemmas.Option.{slice_get_within, get_or_from_slice_get}
 use Rattle.byte_digits.specs.Digits.{IsBytes}
 use Rattle.serde_json.specs.Written.{compact_text}
 use Rattle.sbe_types.specs.declared.schema.Level.{Level}
 use Rattle.sbe_types.specs.declared.schema.WireSchema.{WireSchema}
 use Rattle.sbe_types.specs.declared.message.Msg.{Msg}
-use Rattle.sbe_wire.specs.Canonical.{canonical}
 use Rattle.sbe_wire.specs.Fits.{Fits}
 use Rattle.sbe_wire.specs.Lays.{Lays}
 use Rattle.schema_facts.specs.IsChecked.{IsChecked}
@@ -14,6 +16,7 @@ use Rattle.writing_laws.proofs.MessageBack.{lies_fits}
 use Rattle.writing_laws.proofs.MessageMisfit.{fits_none}
 use Rattle.writable_schemas.proofs.CheckedSchemas.{schema_writable}
 use Rattle.tree_json.specs.Lines.{line_of, message_at}
+use Rattle.clean_bodies.specs.Bodies.{IsCanonicalOf}
 use Rattle.flyweight_view.specs.Seen.{SeenMessage}
 use Rattle.line_reading.specs.Lines.{tree_of}
 use Rattle.line_laws.specs.LinesBack.{MessageHasBytes}
@@ -33,19 +36,19 @@ reads_back schema m level line body checked fits lies good at constants printed 
     let bytes : MessageHasBytes schema m = λ l has. lies_in_bytes schema m body l has (subst IsByteLevel (some_level (sym at ∙ has)) constants) good lies in
     ap (tree_of schema) is ∙ line_back schema m checked bytes fits
 
--- what a view shows of a body, whose template's level was read from the layout
-pub shown_own : (schema : WireSchema) (seen : SeenMessage) (template version : ℕ) (found : Level) (line body : List ℕ) → IsChecked schema → IsBytes body → Lays schema seen.message body →
-    slice_get schema.messages seen.message.template ≡ Some seen.level → template ≡ seen.message.template → version ≡ seen.message.version → version ≡ schema.version → slice_get schema.messages template ≡ Some found →
-    IsByteLevel found → line ≡ compact_text (message_at (Some seen.level) seen.message) →
-    ((m : Msg) → m.template ≡ template → m.version ≡ schema.version → Lays schema m body → canonical schema m ≡ Some body) → IsOwnBody schema line body
-shown_own schema seen template version found line body checked good lies at is told own there constants printed clean =
+-- what a view shows of a body
+pub shown_own : (schema : WireSchema) (seen : SeenMessage) (template : ℕ) (line body : List ℕ) → IsChecked schema → All IsByteLevel schema.messages → IsBytes body → Lays schema seen.message body →
+    slice_get schema.messages seen.message.template ≡ Some seen.level → template ≡ seen.message.template → seen.message.version ≡ schema.version →
+    line ≡ compact_text (message_at (Some seen.level) seen.message) → IsCanonicalOf schema template body → IsOwnBody schema line body
+shown_own schema seen template line body checked constants good lies at is current printed clean =
     let m : Msg = seen.message in
-    let level : found ≡ seen.level = some_level (sym there ∙ ap (slice_get schema.messages) is ∙ at) in
-    let current = sym told ∙ own in
     let fits : Fits schema m = lies_fits schema checked.placed (schema_writable schema checked) m body good current lies in
+    let here : IsByteLevel seen.level =
+    subst IsByteLevel (get_or_from_slice_get schema.messages m.template seen.level seen.level at)
+    (All-get_or IsByteLevel schema.messages m.template seen.level (slice_get_within schema.messages m.template seen.level at) constants) in
     record {
       m = m;
-      read = reads_back schema m seen.level line body checked fits lies good at (subst IsByteLevel level constants) printed;
+      read = reads_back schema m seen.level line body checked fits lies good at here printed;
       fits = fits;
       written = clean m (sym is) current lies;
     }

@@ -1,22 +1,27 @@
 ghost use Rattle.std.specs.Prelude.{◌≡◌, ◌≤◌, length, true};
 ghost use Rattle.printed_lines.specs.Bodies.{IsBodyOf, IsOwnBody};
 
-use crate::constants::{are_bytes, level_has_bytes};
+use crate::constants::are_bytes;
+use crate::lines::PrintedLines;
 use clean_walk::is_clean_body;
 use flyweight_view::validate;
-use layout_tables::Layout;
 use line_draft::{BodyDraft, draft_body};
 use line_match::is_line_of;
 
 /// Writes the body of the message that a line holds, where the line is in the form in which messages are printed; the body
-/// takes the place of what stood in the draft. False tells nothing of the line: it may be in another form, or its message may
+/// takes the place of what stood in the draft. `false` is inconclusive: the line may be in another form, or its message may
 /// have no body within the limit or within the draft's room. It takes no memory.
 #[tactic(auto, using(crate::proofs::OwnBodies::within_limit))]
-pub fn body_of_line(layout: &Layout, line: &[u8], limit: usize, draft: &mut BodyDraft) -> bool
-    ensures body { result ≡ true → IsBodyOf layout.now line.now limit draft.new }
+pub fn body_of_line(
+    printed: &PrintedLines,
+    line: &[u8],
+    limit: usize,
+    draft: &mut BodyDraft,
+) -> bool
+    ensures body { result ≡ true → IsBodyOf printed.now line.now limit draft.new }
     ensures within { result ≡ true → length draft.new ≤ limit }
 {
-    let schema = layout.schema();
+    let schema = printed.lines().schema();
     if !draft_body(schema, line, draft) {
         return false;
     }
@@ -24,25 +29,25 @@ pub fn body_of_line(layout: &Layout, line: &[u8], limit: usize, draft: &mut Body
     if body.len() > limit {
         return false;
     }
-    is_own_body(layout, line, body)
+    is_own_body(printed, line, body)
 }
 
 /// Whether a body is the canonical one of a message, and the line is this message's.
-fn is_own_body(layout: &Layout, line: &[u8], body: &[u8]) -> bool
-    ensures { result ≡ true → IsOwnBody layout.now line.now body.now }
+fn is_own_body(printed: &PrintedLines, line: &[u8], body: &[u8]) -> bool
+    ensures { result ≡ true → IsOwnBody printed.now line.now body.now }
 {
     are_bytes(body);
-    let schema = layout.schema();
+    let lines = printed.lines();
+    let _schema = lines.schema();
+    let layout = lines.layout();
     let Ok(view) = validate(layout, body) else {
         return false;
     };
-    let template = view.template();
     if view.version() != layout.version() {
         return false;
     }
-    level_has_bytes(layout.message(template));
-    if !is_line_of(&view, line) {
+    if !is_line_of(lines, &view, line) {
         return false;
     }
-    is_clean_body(schema, template, body)
+    is_clean_body(layout, view.template(), body)
 }

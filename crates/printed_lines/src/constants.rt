@@ -57,7 +57,7 @@ fn fields_have_bytes(fields: &[Field])
 /// The constants of a level, at all depths.
 #[cycle(level)]
 #[tactic(auto, using(crate::proofs::ByteRows::level_has))]
-pub(crate) fn level_has_bytes(level: &Level)
+fn level_has_bytes(level: &Level)
     ensures { IsByteLevel level.now }
 {
     fields_have_bytes(level.fields.as_slice());
@@ -71,5 +71,14 @@ fn groups_have_bytes(groups: &[Group])
 {
     for group in groups {
         level_has_bytes(&group.level);
+    }
+}
+
+/// The constants of messages.
+pub(crate) fn levels_have_bytes(levels: &[Level])
+    ensures { All IsByteLevel levels.now }
+{
+    for level in levels {
+        level_has_bytes(level);
     }
 }

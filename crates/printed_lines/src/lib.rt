@@ -4,5 +4,7 @@
 
 mod body;
 mod constants;
+mod lines;
 
 pub use body::body_of_line;
+pub use lines::PrintedLines;

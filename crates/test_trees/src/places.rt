@@ -2,12 +2,13 @@
 
 use crate::bench::{layout_of, with_bytes};
 use anyhow::{Result, bail};
-use flat_rows::Codes;
+use json_rows::Codes;
 use layout_tables::Layout;
 use level_skip::skip_level;
 use row_tables::{Row, spelled};
 use schema_check::Checked;
 use std::alloc::Global;
+use tree_json::LineLayout;
 use var_data::put_data;
 
 fn put_text(
@@ -89,20 +90,20 @@ fn slots_text(alloc: Global, codes: &Codes, bytes: &str) -> Result<String> {
     Ok(text)
 }
 
-fn kept_text(alloc: Global, layout: &Layout, field: usize, bytes: &str) -> Result<String> {
-    if layout.templates() == 0 || layout.root(0) >= layout.levels() {
+fn kept_text(alloc: Global, lines: &LineLayout, value: usize, bytes: &str) -> Result<String> {
+    if lines.layout().templates() == 0 {
         bail!("there is no message");
     }
-    match layout.row(layout.root(0)).flat.rows.get(field) {
+    match lines.message(0).fields.rows.get(value) {
         Some(found) => slots_text(alloc, &found.codes, bytes),
-        None => bail!("there is no such field"),
+        None => bail!("there is no such value"),
     }
 }
 
-/// A row: the schema, a field of the first message, and bytes. What the table of its level keeps of each byte.
+/// A row: the schema, a value of the first message's block, and bytes. What is kept to print each byte.
 pub fn kept_told(alloc: Global, checked: &Checked, row: &Row) -> Result<String> {
-    let field = row.size(1)?;
+    let value = row.size(1)?;
     let bytes = row.text(2)?;
-    let layout = layout_of(alloc, checked)?;
-    kept_text(alloc, &layout, field, bytes)
+    let lines = LineLayout::new(alloc, layout_of(alloc, checked)?)?;
+    kept_text(alloc, &lines, value, bytes)
 }

@@ -6,11 +6,12 @@ use flyweight_view::{MsgView, validate};
 use layout_tables::Layout;
 use line_draft::BodyDraft;
 use line_reading::msg_of_line;
-use printed_lines::body_of_line;
+use printed_lines::{PrintedLines, body_of_line};
 use row_tables::{Row, spelled};
 use schema_check::Checked;
 use std::alloc::Global;
 use tree_codec::encode;
+use tree_json::LineLayout;
 use typed_writer::FrameBuf;
 
 fn shown_text(alloc: Global, view: &MsgView<'_>, version: u32) -> Result<String> {
@@ -40,9 +41,9 @@ pub fn view_told(alloc: Global, checked: &Checked, row: &Row) -> Result<String> 
 }
 
 /// The body that the printed form of a line has.
-fn printed_text(alloc: Global, layout: &Layout, line: &str, limit: usize) -> Result<String> {
+fn printed_text(alloc: Global, printed: &PrintedLines, line: &str, limit: usize) -> Result<String> {
     let mut draft = BodyDraft::new();
-    if body_of_line(layout, line.as_bytes(), limit, &mut draft) {
+    if body_of_line(printed, line.as_bytes(), limit, &mut draft) {
         return Ok(hex::encode(alloc, draft.bytes())?);
     }
     Ok(format!(in alloc; "no printed line")?)
@@ -69,12 +70,12 @@ fn general_text(
 fn both_text(
     alloc: Global,
     checked: &Checked,
-    layout: &Layout,
+    printed: &PrintedLines,
     line: &str,
     limit: usize,
 ) -> Result<String> {
-    let short = printed_text(alloc, layout, line, limit)?;
-    let general = general_text(alloc, checked, layout, line, limit)?;
+    let short = printed_text(alloc, printed, line, limit)?;
+    let general = general_text(alloc, checked, printed.lines().layout(), line, limit)?;
     if short.as_str() == general.as_str() {
         return Ok(format!(in alloc; "both {}", short.as_str())?);
     }
@@ -85,6 +86,7 @@ fn both_text(
 pub fn printed_told(alloc: Global, checked: &Checked, row: &Row) -> Result<String> {
     let limit = row.size(1)?;
     let line = row.text(2)?;
-    let layout = layout_of(alloc, checked)?;
-    both_text(alloc, checked, &layout, line, limit)
+    let lines = LineLayout::new(alloc, layout_of(alloc, checked)?)?;
+    let printed = PrintedLines::new(lines);
+    both_text(alloc, checked, &printed, line, limit)
 }

@@ -12,7 +12,7 @@ use Rattle.build_command.proofs.built.answer_built.Goals as goal
 
 pub answer_message-requires-clause-known : goal.answer_message-requires-clause-known
 answer_message-requires-clause-known g c =
-    subst (λ (s : WireSchema). IsSome (slice_get s.messages c.in-Ok.message.template)) (sym c.target.invariant) (template_there c.target.inside.checked c.args.line.now c.in-Ok.message c.in-Ok.ensures)
+    subst (λ (s : WireSchema). IsSome (slice_get s.messages c.in-Ok.message.template)) (sym (c.layout-layout.ensures ∙ c.lines.ensures.lines ∙ c.target.invariant)) (template_there c.target.inside.checked c.args.line.now c.in-Ok.message c.in-Ok.ensures)
 
 pub returns-then-is_empty-clause-answers : goal.returns-then-is_empty-clause-answers
 returns-then-is_empty-clause-answers g c = λ limit at. empty_answered c.args.target.now limit c.args.item c.args.line.now _ (sym c.is_empty.ensures ∙ c.if-is_empty.true)
@@ -20,13 +20,15 @@ returns-then-is_empty-clause-answers g c = λ limit at. empty_answered c.args.ta
 pub returns-then-body_of_line-clause-answers : goal.returns-then-body_of_line-clause-answers
 returns-then-body_of_line-clause-answers g c = λ limit at.
     let notes : Object (List ℕ) = g.N.Sink.state c.args.notes.now in
-    printed_answered c.args.target.now limit c.args.item c.args.line.now (sym c.is_empty.ensures ∙ c.if-is_empty.false) c.target.inside.layout c.args.space.now.buffer.limit c.body_of_line.new.draft c.bytes.result.now _ _ _
-    (c.target.invariant ∙ c.target.view_is) at (subst (λ n. IsBodyOf c.target.inside.layout c.args.line.now n c.body_of_line.new.draft) c.limit.ensures.same (c.if-body_of_line.ensures.body refl)) c.bytes.ensures (c.answer_body.ensures notes)
+    printed_answered c.args.target.now limit c.args.item c.args.line.now (sym c.is_empty.ensures ∙ c.if-is_empty.false) c.layout-layout.result.now c.args.space.now.buffer.limit c.body_of_line.new.draft c.bytes.result.now _ _ _
+    (c.layout-layout.ensures ∙ c.lines.ensures.lines ∙ c.target.invariant ∙ c.target.view_is) at
+    (subst (λ s. IsBodyOf s c.args.line.now c.args.space.now.buffer.limit c.body_of_line.new.draft) (sym (c.layout-layout.ensures ∙ c.lines.ensures.lines))
+    (subst (λ n. IsBodyOf c.target.inside.printed c.args.line.now n c.body_of_line.new.draft) c.limit.ensures.same (c.if-body_of_line.ensures.body refl))) c.bytes.ensures (c.answer_body.ensures notes)
 
 pub returns-in-Ok-clause-answers : goal.returns-in-Ok-clause-answers
 returns-in-Ok-clause-answers g c = λ limit at.
-    message_answered c.args.target.now limit c.args.item c.args.line.now (sym c.is_empty.ensures ∙ c.if-is_empty.false) c.target.inside.layout c.args.space.now.buffer.limit c.in-Ok.message _ _ _
-    (c.target.invariant ∙ c.target.view_is) at
+    message_answered c.args.target.now limit c.args.item c.args.line.now (sym c.is_empty.ensures ∙ c.if-is_empty.false) c.layout-layout.result.now c.args.space.now.buffer.limit c.in-Ok.message _ _ _
+    (c.layout-layout.ensures ∙ c.lines.ensures.lines ∙ c.target.invariant ∙ c.target.view_is) at
     (subst (λ (s : WireSchema). tree_of s c.args.line.now ≡ Ok c.in-Ok.message) c.target.view_is c.in-Ok.ensures)
     c.answer_message.ensures.answers
 

@@ -1,4 +1,4 @@
-use Rattle.std.proofs.Common.{◌≡◌, ◌∙◌, ◌&&◌, ◌-◌, length, refl, sym, ap, true, arith}
+use Rattle.std.proofs.Common.{◌∙◌, ◌&&◌, ◌-◌, length, refl, sym, ap, arith}
 use Rattle.std.proofs.lemmas.List.{take_rest}
 use Rattle.clean_walk.proofs.Words.{same_names}
 use Rattle.clean_walk.proofs.names.is_same.Goals as goal

@@ -6,4 +6,4 @@ use Rattle.clean_walk.specs.Places.{place_in}
 use Rattle.clean_walk.proofs.walk.parts_end.Given as goal
 
 abbrev pub invariant-loop-part : goal.invariant-loop-part
-invariant-loop-part l = record { near : l.next ≤ length l.body; leads : Leads DataField (PartStep (place_in l.schema l.body)) l.parts l.part-index l.next l.fn.at }
+invariant-loop-part l = record { near : l.next ≤ length l.body; leads : Leads DataField (PartStep (place_in l.layout l.body)) l.parts l.part-index l.next l.fn.at }
