@@ -3,6 +3,7 @@ ghost use Rattle.tagvalue_codec.specs.Fields.{soh};
 ghost use Rattle.tagvalue_codec.specs.Drafts.{ready_bytes};
 
 use crate::scan::SOH;
+use byte_places::place;
 use lists::NoMem;
 use std::alloc::Global;
 use std::marker::Model;
@@ -84,9 +85,7 @@ impl Room {
         ensures bytes { self.new.bytes ≡ self.old.bytes ++ piece.now }
         ensures limit { self.new.limit ≡ self.old.limit }
     {
-        let end = self.len + piece.len();
-        self.memory[self.len..end].copy_from_slice(piece);
-        self.len = end;
+        self.len = place(&mut self.memory, self.len, piece);
     }
 
     /// Appends a field by the bytes of its tag with the `=`.
@@ -96,9 +95,9 @@ impl Room {
         ensures bytes { self.new.bytes ≡ self.old.bytes ++ ready_bytes tag.now value.now }
         ensures limit { self.new.limit ≡ self.old.limit }
     {
-        self.append(tag);
-        self.append(value);
-        self.append(&[SOH]);
+        let after_tag = place(&mut self.memory, self.len, tag);
+        let after_value = place(&mut self.memory, after_tag, value);
+        self.len = place(&mut self.memory, after_value, &[SOH]);
     }
 
     /// Appends a field by the digits of its tag.
