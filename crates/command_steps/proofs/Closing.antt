@@ -95,7 +95,7 @@ module _ (before after : Streams) where
   ]
 
   -- what is told is never want of memory
-  told_apart : (code last : Status) (line : List ℕ) (old new : Object (List ℕ)) → Told line last old new code → (last ≡ status.NoMemory → ⊥) → code ≡ status.NoMemory → ⊥
+  pub told_apart : (code last : Status) (line : List ℕ) (old new : Object (List ℕ)) → Told line last old new code → (last ≡ status.NoMemory → ⊥) → code ≡ status.NoMemory → ⊥
   told_apart code last line old new told never is = elim told [
     | noted c a k ↦ never (sym c ∙ is)
     | failed c p f ↦ apart_write (sym c ∙ is)
@@ -201,8 +201,8 @@ module _ (IsAnswer : Reply → Type 0) (kept : Kept) (stands : StandsOnce kept) 
 
   -- the job is done now
   module _ (none : kept.items ≡ 0) where
-    begins_whole : (input : List ℕ) → Begins (reading_after Once kept) input (Whole ∷ []) input
-    begins_whole input = subst (λ r. Begins r input (Whole ∷ []) input) (sym (once_none kept none)) (inr refl, refl)
+    begins_whole : (input : List ℕ) → Begins (reading_after Once kept) none_ahead input (Whole ∷ []) input
+    begins_whole input = subst (λ r. Begins r none_ahead input (Whole ∷ []) input) (sym (once_none kept none)) (inr refl, refl)
 
     pub went_once : (verdict : Verdict) (reply : Reply) → IsAnswer reply → DeliversDraft reply before.sinks after.sinks (Ok verdict) → Answers job whole none_ahead before after (Ok (record { bytes = 0; verdict = verdict }))
     went_once verdict reply replied wrote = record {
@@ -214,6 +214,8 @@ module _ (IsAnswer : Reply → Type 0) (kept : Kept) (stands : StandsOnce kept) 
         left = input;
         source = follows_all after.input.told input (source_so input (told_of before.input.told input follows));
         taken = begins_whole input;
+        keeps = tt;
+        stays = λ e. cc;
         replied = replied;
         wrote = wrote.0.0;
         kept = ap (λ (v : Verdict). counted_by kept 0 v) wrote.1;
@@ -237,6 +239,8 @@ module _ (IsAnswer : Reply → Type 0) (kept : Kept) (stands : StandsOnce kept) 
       only_lines = refl;
       source = follows_all after.input.told input (source_so input source);
       taken = begins_whole input;
+      keeps = tt;
+      stays = λ e. cc;
       replied = replied;
       wrote = wrote;
     }

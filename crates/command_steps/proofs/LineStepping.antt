@@ -18,7 +18,8 @@ use Rattle.frame_stream.specs.declared.lines.LineErr.{LineErr}
 use Rattle.frame_stream.specs.declared.lines.LineErr.TheVariants as err
 use Rattle.frame_stream.specs.LineTakes.{LineState, line_room, line_bytes, end_bytes, line_told_by, TakesEnded, TakesLast, TakesLineBy, TakesLineFrom, TakesLine}
 use Rattle.command_steps.specs.Splits.{Reading, Lines, Line, piece_bytes, PieceEnd, End, LineOver, InputLimit, lines_end, Splits, Begins, Holds}
-use Rattle.command_steps.specs.Ahead.{Follows, Reaches}
+use Rattle.command_steps.specs.Ahead.{Follows}
+use Rattle.command_steps.specs.Reaches.{ReachesIf, Reaches}
 use Rattle.replies.specs.Reply.{Reply, written_of}
 use Rattle.command_steps.specs.Replies.{Answering, by_lines, HasParts, counted_by}
 use Rattle.command_steps.specs.Ends.{end_notes, end_status, stop_line}
@@ -181,6 +182,8 @@ module _ (limits : Limits) (last_line : Kept → List ℕ) (IsAnswer : Kept → 
         let at : st'.taken ≡ kept.bytes + length st'.held = omega (arith, stands.room, stands.input, takes.falls, takes.input, takes.within) in
         stalled_at (record {
           unmet = ap is_at_end runs;
+          keeps = tt;
+          reads = refl;
           held = st'.held;
           left = h.0;
           source = h.1;
@@ -202,7 +205,7 @@ module _ (limits : Limits) (last_line : Kept → List ℕ) (IsAnswer : Kept → 
         has_its_end : Bool
         rest : List ℕ
         source : Follows (lines_ahead st') after.input.told rest
-        taken : Reaches (is_at_end st'.ended) on input (Line st'.line has_its_end ∷ []) rest
+        taken : Reaches (lines_ahead st') on input (Line st'.line has_its_end ∷ []) rest
         size : line_bytes st' ≡ length (piece_bytes (Line st'.line has_its_end))
 
       took_ended : (input left : List ℕ) → after.input.told ≡ Some left → TakesEnded input st st' left → TookLine input
@@ -211,12 +214,12 @@ module _ (limits : Limits) (last_line : Kept → List ℕ) (IsAnswer : Kept → 
           let size : line_bytes st' ≡ length (lines.ended st'.line) = ap (λ (e : Option LineEnded). length st'.line + end_bytes e) h.ended ∙ sym (ended_size st'.line) in
           let one : joined lines.ended (st'.line ∷ []) ≡ lines.ended st'.line = append-nil (lines.ended st'.line) in
           let within : length (joined lines.ended (st'.line ∷ [])) ≤ limits.input - kept.bytes = omega (arith, ap length one, size, fits) in
-          let begins : Begins on input (Line st'.line true ∷ []) rest = (st'.line ∷ [], record { whole = h.whole ∙ ap (λ b. b ++ rest) (sym one); each = (h.line, tt) }, within, refl) in
+          let begins : Begins on (lines_ahead st') input (Line st'.line true ∷ []) rest = (st'.line ∷ [], record { whole = h.whole ∙ ap (λ b. b ++ rest) (sym one); each = (h.line, tt) }, within, refl) in
           record {
             has_its_end = true;
             rest = rest;
-            source = record { left = left; source = source; whole = refl; none = λ e. absurd (apart (sym (ap is_at_end h.ended) ∙ e)) };
-            taken = subst (λ (e : Option LineEnded). Reaches (is_at_end e) on input (Line st'.line true ∷ []) rest) (sym h.ended) begins;
+            source = record { left = left; source = source; whole = refl; none = λ e. absurd (apart (sym (ap is_at_end h.ended) ∙ e)); all = λ e. cc };
+            taken = subst (λ (e : Option LineEnded). ReachesIf (is_at_end e) (lines_ahead st') on input (Line st'.line true ∷ []) rest) (sym h.ended) begins;
             size = size;
           }
         where
@@ -236,8 +239,8 @@ module _ (limits : Limits) (last_line : Kept → List ℕ) (IsAnswer : Kept → 
           record {
             has_its_end = false;
             rest = [];
-            source = record { left = left; source = source; whole = sym (ap (λ b. b ++ left) h.held ∙ h.left); none = λ e. refl };
-            taken = subst (λ (e : Option LineEnded). Reaches (is_at_end e) on input (Line st'.line false ∷ []) []) (sym h.ended) (splits, refl);
+            source = record { left = left; source = source; whole = sym (ap (λ b. b ++ left) h.held ∙ h.left); none = λ e. refl; all = λ e. cc };
+            taken = subst (λ (e : Option LineEnded). ReachesIf (is_at_end e) (lines_ahead st') on input (Line st'.line false ∷ []) []) (sym h.ended) (splits, refl);
             size = ap (λ (e : Option LineEnded). length st'.line + end_bytes e) h.ended ∙ omega arith;
           }
 
@@ -308,6 +311,8 @@ module _ (limits : Limits) (last_line : Kept → List ℕ) (IsAnswer : Kept → 
               only_lines = tt;
               source = t.source;
               taken = t.taken;
+              keeps = tt;
+              stays = λ e. cc;
               replied = replied;
               wrote = wrote;
             }
@@ -322,6 +327,8 @@ module _ (limits : Limits) (last_line : Kept → List ℕ) (IsAnswer : Kept → 
                 left = t.rest;
                 source = t.source;
                 taken = t.taken;
+                keeps = tt;
+                stays = λ e. cc;
                 replied = replied;
                 wrote = wrote;
                 kept = ap (λ n. counted_by kept n reply.verdict) t.size;

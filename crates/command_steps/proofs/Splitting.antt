@@ -14,8 +14,9 @@ use Rattle.open_framing.specs.Lines.{IsLine, LineEnd, first_line, lines_of}
 use Rattle.open_framing.specs.Lines as lines
 use Rattle.open_framing.proofs.FrameLemmas.{cut_more, cut_once, cut_found, frame_complete}
 use Rattle.open_framing.proofs.LineLemmas.{lines_once, lines_found, lines_more, line_complete}
-use Rattle.command_steps.specs.Splits.{Reading, Frames, Lines, Once, Nothing, Others, Piece, Frame, Line, Whole, piece_bytes, ended_piece, line_pieces, PieceEnd, End, frames_end, lines_end, Splits, Leads, Begins, Holds}
-use Rattle.command_steps.specs.Ahead.{Reaches}
+use Rattle.command_steps.specs.Ahead.{Ahead, none_ahead}
+use Rattle.command_steps.specs.Splits.{Reading, Frames, Lines, Once, Nothing, Others, Piece, Frame, Line, Whole, piece_bytes, ended_piece, line_pieces, PieceEnd, End, frames_end, lines_end, Splits, Leads, Begins, Keeps, Holds}
+use Rattle.command_steps.specs.Reaches.{ReachesIf, Reaches}
 use Rattle.command_steps.specs.Steps.{reading_after, once_if}
 use Rattle.command_steps.specs.declared.kept.Kept.{Kept}
 
@@ -122,12 +123,12 @@ pieces_ended all stream rest e = ap (line_pieces (length stream)) (sym (append-n
 
 -- ---- pieces at the front are the first ones
 
-pub begins_first : (reading : Reading) (stream : List ℕ) (xs ys : List Piece) (rest : List ℕ) (end : PieceEnd) → Begins reading stream xs rest → Splits reading stream ys end → (tail : List Piece) × (ys ≡ xs ++ tail)
-begins_first (Frames limits) stream xs ys rest end h k =
+pub begins_first : (reading : Reading) (ahead : Ahead) (stream : List ℕ) (xs ys : List Piece) (rest : List ℕ) (end : PieceEnd) → Begins reading ahead stream xs rest → Splits reading stream ys end → (tail : List Piece) × (ys ≡ xs ++ tail)
+begins_first (Frames limits) ahead stream xs ys rest end h k =
     let front = taken_front stream (joined frame_of h.0) rest limits.input h.1.whole h.2 in
     let found = leads_first (IsFrame limits.frame) frame_of (first_item limits.frame) (frame_complete limits.frame) h.0 k.0 (take limits.input stream) _ k.2.rest front h.1.each k.2.pieces in
     (map Frame found.0, k.3 ∙ ap (map Frame) found.1 ∙ map_more Frame h.0 found.0 ∙ ap (λ z. z ++ map Frame found.0) (sym h.3))
-begins_first (Lines input) stream xs ys rest end h k =
+begins_first (Lines input) ahead stream xs ys rest end h k =
     let front = taken_front stream (joined lines.ended h.0) rest input h.1.whole h.2 in
     let last = lines.last_of (nat_lt input (length stream)) k.2.rest in
     let found = leads_first IsLine lines.ended first_line line_complete h.0 k.2.before (take input stream) _ k.2.rest front h.1.each k.2.pieces in (
@@ -135,16 +136,16 @@ begins_first (Lines input) stream xs ys rest end h k =
       k.3 ∙ ap (line_pieces (length stream)) (k.2.all ∙ ap (λ z. z ++ last.0) found.1 ∙ append_assoc h.0 found.0 last.0) ∙ pieces_on h.0 (found.0 ++ last.0) stream rest h.1.whole
           ∙ ap (λ z. z ++ line_pieces (length rest) (found.0 ++ last.0)) (sym h.3),
     )
-begins_first Once stream xs ys rest end h k = elim h.0 [
+begins_first Once ahead stream xs ys rest end h k = elim h.0 [
   | inl none ↦ (ys, ap (λ z. z ++ ys) (sym none))
   | inr one ↦ ([], k.0 ∙ ap (λ z. z ++ []) (sym one))
 ]
-begins_first Nothing stream xs ys rest end h k = (ys, ap (λ z. z ++ ys) (sym h.0))
-begins_first (Others reading laws input) stream xs ys rest end h k = laws.first input stream xs ys rest end h k
+begins_first Nothing ahead stream xs ys rest end h k = (ys, ap (λ z. z ++ ys) (sym h.0))
+begins_first (Others reading laws input) ahead stream xs ys rest end h k = laws.first input ahead stream xs ys rest end h k
 
 -- ---- pieces follow pieces
 
-pub begins_none : (reading : Reading) (stream : List ℕ) → Begins reading stream [] stream
+pub begins_none : (reading : Reading) (stream : List ℕ) → Begins reading none_ahead stream [] stream
 begins_none (Frames limits) stream = ([], record { whole = refl; each = tt }, omega arith, refl)
 begins_none (Lines input) stream = ([], record { whole = refl; each = tt }, omega arith, refl)
 begins_none Once stream = (inl refl, refl)
@@ -208,29 +209,31 @@ once_done kept pieces c e = once_one kept (c.items ∙ ap length e)
 once_left : (kept : Kept) (pieces : List Piece) → Counts kept pieces → pieces ≡ [] → reading_after Once kept ≡ Once
 once_left kept pieces c e = once_none kept (c.items ∙ ap length e)
 
-pub begins_more : (reading : Reading) (kept : Kept) (stream mid rest : List ℕ) (xs ys : List Piece) → Counts kept xs → Begins reading stream xs mid → Begins (reading_after reading kept) mid ys rest → Begins reading stream (xs ++ ys) rest
-begins_more (Frames limits) kept stream mid rest xs ys c h k = (
+pub begins_more : (reading : Reading) (kept : Kept) (ahead next : Ahead) (stream mid rest : List ℕ) (xs ys : List Piece) → Counts kept xs → Begins reading ahead stream xs mid → Begins (reading_after reading kept) next mid ys rest →
+    Keeps reading ahead.held (joined piece_bytes ys ++ next.held) → (ahead.is_all ≡ true → next.is_all ≡ true) → Begins reading next stream (xs ++ ys) rest
+begins_more (Frames limits) kept ahead next stream mid rest xs ys c h k keeps stays = (
   h.0 ++ k.0,
   leads_on (IsFrame limits.frame) frame_of stream mid rest h.0 k.0 h.1 k.1,
   omega (arith, ap length (joined_more (IsFrame limits.frame) frame_of h.0 k.0), length-append (joined frame_of h.0) (joined frame_of k.0), h.2, k.2, frames_counted kept xs h.0 c h.3),
   ap (λ z. z ++ ys) h.3 ∙ ap (λ z. map Frame h.0 ++ z) k.3 ∙ sym (map_more Frame h.0 k.0),
 )
-begins_more (Lines input) kept stream mid rest xs ys c h k = (
+begins_more (Lines input) kept ahead next stream mid rest xs ys c h k keeps stays = (
   h.0 ++ k.0,
   leads_on IsLine lines.ended stream mid rest h.0 k.0 h.1 k.1,
   omega (arith, ap length (joined_more IsLine lines.ended h.0 k.0), length-append (joined lines.ended h.0) (joined lines.ended k.0), h.2, k.2, lines_counted kept xs h.0 c h.3),
   ap (λ z. z ++ ys) h.3 ∙ ap (λ z. map ended_piece h.0 ++ z) k.3 ∙ sym (map_more ended_piece h.0 k.0),
 )
-begins_more Once kept stream mid rest xs ys c h k = elim h.0 [
+begins_more Once kept ahead next stream mid rest xs ys c h k keeps stays = elim h.0 [
   | inl none ↦
-      let there : Begins Once mid ys rest = subst (λ r. Begins r mid ys rest) (once_left kept xs c none) k in
+      let there : Begins Once next mid ys rest = subst (λ r. Begins r next mid ys rest) (once_left kept xs c none) k in
       (subst (λ z. (z ++ ys ≡ []) ⊎ (z ++ ys ≡ Whole ∷ [])) (sym none) there.0, there.1 ∙ h.1)
   | inr one ↦
-      let there : Begins Nothing mid ys rest = subst (λ r. Begins r mid ys rest) (once_done kept xs c one) k in
+      let there : Begins Nothing next mid ys rest = subst (λ r. Begins r next mid ys rest) (once_done kept xs c one) k in
       (inr (ap (λ z. z ++ ys) one ∙ ap (λ z. Whole ∷ z) there.0), there.1 ∙ h.1)
 ]
-begins_more Nothing kept stream mid rest xs ys c h k = (ap (λ z. z ++ ys) h.0 ∙ k.0, k.1 ∙ h.1)
-begins_more (Others reading laws input) kept stream mid rest xs ys c h k = laws.more input stream mid rest xs ys h (subst (λ n. reading.Begins (input - n) mid ys rest) c.bytes k)
+begins_more Nothing kept ahead next stream mid rest xs ys c h k keeps stays = (ap (λ z. z ++ ys) h.0 ∙ k.0, k.1 ∙ h.1)
+begins_more (Others reading laws input) kept ahead next stream mid rest xs ys c h k keeps stays =
+    laws.more input ahead next stream mid rest xs ys h (subst (λ n. reading.Begins (input - n) next mid ys rest) c.bytes k) keeps stays
 
 -- ---- an end after pieces is the end of all
 
@@ -282,8 +285,8 @@ lines_on input kept stream rest xs all more end c h cut =
     let found = lines_items all more rest (input - kept.bytes) end h.0.each cut in
     subst (λ s. lines.Lines s input (all ++ more) end) (sym h.0.whole) (subst (λ n. lines.Lines (joined lines.ended all ++ rest) n (all ++ more) end) size found)
 
-pub splits_after : (reading : Reading) (kept : Kept) (stream rest : List ℕ) (xs : List Piece) (end : PieceEnd) → Counts kept xs → Begins reading stream xs rest → Splits (reading_after reading kept) rest [] end → Splits reading stream xs end
-splits_after (Frames limits) kept stream rest xs end c h k =
+pub splits_after : (reading : Reading) (kept : Kept) (ahead : Ahead) (stream rest : List ℕ) (xs : List Piece) (end : PieceEnd) → Counts kept xs → Begins reading ahead stream xs rest → Splits (reading_after reading kept) rest [] end → Splits reading stream xs end
+splits_after (Frames limits) kept ahead stream rest xs end c h k =
     let size : length (joined frame_of h.0) + (limits.input - kept.bytes) ≡ limits.input = omega (arith, h.2, frames_counted kept xs h.0 c h.3) in
     let none : Cut rest limits.frame (limits.input - kept.bytes) [] k.1 = subst (λ (items : List Item). Cut rest limits.frame (limits.input - kept.bytes) items k.1) (none_mapped Frame k.0 k.3) k.2 in
     let all = cut_items h.0 rest limits.frame (limits.input - kept.bytes) k.1 h.1.each none in (
@@ -293,49 +296,50 @@ splits_after (Frames limits) kept stream rest xs end c h k =
       h.3,
       k.4,
     )
-splits_after (Lines input) kept stream rest xs end c h k =
+splits_after (Lines input) kept ahead stream rest xs end c h k =
     let all = lines_on input kept stream rest xs h.0 k.0 k.1 c (h.1, h.2, h.3) k.2 in
     let none : k.0 ≡ [] = no_lines (length rest) k.0 k.3 in
     (h.0, k.1, subst (λ (ls : List (List ℕ)). lines.Lines stream input ls k.1) (ap (λ (ls : List (List ℕ)). h.0 ++ ls) none ∙ append-nil h.0) all, h.3 ∙ sym (pieces_ended h.0 stream rest h.1.whole), k.4)
-splits_after Once kept stream rest xs end c h k = elim h.0 [
+splits_after Once kept ahead stream rest xs end c h k = elim h.0 [
   | inl none ↦ let there : Splits Once rest [] end = subst (λ r. Splits r rest [] end) (once_left kept xs c none) k in absurd (no_more there.0)
   | inr one ↦ let there : Splits Nothing rest [] end = subst (λ r. Splits r rest [] end) (once_done kept xs c one) k in (one, there.1)
 ]
-splits_after Nothing kept stream rest xs end c h k = (h.0, k.1)
-splits_after (Others reading laws input) kept stream rest xs end c h k =
-    subst (λ ps. reading.Splits input stream ps end) (append-nil xs) (laws.all input stream rest xs [] end h (subst (λ n. reading.Splits (input - n) rest [] end) c.bytes k))
+splits_after Nothing kept ahead stream rest xs end c h k = (h.0, k.1)
+splits_after (Others reading laws input) kept ahead stream rest xs end c h k =
+    subst (λ ps. reading.Splits input stream ps end) (append-nil xs) (laws.all input ahead stream rest xs [] end h (subst (λ n. reading.Splits (input - n) rest [] end) c.bytes k))
 
 -- ---- what is whole in the bytes that were given
 
-pub holds_after : (reading : Reading) (kept : Kept) (stream held left : List ℕ) (xs : List Piece) → Counts kept xs → Begins reading stream xs (held ++ left) → Holds (reading_after reading kept) held [] →
+pub holds_after : (reading : Reading) (kept : Kept) (ahead : Ahead) (stream held left : List ℕ) (xs : List Piece) → Counts kept xs → Begins reading ahead stream xs (held ++ left) → Keeps reading ahead.held held → ahead.is_all ≡ false →
+    Holds (reading_after reading kept) held [] →
     Holds reading (joined piece_bytes xs ++ held) xs × (stream ≡ (joined piece_bytes xs ++ held) ++ left)
-holds_after (Frames limits) kept stream held left xs c h k =
+holds_after (Frames limits) kept ahead stream held left xs c h keeps reads k =
     let bytes : joined piece_bytes xs ≡ joined frame_of h.0 = ap (joined piece_bytes) h.3 ∙ frames_bytes h.0 in
     let none : [] ≡ k.0 = sym (none_mapped Frame k.0 k.3) in
     let rest : held ≡ k.1 = k.2.whole ∙ ap (λ (items : List Item). joined frame_of items ++ k.1) (sym none) in (
       (h.0, held, record { whole = ap (λ b. b ++ held) bytes; each = h.1.each; longest = λ x more is e. k.2.longest x more is (sym rest ∙ e) }, h.3),
       h.1.whole ∙ ap (λ b. b ++ (held ++ left)) (sym bytes) ∙ sym (append_assoc (joined piece_bytes xs) held left),
     )
-holds_after (Lines input) kept stream held left xs c h k =
+holds_after (Lines input) kept ahead stream held left xs c h keeps reads k =
     let bytes : joined piece_bytes xs ≡ joined lines.ended h.0 = ap (joined piece_bytes) h.3 ∙ lines_bytes h.0 in
     let none : [] ≡ k.0 = sym (none_mapped ended_piece k.0 k.3) in
     let rest : held ≡ k.1 = k.2.whole ∙ ap (λ (all : List (List ℕ)). joined lines.ended all ++ k.1) (sym none) in (
       (h.0, held, record { whole = ap (λ b. b ++ held) bytes; each = h.1.each; longest = λ x more is e. k.2.longest x more is (sym rest ∙ e) }, h.3),
       h.1.whole ∙ ap (λ b. b ++ (held ++ left)) (sym bytes) ∙ sym (append_assoc (joined piece_bytes xs) held left),
     )
-holds_after Once kept stream held left xs c h k = by (kept.items == 0) k
+holds_after Once kept ahead stream held left xs c h keeps reads k = by (kept.items == 0) k
   where
     by : {P : Type 0} (t : Bool) → Holds (once_if t) held [] → P
     by true f = absurd f
     by false f = absurd f
-holds_after Nothing kept stream held left xs c h k = absurd k
-holds_after (Others reading laws input) kept stream held left xs c h k = laws.held input stream held left xs h k
+holds_after Nothing kept ahead stream held left xs c h keeps reads k = absurd k
+holds_after (Others reading laws input) kept ahead stream held left xs c h keeps reads k = laws.held input ahead stream held left xs h keeps reads k
 
 -- ---- an input whose end was met
 
 -- all pieces of the rest follow those at the front
-splits_more : (reading : Reading) (kept : Kept) (stream rest : List ℕ) (xs ys : List Piece) (end : PieceEnd) → Counts kept xs → Begins reading stream xs rest → Splits (reading_after reading kept) rest ys end → Splits reading stream (xs ++ ys) end
-splits_more (Frames limits) kept stream rest xs ys end c h k =
+splits_more : (reading : Reading) (kept : Kept) (ahead : Ahead) (stream rest : List ℕ) (xs ys : List Piece) (end : PieceEnd) → Counts kept xs → Begins reading ahead stream xs rest → Splits (reading_after reading kept) rest ys end → Splits reading stream (xs ++ ys) end
+splits_more (Frames limits) kept ahead stream rest xs ys end c h k =
     let size : length (joined frame_of h.0) + (limits.input - kept.bytes) ≡ limits.input = omega (arith, h.2, frames_counted kept xs h.0 c h.3) in
     let all = cuts_on h.0 k.0 rest limits.frame (limits.input - kept.bytes) k.1 h.1.each k.2 in (
       h.0 ++ k.0,
@@ -344,30 +348,34 @@ splits_more (Frames limits) kept stream rest xs ys end c h k =
       ap (λ z. z ++ ys) h.3 ∙ ap (λ z. map Frame h.0 ++ z) k.3 ∙ sym (map_more Frame h.0 k.0),
       k.4,
     )
-splits_more (Lines input) kept stream rest xs ys end c h k = (
+splits_more (Lines input) kept ahead stream rest xs ys end c h k = (
   h.0 ++ k.0,
   k.1,
   lines_on input kept stream rest xs h.0 k.0 k.1 c (h.1, h.2, h.3) k.2,
   ap (λ z. z ++ ys) h.3 ∙ ap (λ z. map ended_piece h.0 ++ z) k.3 ∙ sym (pieces_on h.0 k.0 stream rest h.1.whole),
   k.4,
 )
-splits_more Once kept stream rest xs ys end c h k = elim h.0 [
+splits_more Once kept ahead stream rest xs ys end c h k = elim h.0 [
   | inl none ↦ let there : Splits Once rest ys end = subst (λ r. Splits r rest ys end) (once_left kept xs c none) k in (ap (λ z. z ++ ys) none ∙ there.0, there.1)
   | inr one ↦ let there : Splits Nothing rest ys end = subst (λ r. Splits r rest ys end) (once_done kept xs c one) k in (ap (λ z. z ++ ys) one ∙ ap (λ z. Whole ∷ z) there.0, there.1)
 ]
-splits_more Nothing kept stream rest xs ys end c h k = (ap (λ z. z ++ ys) h.0 ∙ k.0, k.1)
-splits_more (Others reading laws input) kept stream rest xs ys end c h k = laws.all input stream rest xs ys end h (subst (λ n. reading.Splits (input - n) rest ys end) c.bytes k)
+splits_more Nothing kept ahead stream rest xs ys end c h k = (ap (λ z. z ++ ys) h.0 ∙ k.0, k.1)
+splits_more (Others reading laws input) kept ahead stream rest xs ys end c h k = laws.all input ahead stream rest xs ys end h (subst (λ n. reading.Splits (input - n) rest ys end) c.bytes k)
 
 -- pieces follow those that an input begins with
-pub reaches_more : (met : Bool) (reading : Reading) (kept : Kept) (stream mid rest : List ℕ) (xs ys : List Piece) → Counts kept xs → Begins reading stream xs mid → Reaches met (reading_after reading kept) mid ys rest →
-    Reaches met reading stream (xs ++ ys) rest
-reaches_more false reading kept stream mid rest xs ys c h k = begins_more reading kept stream mid rest xs ys c h k
-reaches_more true reading kept stream mid rest xs ys c h k = (splits_more reading kept stream mid xs ys End c h k.0, k.1)
+pub reaches_more : (met : Bool) (reading : Reading) (kept : Kept) (ahead next : Ahead) (stream mid rest : List ℕ) (xs ys : List Piece) → Counts kept xs → Begins reading ahead stream xs mid →
+    ReachesIf met next (reading_after reading kept) mid ys rest → Keeps reading ahead.held (joined piece_bytes ys ++ next.held) → (ahead.is_all ≡ true → next.is_all ≡ true) → ReachesIf met next reading stream (xs ++ ys) rest
+reaches_more false reading kept ahead next stream mid rest xs ys c h k keeps stays = begins_more reading kept ahead next stream mid rest xs ys c h k keeps stays
+reaches_more true reading kept ahead next stream mid rest xs ys c h k keeps stays = (splits_more reading kept ahead stream mid xs ys End c h k.0, k.1)
+
+-- what is in a piece is in the bytes of that one piece
+pub keeps_one : (reading : Reading) (seen : List ℕ) (piece : Piece) (held : List ℕ) → Keeps reading seen (piece_bytes piece ++ held) → Keeps reading seen (joined piece_bytes (piece ∷ []) ++ held)
+keeps_one reading seen piece held h = subst (λ b. Keeps reading seen (b ++ held)) (sym (append-nil (piece_bytes piece))) h
 
 -- what an input reaches is the first of its pieces
-pub reaches_first : (met : Bool) (reading : Reading) (stream : List ℕ) (xs ys : List Piece) (rest : List ℕ) (end : PieceEnd) → Reaches met reading stream xs rest → Splits reading stream ys end → (tail : List Piece) × (ys ≡ xs ++ tail)
-reaches_first false reading stream xs ys rest end h k = begins_first reading stream xs ys rest end h k
-reaches_first true reading stream xs ys rest end h k = ([], (splits_once reading stream ys xs end End k h.0).0 ∙ sym (append-nil xs))
+pub reaches_first : (met : Bool) (ahead : Ahead) (reading : Reading) (stream : List ℕ) (xs ys : List Piece) (rest : List ℕ) (end : PieceEnd) → ReachesIf met ahead reading stream xs rest → Splits reading stream ys end → (tail : List Piece) × (ys ≡ xs ++ tail)
+reaches_first false ahead reading stream xs ys rest end h k = begins_first reading ahead stream xs ys rest end h k
+reaches_first true ahead reading stream xs ys rest end h k = ([], (splits_once reading stream ys xs end End k h.0).0 ∙ sym (append-nil xs))
 
 pub taken_none : (n : ℕ) → ◌≡◌ {A = List ℕ} (take n []) []
 taken_none zero = refl

@@ -8,7 +8,8 @@ use Rattle.sbe_base.specs.declared.status.Status.{Status}
 use Rattle.sbe_base.specs.declared.status.Status.TheVariants as status
 use Rattle.open_framing.specs.Pieces.{joined}
 use Rattle.command_steps.specs.Splits.{Reading, Piece, PieceEnd, piece_bytes, Begins, Splits, Holds}
-use Rattle.command_steps.specs.Ahead.{Reaches}
+use Rattle.command_steps.specs.Ahead.{Ahead}
+use Rattle.command_steps.specs.Reaches.{ReachesIf, Reaches}
 use Rattle.replies.specs.Reply.{Written, Reply, written_of, then_written}
 use Rattle.command_steps.specs.Replies.{Answering, none_kept, counted, Replies}
 use Rattle.command_steps.specs.Ends.{Outcome, end_notes, closed, PiecesReport, stop_line}
@@ -18,7 +19,7 @@ use Rattle.command_steps.specs.Steps.{Moment, reading_after, IsReported, Ends, S
 use Rattle.command_steps.specs.declared.kept.Kept.{Kept}
 use Rattle.command_steps.specs.declared.end.Stop.TheVariants as stop
 use Rattle.command_steps.proofs.Folding.{AnswersOnce, replies_more, replies_front}
-use Rattle.command_steps.proofs.Splitting.{Counts, reaches_first, reaches_more, splits_after, none_ended, holds_after}
+use Rattle.command_steps.proofs.Splitting.{Counts, reaches_first, reaches_more, keeps_one, splits_after, none_ended, holds_after}
 use Rattle.command_steps.proofs.Running.{counts}
 
 -- ---- parts
@@ -66,9 +67,9 @@ pub record Leading (written : Written) (outcome : Outcome) : Type 0 where
   pub notes_is : outcome.notes ≡ written.notes ++ notes
 
 module _ (on : Answering) (placed : AnswersOnce on) (input : List ℕ) (outcome : Outcome) (report : PiecesReport on input outcome) where
-  pub leading : (met : Bool) (pieces : List Piece) (left : List ℕ) (written : Written) (kept : Kept) → Reaches met on.reading input pieces left → Replies on none_kept pieces written kept → Leading written outcome
-  leading met pieces left written kept begins replies =
-      let first = reaches_first met on.reading input pieces report.0 left report.1 begins report.4 in
+  pub leading : (ahead : Ahead) (pieces : List Piece) (left : List ℕ) (written : Written) (kept : Kept) → Reaches ahead on.reading input pieces left → Replies on none_kept pieces written kept → Leading written outcome
+  leading ahead pieces left written kept begins replies =
+      let first = reaches_first ahead.met_end ahead on.reading input pieces report.0 left report.1 begins report.4 in
       let all : Replies on none_kept (pieces ++ first.0) report.2 report.3 = subst (λ (ps : List Piece). Replies on none_kept ps report.2 report.3) first.1 report.5 in
       let front = replies_front on none_kept report.3 kept pieces first.0 report.2 written placed all replies in
       let end = end_notes on report.1 report.3 in
@@ -86,9 +87,9 @@ read_line taken = stop_line (stop.ReadFault (length taken))
 -- ---- the ways to end
 
 -- where the pieces end, after those that an input reaches
-ends_after : (met : Bool) (reading : Reading) (kept : Kept) (stream rest : List ℕ) (xs : List Piece) (end : PieceEnd) → Counts kept xs → Reaches met reading stream xs rest → Splits (reading_after reading kept) rest [] end → Splits reading stream xs end
-ends_after false reading kept stream rest xs end c h k = splits_after reading kept stream rest xs end c h k
-ends_after true reading kept stream rest xs end c h k =
+ends_after : (met : Bool) (reading : Reading) (kept : Kept) (ahead : Ahead) (stream rest : List ℕ) (xs : List Piece) (end : PieceEnd) → Counts kept xs → ReachesIf met ahead reading stream xs rest → Splits (reading_after reading kept) rest [] end → Splits reading stream xs end
+ends_after false reading kept ahead stream rest xs end c h k = splits_after reading kept ahead stream rest xs end c h k
+ends_after true reading kept ahead stream rest xs end c h k =
     let none : Splits (reading_after reading kept) [] [] end = subst (λ r. Splits (reading_after reading kept) r [] end) h.1 k in
     subst (Splits reading stream xs) (sym (none_ended reading kept stream xs end c h.0 none)) h.0
 
@@ -107,7 +108,7 @@ module _ (on : Answering) (pump : Moment) (old mid new : Streams) (input : List 
       ends.end,
       progress.written,
       kept,
-      ends_after pump.ahead.met_end on.reading kept input progress.left progress.pieces ends.end (counts on kept progress.pieces progress.written progress.replies) progress.begins ends.split,
+      ends_after pump.ahead.met_end on.reading kept pump.ahead input progress.left progress.pieces ends.end (counts on kept progress.pieces progress.written progress.replies) progress.begins ends.split,
       progress.replies,
       refl,
     )
@@ -128,11 +129,11 @@ module _ (on : Answering) (pump : Moment) (old mid new : Streams) (input : List 
     abbrev pub given : List ℕ
     given = joined piece_bytes progress.pieces ++ stalls.held
 
-    begun : Begins on.reading input progress.pieces (stalls.held ++ stalls.left)
-    begun = subst (Begins on.reading input progress.pieces) stalls.taken (subst (λ b. Reaches b on.reading input progress.pieces progress.left) stalls.unmet progress.begins)
+    begun : Begins on.reading pump.ahead input progress.pieces (stalls.held ++ stalls.left)
+    begun = subst (Begins on.reading pump.ahead input progress.pieces) stalls.taken (subst (λ b. ReachesIf b pump.ahead on.reading input progress.pieces progress.left) stalls.unmet progress.begins)
 
     held_so : Holds on.reading given progress.pieces × (input ≡ given ++ stalls.left)
-    held_so = holds_after on.reading kept input stalls.held stalls.left progress.pieces (counts on kept progress.pieces progress.written progress.replies) begun stalls.part
+    held_so = holds_after on.reading kept pump.ahead input stalls.held stalls.left progress.pieces (counts on kept progress.pieces progress.written progress.replies) begun stalls.keeps stalls.reads stalls.part
 
     pub whole_given : Holds on.reading given progress.pieces
     whole_given = held_so.0
@@ -157,10 +158,10 @@ module _ (on : Answering) (pump : Moment) (old mid new : Streams) (input : List 
 
   -- a write failed, or it ran out of memory: nothing after the next piece was taken
   module _ (IsWritten : Reply → Type 0) (fails : Fails on pump new progress.left IsWritten) where
-    pub begun_last : Reaches fails.ahead.met_end on.reading input (progress.pieces ++ fails.piece ∷ []) fails.left
+    pub begun_last : Reaches fails.ahead on.reading input (progress.pieces ++ fails.piece ∷ []) fails.left
     begun_last =
-        let begun = subst (λ b. Reaches b on.reading input progress.pieces progress.left) fails.unmet progress.begins in
-        reaches_more fails.ahead.met_end on.reading kept input progress.left fails.left progress.pieces (fails.piece ∷ []) (counts on kept progress.pieces progress.written progress.replies) begun fails.taken
+        let begun = subst (λ b. ReachesIf b pump.ahead on.reading input progress.pieces progress.left) fails.unmet progress.begins in
+        reaches_more fails.ahead.met_end on.reading kept pump.ahead fails.ahead input progress.left fails.left progress.pieces (fails.piece ∷ []) (counts on kept progress.pieces progress.written progress.replies) begun fails.taken (keeps_one on.reading pump.ahead.held fails.piece fails.ahead.held fails.keeps) fails.stays
 
     pub replied_last : Replies on none_kept (progress.pieces ++ fails.piece ∷ []) (then_written progress.written (written_of fails.reply)) (counted kept fails.piece fails.reply.verdict)
     replied_last = replies_more on none_kept kept progress.pieces fails.piece progress.written fails.reply progress.replies fails.replied

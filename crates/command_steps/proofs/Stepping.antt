@@ -162,6 +162,8 @@ module _ (limits : Limits) (spares : Bool) (last_line : Kept → List ℕ) (IsAn
           let at : st'.taken ≡ kept.bytes + length st'.held = omega (arith, stands.room, stands.input, takes.falls, takes.input, takes.within) in
           stalled_at (record {
             unmet = refl;
+            keeps = tt;
+            reads = refl;
             held = st'.held;
             left = h.0;
             source = h.1;
@@ -187,7 +189,7 @@ module _ (limits : Limits) (spares : Bool) (last_line : Kept → List ℕ) (IsAn
         frame_size : length (frame_of item) ≡ h.length
         frame_size = omega (arith, size)
 
-        begins : (input left : List ℕ) → TakesBy input st st' left (Ok (taken.Frame h)) → Begins on input (Frame item ∷ []) left
+        begins : (input left : List ℕ) → TakesBy input st st' left (Ok (taken.Frame h)) → Begins on none_ahead input (Frame item ∷ []) left
         begins input left by_frame =
             let is : IsFrame limits.frame item = subst (λ n. IsFrame n item) stands.frame (subst (IsFrame st.frame) by_frame.4 by_frame.1) in
             let whole : input ≡ frame_of item ++ left = by_frame.3 ∙ ap (λ i. frame_of i ++ left) by_frame.4 in
@@ -237,6 +239,8 @@ module _ (limits : Limits) (spares : Bool) (last_line : Kept → List ℕ) (IsAn
                 only_lines = refl;
                 source = follows_all after.input.told f.0 f.1;
                 taken = begins input f.0 f.2;
+                keeps = tt;
+                stays = λ e. cc;
                 replied = replied;
                 wrote = wrote;
               }
@@ -249,7 +253,7 @@ module _ (limits : Limits) (spares : Bool) (last_line : Kept → List ℕ) (IsAn
                 answers = λ input follows.
                     let source = told_of before.input.told input follows in
                     let f = took st st' before.input.told after.input.told (Ok (taken.Frame h)) input stands.held takes.from source in
-                    record { piece = Frame item; reply = reply; left = f.0; source = follows_all after.input.told f.0 f.1; taken = begins input f.0 f.2; replied = replied; wrote = wrote; kept = counts };
+                    record { piece = Frame item; reply = reply; left = f.0; source = follows_all after.input.told f.0 f.1; taken = begins input f.0 f.2; keeps = tt; stays = λ e. cc; replied = replied; wrote = wrote; kept = counts };
                 unmet = refl;
                 ahead = refl;
                 calm = calm;

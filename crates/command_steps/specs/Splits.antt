@@ -1,5 +1,6 @@
 -- What a command takes from its input, one piece after another.
-use Rattle.std.specs.Prelude.{◌≡◌, ◌≤◌, ◌⊎◌, ℕ, ◌+◌, ◌-◌, nat_lt, Bool, true, false, List, [], ◌∷◌, ◌++◌, length, map}
+use Rattle.command_steps.specs.Ahead.{Ahead, none_ahead}
+use Rattle.std.specs.Prelude.{◌≡◌, ◌≤◌, ◌⊎◌, ℕ, ◌+◌, ◌-◌, nat_lt, Bool, true, false, List, [], ◌∷◌, ◌++◌, length, map, ⊤}
 use Rattle.std.specs.List.{AllByRecursion}
 use Rattle.sbe_base.specs.declared.status.Limits.{Limits}
 use Rattle.open_framing.specs.declared.head.HeadErr.{HeadErr}
@@ -53,11 +54,11 @@ lines_end lines.InputLimit = InputLimit
 
 -- ---- how an input is read
 
--- What else an input may be split into, within so many bytes of it: all its pieces and their end; pieces at its front, and the rest; the pieces that
--- are whole in bytes, of which no further one is; which pieces there may be.
+-- What else an input may be split into, within so many bytes of it: all its pieces and their end; pieces at its front, as what was taken of it shows, and
+-- the rest; the pieces that are whole in bytes, whatever follows them, of which no further one is; which pieces there may be.
 pub record OtherReading : Type 1 where
   pub Splits : ℕ → List ℕ → List Piece → PieceEnd → Type 0
-  pub Begins : ℕ → List ℕ → List Piece → List ℕ → Type 0
+  pub Begins : ℕ → Ahead → List ℕ → List Piece → List ℕ → Type 0
   pub Holds : List ℕ → List Piece → Type 0
   pub Suits : Piece → Type 0
 
@@ -65,21 +66,29 @@ pub record OtherReading : Type 1 where
 abbrev pub taken_by : List Piece → ℕ
 taken_by pieces = length (joined piece_bytes pieces)
 
--- What holds of every reading: an input is split in one way, pieces at its front are the first of all, and go on piece by piece.
+-- the second bytes begin with the first
+abbrev pub Front : List ℕ → List ℕ → Type 0
+Front seen bytes = (more : List ℕ) × (bytes ≡ seen ++ more)
+
+-- What holds of every reading: an input is split in one way, pieces at its front are the first of all, and go on piece by piece. What was taken of the
+-- input after pieces is taken after more of them too, and where it was all, it stays all.
 pub record IsReading (reading : OtherReading) : Type 0 where
   pub once : (n : ℕ) (stream : List ℕ) (xs ys : List Piece) (a b : PieceEnd)
       → reading.Splits n stream xs a → reading.Splits n stream ys b → (xs ≡ ys) × (a ≡ b)
   pub some : (n : ℕ) (stream : List ℕ) → IsBytes stream → (pieces : List Piece) × (end : PieceEnd) × reading.Splits n stream pieces end
   pub suits : (n : ℕ) (stream : List ℕ) (pieces : List Piece) (end : PieceEnd)
       → reading.Splits n stream pieces end → AllByRecursion reading.Suits pieces
-  pub none : (n : ℕ) (stream : List ℕ) → reading.Begins n stream [] stream
-  pub first : (n : ℕ) (stream : List ℕ) (xs ys : List Piece) (rest : List ℕ) (end : PieceEnd)
-      → reading.Begins n stream xs rest → reading.Splits n stream ys end → (tail : List Piece) × (ys ≡ xs ++ tail)
-  pub more : (n : ℕ) (stream mid rest : List ℕ) (xs ys : List Piece)
-      → reading.Begins n stream xs mid → reading.Begins (n - taken_by xs) mid ys rest → reading.Begins n stream (xs ++ ys) rest
-  pub all : (n : ℕ) (stream rest : List ℕ) (xs ys : List Piece) (end : PieceEnd)
-      → reading.Begins n stream xs rest → reading.Splits (n - taken_by xs) rest ys end → reading.Splits n stream (xs ++ ys) end
-  pub held : (n : ℕ) (stream held left : List ℕ) (xs : List Piece) → reading.Begins n stream xs (held ++ left) → reading.Holds held []
+  pub none : (n : ℕ) (stream : List ℕ) → reading.Begins n none_ahead stream [] stream
+  pub first : (n : ℕ) (ahead : Ahead) (stream : List ℕ) (xs ys : List Piece) (rest : List ℕ) (end : PieceEnd)
+      → reading.Begins n ahead stream xs rest → reading.Splits n stream ys end → (tail : List Piece) × (ys ≡ xs ++ tail)
+  pub more : (n : ℕ) (ahead next : Ahead) (stream mid rest : List ℕ) (xs ys : List Piece)
+      → reading.Begins n ahead stream xs mid → reading.Begins (n - taken_by xs) next mid ys rest
+      → Front ahead.held (joined piece_bytes ys ++ next.held) → (ahead.is_all ≡ true → next.is_all ≡ true)
+      → reading.Begins n next stream (xs ++ ys) rest
+  pub all : (n : ℕ) (ahead : Ahead) (stream rest : List ℕ) (xs ys : List Piece) (end : PieceEnd)
+      → reading.Begins n ahead stream xs rest → reading.Splits (n - taken_by xs) rest ys end → reading.Splits n stream (xs ++ ys) end
+  pub held : (n : ℕ) (ahead : Ahead) (stream held left : List ℕ) (xs : List Piece)
+      → reading.Begins n ahead stream xs (held ++ left) → Front ahead.held held → ahead.is_all ≡ false → reading.Holds held []
       → reading.Holds (joined piece_bytes xs ++ held) xs × (stream ≡ (joined piece_bytes xs ++ held) ++ left)
   pub ended : (n : ℕ) (end : PieceEnd) → reading.Splits n [] [] end → end ≡ End
 
@@ -148,16 +157,25 @@ pub record Leads {X : Type 0} (IsItem : X → Type 0) (bytes_of : X → List ℕ
   pub whole : bytes ≡ joined bytes_of items ++ rest
   pub each : AllByRecursion IsItem items
 
--- The input begins with these pieces, which are within the limits, and the rest follows them.
-abbrev pub Begins : Reading → List ℕ → List Piece → List ℕ → Type 0
-Begins (Frames limits) stream pieces rest =
+-- The input begins with these pieces, which are within the limits, and the rest follows them. Frames and lines are whole by their own bytes; of another
+-- reading what was taken ahead shows its pieces.
+abbrev pub Begins : Reading → Ahead → List ℕ → List Piece → List ℕ → Type 0
+Begins (Frames limits) ahead stream pieces rest =
     (items : List Item) × Leads (IsFrame limits.frame) frame_of stream items rest
     × (length (joined frame_of items) ≤ limits.input) × (pieces ≡ map Frame items)
-Begins (Lines input) stream pieces rest =
+Begins (Lines input) ahead stream pieces rest =
     (all : List (List ℕ)) × Leads IsLine lines.ended stream all rest × (length (joined lines.ended all) ≤ input) × (pieces ≡ map ended_piece all)
-Begins Once stream pieces rest = ((pieces ≡ []) ⊎ (pieces ≡ Whole ∷ [])) × (rest ≡ stream)
-Begins Nothing stream pieces rest = (pieces ≡ []) × (rest ≡ stream)
-Begins (Others reading laws input) stream pieces rest = reading.Begins input stream pieces rest
+Begins Once ahead stream pieces rest = ((pieces ≡ []) ⊎ (pieces ≡ Whole ∷ [])) × (rest ≡ stream)
+Begins Nothing ahead stream pieces rest = (pieces ≡ []) × (rest ≡ stream)
+Begins (Others reading laws input) ahead stream pieces rest = reading.Begins input ahead stream pieces rest
+
+-- What was taken of the input is in these bytes. Frames and lines need nothing of it.
+abbrev pub Keeps : Reading → List ℕ → List ℕ → Type 0
+Keeps (Frames limits) seen bytes = ⊤
+Keeps (Lines input) seen bytes = ⊤
+Keeps Once seen bytes = ⊤
+Keeps Nothing seen bytes = ⊤
+Keeps (Others reading laws input) seen bytes = Front seen bytes
 
 -- These pieces are whole in the bytes, and no further one is.
 abbrev pub Holds : Reading → List ℕ → List Piece → Type 0

@@ -24,7 +24,7 @@ is_at_end (Some end) = true
 
 -- what a stream of lines knows after the last one
 abbrev pub lines_ahead : LineState → Ahead
-lines_ahead stream = record { held = stream.held; met_end = is_at_end stream.ended }
+lines_ahead stream = record { held = stream.held; met_end = is_at_end stream.ended; is_all = false }
 
 -- Before its end a stream holds nothing, what was taken of it is counted, and no number is above it.
 pub record Stands (limits : Limits) (stream : StreamState) (kept : Kept) : Type 0 where

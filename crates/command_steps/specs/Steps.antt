@@ -2,8 +2,9 @@
 use Rattle.std.specs.Prelude.{◌≡◌, ◌≤◌, ◌<◌, ◌⊎◌, ◌==◌, ℕ, ◌+◌, ◌-◌, Bool, true, false, Option, Some, None, Result, Ok, Err, List, [], ◌∷◌, ◌++◌, length, ⊤}
 use Rattle.sbe_base.specs.declared.status.Status.{Status}
 use Rattle.sbe_base.specs.declared.status.Status.TheVariants as status
-use Rattle.command_steps.specs.Splits.{Reading, Frames, Lines, Once, Nothing, Others, Piece, PieceEnd, End, is_read, most_pieces, Splits, Holds, most_taken}
-use Rattle.command_steps.specs.Ahead.{Ahead, none_ahead, IsAhead, Follows, Reaches}
+use Rattle.command_steps.specs.Splits.{Reading, Frames, Lines, Once, Nothing, Others, Piece, PieceEnd, End, piece_bytes, is_read, most_pieces, Splits, Holds, Keeps, most_taken}
+use Rattle.command_steps.specs.Ahead.{Ahead, none_ahead, Follows}
+use Rattle.command_steps.specs.Reaches.{IsAhead, Reaches}
 use Rattle.replies.specs.Reply.{Written, Reply, written_of}
 use Rattle.command_steps.specs.Replies.{Answering, none_kept, counted, counted_by, Replies}
 use Rattle.command_steps.specs.Ends.{stop_line, end_notes, end_status}
@@ -54,7 +55,10 @@ pub record TakesPiece (on : Answering) (old new : Moment) (before after : Stream
   pub reply : Reply
   pub left : List ℕ
   pub source : Follows new.ahead after.input.told left
-  pub taken : Reaches new.ahead.met_end (reading_on on old) input (piece ∷ []) left
+  pub taken : Reaches new.ahead (reading_on on old) input (piece ∷ []) left
+  -- what was held is held, or in the piece
+  pub keeps : Keeps on.reading old.ahead.held (piece_bytes piece ++ new.ahead.held)
+  pub stays : old.ahead.is_all ≡ true → new.ahead.is_all ≡ true
   pub replied : on.IsReply old.kept piece reply
   pub wrote : Wrote before.sinks after.sinks (written_of reply)
   pub kept : new.kept ≡ counted old.kept piece reply.verdict
@@ -91,6 +95,8 @@ pub record Stalls (on : Answering) (pump : Moment) (before after : Streams) (inp
   pub left : List ℕ
   pub source : after.input.told ≡ Some left
   pub taken : input ≡ held ++ left
+  pub keeps : Keeps on.reading pump.ahead.held held
+  pub reads : pump.ahead.is_all ≡ false
   pub part : Holds (reading_on on pump) held []
   pub fault : Failed before.input after.input
   pub output : after.sinks.output ≡ before.sinks.output
@@ -105,7 +111,9 @@ pub record Fails (on : Answering) (pump : Moment) (after : Streams) (input : Lis
   pub ahead : Ahead
   pub only_lines : IsAhead on.reading ahead
   pub source : Follows ahead after.input.told left
-  pub taken : Reaches ahead.met_end (reading_on on pump) input (piece ∷ []) left
+  pub taken : Reaches ahead (reading_on on pump) input (piece ∷ []) left
+  pub keeps : Keeps on.reading pump.ahead.held (piece_bytes piece ++ ahead.held)
+  pub stays : pump.ahead.is_all ≡ true → ahead.is_all ≡ true
   pub replied : on.IsReply pump.kept piece reply
   pub wrote : IsWritten reply
 
@@ -187,7 +195,7 @@ pub record Progress (on : Answering) (pump : Moment) (old now : Streams) (input 
   pub left : List ℕ
   pub written : Written
   pub source : Follows pump.ahead now.input.told left
-  pub begins : Reaches pump.ahead.met_end on.reading input pieces left
+  pub begins : Reaches pump.ahead on.reading input pieces left
   pub replies : Replies on none_kept pieces written pump.kept
   pub wrote : Wrote old.sinks now.sinks written
 

@@ -1,15 +1,17 @@
 -- A stream from the start of a take: what came, what was let go, and what each answer then says.
 use Rattle.std.proofs.Common.{◌≡◌, ◌+◌, ◌-◌, ◌<◌, ◌≤◌, ℕ, Bool, true, false, List, [], ◌∷◌, ◌++◌, length, take, drop, Option, Some, None, Result, Ok, Err, refl, sym, ap, ◌∙◌, subst, arith, append_assoc, length-append, length-take-le, take-append-drop}
-use Rattle.std.specs.Prelude.{nat_lt, IfSome}
+use Rattle.std.specs.Prelude.{nat_lt, not, IfSome}
 use Rattle.std.specs.Io.KnownBytes.{Consumes, IsAtEnd}
 use Rattle.std.proofs.lemmas.Bool.Decides.{nat_tests}
 use Rattle.std.proofs.lemmas.List.{append-nil, nil_from_length, take_all}
 use Rattle.std.proofs.Math.Seq.{take-append-add}
-use Rattle.frame_stream.specs.Window.{Moves, Reads}
+use Rattle.frame_stream.specs.Window.{HeldState, Moves, Reads}
+use Rattle.frame_stream.specs.declared.reading.Dry.{Dry}
 use Rattle.frame_stream.specs.declared.reading.Dry.TheVariants as dry
 use Rattle.tagvalue_codec.specs.declared.data_tags.Pair.{Pair}
 use Rattle.raw_fix.specs.declared.code.PCode.{PCode}
 use Rattle.raw_fix.specs.declared.taken.Run.{Run}
+use Rattle.raw_fix.specs.declared.taken.RawTaken.{RawTaken}
 use Rattle.raw_fix.specs.declared.taken.RawTaken.TheVariants as taken
 use Rattle.raw_fix.specs.declared.taken.RawErr.{RawErr}
 use Rattle.raw_fix.specs.declared.taken.RawErr.TheVariants as err
@@ -19,7 +21,7 @@ use Rattle.raw_fix.specs.Raw.{Texts, Garbled, Item, NoMark, IsGarbled, IsItem, i
 use Rattle.open_framing.specs.Lines.{with_byte}
 use Rattle.raw_fix.specs.Fields.{fix_texts}
 use Rattle.raw_fix.specs.Stream.{RawState, Ahead, ahead, room, NoneBefore, Garbles, LetsGo, Stuck, Unsettled, TakesBy, so_far, item_room, RawFalls, RawHeldBy}
-use Rattle.raw_fix.specs.Taking.{IfTold, TakesFrom}
+use Rattle.raw_fix.specs.Taking.{IfTold, Lefts, TakesFrom, ComesBy, Meets, left_if}
 use Rattle.raw_fix.specs.Steps.{Whatever}
 use Rattle.raw_fix.specs.Items.{TextFits, ItemState, item_place, Drops, Waits, Settles, Finishes, texts_of, raw_shown, raw_told, text_told, Nexts}
 use Rattle.raw_fix.proofs.RawLemmas.{undecided_none, garbled_verdict, item_complete}
@@ -388,8 +390,55 @@ message_held texts mid new n s =
     let size : length (take n new.held.bytes) ≡ is.size = ap length (same ∙ is.front) ∙ length-take-le is.size mid.held.bytes is.there in
     (ap (λ (x : ItemState). x.begun) s.0 ∙ s.1, omega (arith, size, is.claim.counts), omega (arith, size, is.claim.within))
 
-settled_next : (texts : Texts) (old mid new : ItemState) (l r : Option (List ℕ)) (s : Settled) → Course texts old mid l r → Settles texts mid new (Some s) → Nexts texts old new (record { before = l; after = r }) (Ok s)
-settled_next texts old mid new l r (settled.Message n) c h = record {
+-- ---- what came shows the answer
+
+module _ (texts : Texts) (old mid : ItemState) (l r : Option (List ℕ)) (c : Course texts old mid l r) where
+  abbrev lefts : Lefts
+  lefts = record { before = l; after = r }
+
+  pub fault_comes : ComesBy texts (raw_shown 0 old None) (raw_shown 0 mid None) lefts (Err err.ReadFault)
+  fault_comes = (
+    c.gone,
+    record { more = c.more; consumed = c.consumed; parts = c.parts },
+    subst (λ b. LetsGo texts (record { place = item_place old; bytes = b; goes_on = true }) c.gone old.begun mid.begun) (append-nil (old.held.bytes ++ c.more) ∙ c.parts) (c.lets [] true),
+  )
+
+  -- a run ends with these bytes
+  pub garbled_comes : (new : ItemState) (run : Run) (back : List ℕ) → Drops mid.held new.held back → Garbles texts (record { place = item_place mid; bytes = mid.held.bytes; goes_on = not new.met }) back mid.begun run →
+      ComesBy texts (raw_shown 0 old None) (raw_shown 0 new None) lefts (Ok (taken.Garbled run.code run.at run.length))
+  garbled_comes new run back drops garbles =
+      let goes_on = not new.met in
+      let next : Ahead = record { place = item_place mid; bytes = mid.held.bytes ++ []; goes_on = goes_on } in
+      let alone : Garbles texts next back mid.begun run = subst (λ b. Garbles texts (record { place = item_place mid; bytes = b; goes_on = goes_on }) back mid.begun run) (sym (append-nil mid.held.bytes)) garbles in
+      let whole = lets_go_garbles texts next (item_place old) c.gone back old.begun mid.begun run (place_on old mid c.gone c.more c.parts c.taken c.there) (lets_front texts old mid l r c [] goes_on) alone in
+      let parts : c.gone ++ mid.held.bytes ≡ (c.gone ++ back) ++ new.held.bytes = ap (λ x. c.gone ++ x) drops.bytes ∙ sym (append_assoc c.gone back new.held.bytes) in (
+        c.gone ++ back,
+        record { more = c.more; consumed = c.consumed; parts = c.parts ∙ parts },
+        subst (λ b. Garbles texts (record { place = item_place old; bytes = b; goes_on = goes_on }) (c.gone ++ back) old.begun run) (ap (λ x. c.gone ++ x) (append-nil mid.held.bytes) ∙ parts) whole,
+      )
+
+  pub message_comes : (new : ItemState) (n : ℕ) → Settles texts mid new (Some (settled.Message n)) → ComesBy texts (raw_shown 0 old None) (raw_shown n new None) lefts (Ok taken.Message)
+  message_comes new n s =
+      let none = none_gone texts (record { place = item_place old; bytes = (old.held.bytes ++ c.more) ++ []; goes_on = true }) c.gone old.begun mid.begun s.1 (c.lets [] true) in
+      let same : take n new.held.bytes ≡ take n mid.held.bytes = ap (λ (x : ItemState). take n x.held.bytes) s.0 in
+      let whole : mid.held.bytes ≡ take n new.held.bytes ++ drop n new.held.bytes = sym (ap (λ (x : ItemState). x.held.bytes) s.0) ∙ sym (take-append-drop n new.held.bytes) in (
+        record { more = c.more; consumed = c.consumed; parts = c.parts ∙ ap (λ g. g ++ mid.held.bytes) none.1 ∙ whole },
+        subst (λ b. IsItem texts true b (message (take n new.held.bytes))) whole (subst (λ t. IsItem texts true mid.held.bytes (message t)) (sym same) s.3),
+      )
+
+-- nothing follows
+held_alone : (texts : Texts) (mid : ItemState) (back : List ℕ) (run : Run) (goes_on : Bool) → Garbles texts (record { place = item_place mid; bytes = mid.held.bytes ++ []; goes_on = goes_on }) back mid.begun run →
+    Garbles texts (record { place = item_place mid; bytes = mid.held.bytes; goes_on = goes_on }) back mid.begun run
+held_alone texts mid back run goes_on h = subst (λ b. Garbles texts (record { place = item_place mid; bytes = b; goes_on = goes_on }) back mid.begun run) (append-nil mid.held.bytes) h
+
+-- no read fails where the source has ended
+meets_ok : (met met' : Bool) (l r : Option (List ℕ)) (x : RawTaken) → (met ≡ true → met' ≡ true) → (met' ≡ true → IsAtEnd r) → Meets met met' (record { before = l; after = r }) (Ok x)
+meets_ok met met' l r x stays over = record { stays = stays; ended = over; reads = λ e. cc }
+
+settled_next : (texts : Texts) (old mid new : ItemState) (l r : Option (List ℕ)) (s : Settled) → mid.met ≡ old.met → (old.met ≡ true → IsAtEnd r) → Course texts old mid l r → Settles texts mid new (Some s) → Nexts texts old new (record { before = l; after = r }) (Ok s)
+settled_next texts old mid new l r (settled.Message n) met over c h = record {
+  comes = message_comes texts old mid l r c new n h;
+  meets = meets_ok old.met new.met l r taken.Message (λ e. ap (λ (x : ItemState). x.met) h.0 ∙ met ∙ e) (λ e. over (sym met ∙ sym (ap (λ (x : ItemState). x.met) h.0) ∙ e));
   from = next_settled texts old mid new l r (settled.Message n) c h;
   falls = message_falls texts old mid l r c new n h;
   held = message_held texts mid new n h;
@@ -398,9 +447,11 @@ settled_next texts old mid new l r (settled.Message n) c h = record {
   size = ap (λ (x : ItemState). x.held.size) h.0 ∙ c.size;
   limit = ap (λ (x : ItemState). x.held.limit) h.0 ∙ c.limit;
 }
-settled_next texts old mid new l r (settled.Garbled run) c h =
+settled_next texts old mid new l r (settled.Garbled run) met over c h =
     let drops = h.1 in
     record {
+      comes = garbled_comes texts old mid l r c new run h.0 drops (held_alone texts mid h.0 run (not new.met) (h.3 [] (not new.met)));
+      meets = meets_ok old.met new.met l r (taken.Garbled run.code run.at run.length) (λ e. h.4 ∙ met ∙ e) (λ e. over (sym met ∙ sym h.4 ∙ e));
       from = next_settled texts old mid new l r (settled.Garbled run) c h;
       falls = garbled_falls texts old mid l r c new run h.0 drops h.2 (garbled_counted texts (record { place = item_place mid; bytes = mid.held.bytes ++ []; goes_on = true }) h.0 mid.begun run (h.3 [] true));
       held = (h.2, garbled_some texts (record { place = item_place mid; bytes = mid.held.bytes ++ []; goes_on = true }) h.0 mid.begun run (some_here texts old mid l r c) (h.3 [] true));
@@ -409,13 +460,15 @@ settled_next texts old mid new l r (settled.Garbled run) c h =
       size = drops.size ∙ c.size;
       limit = drops.limit ∙ c.limit;
     }
-settled_next texts old mid new l r settled.End c h = absurd h
+settled_next texts old mid new l r settled.End met over c h = absurd h
 
-last_next : (texts : Texts) (old mid new : ItemState) (l r : Option (List ℕ)) (s : Settled) → Course texts old mid l r → IsAtEnd r → Finishes texts mid new s → Nexts texts old new (record { before = l; after = r }) (Ok s)
-last_next texts old mid new l r (settled.Message n) c over f = absurd f
-last_next texts old mid new l r (settled.Garbled run) c over f =
+last_next : (texts : Texts) (old mid new : ItemState) (l r : Option (List ℕ)) (s : Settled) → mid.met ≡ true → Course texts old mid l r → IsAtEnd r → Finishes texts mid new s → Nexts texts old new (record { before = l; after = r }) (Ok s)
+last_next texts old mid new l r (settled.Message n) met c over f = absurd f
+last_next texts old mid new l r (settled.Garbled run) met c over f =
     let drops = f.1 in
     record {
+      comes = garbled_comes texts old mid l r c new run f.0 drops (subst (λ t. Garbles texts (record { place = item_place mid; bytes = mid.held.bytes; goes_on = not t }) f.0 mid.begun run) (sym (f.4 ∙ met)) f.3);
+      meets = meets_ok old.met new.met l r (taken.Garbled run.code run.at run.length) (λ e. f.4 ∙ met) (λ e. over);
       from = next_last texts old mid new l r (settled.Garbled run) c over f;
       falls = garbled_falls texts old mid l r c new run f.0 drops f.2 (garbled_counted texts (record { place = item_place mid; bytes = mid.held.bytes; goes_on = false }) f.0 mid.begun run f.3);
       held = (f.2, garbled_some texts (record { place = item_place mid; bytes = mid.held.bytes; goes_on = false }) f.0 mid.begun run (some_here texts old mid l r c) f.3);
@@ -424,7 +477,9 @@ last_next texts old mid new l r (settled.Garbled run) c over f =
       size = drops.size ∙ c.size;
       limit = drops.limit ∙ c.limit;
     }
-last_next texts old mid new l r settled.End c over f = record {
+last_next texts old mid new l r settled.End met c over f = record {
+  comes = tt;
+  meets = meets_ok old.met new.met l r taken.End (λ e. ap (λ (x : ItemState). x.met) f.2 ∙ met) (λ e. over);
   from = next_last texts old mid new l r settled.End c over f;
   falls = ap (λ (x : ItemState). item_room (raw_shown 0 x None)) f.2 ∙ item_room_here texts old mid l r c;
   held = (ap (λ (x : ItemState). x.begun) f.2 ∙ f.0, ap (λ (x : ItemState). x.held.bytes) f.2 ∙ f.1);
@@ -448,14 +503,47 @@ last_fits texts mid new (settled.Message n) f = absurd f
 last_fits texts mid new (settled.Garbled run) f = tt
 last_fits texts mid new settled.End f = tt
 
+-- ---- a source that has ended, and one that hasn't
+
+-- what holds now held at the start
+pub not_met : (old mid wait : ItemState) → wait.met ≡ false → wait.met ≡ mid.met → mid.met ≡ old.met → old.met ≡ false
+not_met old mid wait runs kept same = sym same ∙ sym kept ∙ runs
+
+-- it has no bytes left
+pub none_if : (met : Bool) (told : Option (List ℕ)) → met ≡ true → IsAtEnd (left_if met told)
+none_if true told e = refl
+none_if false told e = cc
+
+pub moves_if : (met : Bool) (old new : HeldState) (l r : Option (List ℕ)) → met ≡ false → Moves old new l r [] → Moves old new (left_if met l) (left_if met r) []
+moves_if true old new l r e k = cc
+moves_if false old new l r e k = k
+
+pub reads_if : (met : Bool) (old new : HeldState) (l r : Option (List ℕ)) (d : Dry) → met ≡ false → Reads old new l r (Err d) → Reads old new (left_if met l) (left_if met r) (Err d)
+reads_if true old new l r d e k = cc
+reads_if false old new l r d e k = k
+
+-- a read of a source that has ended
+pub reads_none : (met : Bool) (h : HeldState) (told : Option (List ℕ)) → met ≡ true → h.taken ≤ h.limit → length h.bytes ≤ h.size → Reads h h (left_if met told) (left_if met told) (Err dry.End)
+reads_none false h told e within fits = cc
+reads_none true h told e within fits = (
+  [],
+  record { more = []; grown = sym (append-nil h.bytes); consumed = refl; taken = omega arith; within = within; limit = refl; size = refl; fits = fits },
+  refl,
+  (refl, refl),
+  λ e. cc,
+)
+
 -- ---- one turn of the loop
 
-module _ (tags : List Pair) (old mid wait : ItemState) (l m : Option (List ℕ)) (c : Course (texts_of tags old) old mid l m) where
+apart : ◌≡◌ {A = Bool} false true → ⊥
+apart e = cc
+
+module _ (tags : List Pair) (old mid wait : ItemState) (l m : Option (List ℕ)) (c : Course (texts_of tags old) old mid l m) (met : mid.met ≡ old.met) where
   abbrev the_texts : Texts
   the_texts = texts_of tags old
 
-  pub turn_settled : (s : Settled) → Settles (texts_of tags mid) mid wait (Some s) → Nexts the_texts old wait (record { before = l; after = m }) (Ok s)
-  turn_settled s h = settled_next the_texts old mid wait l m s c (subst (λ t. Settles t mid wait (Some s)) (same_texts tags old mid c.size) h)
+  pub turn_settled : (s : Settled) → (old.met ≡ true → IsAtEnd m) → Settles (texts_of tags mid) mid wait (Some s) → Nexts the_texts old wait (record { before = l; after = m }) (Ok s)
+  turn_settled s over h = settled_next the_texts old mid wait l m s met over c (subst (λ t. Settles t mid wait (Some s)) (same_texts tags old mid c.size) h)
 
   module _ (h : Settles (texts_of tags mid) mid wait None) (new : ItemState) (r : Option (List ℕ)) (begun : new.begun ≡ wait.begun) where
     settles : Settles the_texts mid wait None
@@ -467,10 +555,15 @@ module _ (tags : List Pair) (old mid wait : ItemState) (l m : Option (List ℕ))
     pub turn_goes_on : Moves wait.held new.held m r [] → Course the_texts old new l r
     turn_goes_on k = course_reads the_texts old wait new l m r [] waited k refl begun
 
-    pub turn_fault : Reads wait.held new.held m r (Err dry.Fault) → Nexts the_texts old new (record { before = l; after = r }) (Err err.ReadFault)
-    turn_fault k =
+    met_here : new.met ≡ wait.met → new.met ≡ old.met
+    met_here kept = kept ∙ h.4 ∙ met
+
+    pub turn_fault : new.met ≡ wait.met → old.met ≡ false → Reads wait.held new.held m r (Err dry.Fault) → Nexts the_texts old new (record { before = l; after = r }) (Err err.ReadFault)
+    turn_fault kept runs k =
         let course = course_reads the_texts old wait new l m r k.0 waited k.1 k.3 begun in
         record {
+          comes = fault_comes the_texts old new l r course;
+          meets = record { stays = λ e. met_here kept ∙ e; ended = λ e. absurd (apart (sym runs ∙ sym (met_here kept) ∙ e)); reads = λ e. met_here kept ∙ runs };
           from = next_fault the_texts old new l r course;
           falls = item_room_here the_texts old new l r course;
           held = (waits_on the_texts wait new k.2 k.1.size begun settles.3).1;
@@ -480,10 +573,12 @@ module _ (tags : List Pair) (old mid wait : ItemState) (l m : Option (List ℕ))
           limit = course.limit;
         }
 
-    pub turn_limit : Reads wait.held new.held m r (Err dry.Over) → Nexts the_texts old new (record { before = l; after = r }) (Err err.InputLimit)
-    turn_limit k =
+    pub turn_limit : new.met ≡ wait.met → old.met ≡ false → Reads wait.held new.held m r (Err dry.Over) → Nexts the_texts old new (record { before = l; after = r }) (Err err.InputLimit)
+    turn_limit kept runs k =
         let none : length k.1.more ≡ 0 = omega (arith, ap length k.1.grown, length-append wait.held.bytes k.1.more, ap length k.2) in
         record {
+          comes = tt;
+          meets = record { stays = λ e. met_here kept ∙ e; ended = λ e. absurd (apart (sym runs ∙ sym (met_here kept) ∙ e)); reads = λ e. cc };
           from = next_limit the_texts old wait new l m r k.0 k.3.0 waited k.1 k.2 k.3.1 (k.4 refl) settles.3;
           falls = omega (arith, item_room_here the_texts old wait l m waited, none, k.1.taken, k.1.limit, ap length k.2, ap so_far begun, waited.within);
           held = ((waits_on the_texts wait new k.2 k.1.size begun settles.3).1, k.4 refl);
@@ -493,9 +588,9 @@ module _ (tags : List Pair) (old mid wait : ItemState) (l m : Option (List ℕ))
           limit = k.1.limit ∙ waited.limit;
         }
 
-    pub turn_last : Reads wait.held new.held m r (Err dry.End) → (last : ItemState) (s : Settled) → ((texts : Texts) → Waits texts new → Finishes texts new last s) → Nexts the_texts old last (record { before = l; after = r }) (Ok s)
-    turn_last k last s f =
-        last_next the_texts old new last l r s (course_reads the_texts old wait new l m r k.0 waited k.1 k.3.0 begun) k.3.1 (f the_texts (waits_on the_texts wait new k.2 k.1.size begun settles.3))
+    pub turn_last : new.met ≡ true → Reads wait.held new.held m r (Err dry.End) → (last : ItemState) (s : Settled) → ((texts : Texts) → Waits texts new → Finishes texts new last s) → Nexts the_texts old last (record { before = l; after = r }) (Ok s)
+    turn_last done k last s f =
+        last_next the_texts old new last l r s done (course_reads the_texts old wait new l m r k.0 waited k.1 k.3.0 begun) k.3.1 (f the_texts (waits_on the_texts wait new k.2 k.1.size begun settles.3))
 
     pub turn_fits : Reads wait.held new.held m r (Err dry.End) → (last : ItemState) (s : Settled) → ((texts : Texts) → Waits texts new → Finishes texts new last s) → TextFits last (Ok s)
     turn_fits k last s f = last_fits the_texts new last s (f the_texts (waits_on the_texts wait new k.2 k.1.size begun settles.3))

@@ -82,20 +82,20 @@ stuck_nil texts bytes (Some run) low nothing = λ f m e. nil_mark f m (sym nothi
 pub settles_nil : (tags : List Pair) (s : ItemState) → 64 ≤ s.held.size → length s.held.bytes ≡ 0 → Settles (texts_of tags s) s s None
 settles_nil tags s room nothing =
     let texts = texts_of tags s in
-    ([], drops_none s.held, λ more goes_on. lets_none texts (record { place = item_place s; bytes = s.held.bytes ++ more; goes_on = goes_on }) s.begun, (omega (arith, room, nothing), stuck_nil texts s.held.bytes s.begun (omega (arith, room)) (nil_from_length s.held.bytes nothing)))
+    ([], drops_none s.held, λ more goes_on. lets_none texts (record { place = item_place s; bytes = s.held.bytes ++ more; goes_on = goes_on }) s.begun, (omega (arith, room, nothing), stuck_nil texts s.held.bytes s.begun (omega (arith, room)) (nil_from_length s.held.bytes nothing)), refl)
 
-pub settles_ends : (texts : Texts) (s : ItemState) (at : ℕ) (run : Run) (n : ℕ) → at ≡ item_place s → Steps texts s.held.bytes at s.begun (step.Ends run n) → Settles texts s (record { held = let_go_of n s.held; begun = None }) (Some (settled.Garbled run))
-settles_ends texts s at run n is h = (take n s.held.bytes, drops_front s.held n, refl, λ more goes_on. subst (λ p. Garbles texts (record { place = p; bytes = s.held.bytes ++ more; goes_on = goes_on }) (take n s.held.bytes) s.begun run) is (h.1 more goes_on))
+pub settles_ends : (texts : Texts) (s : ItemState) (at : ℕ) (run : Run) (n : ℕ) → at ≡ item_place s → Steps texts s.held.bytes at s.begun (step.Ends run n) → Settles texts s (record { held = let_go_of n s.held; begun = None; met = s.met }) (Some (settled.Garbled run))
+settles_ends texts s at run n is h = (take n s.held.bytes, drops_front s.held n, refl, λ more goes_on. subst (λ p. Garbles texts (record { place = p; bytes = s.held.bytes ++ more; goes_on = goes_on }) (take n s.held.bytes) s.begun run) is (h.1 more goes_on), refl)
 
-pub settles_on : (texts : Texts) (s : ItemState) (at : ℕ) (run : Run) (n : ℕ) → 64 ≤ s.held.size → at ≡ item_place s → Steps texts s.held.bytes at s.begun (step.GoesOn run n) → Settles texts s (record { held = let_go_of n s.held; begun = Some run }) None
+pub settles_on : (texts : Texts) (s : ItemState) (at : ℕ) (run : Run) (n : ℕ) → 64 ≤ s.held.size → at ≡ item_place s → Steps texts s.held.bytes at s.begun (step.GoesOn run n) → Settles texts s (record { held = let_go_of n s.held; begun = Some run; met = s.met }) None
 settles_on texts s at run n room is h =
-    (take n s.held.bytes, drops_front s.held n, λ more goes_on. subst (λ p. LetsGo texts (record { place = p; bytes = s.held.bytes ++ more; goes_on = goes_on }) (take n s.held.bytes) s.begun (Some run)) is (h.3 more goes_on), (omega (arith, room, h.1, length-drop n s.held.bytes), h.2))
+    (take n s.held.bytes, drops_front s.held n, λ more goes_on. subst (λ p. LetsGo texts (record { place = p; bytes = s.held.bytes ++ more; goes_on = goes_on }) (take n s.held.bytes) s.begun (Some run)) is (h.3 more goes_on), (omega (arith, room, h.1, length-drop n s.held.bytes), h.2), refl)
 
 pub settles_more : (tags : List Pair) (s : ItemState) (at : ℕ) → 64 ≤ s.held.size → Steps (texts_of tags s) s.held.bytes at s.begun step.More → Settles (texts_of tags s) s s None
 settles_more tags s at room h =
     let texts = texts_of tags s in
     let short = undecided_short texts s.held.bytes h.1 in
-    ([], drops_none s.held, λ more goes_on. lets_none texts (record { place = item_place s; bytes = s.held.bytes ++ more; goes_on = goes_on }) s.begun, (omega (arith, short), subst (Stuck texts s.held.bytes) (sym h.0) h.1))
+    ([], drops_none s.held, λ more goes_on. lets_none texts (record { place = item_place s; bytes = s.held.bytes ++ more; goes_on = goes_on }) s.begun, (omega (arith, short), subst (Stuck texts s.held.bytes) (sym h.0) h.1), refl)
 
 -- the run that goes on counts what lies before
 run_counts : (texts : Texts) (next : Ahead) (gone : List ℕ) (b : Option Run) (run : Run) (k : ℕ) → IfSome b (λ r. r.length ≤ k) → LetsGo texts next gone b (Some run) → run.length ≤ k + length gone
@@ -117,7 +117,7 @@ on_some texts s at run n some h = run_some texts (record { place = at; bytes = s
 
 -- ---- what is settled at the end
 
-pub finishes_run : (texts : Texts) (s : ItemState) (run next : Run) (n : ℕ) → n ≡ length s.held.bytes → s.begun ≡ Some run → next ≡ record run { length = run.length + n } → Waits texts s → Finishes texts s (record { held = let_go_of n s.held; begun = None }) (settled.Garbled next)
+pub finishes_run : (texts : Texts) (s : ItemState) (run next : Run) (n : ℕ) → n ≡ length s.held.bytes → s.begun ≡ Some run → next ≡ record run { length = run.length + n } → Waits texts s → Finishes texts s (record { held = let_go_of n s.held; begun = None; met = s.met }) (settled.Garbled next)
 finishes_run texts s run next n all begun is waits =
     let bytes = s.held.bytes in
     let whole : take n bytes ≡ bytes = take_all n bytes (omega (arith, all)) in
@@ -128,10 +128,11 @@ finishes_run texts s run next n all begun is waits =
       refl,
       subst (λ b. Garbles texts (record { place = item_place s; bytes = bytes; goes_on = false }) (take n bytes) b next) (sym begun)
           (inr (refl, whole, none), is ∙ ap (λ k. let r : Run = record run { length = run.length + k } in r) (sym size)),
+      refl,
     )
 
 pub finishes_ends : (texts : Texts) (s : ItemState) (at n : ℕ) (next : Run) → s.begun ≡ None → at ≡ item_place s → n ≤ length s.held.bytes → IsRun false s.held.bytes (take n s.held.bytes) → next ≡ record { code = code.Ends; at = at; length = 0 + n } → Waits texts s →
-    Finishes texts s (record { held = let_go_of n s.held; begun = None }) (settled.Garbled next)
+    Finishes texts s (record { held = let_go_of n s.held; begun = None; met = s.met }) (settled.Garbled next)
 finishes_ends texts s at n next begun place low runs is waits =
     let bytes = s.held.bytes in
     let un : Undecided texts.most bytes = subst (Stuck texts bytes) begun waits.1 in
@@ -144,6 +145,7 @@ finishes_ends texts s at n next begun place low runs is waits =
         ap (λ (r : Run). r.at) is ∙ place,
         ap (λ (r : Run). r.length) is ∙ omega (arith, size),
       ),
+      refl,
     )
 
 -- ---- the same by equal parts

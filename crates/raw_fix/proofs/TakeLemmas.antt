@@ -24,17 +24,17 @@ use Rattle.raw_fix.proofs.RawLemmas.{raw_more}
 -- the text taken before is let go first
 module _ (texts : Texts) (s new : ItemState) (text : ℕ) (end : Option RawEnded) (lefts : Lefts) where
   abbrev from : ItemState
-  from = record { held = let_go_of text s.held; begun = s.begun }
+  from = record { held = let_go_of text s.held; begun = s.begun; met = s.met }
 
   abbrev Takes : Result Settled RawErr → Type 0
   Takes result = TakesRaw texts (raw_shown text s end) (raw_shown (text_told result) new (raw_ended_of (raw_told result))) lefts (raw_told result)
 
   pub takes_next : (result : Result Settled RawErr) → Nexts texts from new lefts result → Takes result
-  takes_next (Ok (settled.Message n)) h = record { from = h.from; falls = h.falls; held = h.held; ended = refl; counted = record { there = omega (arith, h.there, length-drop n new.held.bytes); within = h.within }; most = ap (λ k. k - 6) h.size; input = h.limit }
-  takes_next (Ok (settled.Garbled run)) h = record { from = h.from; falls = h.falls; held = h.held; ended = refl; counted = record { there = h.there; within = h.within }; most = ap (λ k. k - 6) h.size; input = h.limit }
-  takes_next (Ok settled.End) h = record { from = h.from; falls = h.falls; held = h.held; ended = refl; counted = record { there = h.there; within = h.within }; most = ap (λ k. k - 6) h.size; input = h.limit }
-  takes_next (Err err.InputLimit) h = record { from = h.from; falls = h.falls; held = h.held; ended = refl; counted = record { there = h.there; within = h.within }; most = ap (λ k. k - 6) h.size; input = h.limit }
-  takes_next (Err err.ReadFault) h = record { from = h.from; falls = h.falls; held = h.held; ended = refl; counted = record { there = h.there; within = h.within }; most = ap (λ k. k - 6) h.size; input = h.limit }
+  takes_next (Ok (settled.Message n)) h = record { from = h.from; falls = h.falls; held = h.held; comes = h.comes; meets = h.meets; ended = refl; counted = record { there = omega (arith, h.there, length-drop n new.held.bytes); within = h.within }; most = ap (λ k. k - 6) h.size; input = h.limit }
+  takes_next (Ok (settled.Garbled run)) h = record { from = h.from; falls = h.falls; held = h.held; comes = h.comes; meets = h.meets; ended = refl; counted = record { there = h.there; within = h.within }; most = ap (λ k. k - 6) h.size; input = h.limit }
+  takes_next (Ok settled.End) h = record { from = h.from; falls = h.falls; held = h.held; comes = h.comes; meets = h.meets; ended = refl; counted = record { there = h.there; within = h.within }; most = ap (λ k. k - 6) h.size; input = h.limit }
+  takes_next (Err err.InputLimit) h = record { from = h.from; falls = h.falls; held = h.held; comes = h.comes; meets = h.meets; ended = refl; counted = record { there = h.there; within = h.within }; most = ap (λ k. k - 6) h.size; input = h.limit }
+  takes_next (Err err.ReadFault) h = record { from = h.from; falls = h.falls; held = h.held; comes = h.comes; meets = h.meets; ended = refl; counted = record { there = h.there; within = h.within }; most = ap (λ k. k - 6) h.size; input = h.limit }
 
 -- ---- an end that stays
 

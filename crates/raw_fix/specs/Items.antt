@@ -1,5 +1,5 @@
 -- The bytes of a stream that are held from the next item on. Own profile.
-use Rattle.std.specs.Prelude.{◌≡◌, ◌<◌, ◌≤◌, ℕ, ◌+◌, ◌-◌, false, Option, Some, None, Result, Ok, Err, List, [], ◌++◌, length, take, drop, IfSome, ⊤}
+use Rattle.std.specs.Prelude.{◌≡◌, ◌<◌, ◌≤◌, ℕ, ◌+◌, ◌-◌, Bool, false, Option, Some, None, Result, Ok, Err, List, [], ◌++◌, length, take, drop, IfSome, ⊤}
 use Rattle.frame_stream.specs.Window.{HeldState}
 use Rattle.open_framing.specs.declared.head.TheConstants.{HEAD_BYTES}
 use Rattle.raw_fix.specs.declared.taken.Run.{Run}
@@ -14,14 +14,15 @@ use Rattle.raw_fix.specs.declared.items.TheConstants.{LEAST_FRAME}
 use Rattle.raw_fix.specs.Raw.{Texts, IsMessage}
 use Rattle.raw_fix.specs.Fields.{fix_texts}
 use Rattle.raw_fix.specs.Stream.{RawState, Garbles, LetsGo, Stuck, RawFalls, RawHeldBy}
-use Rattle.raw_fix.specs.Taking.{Lefts, TakesFrom}
+use Rattle.raw_fix.specs.Taking.{Lefts, TakesFrom, ComesBy, Meets}
 use Rattle.raw_fix.specs.Steps.{Whatever}
 use Rattle.raw_fix.specs.Claims.{before_soh}
 
--- the bytes held, and those before them that are no message and haven't ended
+-- the bytes held, those before them that are no message and haven't ended, and whether the source has ended after what is held
 pub record ItemState : Type 0 where
   pub held : HeldState
   pub begun : Option Run
+  pub met : Bool
 
 -- where the first byte is
 abbrev pub item_place : ItemState → ℕ
@@ -54,15 +55,17 @@ abbrev pub Settles : Texts → ItemState → ItemState → Option Settled → Ty
 Settles texts old new (Some (settled.Message n)) = (new ≡ old) × (old.begun ≡ None) × (n ≤ length old.held.bytes) × IsMessage texts old.held.bytes (take n old.held.bytes)
 Settles texts old new (Some (settled.Garbled run)) =
     (gone : List ℕ) × Drops old.held new.held gone × (new.begun ≡ None) × Whatever old.held.bytes (item_place old) (λ next. Garbles texts next gone old.begun run)
+    × (new.met ≡ old.met)
 Settles texts old new (Some settled.End) = ⊥
 Settles texts old new None =
     (gone : List ℕ) × Drops old.held new.held gone × Whatever old.held.bytes (item_place old) (λ next. LetsGo texts next gone old.begun new.begun) × Waits texts new
+    × (new.met ≡ old.met)
 
 -- what is settled where nothing follows
 abbrev pub Finishes : Texts → ItemState → ItemState → Settled → Type 0
 Finishes texts old new (settled.Message n) = ⊥
 Finishes texts old new (settled.Garbled run) =
-    (gone : List ℕ) × Drops old.held new.held gone × (new.begun ≡ None) × Garbles texts (record { place = item_place old; bytes = old.held.bytes; goes_on = false }) gone old.begun run
+    (gone : List ℕ) × Drops old.held new.held gone × (new.begun ≡ None) × Garbles texts (record { place = item_place old; bytes = old.held.bytes; goes_on = false }) gone old.begun run × (new.met ≡ old.met)
 Finishes texts old new settled.End = (old.begun ≡ None) × (old.held.bytes ≡ []) × (new ≡ old)
 
 -- the texts that this buffer is for: a frame less its head
@@ -78,6 +81,7 @@ raw_shown text s end = record {
   most = s.held.size - HEAD_BYTES;
   input = s.held.limit;
   run = s.begun;
+  met = s.met;
   ended = end;
 }
 
@@ -100,6 +104,8 @@ pub record Nexts (texts : Texts) (old new : ItemState) (lefts : Lefts) (result :
   pub from : TakesFrom texts (raw_shown 0 old None) (raw_shown (text_told result) new None) lefts (raw_told result)
   pub falls : RawFalls (raw_shown 0 old None) (raw_shown (text_told result) new None) (raw_told result)
   pub held : RawHeldBy texts (raw_shown (text_told result) new None) (raw_told result)
+  pub comes : ComesBy texts (raw_shown 0 old None) (raw_shown (text_told result) new None) lefts (raw_told result)
+  pub meets : Meets old.met new.met lefts (raw_told result)
   pub there : length new.held.bytes ≤ new.held.taken
   pub within : new.held.taken ≤ new.held.limit
   pub size : new.held.size ≡ old.held.size
@@ -114,7 +120,7 @@ TextFits s (Err e) = ⊤
 
 -- a stream that nothing was taken of
 abbrev pub raw_opened : ℕ → ℕ → RawState
-raw_opened frame input = record { held = []; text = []; taken = 0; most = frame - HEAD_BYTES; input = input; run = None; ended = None }
+raw_opened frame input = record { held = []; text = []; taken = 0; most = frame - HEAD_BYTES; input = input; run = None; met = false; ended = None }
 
 -- The first bytes are the text taken last, and none are where the stream has ended.
 pub record IsRawStream (text : ℕ) (held : HeldState) (end : Option RawEnded) : Type 0 where

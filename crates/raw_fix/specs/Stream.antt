@@ -10,7 +10,8 @@ use Rattle.raw_fix.specs.declared.taken.RawErr.TheVariants as err
 use Rattle.raw_fix.specs.Raw.{Texts, mark, NoMark, Undecided, Garbled, Item, IsItem, IsGarbled, RunsOn, Raw, RawEnd, End, InputLimit, message}
 
 -- the bytes held after the last item, the text taken last, how many bytes were taken, the most bytes of a text and of the
--- input, bytes that are no message and haven't ended, and the answer that stays
+-- input, bytes that are no message and haven't ended, whether the source has ended after the bytes held, and the answer that
+-- stays
 pub record RawState : Type 0 where
   pub held : List ℕ
   pub text : List ℕ
@@ -18,6 +19,7 @@ pub record RawState : Type 0 where
   pub most : ℕ
   pub input : ℕ
   pub run : Option Run
+  pub met : Bool
   pub ended : Option RawEnded
 
 -- the most bytes of the stream that is left

@@ -1,5 +1,6 @@
 -- What a stream tells. Own profile.
-use Rattle.std.specs.Prelude.{◌≡◌, ◌≤◌, ℕ, Option, Some, None, Result, Ok, Err, List, [], ◌++◌, ⊤}
+use Rattle.std.specs.Prelude.{◌≡◌, ◌≤◌, ℕ, Bool, true, false, not, Option, Some, None, Result, Ok, Err, List, [], ◌++◌, ⊤}
+use Rattle.std.specs.Io.KnownBytes.{Consumes, IsAtEnd}
 use Rattle.sbe_base.specs.Causes.{Rose}
 use Rattle.tagvalue_codec.specs.declared.data_tags.Pair.{Pair}
 use Rattle.tagvalue_codec.specs.declared.table.FixField.{FixField}
@@ -10,9 +11,9 @@ use Rattle.raw_fix.specs.declared.taken.RawTaken.{RawTaken}
 use Rattle.raw_fix.specs.declared.taken.RawTaken.TheVariants as taken
 use Rattle.raw_fix.specs.declared.taken.RawErr.{RawErr}
 use Rattle.raw_fix.specs.declared.taken.RawErr.TheVariants as err
-use Rattle.raw_fix.specs.Raw.{Texts}
+use Rattle.raw_fix.specs.Raw.{Texts, IsItem, message}
 use Rattle.raw_fix.specs.Fields.{fix_texts}
-use Rattle.raw_fix.specs.Stream.{RawState, IsCounted, TakesBy, RawFalls, RawHeldBy}
+use Rattle.raw_fix.specs.Stream.{RawState, IsCounted, place, Garbles, LetsGo, TakesBy, RawFalls, RawHeldBy}
 
 -- the answer at an end
 abbrev pub ended_told : RawEnded → Result RawTaken RawErr
@@ -46,11 +47,48 @@ IfTold (Some left) (Some left') P = P left left'
 abbrev pub TakesFrom : Texts → RawState → RawState → Lefts → Result RawTaken RawErr → Type 0
 TakesFrom texts old new lefts result = IfTold lefts.before lefts.after (λ left left'. TakesBy texts old new (record { stream = old.held ++ left; left = left' }) result)
 
+-- What came of the source, and the bytes of an item, or those that were let go: what is held then comes after them.
+pub record Comes (old new : List ℕ) (lefts : Lefts) (gone : List ℕ) : Type 0 where
+  pub more : List ℕ
+  pub consumed : Consumes lefts.before lefts.after more
+  pub parts : old ++ more ≡ gone ++ new
+
+-- What was taken shows the answer: whatever the source has left, or where it has ended.
+abbrev pub ComesBy : Texts → RawState → RawState → Lefts → Result RawTaken RawErr → Type 0
+ComesBy texts old new lefts (Ok taken.Message) =
+    Comes old.held new.held lefts new.text × IsItem texts true (new.text ++ new.held) (message new.text)
+ComesBy texts old new lefts (Ok (taken.Garbled code at many)) =
+    (gone : List ℕ) × Comes old.held new.held lefts gone
+    × Garbles texts (record { place = place old; bytes = gone ++ new.held; goes_on = not new.met }) gone old.run
+    (record { code = code; at = at; length = many })
+ComesBy texts old new lefts (Ok taken.End) = ⊤
+ComesBy texts old new lefts (Err err.InputLimit) = ⊤
+ComesBy texts old new lefts (Err err.ReadFault) =
+    (gone : List ℕ) × Comes old.held new.held lefts gone
+    × LetsGo texts (record { place = place old; bytes = gone ++ new.held; goes_on = true }) gone old.run new.run
+
+-- Where the source has ended it stays so, it has no bytes left, and no read fails.
+pub record Meets (old new : Bool) (lefts : Lefts) (result : Result RawTaken RawErr) : Type 0 where
+  pub stays : old ≡ true → new ≡ true
+  pub ended : new ≡ true → IsAtEnd lefts.after
+  pub reads : result ≡ Err err.ReadFault → new ≡ false
+
+-- what a source has left: nothing, where it has ended
+abbrev pub left_if : Bool → Option (List ℕ) → Option (List ℕ)
+left_if true left = Some []
+left_if false left = left
+
+-- the same before and after
+abbrev pub lefts_if : Bool → Lefts → Lefts
+lefts_if met lefts = record { before = left_if met lefts.before; after = left_if met lefts.after }
+
 -- what holds whether the source tells its bytes or not
 pub record TakesRaw (texts : Texts) (old new : RawState) (lefts : Lefts) (result : Result RawTaken RawErr) : Type 0 where
   pub from : TakesFrom texts old new lefts result
   pub falls : RawFalls old new result
   pub held : RawHeldBy texts new result
+  pub comes : ComesBy texts old new lefts result
+  pub meets : Meets old.met new.met lefts result
   pub ended : new.ended ≡ raw_ended_of result
   pub counted : IsCounted new
   pub most : new.most ≡ old.most

@@ -1,10 +1,10 @@
-ghost use Rattle.std.specs.Prelude.{◌≡◌, ◌≤◌, ◌<◌, ◌+◌, ◌-◌, ◌^◌, [], false, None, Some, IfSome, IfOk, length, take};
+ghost use Rattle.std.specs.Prelude.{◌≡◌, ◌≤◌, ◌<◌, ◌+◌, ◌-◌, ◌^◌, [], true, false, None, Some, IfSome, IfOk, length, take};
 ghost use Rattle.frame_stream.specs.Reading.{DryCause};
 ghost use Rattle.raw_fix.specs.Claims.{before_soh};
 ghost use Rattle.raw_fix.specs.Fields.{HasFields, settled_size, size_if, size_of, step_size};
 ghost use Rattle.raw_fix.specs.Items.{item_place, Finishes, Nexts, Settles, Waits, TextFits, texts_of};
 ghost use Rattle.raw_fix.specs.Raw.{IsRun, Texts};
-ghost use Rattle.raw_fix.specs.Taking.{RawCause};
+ghost use Rattle.raw_fix.specs.Taking.{RawCause, lefts_if};
 ghost use Rattle.raw_fix.specs.declared.items.TheConstants.{LEAST_FRAME};
 ghost use Rattle.open_framing.specs.declared.head.TheConstants.{HEAD_BYTES};
 ghost use Rattle.raw_fix.specs.Steps.{Steps};
@@ -43,6 +43,8 @@ pub(crate) struct Items {
     /// How many of the first bytes have no SOH.
     plain: usize,
     begun: Option<Run>,
+    /// The source has ended after these bytes, and isn't read again.
+    met: bool,
 }
 
 impl Model for Items {
@@ -50,7 +52,7 @@ impl Model for Items {
 
     ghost Value = { ItemState };
 
-    ghost view = { λ s. record { held = s.bytes.held; begun = s.begun } };
+    ghost view = { λ s. record { held = s.bytes.held; begun = s.begun; met = s.met } };
 
     ghost invariant = { λ s. AreItems s.plain s.bytes.held s.begun };
 }
@@ -59,12 +61,13 @@ impl Items {
     /// Nothing is held yet, and there is room for `size` bytes.
     pub(crate) fn new(alloc: Global, size: usize, limit: u64) -> Result<Items, NoMem>
         requires { LEAST_FRAME ≤ size }
-        ensures { IfOk result (λ items. items ≡ record { held = none_held size limit; begun = None }) }
+        ensures { IfOk result (λ items. items ≡ record { held = none_held size limit; begun = None; met = false }) }
     {
         Ok(Items {
             bytes: Window::new(alloc, size, limit)?,
             plain: 0,
             begun: None,
+            met: false,
         })
     }
 
@@ -85,7 +88,7 @@ impl Items {
     /// Lets the first bytes go.
     pub(crate) fn let_go(&mut self, n: usize)
         requires { n ≤ length self.old.held.bytes }
-        ensures { self.new ≡ record { held = let_go_of n self.old.held; begun = self.old.begun } }
+        ensures { self.new ≡ record { held = let_go_of n self.old.held; begun = self.old.begun; met = self.old.met } }
     {
         self.bytes.let_go(n);
         self.plain = self.plain.saturating_sub(n);
@@ -118,6 +121,7 @@ impl Items {
         requires { length self.old.held.bytes < self.old.held.size }
         ensures reads { Reads self.old.held self.new.held ((I.state input.old).told) ((I.state input.new).told) result }
         ensures begun { self.new.begun ≡ self.old.begun }
+        ensures met { self.new.met ≡ self.old.met }
         ensures cause { DryCause (I.state input.old).faults (I.state input.new).faults result }
     {
         let size = self.bytes.size();
@@ -166,7 +170,7 @@ impl Items {
     /// Lets the first bytes go, with which those that are no message end.
     fn end_run(&mut self, n: usize)
         requires { n ≤ length self.old.held.bytes }
-        ensures { self.new ≡ record { held = let_go_of n self.old.held; begun = None } }
+        ensures { self.new ≡ record { held = let_go_of n self.old.held; begun = None; met = self.old.met } }
     {
         self.let_go(n);
         self.begun = None;
@@ -177,7 +181,7 @@ impl Items {
         requires within { n ≤ length self.old.held.bytes }
         requires counts { run.length + length self.old.held.bytes ≤ self.old.held.taken + n }
         requires some { 0 < run.length }
-        ensures { self.new ≡ record { held = let_go_of n self.old.held; begun = Some run } }
+        ensures { self.new ≡ record { held = let_go_of n self.old.held; begun = Some run; met = self.old.met } }
     {
         self.let_go(n);
         self.begun = Some(run);
@@ -188,6 +192,13 @@ impl Items {
         ensures { self.new ≡ self.old }
     {
         self.plain = plain_front(self.bytes.as_slice(), self.plain);
+    }
+
+    /// Notes that nothing follows the bytes, so that the source isn't read again.
+    fn meet_end(&mut self)
+        ensures { self.new ≡ record self.old { met = true } }
+    {
+        self.met = true;
     }
 
     /// Settles what is at the front where nothing follows the bytes that are held.
@@ -216,7 +227,7 @@ impl Items {
         }
     }
 
-    /// Settles the next item. It reads only where the bytes that are held settle none.
+    /// Settles the next item. It reads only where the bytes that are held settle none, and not after the source's end.
     pub(crate) fn next<I: Source>(
         &mut self,
         input: &mut I,
@@ -224,7 +235,9 @@ impl Items {
         table: &mut FieldTable,
     ) -> Result<Settled, RawErr>
         requires empty { table.old ≡ [] }
-        ensures nexts { Nexts (texts_of tags.now self.old) self.old self.new (record { before = (I.state input.old).told; after = (I.state input.new).told }) result }
+        ensures nexts { Nexts (texts_of tags.now self.old) self.old self.new
+            (lefts_if self.old.met (record { before = (I.state input.old).told; after = (I.state input.new).told })) result }
+        ensures unread { self.old.met ≡ true → input.new ≡ input.old }
         ensures fits { TextFits self.new result }
         ensures fields { HasFields tags.now self.new.held.bytes (size_of result) table.new }
         ensures cause { RawCause (I.state input.old).faults (I.state input.new).faults result }
@@ -235,11 +248,17 @@ impl Items {
                 Some(settled) => return Ok(settled),
                 None => {}
             }
+            if self.met {
+                return Ok(self.finish());
+            }
             match self.read(input) {
                 Ok(()) => {}
                 Err(Dry::Fault) => return Err(RawErr::ReadFault),
                 Err(Dry::Over) => return Err(RawErr::InputLimit),
-                Err(Dry::End) => return Ok(self.finish()),
+                Err(Dry::End) => {
+                    self.meet_end();
+                    return Ok(self.finish());
+                }
             }
         }
     }

@@ -1,7 +1,8 @@
 //! Laws of the definitions, as functions without a body: a stream has one list of items, the readers find it, what is
 //! taken one after another are these items, and what the list is of streams of texts.
 
-ghost use Rattle.std.specs.Prelude.{◌≡◌, ◌≤◌, ◌∷◌, ◌++◌, ◌+◌, ℕ, List, true, None, Result, Err, [], length, take, map, nat_lt, codes};
+ghost use Rattle.std.specs.Prelude.{◌≡◌, ◌≤◌, ◌∷◌, ◌++◌, ◌+◌, ℕ, List, true, None, Result, Err, [], length, take};
+ghost use Rattle.std.specs.Prelude.{map, nat_lt, codes};
 ghost use Rattle.std.specs.List.{AllByRecursion, flat_map};
 ghost use Rattle.tagvalue_codec.specs.declared.data_tags.Pair.{Pair};
 ghost use Rattle.tagvalue_codec.specs.Fields.{Field};
@@ -17,7 +18,8 @@ ghost use Rattle.raw_fix.specs.Fields.{fix_texts};
 ghost use Rattle.raw_fix.specs.Stream.{RawState, RawBetween, IsCounted, TakesBy, TakesItems, room, raw_end};
 ghost use Rattle.raw_fix.specs.Taking.{ended_told};
 ghost use Rattle.raw_fix.specs.Rows.{heartbeat, broken, only_heartbeat, garbled};
-ghost use Rattle.raw_fix.specs.Raw.{Texts, Item, IsItem, RawEnd, End, InputLimit, Raw, raw_of, AreSized, IsText, IsGarbage, item_bytes, message, prefix, joined};
+ghost use Rattle.raw_fix.specs.Raw.{Texts, Item, IsItem, RawEnd, End, InputLimit, Raw, raw_of, AreSized, IsText};
+ghost use Rattle.raw_fix.specs.Raw.{IsGarbage, item_bytes, message, prefix, joined};
 
 /// Bytes make one claim.
 pub fn claim_once()

@@ -1,8 +1,8 @@
-ghost use Rattle.std.specs.Prelude.{◌≡◌, ◌≤◌, None, IfOk, IfSome, IsSome};
+ghost use Rattle.std.specs.Prelude.{◌≡◌, ◌≤◌, true, None, IfOk, IfSome, IsSome};
 ghost use Rattle.frame_stream.specs.declared.stream.TheConstants.{LONGEST_FRAME};
 ghost use Rattle.raw_fix.specs.declared.items.TheConstants.{LEAST_FRAME};
 ghost use Rattle.raw_fix.specs.Items.{raw_opened};
-ghost use Rattle.raw_fix.specs.Taking.{RawCause, RawTextOf, TakesRaw, TableOf, ended_told, texts_for};
+ghost use Rattle.raw_fix.specs.Taking.{RawCause, RawTextOf, TakesRaw, TableOf, ended_told, lefts_if, texts_for};
 
 use crate::items::{Items, Settled};
 use crate::taken::{RawEnded, RawErr, RawTaken};
@@ -58,7 +58,8 @@ impl RawStream {
     /// Takes the next item, and lets the text before it go. It takes no memory.
     ///
     /// After a message the table holds its fields, and after any other answer it is empty. Once the answer was the end
-    /// or the limit of the input, each later call gives the same answer and reads nothing.
+    /// or the limit of the input, each later call gives the same answer and reads nothing. Once a read has found the end of
+    /// the source, none follows: what is held is all that is left.
     ///
     /// # Errors
     ///
@@ -73,7 +74,9 @@ impl RawStream {
         ensures stays { IfSome self.old.ended (λ ended. result ≡ ended_told ended) }
         ensures kept { IsSome self.old.ended → self.new ≡ self.old }
         ensures unread { IsSome self.old.ended → input.new ≡ input.old }
-        ensures takes { self.old.ended ≡ None → TakesRaw (texts_for tags.now self.old) self.old self.new (record { before = (I.state input.old).told; after = (I.state input.new).told }) result }
+        ensures unread_met { self.old.met ≡ true → input.new ≡ input.old }
+        ensures takes { self.old.ended ≡ None → TakesRaw (texts_for tags.now self.old) self.old self.new
+            (lefts_if self.old.met (record { before = (I.state input.old).told; after = (I.state input.new).told })) result }
         ensures text { RawTextOf self.new result }
         ensures table { TableOf tags.now self.new.text result table.new }
         ensures cause { RawCause (I.state input.old).faults (I.state input.new).faults result }
