@@ -1,7 +1,7 @@
 ghost use Rattle.std.specs.Prelude.{◌≡◌, ◌++◌, IfOk, OnOk};
 ghost use Rattle.schema_lines.specs.Lines.{message_lines};
 ghost use Rattle.replies.specs.declared.verdict.Verdict.TheVariants.{Answered};
-ghost use Rattle.schema_files.specs.Files.{JobCause};
+ghost use Rattle.schema_files.specs.Files.{JobCause, NamesLast};
 ghost use Rattle.command_files.specs.Files.{LoadsFiles};
 ghost use Rattle.check_command.specs.Check.{IsCheckReply, check_files};
 
@@ -39,6 +39,7 @@ pub fn load_check<F: Files>(alloc: Global, name: &str, files: &mut F) -> Result<
     ensures kept { (F.state files.new).told ≡ (F.state files.old).told }
     ensures loads { LoadsFiles (check_files name.now) (F.state files.old).told result }
     ensures cause { JobCause (F.state files.old).faults (F.state files.new).faults result }
+    ensures names { NamesLast (F.load_count files.old) (F.load_count files.new) result }
 {
     match load_checked(alloc, files, name) {
         Ok(schema) => Ok(Checker { schema }),

@@ -7,5 +7,5 @@ ghost use Rattle.command_words.specs.declared.forms.Form.TheVariants as form;
 /// Its row in the table of forms.
 pub fn words()
     ensures { rows_of (codes "check")
-        ≡ record { form = form.Check; word = codes "check"; files = 1; options = [] } ∷ [] }
+        ≡ record { form = form.Check; word = codes "check"; files = 1; numbers = 0; options = [] } ∷ [] }
 {}

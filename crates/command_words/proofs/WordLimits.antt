@@ -4,8 +4,9 @@ use Rattle.std.proofs.lemmas.Bool.{leb-true}
 use Rattle.std.specs.Str.Parse.{digits_value}
 use Rattle.sbe_base.specs.declared.status.Limits.{Limits}
 use Rattle.command_words.specs.declared.options.NumberRange.{NumberRange}
-use Rattle.command_words.specs.declared.options.TheConstants.{FRAME_RANGE, INPUT_RANGE, MAX_FRAME, MAX_INPUT}
-use Rattle.command_words.specs.Words.{is_number, limits_from, limits_of, number_by, number_given, number_within, values_of}
+use Rattle.command_words.specs.declared.options.Draws.{Draws}
+use Rattle.command_words.specs.declared.options.TheConstants.{FRAME_RANGE, INPUT_RANGE, SEED_RANGE, COUNT_RANGE, MAX_FRAME, MAX_INPUT, MOST_MESSAGES}
+use Rattle.command_words.specs.Words.{draws_from, draws_of, is_number, limits_from, limits_of, number_by, number_given, number_within, values_of}
 
 abbrev InRange : NumberRange → ℕ → Type 0
 InRange range n = (range.least ≤ n) × (n ≤ range.most)
@@ -41,3 +42,21 @@ limits_within pairs limits is =
     from_both (number_given MAX_FRAME.now FRAME_RANGE pairs) (number_given MAX_INPUT.now INPUT_RANGE pairs)
     (by_range FRAME_RANGE (values_of MAX_FRAME.now pairs) (omega arith, omega arith)) (by_range INPUT_RANGE (values_of MAX_INPUT.now pairs) (omega arith, omega arith)) in
     subst (λ o. IfSome o (λ limits. AreLimits limits)) (sym is) all
+
+-- so many messages at most
+abbrev IsSmall : Draws → Type 0
+IsSmall draws = draws.count ≤ MOST_MESSAGES
+
+from_words : (seed count : Option ℕ) → IfSome count (λ n. InRange COUNT_RANGE n) → IfSome (draws_from seed count) (λ draws. IsSmall draws)
+from_words None count c = tt
+from_words (Some seed) None c = tt
+from_words (Some seed) (Some count) c = c.1
+
+small_draws : (words : List (List ℕ)) → IfSome (draws_of words) (λ draws. IsSmall draws)
+small_draws [] = omega arith
+small_draws (seed ∷ []) = tt
+small_draws (seed ∷ count ∷ []) = from_words (number_within SEED_RANGE.least SEED_RANGE.most seed) (number_within COUNT_RANGE.least COUNT_RANGE.most count) (word_within COUNT_RANGE count)
+small_draws (seed ∷ count ∷ word ∷ more) = tt
+
+pub draws_within : (words : List (List ℕ)) (draws : Draws) → Some draws ≡ draws_of words → draws.count ≤ MOST_MESSAGES
+draws_within words draws is = subst (λ o. IfSome o (λ draws. IsSmall draws)) (sym is) (small_draws words)

@@ -8,8 +8,7 @@ use Rattle.std.proofs.Math.Dec.{leb}
 use Rattle.std.specs.Prelude.{String, string_bytes}
 use Rattle.std.specs.declared.alloc.Global.{Global}
 use Rattle.std.specs.Str.{bytes_eq}
-use Rattle.command_words.specs.Words.{FormRow, are_options, command_from, fits, is_file_name, limits_of, names_given, said_by}
-use Rattle.command_words.specs.declared.options.TheConstants.{ALSO, MOST_ALSO}
+use Rattle.command_words.specs.Words.{FormRow, are_options, command_from, draws_of, fits, fits_values, is_file_name, said_by, said_after}
 
 abbrev pub texts : List (String Global) → List (List ℕ)
 texts words = map (λ word. string_bytes word) words
@@ -66,11 +65,36 @@ not_false false h = cc
 all_so : (a b c d c' d' : Bool) → a ≡ true → b ≡ true → c ≡ c' → d ≡ d' → (a && b && c && d) ≡ (c' && d')
 all_so a b c d c' d' p q r s = rw (p, q, r, s) refl
 
+-- the words after so many
+abbrev pub after_some : ℕ → List (String Global) → List (String Global)
+after_some n words = take (length words - n) (drop n words)
+
+-- so many words are there
+enough_so : (n : ℕ) (words : List (String Global)) → n ≤ length words → leb n (length (texts words)) ≡ true
+enough_so n words enough = le-leb _ _ (subst (λ m. n ≤ m) (sym (length-map words (λ (word : String Global). string_bytes word))) enough)
+
+drop_so : (n : ℕ) (words : List (String Global)) → drop n (texts words) ≡ texts (after_some n words)
+drop_so n words = drop-map (λ word. string_bytes word) n words ∙ ap (λ m. texts m) (sym (take_rest words n))
+
+-- words that are enough for the numbers
+pub values_so : (row : FormRow) (words : List (String Global)) → row.numbers ≤ length words →
+    are_options row.options (texts (after_some row.numbers words)) ≡ fits_values row (texts words)
+values_so row words enough =
+    sym (ap (λ b. b && are_options row.options (drop row.numbers (texts words))) (enough_so row.numbers words enough) ∙ ap (λ t. are_options row.options t) (drop_so row.numbers words))
+
+-- what is said by words that are enough for the numbers
+pub said_values : (row : FormRow) (files : List (List ℕ)) (words : List (String Global)) → row.numbers ≤ length words →
+    said_after row files (texts words) ≡ command_from row.form files (texts (take row.numbers words)) (texts (after_some row.numbers words))
+said_values row files words enough =
+    ap (λ b. if b then command_from row.form files (take row.numbers (texts words)) (drop row.numbers (texts words)) else None) (enough_so row.numbers words enough)
+    ∙ ap (λ n. command_from row.form files n (drop row.numbers (texts words))) (take-map (λ word. string_bytes word) row.numbers words)
+    ∙ ap (λ o. command_from row.form files (texts (take row.numbers words)) o) (drop_so row.numbers words)
+
 -- words that begin with the form's word, and are enough
 pub fits_so : (row : FormRow) (words : List (String Global)) (word : String Global) (text : List ℕ) (named : Bool) →
     1 ≤ length words → word ≡ get_or words 0 word → text ≡ string_bytes word → not (bytes_eq text row.word) ≡ false → row.files ≤ length (behind_one words) →
     named ≡ list_all (λ word. is_file_name (string_bytes word)) (take row.files (behind_one words)) →
-    (named && are_options row.options (texts (behind_files row.files words))) ≡ fits row (texts words)
+    (named && fits_values row (texts (behind_files row.files words))) ≡ fits row (texts words)
 fits_so row [] word text named one first is_text same enough is_named = absurd (omega arith)
 fits_so row (a ∷ more) word text named one first is_text same enough is_named =
     let behind : behind_one (a ∷ more) ≡ more = take_rest (a ∷ more) 1 in
@@ -84,8 +108,8 @@ fits_so row (a ∷ more) word text named one first is_text same enough is_named 
     ∙ sym (is_named ∙ ap (λ m. list_all (λ word. is_file_name (string_bytes word)) (take row.files m)) behind) in
     let rest : behind_files row.files (a ∷ more) ≡ drop row.files more =
     take_rest (behind_one (a ∷ more)) row.files ∙ ap (λ m. drop row.files m) behind in
-    let e4 : are_options row.options (drop row.files (texts more)) ≡ are_options row.options (texts (behind_files row.files (a ∷ more))) =
-    ap (λ t. are_options row.options t) (drop-map (λ word. string_bytes word) row.files more ∙ ap (λ m. texts m) (sym rest)) in
+    let e4 : fits_values row (drop row.files (texts more)) ≡ fits_values row (texts (behind_files row.files (a ∷ more))) =
+    ap (λ t. fits_values row t) (drop-map (λ word. string_bytes word) row.files more ∙ ap (λ m. texts m) (sym rest)) in
     sym (all_so _ _ _ _ _ _ e1 e2 e3 e4)
 
 -- an item that doesn't pass is passed over
@@ -96,8 +120,7 @@ find_on p xs i x h fails =
 
 -- what is said by words of a row that are enough
 pub said_so : (row : FormRow) (words : List (String Global)) → 1 ≤ length words → row.files ≤ length (behind_one words) →
-    said_by row (texts words) ≡ command_from row.form (texts (take row.files (behind_one words)))
-    (limits_of (texts (behind_files row.files words))) (names_given ALSO.now MOST_ALSO (texts (behind_files row.files words)))
+    said_by row (texts words) ≡ said_after row (texts (take row.files (behind_one words))) (texts (behind_files row.files words))
 said_so row [] one enough = absurd (omega arith)
 said_so row (a ∷ more) one enough =
     let behind : behind_one (a ∷ more) ≡ more = take_rest (a ∷ more) 1 in
@@ -107,6 +130,12 @@ said_so row (a ∷ more) one enough =
     let options : drop row.files (texts more) ≡ texts (behind_files row.files (a ∷ more)) = drop-map (λ word. string_bytes word) row.files more ∙ ap (λ m. texts m) (sym rest) in
     let names : take row.files (texts more) ≡ texts (take row.files (behind_one (a ∷ more))) =
     take-map (λ word. string_bytes word) row.files more ∙ ap (λ m. texts (take row.files m)) (sym behind) in
-    ap (λ b. if b then command_from row.form (take row.files (texts more)) (limits_of (drop row.files (texts more))) (names_given ALSO.now MOST_ALSO (drop row.files (texts more))) else None) (le-leb _ _ room')
-    ∙ ap (λ n. command_from row.form n (limits_of (drop row.files (texts more))) (names_given ALSO.now MOST_ALSO (drop row.files (texts more)))) names
-    ∙ ap (λ o. command_from row.form (texts (take row.files (behind_one (a ∷ more)))) (limits_of o) (names_given ALSO.now MOST_ALSO o)) options
+    ap (λ b. if b then said_after row (take row.files (texts more)) (drop row.files (texts more)) else None) (le-leb _ _ room')
+    ∙ ap (λ n. said_after row n (drop row.files (texts more))) names
+    ∙ ap (λ v. said_after row (texts (take row.files (behind_one (a ∷ more)))) v) options
+
+-- a seed without a count
+pub one_word : (words : List (String Global)) → length words < 2 → (length words == 0) ≡ false → None ≡ draws_of (texts words)
+one_word [] few some = cc
+one_word (seed ∷ []) few some = refl
+one_word (seed ∷ count ∷ more) few some = absurd (omega arith)

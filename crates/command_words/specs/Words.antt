@@ -11,7 +11,8 @@ use Rattle.command_words.specs.declared.words.WordsErr.TheVariants.{Usage, Memor
 use Rattle.command_words.specs.declared.forms.Form.{Form}
 use Rattle.command_words.specs.declared.forms.TheConstants.{FORMS}
 use Rattle.command_words.specs.declared.options.NumberRange.{NumberRange}
-use Rattle.command_words.specs.declared.options.TheConstants.{ALSO, MOST_ALSO, MAX_FRAME, MAX_INPUT, FRAME_RANGE, INPUT_RANGE}
+use Rattle.command_words.specs.declared.options.Draws.{Draws}
+use Rattle.command_words.specs.declared.options.TheConstants.{ALSO, MOST_ALSO, MOST_MESSAGES, MAX_FRAME, MAX_INPUT, FRAME_RANGE, INPUT_RANGE, SEED_RANGE, COUNT_RANGE}
 
 -- ---- one word
 
@@ -35,6 +36,21 @@ number_within least most word =
     if is_number word && nat_le least (digits_value 10 word) && nat_le (digits_value 10 word) most
     then Some (digits_value 10 word)
     else None
+
+-- ---- numbers: the words of a seed and a count
+
+-- a seed and a count, where both are there
+abbrev pub draws_from : Option ℕ → Option ℕ → Option Draws
+draws_from (Some seed) (Some count) = Some (record { seed = seed; count = count })
+draws_from (Some seed) None = None
+draws_from None count = None
+
+-- The messages that words say: a seed and a count, each in its range; none are drawn where there are no words.
+abbrev pub draws_of : List (List ℕ) → Option Draws
+draws_of [] = Some (record { seed = SEED_RANGE.default; count = COUNT_RANGE.default })
+draws_of (seed ∷ []) = None
+draws_of (seed ∷ count ∷ []) = draws_from (number_within SEED_RANGE.least SEED_RANGE.most seed) (number_within COUNT_RANGE.least COUNT_RANGE.most count)
+draws_of (seed ∷ count ∷ word ∷ more) = None
 
 -- ---- options: words in pairs, the option's word and its value
 
@@ -78,43 +94,55 @@ names_by most values = if nat_le (length values) most && list_all is_file_name v
 abbrev pub names_given : List ℕ → ℕ → List (List ℕ) → Option (List (List ℕ))
 names_given option most pairs = names_by most (values_of option pairs)
 
--- ---- forms: a command's word, names of files, and options
+-- ---- forms: a command's word, names of files, numbers, and options
 
--- A row of the table of forms: what words of the form begin with, how many names of files follow, and which options.
+-- A row of the table of forms: what words of the form begin with, how many names of files and numbers follow, and which options.
 pub record FormRow : Type 0 where
   pub form : Form
   pub word : List ℕ
   pub files : ℕ
+  pub numbers : ℕ
   pub options : List (List ℕ)
 
 -- the table of forms
 abbrev pub rows : List FormRow
-rows = map (λ row. record { form = row.0; word = row.1.now; files = row.2; options = map (λ option. option.now) row.3.now }) FORMS
+rows = map (λ row. record { form = row.0; word = row.1.now; files = row.2; numbers = row.3; options = map (λ option. option.now) row.4.now }) FORMS
 
 -- The rows of a command's word.
 abbrev pub rows_of : List ℕ → List FormRow
 rows_of word = filter (λ row. bytes_eq word row.word) rows
 
--- the words have the form of this row, whatever values its options have
+-- the words are as many numbers as this row has, whatever they are, and then its options
+abbrev pub fits_values : FormRow → List (List ℕ) → Bool
+fits_values row values = nat_le row.numbers (length values) && are_options row.options (drop row.numbers values)
+
+-- the words have the form of this row, whatever its numbers and the values of its options are
 abbrev pub fits : FormRow → List (List ℕ) → Bool
 fits row [] = false
 fits row (word ∷ rest) =
     bytes_eq word row.word && nat_le row.files (length rest)
-    && list_all is_file_name (take row.files rest) && are_options row.options (drop row.files rest)
+    && list_all is_file_name (take row.files rest) && fits_values row (drop row.files rest)
 
--- a command of this form over these files, where the values of its options are there
-abbrev pub command_from : Form → List (List ℕ) → Option Limits → Option (List (List ℕ)) → Option Command
-command_from form files None also = None
-command_from form files (Some limits) None = None
-command_from form files (Some limits) (Some also) = Some (record { form = form; files = files; also = also; limits = limits })
+-- a command of this form over these files, where its numbers and the values of its options are there
+abbrev pub command_with : Form → List (List ℕ) → Option Draws → Option Limits → Option (List (List ℕ)) → Option Command
+command_with form files None limits also = None
+command_with form files (Some draws) None also = None
+command_with form files (Some draws) (Some limits) None = None
+command_with form files (Some draws) (Some limits) (Some also) = Some (record { form = form; files = files; draws = draws; also = also; limits = limits })
 
--- what words of this row say: the files after its word, and the values of the options after these
+-- a command of this form over these files, with the numbers that the first words say, and the options that the others give
+abbrev pub command_from : Form → List (List ℕ) → List (List ℕ) → List (List ℕ) → Option Command
+command_from form files numbers options = command_with form files (draws_of numbers) (limits_of options) (names_given ALSO.now MOST_ALSO options)
+
+-- what words after these files say: the numbers, and then the values of the options
+abbrev pub said_after : FormRow → List (List ℕ) → List (List ℕ) → Option Command
+said_after row files values =
+    if nat_le row.numbers (length values) then command_from row.form files (take row.numbers values) (drop row.numbers values) else None
+
+-- what words of this row say: the files after its word, and the values after these
 abbrev pub said_by : FormRow → List (List ℕ) → Option Command
 said_by row [] = None
-said_by row (word ∷ rest) =
-    if nat_le row.files (length rest)
-    then command_from row.form (take row.files rest) (limits_of (drop row.files rest)) (names_given ALSO.now MOST_ALSO (drop row.files rest))
-    else None
+said_by row (word ∷ rest) = if nat_le row.files (length rest) then said_after row (take row.files rest) (drop row.files rest) else None
 
 -- The command that words say: that of the first form that they have, with each option at most once and a right value.
 abbrev pub command_of : List (List ℕ) → Option Command
@@ -134,6 +162,7 @@ file_at command place = get_or command.files place []
 abbrev pub AreInRange : Limits → Type 0
 AreInRange limits = (64 ≤ limits.frame) × (limits.frame ≤ 16_777_216) × (1 ≤ limits.input) × (limits.input ≤ 2 ^ 40)
 
--- the limits of a command are in their ranges
-abbrev pub HasLimits : Command → Type 0
-HasLimits command = AreInRange command.limits
+-- The limits of a command are in their ranges, and it draws no more than so many messages.
+pub record HasLimits (command : Command) : Type 0 where
+  pub limits : AreInRange command.limits
+  pub count : command.draws.count ≤ MOST_MESSAGES

@@ -1,7 +1,7 @@
 ghost use Rattle.std.specs.Prelude.{◌≡◌, map, string_bytes};
 ghost use Rattle.std.specs.List.{list_all, list_any};
 ghost use Rattle.std.specs.Str.{bytes_eq};
-ghost use Rattle.command_words.specs.Words.{fits, are_options, is_file_name};
+ghost use Rattle.command_words.specs.Words.{fits, fits_values, are_options, is_file_name};
 
 use crate::options::{ALSO, MAX_FRAME, MAX_INPUT};
 use std::marker::Model;
@@ -19,9 +19,11 @@ pub enum Form {
     Build,
     /// `fixcheck M`
     FixCheck,
+    /// `selftest S SEED COUNT`
+    SelfTest,
 }
 
-/// What words of a form are: a command's word, names of files, and options in pairs.
+/// What words of a form are: a command's word, names of files, numbers, and options in pairs.
 #[derive(Drop)]
 pub struct Row {
     pub form: Form,
@@ -29,7 +31,9 @@ pub struct Row {
     pub word: &'static str,
     /// How many names of files follow it.
     pub files: usize,
-    /// The words of the options that may follow these.
+    /// How many numbers follow these: none, or a seed and a count.
+    pub numbers: usize,
+    /// The words of the options that may come last.
     pub options: &'static [&'static str],
 }
 
@@ -39,20 +43,28 @@ impl Model for Row {
 
     ghost Value = { FormRow };
 
-    ghost view = { λ row. record { form = row.form; word = row.word.now; files = row.files; options = map (λ option. option.now) row.options.now } };
+    ghost view = { λ row. record {
+      form = row.form;
+      word = row.word.now;
+      files = row.files;
+      numbers = row.numbers;
+      options = map (λ option. option.now) row.options.now;
+    } };
 }
 
-/// All forms, in the order in which they are tried: the form, its word, how many files it names, and its options.
-pub const FORMS: [(Form, &str, usize, &[&str]); 5] = [
-    (Form::Check, "check", 1, &[]),
-    (Form::Compat, "compat", 2, &[]),
-    (Form::Dump, "dump", 1, &[MAX_FRAME, MAX_INPUT, ALSO]),
-    (Form::Build, "build", 1, &[MAX_FRAME, MAX_INPUT]),
-    (Form::FixCheck, "fixcheck", 1, &[MAX_FRAME, MAX_INPUT]),
+/// All forms, in the order in which they are tried: the form, its word, how many files it names, how many numbers follow these, and
+/// its options.
+pub const FORMS: [(Form, &str, usize, usize, &[&str]); 6] = [
+    (Form::Check, "check", 1, 0, &[]),
+    (Form::Compat, "compat", 2, 0, &[]),
+    (Form::Dump, "dump", 1, 0, &[MAX_FRAME, MAX_INPUT, ALSO]),
+    (Form::Build, "build", 1, 0, &[MAX_FRAME, MAX_INPUT]),
+    (Form::FixCheck, "fixcheck", 1, 0, &[MAX_FRAME, MAX_INPUT]),
+    (Form::SelfTest, "selftest", 1, 2, &[MAX_FRAME]),
 ];
 
 impl Row {
-    /// Whether words have this form, whatever values its options have.
+    /// Whether words have this form, whatever its numbers and the values of its options are.
     pub fn fits(&self, words: &[String]) -> bool
         ensures { result ≡ fits self.now (map (λ word. string_bytes word) words.now) }
     {
@@ -65,7 +77,17 @@ impl Row {
         if !are_file_names(&rest[..self.files]) {
             return false;
         }
-        self.takes_all(&rest[self.files..])
+        self.fits_values(&rest[self.files..])
+    }
+
+    /// Whether these words are as many numbers as it has, whatever they are, and then its options.
+    fn fits_values(&self, values: &[String]) -> bool
+        ensures { result ≡ fits_values self.now (map (λ word. string_bytes word) values.now) }
+    {
+        if values.len() < self.numbers {
+            return false;
+        }
+        self.takes_all(&values[self.numbers..])
     }
 
     /// Whether these words are its options, each with a value.

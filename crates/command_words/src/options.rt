@@ -1,5 +1,5 @@
 ghost use Rattle.std.specs.Prelude.{◌≡◌, ◌↔◌, IsTrue, map, string_bytes, slice_index_or};
-ghost use Rattle.command_words.specs.Words.{begins_a_number, number_given, number_within};
+ghost use Rattle.command_words.specs.Words.{begins_a_number, draws_of, number_given, number_within};
 
 /// The option for the most bytes of a frame, its head included.
 pub const MAX_FRAME: &str = "--max-frame";
@@ -13,7 +13,11 @@ pub const ALSO: &str = "--also";
 /// How often `--also` may be given.
 pub const MOST_ALSO: usize = 15;
 
-/// Which numbers an option takes.
+/// The most messages that words may ask for.
+pub const MOST_MESSAGES: u64 = 10_000;
+
+/// Which numbers an option or a word takes.
+#[derive(Drop)]
 pub struct NumberRange {
     pub least: u64,
     pub most: u64,
@@ -34,6 +38,49 @@ pub const INPUT_RANGE: NumberRange = NumberRange {
     most: 1_099_511_627_776,
     default: 4_294_967_296,
 };
+
+/// Which seeds messages may be drawn from.
+pub const SEED_RANGE: NumberRange = NumberRange {
+    least: 0,
+    most: u64::MAX,
+    default: 0,
+};
+
+/// How many messages may be drawn.
+pub const COUNT_RANGE: NumberRange = NumberRange {
+    least: 1,
+    most: MOST_MESSAGES,
+    default: 0,
+};
+
+/// Which messages are drawn.
+#[derive(Clone, Copy, Debug, PartialEq, Eq)]
+pub struct Draws {
+    /// The seed that they are drawn from.
+    pub seed: u64,
+    /// How many they are.
+    pub count: u64,
+}
+
+/// The seed and the count that words write, or none of either without words. None where a word is no number of its range, or the words
+/// are other than two.
+pub fn draws_of(words: &[String]) -> Option<Draws>
+    ensures { result ≡ draws_of (map (λ word. string_bytes word) words.now) }
+{
+    if words.is_empty() {
+        return Some(Draws {
+            seed: SEED_RANGE.default,
+            count: COUNT_RANGE.default,
+        });
+    }
+    let [seed, count] = words else {
+        return None;
+    };
+    Some(Draws {
+        seed: number_within(&SEED_RANGE, seed.as_str())?,
+        count: number_within(&COUNT_RANGE, count.as_str())?,
+    })
+}
 
 /// The number that options give one of them, or its default. None where they have that option twice, or its value is no number of
 /// the range.

@@ -1,11 +1,11 @@
 ghost use Rattle.std.specs.Prelude.{◌≡◌, map, string_bytes, IfOk};
 ghost use Rattle.std.specs.List.{list_all};
-ghost use Rattle.command_words.specs.declared.options.TheConstants.{ALSO, MOST_ALSO};
-ghost use Rattle.command_words.specs.Words.{Says, HasLimits, command_from, command_of, file_at, is_file_name, limits_of, names_given, said_by, values_of};
+ghost use Rattle.command_words.specs.Words.{Says, HasLimits, command_from, command_of, file_at, is_file_name, limits_of};
+ghost use Rattle.command_words.specs.Words.{names_given, said_by, said_after, values_of};
 
 use crate::forms::{FORMS, Form, Row, names_file};
 use crate::options::{
-    ALSO, FRAME_RANGE, INPUT_RANGE, MAX_FRAME, MAX_INPUT, MOST_ALSO, number_given,
+    ALSO, Draws, FRAME_RANGE, INPUT_RANGE, MAX_FRAME, MAX_INPUT, MOST_ALSO, draws_of, number_given,
 };
 use lists::{List, NoMem};
 use sbe_base::Limits;
@@ -53,6 +53,8 @@ pub struct Command {
     pub form: Form,
     /// The files that the form names, in the order of the words.
     pub files: NameList,
+    /// The messages that the form draws. It draws none where it has no numbers.
+    pub draws: Draws,
     /// Further schemas.
     pub also: NameList,
     /// The limits of its input.
@@ -90,11 +92,12 @@ pub fn read_words(alloc: Global, words: &[String]) -> Result<Command, WordsErr>
     ensures says { Says result (command_of (map (λ word. string_bytes word) words.now)) }
     ensures ranges { IfOk result (λ command. HasLimits command) }
 {
-    for (form, word, files, options) in FORMS {
+    for (form, word, files, numbers, options) in FORMS {
         let row = Row {
             form,
             word,
             files,
+            numbers,
             options,
         };
         if row.fits(words) {
@@ -115,20 +118,46 @@ fn read_row(alloc: Global, row: &Row, words: &[String]) -> Result<Command, Words
     if rest.len() < row.files {
         return Err(WordsErr::Usage);
     }
-    read_command(alloc, row.form, &rest[..row.files], &rest[row.files..])
+    read_values(alloc, row, &rest[..row.files], &rest[row.files..])
 }
 
-/// The command of a form over these files, with these options.
+/// The command of a form over these files, with the numbers and options that follow.
+fn read_values(
+    alloc: Global,
+    row: &Row,
+    files: &[String],
+    values: &[String],
+) -> Result<Command, WordsErr>
+    ensures says { Says result (said_after row.now (map (λ word. string_bytes word) files.now) (map (λ word. string_bytes word) values.now)) }
+    ensures ranges { IfOk result (λ command. HasLimits command) }
+{
+    if values.len() < row.numbers {
+        return Err(WordsErr::Usage);
+    }
+    read_command(
+        alloc,
+        row.form,
+        files,
+        &values[..row.numbers],
+        &values[row.numbers..],
+    )
+}
+
+/// The command of a form over these files, with these numbers and options.
 fn read_command(
     alloc: Global,
     form: Form,
     files: &[String],
+    numbers: &[String],
     options: &[String],
 ) -> Result<Command, WordsErr>
     ensures says { Says result (command_from form (map (λ word. string_bytes word) files.now)
-        (limits_of (map (λ word. string_bytes word) options.now)) (names_given ALSO.now MOST_ALSO (map (λ word. string_bytes word) options.now))) }
+        (map (λ word. string_bytes word) numbers.now) (map (λ word. string_bytes word) options.now)) }
     ensures ranges { IfOk result (λ command. HasLimits command) }
 {
+    let Some(draws) = draws_of(numbers) else {
+        return Err(WordsErr::Usage);
+    };
     let Some(limits) = read_limits(options) else {
         return Err(WordsErr::Usage);
     };
@@ -140,6 +169,7 @@ fn read_command(
         Ok(files) => Ok(Command {
             form,
             files,
+            draws,
             also,
             limits,
         }),

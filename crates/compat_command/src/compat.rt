@@ -12,7 +12,7 @@ use replies::{Draft, Verdict};
 use sbe_base::Files;
 use schema_check::Checked;
 use schema_files::{FileRole, JobStop, load_checked};
-use schema_lines::put_json_text;
+use schema_lines::{put, put_json_text};
 use std::alloc::Global;
 use std::marker::Model;
 use version_laws::{Compat as Answer, Reason};
@@ -115,14 +115,6 @@ fn put_no(path: &[u8], reason: Reason, output: &mut Vec<u8>) -> Result<(), NoMem
     put(output, b",\"reason\":\"")?;
     put(output, reason_name(reason).as_bytes())?;
     put(output, b"\"}\n")
-}
-
-/// Appends bytes.
-fn put(output: &mut Vec<u8>, bytes: &[u8]) -> Result<(), NoMem>
-    ensures { Puts result output.old.items output.new.items bytes.now }
-{
-    output.extend_from_slice(bytes)?;
-    Ok(())
 }
 
 /// The printed name of what differs.

@@ -7,5 +7,5 @@ ghost use Rattle.command_words.specs.declared.forms.Form.TheVariants as form;
 /// Its row in the table of forms.
 pub fn words()
     ensures { rows_of (codes "compat")
-        ≡ record { form = form.Compat; word = codes "compat"; files = 2; options = [] } ∷ [] }
+        ≡ record { form = form.Compat; word = codes "compat"; files = 2; numbers = 0; options = [] } ∷ [] }
 {}

@@ -7,5 +7,11 @@ ghost use Rattle.command_words.specs.declared.forms.Form.TheVariants as form;
 /// Its row in the table of forms.
 pub fn words()
     ensures { rows_of (codes "dump")
-        ≡ record { form = form.Dump; word = codes "dump"; files = 1; options = codes "--max-frame" ∷ codes "--max-input" ∷ codes "--also" ∷ [] } ∷ [] }
+        ≡ record {
+          form = form.Dump;
+          word = codes "dump";
+          files = 1;
+          numbers = 0;
+          options = codes "--max-frame" ∷ codes "--max-input" ∷ codes "--also" ∷ [];
+        } ∷ [] }
 {}

@@ -1,7 +1,7 @@
 ghost use Rattle.std.specs.Prelude.{◌≡◌, true, IfOk};
 ghost use Rattle.map_types.specs.Trees.{members_of};
 ghost use Rattle.orchestra_map.specs.DataFields.{pairs_of};
-ghost use Rattle.schema_files.specs.Files.{JobCause};
+ghost use Rattle.schema_files.specs.Files.{JobCause, NamesLast};
 ghost use Rattle.command_files.specs.Files.{LoadsFiles};
 ghost use Rattle.command_steps.specs.Replies.{no_line};
 ghost use Rattle.fixcheck_command.specs.FixCheck.{IsFixCheckReply, fixcheck_files};
@@ -44,6 +44,7 @@ pub fn load_fixcheck<F: Files>(
     ensures kept { (F.state files.new).told ≡ (F.state files.old).told }
     ensures loads { LoadsFiles (fixcheck_files name.now) (F.state files.old).told result }
     ensures cause { JobCause (F.state files.old).faults (F.state files.new).faults result }
+    ensures names { NamesLast (F.load_count files.old) (F.load_count files.new) result }
 {
     let repository = match load_map(alloc, files, name) {
         Ok(repository) => repository,

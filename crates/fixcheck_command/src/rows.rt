@@ -7,5 +7,5 @@ ghost use Rattle.command_words.specs.declared.forms.Form.TheVariants as form;
 /// Its row in the table of forms.
 pub fn words()
     ensures { rows_of (codes "fixcheck")
-        ≡ record { form = form.FixCheck; word = codes "fixcheck"; files = 1; options = codes "--max-frame" ∷ codes "--max-input" ∷ [] } ∷ [] }
+        ≡ record { form = form.FixCheck; word = codes "fixcheck"; files = 1; numbers = 0; options = codes "--max-frame" ∷ codes "--max-input" ∷ [] } ∷ [] }
 {}

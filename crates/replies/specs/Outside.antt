@@ -1,5 +1,5 @@
 -- What the outside tells at one time.
-use Rattle.std.specs.Prelude.{◌≡◌, ℕ, List, Option}
+use Rattle.std.specs.Prelude.{◌≡◌, ℕ, List}
 use Rattle.std.specs.Io.KnownBytes.{Appends}
 use Rattle.sbe_base.specs.Causes.{AppendsPart}
 use Rattle.sbe_base.specs.Objects.{Object, Failed}
@@ -17,16 +17,6 @@ pub record Streams : Type 0 where
   pub input : Object (List ℕ)
   pub sinks : Sinks
 
--- The files, and the streams.
-pub record Outside : Type 0 where
-  pub files : Object (List ℕ → Option (List ℕ))
-  pub streams : Streams
-
--- what the files tell of each name, and the notes
-pub record Desk : Type 0 where
-  pub files : Object (List ℕ → Option (List ℕ))
-  pub notes : Object (List ℕ)
-
 -- output and notes together
 abbrev pub sinks_of : Object (List ℕ) → Object (List ℕ) → Sinks
 sinks_of output notes = record { output = output; notes = notes }
@@ -34,14 +24,6 @@ sinks_of output notes = record { output = output; notes = notes }
 -- Input, output and notes together.
 abbrev pub streams_of : Object (List ℕ) → Object (List ℕ) → Object (List ℕ) → Streams
 streams_of input output notes = record { input = input; sinks = sinks_of output notes }
-
--- All objects together.
-abbrev pub outside_of : Object (List ℕ → Option (List ℕ)) → Streams → Outside
-outside_of files streams = record { files = files; streams = streams }
-
--- The files and the notes together.
-abbrev pub desk_of : Object (List ℕ → Option (List ℕ)) → Object (List ℕ) → Desk
-desk_of files notes = record { files = files; notes = notes }
 
 -- output and notes grew by this
 pub record Wrote (old new : Sinks) (written : Written) : Type 0 where

@@ -10,6 +10,7 @@ Usage:
   sbe dump SCHEMA [OPTION VALUE]..
   sbe build SCHEMA [OPTION VALUE]..
   sbe fixcheck MAP [OPTION VALUE]..
+  sbe selftest SCHEMA SEED COUNT [OPTION VALUE]..
   sbe --help | -h
   sbe --version
 
@@ -20,15 +21,20 @@ dump reads SBE frames from standard input, and prints each message as a line of 
 build reads such lines from standard input, and writes each message as an SBE frame.
 fixcheck reads frames of FIX tag-value texts from standard input, and prints a line of JSON for each
 text: its number, its type, and how many fields it has.
+selftest draws COUNT messages of a schema (1 to 10000) from SEED (0 to 18446744073709551615), encodes
+each in a frame of its own, and decodes its body with one byte altered. It prints a line of JSON: how
+many frames these are, how many messages were skipped because a frame has no room for them or a count
+or a length isn't admitted, the frames' bytes and their sum, and how many altered bodies still are
+messages. The same words give the same line.
 SCHEMA, OLD and NEW are files of message schemas, MAP is a mapping file: a FIX Orchestra repository.
 Their names don't begin with `--`.
 
-Options of dump, build and fixcheck, in any order behind the file:
+Options of dump, build, fixcheck and selftest, last and in any order:
   --also SCHEMA      one more schema, for dump alone; a frame is read by the one whose id
                      it has (at most 15 times; the schema of a message is then printed)
   --max-frame BYTES  the most bytes of a frame, its head included
                      (64 to 16777216, default 65536; at most once)
-  --max-input BYTES  the most bytes of the input
+  --max-input BYTES  the most bytes of the input, not for selftest
                      (1 to 1099511627776, default 4294967296; at most once)
 
 Answers go to standard output, each before the next frame or line is waited for. Why a run
@@ -36,7 +42,7 @@ ends early is noted on standard error, as a line of JSON; and why build refuses 
 fixcheck a frame.
 
 Exit status:
-   0  the files are in order; the input was read to its end, and nothing was refused
+   0  the files are in order; the input, if any, was read to its end, and nothing was refused
    1  the input was read to its end, and at least one message was refused; or NEW doesn't extend OLD
    2  the words are no command
    3  a schema was refused
@@ -56,6 +62,7 @@ Examples:
   sbe dump feed.json --also orders.json < frames.bin
   sbe build feed.json < lines.jsonl > frames.bin
   sbe fixcheck orders-map.json < texts.bin
+  sbe selftest orders.json 1 10000
 ";
 
 /// What `--version` prints.

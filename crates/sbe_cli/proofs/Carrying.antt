@@ -10,7 +10,8 @@ use Rattle.command_steps.specs.Splits.{is_read, PieceEnd, End, EndInside, HeadFa
 use Rattle.replies.specs.Reply.{Written, Reply, written_of, then_written}
 use Rattle.command_steps.specs.Ends.{Outcome, end_status}
 use Rattle.sbe_cli.specs.Report.{JobReport, JudgedReport, CommandReport, Report}
-use Rattle.replies.specs.Outside.{Sinks, Outside, Wrote, Breaks, Told, noted, failed}
+use Rattle.replies.specs.Outside.{Sinks, Wrote, Breaks, Told, noted, failed}
+use Rattle.sbe_cli.specs.Outside.{Outside}
 use Rattle.sbe_cli.specs.Jobs.{Job, answering_of, reading_of, IsReadAs, reads_input, spares_memory}
 use Rattle.sbe_cli.specs.Opens.{JudgedAs}
 use Rattle.command_steps.specs.Steps.{IsReported, running, Ends, Stalls, Fails, ended_at, stalled_at, failed_at, wanting_at, Course, Drains}
@@ -92,7 +93,7 @@ module _ (words : List (List ℕ)) (old new : Outside) (command : Command) (is_c
       AreFronts outcome = AppendsPart old.streams.sinks.output.told new.streams.sinks.output.told outcome.output × NotesPart words old new outcome.notes
 
       led : (outcome : Outcome) → JobReport job input outcome → Leading written outcome
-      led outcome report = leading on (placed contents known.files) input outcome report course.ahead.met_end course.progress.pieces course.progress.left written course.kept course.progress.begins course.progress.replies
+      led outcome report = leading on (placed contents known.files) input outcome report course.ahead course.progress.pieces course.progress.left written course.kept course.progress.begins course.progress.replies
 
       ended_fronts : (outcome : Outcome) → Report words contents input outcome → Ends on (running course.kept course.ahead) course.mid new.streams course.progress.left code → AreFronts outcome
       ended_fronts outcome report ends =
@@ -125,7 +126,7 @@ module _ (words : List (List ℕ)) (old new : Outside) (command : Command) (is_c
       failed_fronts outcome report fail =
           let last = λ (reply : Reply). Breaks course.mid.sinks new.streams.sinks (written_of reply) in
           let all = then_written written (written_of fail.reply) in
-          let front = leading on (placed contents known.files) input outcome (of_report contents input outcome known report) fail.ahead.met_end (course.progress.pieces ++ fail.piece ∷ []) fail.left all _
+          let front = leading on (placed contents known.files) input outcome (of_report contents input outcome known report) fail.ahead (course.progress.pieces ++ fail.piece ∷ []) fail.left all _
           (begun_last on (running course.kept course.ahead) old.streams course.mid new.streams input course.progress code last fail) (replied_last on (running course.kept course.ahead) old.streams course.mid new.streams input course.progress code last fail) in (
             part_of old.streams.sinks.output.told new.streams.sinks.output.told all.output front.output outcome.output
                 (broken_output on (running course.kept course.ahead) old.streams course.mid new.streams input course.progress code (written_of fail.reply) fail.wrote) front.output_is,

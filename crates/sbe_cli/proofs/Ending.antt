@@ -11,11 +11,12 @@ use Rattle.sbe_cli.specs.Report.{CommandReport, Report, only_noted}
 use Rattle.sbe_cli.specs.Stops.{unopened_line, usage_line}
 use Rattle.schema_files.specs.Refusals.{refusal_line, refusal_status}
 use Rattle.sbe_base.specs.Objects.{Object, Failed}
-use Rattle.replies.specs.Outside.{Desk, Streams, Outside, Told, noted, failed}
+use Rattle.replies.specs.Outside.{Streams, Told, noted, failed}
+use Rattle.sbe_cli.specs.Outside.{Outside}
 use Rattle.command_steps.specs.Steps.{IsReported, Drains}
 use Rattle.sbe_cli.specs.Jobs.{answering_of}
 use Rattle.sbe_cli.specs.Opens.{PumpState, Opens, JudgedAs, Declines, refuses, fails, wants}
-use Rattle.sbe_cli.specs.Runs.{desk, Known, NamesFile, at_end, at_file, NotesPart, Fronts, HasRead, Runs, CarriesOut}
+use Rattle.sbe_cli.specs.Runs.{desk, Known, NamesLoaded, at_end, at_file, NotesPart, Fronts, HasRead, Runs, CarriesOut}
 use Rattle.schema_files.specs.declared.files.FileRole.{FileRole}
 use Rattle.schema_files.specs.declared.files.RefusedFile.{RefusedFile}
 use Rattle.sbe_cli.specs.declared.unopened.Unopened.TheVariants as unopened
@@ -72,11 +73,11 @@ module _ (words : List (List ℕ)) (old new : Outside) where
       ]
 
     -- the files failed
-    file_fronts : (role : FileRole) → NamesFile words role → Failed old.files new.files → new.streams.sinks.output ≡ old.streams.sinks.output →
+    file_fronts : (role : FileRole) → NamesLoaded words old new role → Failed old.files new.files → new.streams.sinks.output ≡ old.streams.sinks.output →
         AppendsPart old.streams.sinks.notes.told new.streams.sinks.notes.told (unopened_line (unopened.FileFault role)) → Fronts words old new
     file_fronts role named f output part contents bytes outcome known report = (nothing_out old new outcome output, inr ([], outcome.notes, unopened_line (unopened.FileFault role), refl, inl (f, (role, named, refl)), part))
 
-    pub file_failed : (code : Status) (role : FileRole) → NamesFile words role → Failed old.files new.files → new.streams.sinks.output ≡ old.streams.sinks.output →
+    pub file_failed : (code : Status) (role : FileRole) → NamesLoaded words old new role → Failed old.files new.files → new.streams.sinks.output ≡ old.streams.sinks.output →
         Told (unopened_line (unopened.FileFault role)) status.FileFault old.streams.sinks.notes new.streams.sinks.notes code → Runs words old new code
     file_failed code role named f output told = elim told [
       | noted c a k ↦ subst (λ (s : Status). Runs words old new s) (sym c)
@@ -102,11 +103,11 @@ module _ (words : List (List ℕ)) (old new : Outside) where
 
       pub declined_early : (code : Status) → new.streams.sinks.output ≡ old.streams.sinks.output → Declines command (desk old) (desk new) code → Runs words old new code
       declined_early code output h = elim h [
-        | refuses file judged files told ↦
+        | refuses file judged last files told ↦
             let is = refused_apart file.why in
             noted_early (refusal_line file) (refusal_status file.why) (refused_report file judged) output code is.1 is.2 files told
-        | fails role has f told ↦ file_failed code role (command, is_command, has) f output told
-        | wants c s ↦ subst (λ (x : Status). Runs words old new x) (sym c) (wanted_early output (ap (λ (d : Desk). d.notes) s))
+        | fails role has last f told ↦ file_failed code role ((command, is_command, has), last) f output told
+        | wants c files notes ↦ subst (λ (x : Status). Runs words old new x) (sym c) (wanted_early output notes)
       ]
 
 -- ---- a run of a command
@@ -121,5 +122,5 @@ runs_command words old new command code is h = elim h [
 pub opened_and_drained : (command : Command) (old mid new : Outside) (pump : PumpState) (code : Status) → Opens command (desk old) (desk mid) (Ok pump) → mid.streams.input ≡ old.streams.input →
     mid.streams.sinks.output ≡ old.streams.sinks.output → new.files ≡ mid.files → Drains (answering_of pump.job) mid.streams new.streams code → CarriesOut command old new code
 opened_and_drained command old mid new pump code opens input output files drains =
-    let same : mid.streams ≡ old.streams = same_streams mid.streams old.streams input output (ap (λ (d : Desk). d.notes) opens.3) in
-    inr (pump.job, opens.0, opens.1, files ∙ ap (λ (d : Desk). d.files) opens.3, subst (λ (s : Streams). Drains (answering_of pump.job) s new.streams code) same drains, opens.4)
+    let same : mid.streams ≡ old.streams = same_streams mid.streams old.streams input output opens.4 in
+    inr (pump.job, opens.0, opens.1, files ∙ opens.3, subst (λ (s : Streams). Drains (answering_of pump.job) s new.streams code) same drains, opens.5)

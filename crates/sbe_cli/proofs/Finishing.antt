@@ -9,7 +9,8 @@ use Rattle.command_words.specs.Words.{command_of}
 use Rattle.command_steps.specs.Ends.{Outcome}
 use Rattle.schema_files.specs.Refusals.{refusal_status}
 use Rattle.sbe_base.specs.Objects.{Object, Failed}
-use Rattle.replies.specs.Outside.{Outside, Wrote, Calm}
+use Rattle.replies.specs.Outside.{Wrote, Calm}
+use Rattle.sbe_cli.specs.Outside.{Outside}
 use Rattle.command_steps.specs.Steps.{IsStepStatus, IsReported}
 use Rattle.sbe_cli.specs.Jobs.{reads_input, spares_memory}
 use Rattle.sbe_cli.specs.Runs.{Known, WhenKnown, SinkFailed, written_in, Reports, StandsAtRead, StandsAtWrite, StandsAtFile, Fronts, HasRead, Runs}
@@ -61,7 +62,7 @@ module _ (words : List (List ℕ)) (old new : Outside) where
   -- what a status of a run that was cut short asks for
   record CutShort (code : Status) : Type 0 where
     never : IsReported code → ⊥
-    file : code ≡ status.FileFault → Failed old.files new.files × StandsAtFile words old.streams new.streams
+    file : code ≡ status.FileFault → Failed old.files new.files × StandsAtFile words old new
     read : code ≡ status.ReadFault → Failed old.streams.input new.streams.input × WhenKnown old (λ contents input. StandsAtRead words old new contents)
     write : code ≡ status.WriteFault → SinkFailed old new × WhenKnown old (λ contents input. StandsAtWrite words old new contents input)
     memory : spares_memory (command_of words) ≡ true → code ≡ status.NoMemory → new.streams ≡ old.streams
@@ -84,7 +85,7 @@ module _ (words : List (List ℕ)) (old new : Outside) where
     unread = touched.unread;
   }
 
-  pub runs_file : Failed old.files new.files → StandsAtFile words old.streams new.streams → Fronts words old new → Touched status.FileFault
+  pub runs_file : Failed old.files new.files → StandsAtFile words old new → Fronts words old new → Touched status.FileFault
       → Runs words old new status.FileFault
   runs_file failed_so stands fronts touched =
       runs_cut status.FileFault (record { never = λ x. x; file = λ e. (failed_so, stands); read = λ e. cc; write = λ e. cc; memory = λ takes e. cc }) fronts touched

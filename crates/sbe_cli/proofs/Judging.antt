@@ -19,8 +19,10 @@ use Rattle.build_command.proofs.Replied.{build_answers, build_checked}
 use Rattle.map_files.specs.Maps.{file_map}
 use Rattle.fixcheck_command.specs.FixCheck.{tags_judged}
 use Rattle.fixcheck_command.proofs.Replied.{fixcheck_answers}
+use Rattle.selftest_command.specs.Tests.{tested_by}
+use Rattle.selftest_command.proofs.Tested.{selftest_answers}
 use Rattle.sbe_cli.specs.Jobs as jobs
-use Rattle.sbe_cli.specs.Jobs.{Job, answering_of, Makes, commanding_by, Judges}
+use Rattle.sbe_cli.specs.Jobs.{Job, answering_of, Makes, commanding_by, Judges, trial_of}
 
 -- ---- one judgement of the files
 
@@ -73,6 +75,8 @@ judging_by form.Build command contents =
     (λ building h. build_answers building command.limits.input (build_checked (file_at command 0) command.limits.frame contents building h))
 judging_by form.FixCheck command contents =
     computed (tags_judged (judged_in role.Map (file_map (contents (file_at command 0))))) (λ tags. jobs.FixCheck tags command.limits) (λ tags h. fixcheck_answers tags command.limits)
+judging_by form.SelfTest command contents =
+    computed (tested_by (trial_of command) (judged_in role.Schema (file_schema (contents (file_at command 0))))) jobs.SelfTest (λ test h. selftest_answers test)
 
 pub judging : (command : Command) (contents : List ℕ → Option (List ℕ)) → IsJudging (Judges command contents)
 judging command contents = judging_by command.form command contents

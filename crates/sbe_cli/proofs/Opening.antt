@@ -3,7 +3,8 @@ use Rattle.std.proofs.Common.{◌≡◌, ℕ, Option, Err, ap, ◌∙◌}
 use Rattle.sbe_base.specs.declared.status.Status.{Status}
 use Rattle.sbe_cli.specs.Jobs.{LoadsJob}
 use Rattle.sbe_base.specs.Objects.{Object}
-use Rattle.replies.specs.Outside.{Desk, Told}
+use Rattle.replies.specs.Outside.{Told}
+use Rattle.sbe_cli.specs.Outside.{Desk, IsLast}
 use Rattle.sbe_cli.specs.Opens.{Declines, refuses}
 use Rattle.sbe_cli.specs.Stops.{unopened_line, unopened_status}
 use Rattle.schema_files.specs.declared.files.RefusedFile.{RefusedFile}
@@ -11,9 +12,9 @@ use Rattle.schema_files.specs.declared.files.JobStop.TheVariants.{Refused}
 use Rattle.sbe_cli.specs.declared.unopened.Unopened.TheVariants as unopened
 use Rattle.command_words.specs.declared.words.Command.{Command}
 
-pub declined : (command : Command) (before after : Desk) (file : RefusedFile) (code : Status) → LoadsJob before.files.told command (Err (Refused file)) → after.files ≡ before.files →
-    Told (unopened_line (unopened.Refused file)) (unopened_status (unopened.Refused file)) before.notes after.notes code → Declines command before after code
-declined command before after file code h same told = refuses file h.files.judges same told
+pub declined : (command : Command) (before after : Desk) (file : RefusedFile) (code : Status) → LoadsJob before.files.told command (Err (Refused file)) →
+    IsLast file.role before.loads after.loads → after.files ≡ before.files → Told (unopened_line (unopened.Refused file)) (unopened_status (unopened.Refused file)) before.notes after.notes code → Declines command before after code
+declined command before after file code h last same told = refuses file h.files.judges last same told
 
 -- an object that tells the same and counts the same
 pub same_object : {T : Type 0} (old new : Object T) → new.told ≡ old.told → new.faults ≡ old.faults → new ≡ old

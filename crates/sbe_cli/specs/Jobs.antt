@@ -19,6 +19,8 @@ use Rattle.dump_command.specs.Dump.{IsDumpReply, dump_files}
 use Rattle.build_command.specs.Builds.{Building, IsBuildReply, build_files}
 use Rattle.tagvalue_codec.specs.declared.data_tags.Pair.{Pair as TagPair}
 use Rattle.fixcheck_command.specs.FixCheck.{IsFixCheckReply, fixcheck_files}
+use Rattle.selftest_command.specs.declared.trial.Trial.{Trial}
+use Rattle.selftest_command.specs.Tests.{Testing, IsSelftestReply, selftest_files}
 
 -- a command whose files are accepted
 pub data Job : Type 0 where
@@ -27,6 +29,7 @@ pub data Job : Type 0 where
   Dump : Schemas → Limits → Job
   Build : Building → ℕ → Job
   FixCheck : List TagPair → Limits → Job
+  SelfTest : Testing → Job
 
 -- What each job takes of its input, and what it answers: one line a command.
 abbrev pub answering_of : Job → Answering
@@ -35,6 +38,7 @@ answering_of (Compat pair) = by_whole (IsCompatReply pair)
 answering_of (Dump schemas limits) = by_frames limits true no_line (IsDumpReply schemas)
 answering_of (Build building input) = by_lines input no_line (IsBuildReply building)
 answering_of (FixCheck tags limits) = by_frames limits true no_line (IsFixCheckReply tags)
+answering_of (SelfTest test) = by_whole (IsSelftestReply test)
 
 -- how a job reads its input
 abbrev pub reading_of : Job → Reading
@@ -73,6 +77,10 @@ on_input files = record { files = files; reads = true; spares = false }
 abbrev pub on_input_sparing : FilesOf Job → Commanding
 on_input_sparing files = record { files = files; reads = true; spares = true }
 
+-- The messages that a command draws, and the most bytes of their frames.
+abbrev pub trial_of : Command → Trial
+trial_of command = record { seed = command.draws.seed; count = command.draws.count; frame = command.limits.frame }
+
 -- What a command of this form does: one line a form.
 abbrev pub commanding_by : Form → Command → Commanding
 commanding_by form.Check command = on_files (making (check_files (file_at command 0)) Check)
@@ -80,6 +88,7 @@ commanding_by form.Compat command = on_files (making (compat_files (file_at comm
 commanding_by form.Dump command = on_input_sparing (making (dump_files (file_at command 0) command.also) (λ schemas. Dump schemas command.limits))
 commanding_by form.Build command = on_input (making (build_files (file_at command 0) command.limits.frame) (λ building. Build building command.limits.input))
 commanding_by form.FixCheck command = on_input_sparing (making (fixcheck_files (file_at command 0)) (λ tags. FixCheck tags command.limits))
+commanding_by form.SelfTest command = on_files (making (selftest_files (file_at command 0) (trial_of command)) SelfTest)
 
 -- what a command does
 abbrev pub commanding_of : Command → Commanding

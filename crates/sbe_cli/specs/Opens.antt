@@ -6,7 +6,8 @@ use Rattle.command_steps.specs.Steps.{Moment, opened}
 use Rattle.sbe_cli.specs.Jobs.{Job, IsReadAs, IsReady, Judges, HasFile}
 use Rattle.sbe_cli.specs.Stops.{unopened_line, unopened_status}
 use Rattle.sbe_base.specs.Objects.{Failed}
-use Rattle.replies.specs.Outside.{Desk, Told}
+use Rattle.replies.specs.Outside.{Told}
+use Rattle.sbe_cli.specs.Outside.{Desk, IsLast}
 use Rattle.schema_files.specs.declared.files.FileRole.{FileRole}
 use Rattle.schema_files.specs.declared.files.RefusedFile.{RefusedFile}
 use Rattle.sbe_cli.specs.declared.unopened.Unopened.{Unopened}
@@ -30,16 +31,17 @@ JudgedAs command before judged = (contents : List ℕ → Option (List ℕ)) →
 abbrev pub NotesWhy : Unopened → Desk → Desk → Status → Type 0
 NotesWhy why before after code = Told (unopened_line why) (unopened_status why) before.notes after.notes code
 
--- A file is refused, the files failed, or it ran out of memory.
+-- A file is refused, the files failed, or it ran out of memory. The file that is told was the last one that was loaded.
 pub data Declines (command : Command) (before after : Desk) (code : Status) : Type 0 where
-  refuses : (file : RefusedFile) → JudgedAs command before (Err file) → after.files ≡ before.files
+  refuses : (file : RefusedFile) → JudgedAs command before (Err file) → IsLast file.role before.loads after.loads → after.files ≡ before.files
       → NotesWhy (unopened.Refused file) before after code → Declines command before after code
-  fails : (role : FileRole) → HasFile command role → Failed before.files after.files
+  fails : (role : FileRole) → HasFile command role → IsLast role before.loads after.loads → Failed before.files after.files
       → NotesWhy (unopened.FileFault role) before after code → Declines command before after code
-  wants : code ≡ status.NoMemory → after ≡ before → Declines command before after code
+  wants : code ≡ status.NoMemory → after.files ≡ before.files → after.notes ≡ before.notes → Declines command before after code
 
 -- The pump of the command's job, or the status that its files are declined with.
 abbrev pub Opens : Command → Desk → Desk → Result PumpState Status → Type 0
 Opens command before after (Ok pump) =
-    JudgedAs command before (Ok pump.job) × IsReady command pump.job × (pump ≡ opened_for pump.job) × (after ≡ before) × IsReadAs command pump.job
+    JudgedAs command before (Ok pump.job) × IsReady command pump.job × (pump ≡ opened_for pump.job)
+    × (after.files ≡ before.files) × (after.notes ≡ before.notes) × IsReadAs command pump.job
 Opens command before after (Err code) = Declines command before after code

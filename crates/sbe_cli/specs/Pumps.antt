@@ -33,6 +33,7 @@ on_job (work.Compat on) = record { job = jobs.Compat on.command; feed = nothing 
 on_job (work.Dump on) = record { job = jobs.Dump on.command on.limits; feed = frames on.limits on.stream }
 on_job (work.Build on) = record { job = jobs.Build on.command on.limits.input; feed = lines on.limits on.stream }
 on_job (work.FixCheck on) = record { job = jobs.FixCheck on.command on.limits; feed = frames on.limits on.stream }
+on_job (work.SelfTest on) = record { job = jobs.SelfTest on.command; feed = nothing }
 
 -- the job of work
 abbrev pub job_of : Work → Job

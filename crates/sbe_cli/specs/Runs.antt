@@ -6,7 +6,8 @@ use Rattle.sbe_base.specs.declared.status.Status.{Status}
 use Rattle.sbe_base.specs.declared.status.Status.TheVariants as status
 use Rattle.command_words.specs.Words.{command_of}
 use Rattle.command_steps.specs.Splits.{Piece, Holds}
-use Rattle.command_steps.specs.Ahead.{Ahead, IsAhead, Follows, Reaches}
+use Rattle.command_steps.specs.Ahead.{Ahead, Follows}
+use Rattle.command_steps.specs.Reaches.{IsAhead, Reaches}
 use Rattle.replies.specs.Reply.{Written, Reply, written_of}
 use Rattle.command_steps.specs.Replies.{none_kept, Replies}
 use Rattle.command_steps.specs.Ends.{Outcome, stop_line}
@@ -14,7 +15,8 @@ use Rattle.sbe_cli.specs.Report.{Report}
 use Rattle.sbe_cli.specs.Jobs.{Job, answering_of, reading_of, Judges, HasFile, IsReadAs, IsReady, reads_input, spares_memory}
 use Rattle.sbe_cli.specs.Stops.{unopened_line}
 use Rattle.sbe_base.specs.Objects.{Failed}
-use Rattle.replies.specs.Outside.{Desk, Sinks, Streams, Outside, Wrote, Breaks, Calm}
+use Rattle.replies.specs.Outside.{Sinks, Streams, Wrote, Breaks, Calm}
+use Rattle.sbe_cli.specs.Outside.{Desk, Outside, IsLast}
 use Rattle.command_steps.specs.Steps.{Drains, IsReported, IsStepStatus}
 use Rattle.sbe_cli.specs.Opens.{JudgedAs, Declines}
 use Rattle.schema_files.specs.declared.files.FileRole.{FileRole}
@@ -25,7 +27,7 @@ use Rattle.command_words.specs.declared.words.Command.{Command}
 
 -- the files and the notes
 abbrev pub desk : Outside → Desk
-desk outside = record { files = outside.files; notes = outside.streams.sinks.notes }
+desk outside = record { files = outside.files; loads = outside.loads; notes = outside.streams.sinks.notes }
 
 -- the files and the input tell what they hold
 pub record Known (old : Outside) (contents : List ℕ → Option (List ℕ)) (input : List ℕ) : Type 0 where
@@ -78,6 +80,10 @@ Reports words old new code =
 abbrev pub NamesFile : List (List ℕ) → FileRole → Type 0
 NamesFile words role = (command : Command) × (command_of words ≡ Some command) × HasFile command role
 
+-- the same, and the run loaded that file last
+abbrev pub NamesLoaded : List (List ℕ) → Outside → Outside → FileRole → Type 0
+NamesLoaded words old new role = NamesFile words role × IsLast role old.loads new.loads
+
 -- ---- what is written after a fault
 
 -- All whole pieces of these bytes, which the source gave, are answered.
@@ -110,7 +116,7 @@ pub record AtReply (words : List (List ℕ)) (contents : List ℕ → Option (Li
   pub ahead : Ahead
   pub only_lines : IsAhead (reading_of job) ahead
   pub source : Follows ahead new.input.told left
-  pub begins : Reaches ahead.met_end (reading_of job) input (pieces ++ last ∷ []) left
+  pub begins : Reaches ahead (reading_of job) input (pieces ++ last ∷ []) left
   pub kept : Kept
   pub written : Written
   pub replies : Replies (answering_of job) none_kept pieces written kept
@@ -127,22 +133,22 @@ pub data StandsAtWrite (words : List (List ℕ)) (old new : Outside) (contents :
       → GivesNotesPart old new outcome.notes → StandsAtWrite words old new contents input
   at_read : (taken : List ℕ) (written : Written) → GaveInput old new taken → AllAnswered words contents taken written
       → GivesOutput old new written.output → GivesNotesPart old new (written.notes ++ read_line taken) → StandsAtWrite words old new contents input
-  at_file : (role : FileRole) → NamesFile words role → new.streams.input ≡ old.streams.input → new.streams.sinks.output ≡ old.streams.sinks.output
+  at_file : (role : FileRole) → NamesLoaded words old new role → new.streams.input ≡ old.streams.input → new.streams.sinks.output ≡ old.streams.sinks.output
       → GivesNotesPart old new (unopened_line (unopened.FileFault role)) → StandsAtWrite words old new contents input
 
--- The files failed at one of the words: nothing was read or written but the fault's line.
-pub record StandsAtFile (words : List (List ℕ)) (old new : Streams) : Type 0 where
+-- The files failed at the file of the words that was loaded last: nothing was read or written but the fault's line.
+pub record StandsAtFile (words : List (List ℕ)) (old new : Outside) : Type 0 where
   pub role : FileRole
-  pub named : NamesFile words role
-  pub input : new.input ≡ old.input
-  pub wrote : Wrote old.sinks new.sinks (record { output = []; notes = unopened_line (unopened.FileFault role) })
+  pub named : NamesLoaded words old new role
+  pub input : new.streams.input ≡ old.streams.input
+  pub wrote : Wrote old.streams.sinks new.streams.sinks (record { output = []; notes = unopened_line (unopened.FileFault role) })
 
 -- ---- fronts
 
 -- A line that tells a fault of the files, or of the input after the bytes that it gave. That object failed.
 abbrev pub IsFaultLine : List (List ℕ) → Outside → Outside → List ℕ → Type 0
 IsFaultLine words old new line =
-    (Failed old.files new.files × ((role : FileRole) × NamesFile words role × (line ≡ unopened_line (unopened.FileFault role))))
+    (Failed old.files new.files × ((role : FileRole) × NamesLoaded words old new role × (line ≡ unopened_line (unopened.FileFault role))))
     ⊎ (Failed old.streams.input new.streams.input × ((taken : List ℕ) × GaveInput old new taken × (line ≡ read_line taken)))
 
 -- notes grew by a front of these, or by a front of them and a front of such a line
@@ -175,7 +181,7 @@ pub record Runs (words : List (List ℕ)) (old new : Outside) (code : Status) : 
   pub read_fault : code ≡ status.ReadFault → Failed old.streams.input new.streams.input
   pub write_fault : code ≡ status.WriteFault → SinkFailed old new
   -- what is written then
-  pub file_stands : code ≡ status.FileFault → StandsAtFile words old.streams new.streams
+  pub file_stands : code ≡ status.FileFault → StandsAtFile words old new
   pub read_stands : code ≡ status.ReadFault → WhenKnown old (λ contents input. StandsAtRead words old new contents)
   pub write_stands : code ≡ status.WriteFault → WhenKnown old (λ contents input. StandsAtWrite words old new contents input)
   pub fronts : Fronts words old new

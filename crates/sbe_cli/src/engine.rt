@@ -1,5 +1,6 @@
 ghost use Rattle.std.specs.Prelude.{◌≡◌, map, string_bytes};
-ghost use Rattle.replies.specs.Outside.{streams_of, outside_of};
+ghost use Rattle.replies.specs.Outside.{streams_of};
+ghost use Rattle.sbe_cli.specs.Outside.{outside_of};
 ghost use Rattle.command_words.specs.Words.{HasLimits};
 ghost use Rattle.sbe_cli.specs.Runs.{Runs, CarriesOut};
 ghost use Rattle.command_steps.specs.Steps.{Drains};
@@ -23,9 +24,9 @@ pub fn run<F: Files, I: Source, O: Sink, N: Sink>(
     notes: &mut N,
 ) -> Status
     ensures { Runs (map (λ word. string_bytes word) words.now)
-        (outside_of (F.state files.old)
+        (outside_of (F.state files.old) (F.load_count files.old)
         (streams_of (I.state input.old) (O.state output.old) (N.state notes.old)))
-        (outside_of (F.state files.new)
+        (outside_of (F.state files.new) (F.load_count files.new)
         (streams_of (I.state input.new) (O.state output.new) (N.state notes.new)))
         result }
 {
@@ -47,9 +48,9 @@ fn carry_out<F: Files, I: Source, O: Sink, N: Sink>(
 ) -> Status
     requires { HasLimits command }
     ensures { CarriesOut command
-        (outside_of (F.state files.old)
+        (outside_of (F.state files.old) (F.load_count files.old)
         (streams_of (I.state input.old) (O.state output.old) (N.state notes.old)))
-        (outside_of (F.state files.new)
+        (outside_of (F.state files.new) (F.load_count files.new)
         (streams_of (I.state input.new) (O.state output.new) (N.state notes.new)))
         result }
 {

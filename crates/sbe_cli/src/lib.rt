@@ -8,7 +8,9 @@ pub mod rows;
 mod unopened;
 
 pub use command_steps::{Kept, Step};
-pub use command_words::{Command, FORMS, Form, Name, NameList, WordsErr, read_words};
+pub use command_words::{
+    Command, Draws, FORMS, Form, MOST_MESSAGES, Name, NameList, WordsErr, read_words,
+};
 pub use engine::run;
 pub use laws::{one_report, some_report};
 pub use pump::Pump;

@@ -1,11 +1,13 @@
 ghost use Rattle.std.specs.Prelude.{◌≡◌, IfOk};
-ghost use Rattle.replies.specs.Outside.{streams_of, desk_of};
-ghost use Rattle.schema_files.specs.Files.{JobCause};
+ghost use Rattle.replies.specs.Outside.{streams_of};
+ghost use Rattle.sbe_cli.specs.Outside.{desk_of};
+ghost use Rattle.schema_files.specs.Files.{JobCause, NamesLast};
 ghost use Rattle.command_words.specs.Words.{HasLimits};
+ghost use Rattle.selftest_command.specs.Selftest.{IsBoundedTrial};
 ghost use Rattle.command_steps.specs.Replies.{counted_by};
 ghost use Rattle.command_steps.specs.Stands.{CanCount};
 ghost use Rattle.command_steps.specs.Steps.{Steps, Answers, passage, running};
-ghost use Rattle.sbe_cli.specs.Jobs.{LoadsJob, answering_of, made_so};
+ghost use Rattle.sbe_cli.specs.Jobs.{LoadsJob, answering_of, made_so, trial_of};
 ghost use Rattle.sbe_cli.specs.Opens.{Opens, opened_for};
 ghost use Rattle.sbe_cli.specs.Pumps.{ahead_of, job_of, IsSoundWork, StandsSo, EndsAs, IsOpened};
 
@@ -19,6 +21,7 @@ use dump_command::{Dumper, load_dump};
 use fixcheck_command::{FixChecker, load_fixcheck};
 use sbe_base::{Files, Sink, Source, Status};
 use schema_files::JobStop;
+use selftest_command::{Tester, Trial, load_selftest};
 use std::alloc::Global;
 use std::marker::Model;
 
@@ -30,6 +33,7 @@ pub enum Work {
     Dump(FrameWork<Dumper>),
     Build(LineWork<Builder>),
     FixCheck(FrameWork<FixChecker>),
+    SelfTest(WholeWork<Tester>),
 }
 
 /// One command on its way through its input.
@@ -71,8 +75,8 @@ impl Pump {
     ) -> Result<Pump, Status>
         requires { HasLimits command }
         ensures { Opens command
-            (desk_of (F.state files.old) (N.state notes.old))
-            (desk_of (F.state files.new) (N.state notes.new))
+            (desk_of (F.state files.old) (F.load_count files.old) (N.state notes.old))
+            (desk_of (F.state files.new) (F.load_count files.new) (N.state notes.new))
             result }
     {
         match Work::open(alloc, command, files) {
@@ -117,6 +121,7 @@ impl Work {
         ensures kept { (F.state files.new).told ≡ (F.state files.old).told }
         ensures loads { LoadsJob (F.state files.old).told command (made_so job_of result) }
         ensures cause { JobCause (F.state files.old).faults (F.state files.new).faults result }
+        ensures names { NamesLast (F.load_count files.old) (F.load_count files.new) result }
         ensures opened { IfOk result (λ work. IsOpened work) }
     {
         match command.form {
@@ -149,6 +154,13 @@ impl Work {
                 },
                 Err(stop) => Err(stop),
             },
+            Form::SelfTest => {
+                let trial = trial_of(&command);
+                match load_selftest(alloc, command.file(0), trial, files) {
+                    Ok(tester) => Ok(Work::SelfTest(WholeWork::open(alloc, tester))),
+                    Err(stop) => Err(stop),
+                }
+            }
         }
     }
 
@@ -177,7 +189,21 @@ impl Work {
             Work::Dump(work) => work.answer_next(kept, input, output, notes),
             Work::Build(work) => work.answer_next(kept, input, output, notes),
             Work::FixCheck(work) => work.answer_next(kept, input, output, notes),
+            Work::SelfTest(work) => work.answer_next(kept, input, output, notes),
         }
+    }
+}
+
+/// The messages that a command draws, and the most bytes of their frames.
+fn trial_of(command: &Command) -> Trial
+    requires { HasLimits command.now }
+    ensures trial { result ≡ trial_of command.now }
+    ensures bounded { IsBoundedTrial result }
+{
+    Trial {
+        seed: command.draws.seed,
+        count: command.draws.count,
+        frame: command.limits.frame,
     }
 }
 

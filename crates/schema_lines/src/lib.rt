@@ -6,4 +6,4 @@ mod messages;
 mod text;
 
 pub use messages::put_messages;
-pub use text::put_json_text;
+pub use text::{put, put_count, put_json_text};

@@ -5,7 +5,11 @@ use itoa::Buffer;
 use lists::NoMem;
 
 /// Appends bytes.
-pub(crate) fn put(out: &mut Vec<u8>, bytes: &[u8]) -> Result<(), NoMem>
+///
+/// # Errors
+///
+/// When out of memory; a front of them may then be appended.
+pub fn put(out: &mut Vec<u8>, bytes: &[u8]) -> Result<(), NoMem>
     ensures { Puts result out.old.items out.new.items bytes.now }
 {
     out.extend_from_slice(bytes)?;
@@ -13,7 +17,11 @@ pub(crate) fn put(out: &mut Vec<u8>, bytes: &[u8]) -> Result<(), NoMem>
 }
 
 /// Appends a count in digits.
-pub(crate) fn put_count(out: &mut Vec<u8>, count: u64) -> Result<(), NoMem>
+///
+/// # Errors
+///
+/// When out of memory; a front of them may then be appended.
+pub fn put_count(out: &mut Vec<u8>, count: u64) -> Result<(), NoMem>
     ensures { Puts result out.old.items out.new.items (decimal count) }
 {
     let mut buffer = Buffer::new();
@@ -25,7 +33,7 @@ pub(crate) fn put_count(out: &mut Vec<u8>, count: u64) -> Result<(), NoMem>
 ///
 /// # Errors
 ///
-/// For want of memory; a front of the text may then be appended.
+/// When out of memory; a front of the text may then be appended.
 pub fn put_json_text(out: &mut Vec<u8>, text: &[u8]) -> Result<(), NoMem>
     ensures { Puts result out.old.items out.new.items (json_text text.now) }
 {

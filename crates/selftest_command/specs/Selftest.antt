@@ -14,7 +14,7 @@ use Rattle.vectors.specs.Altered.{altered}
 use Rattle.vectors.specs.Messages.{generated}
 use Rattle.selftest_command.specs.declared.sums.Sums.{Sums}
 use Rattle.selftest_command.specs.declared.trial.Trial.{Trial}
-use Rattle.selftest_command.specs.declared.trial.TheConstants.{MOST_MESSAGES}
+use Rattle.command_words.specs.declared.options.TheConstants.{MOST_MESSAGES}
 
 -- ---- sums
 

@@ -4,10 +4,11 @@
 mod bytes;
 pub mod laws;
 mod lines;
+mod rows;
 mod selftest;
 mod sums;
 mod trial;
 
 pub use selftest::{Tester, load_selftest};
 pub use sums::Sums;
-pub use trial::{MOST_MESSAGES, Trial};
+pub use trial::Trial;

@@ -1,5 +1,5 @@
 ghost use Rattle.std.specs.Prelude.{◌≡◌, ◌++◌, IfOk, OnOk};
-ghost use Rattle.schema_files.specs.Files.{JobCause};
+ghost use Rattle.schema_files.specs.Files.{JobCause, NamesLast};
 ghost use Rattle.command_files.specs.Files.{LoadsFiles};
 ghost use Rattle.replies.specs.declared.verdict.Verdict.TheVariants.{Answered};
 ghost use Rattle.selftest_command.specs.Selftest.{IsBoundedTrial, sums_line, sums_until};
@@ -55,6 +55,7 @@ pub fn load_selftest<F: Files>(
     ensures kept { (F.state files.new).told ≡ (F.state files.old).told }
     ensures loads { LoadsFiles (selftest_files name.now trial) (F.state files.old).told result }
     ensures cause { JobCause (F.state files.old).faults (F.state files.new).faults result }
+    ensures names { NamesLast (F.load_count files.old) (F.load_count files.new) result }
 {
     let checked = match load_checked(alloc, files, name) {
         Ok(checked) => checked,

@@ -21,9 +21,6 @@ use tree_codec::encode;
 use typed_writer::FrameBuf;
 use vectors::{alter, generate};
 
-/// The most messages of a run.
-pub const MOST_MESSAGES: u64 = 10_000;
-
 /// Which messages are tried, and in which frames.
 #[derive(Clone, Copy, Debug, PartialEq, Eq)]
 pub struct Trial {

@@ -1,11 +1,11 @@
 //! Attributes that must be there, may be, or have a default.
 
-use crate::elements::id_text;
+use crate::elements::{id_text, value_in};
 use crate::refused::refused_text;
 use anyhow::{Result, bail};
+use json_data::{Json, JsonSpace};
 use json_elements::{IdNumber, needed, optional, with_default};
 use row_tables::Row;
-use serde_json::Value;
 use std::alloc::Global;
 
 /// What is told of a row; nothing where it names another call.
@@ -13,7 +13,8 @@ pub fn told(alloc: Global, row: &Row) -> Result<Option<String>> {
     if row.call() != "attribute" {
         return Ok(None);
     }
-    let element = Value::from_str(alloc, row.text(0)?)?;
+    let mut space = JsonSpace::new(alloc);
+    let element = value_in(&mut space, row)?;
     Ok(Some(attribute_text(alloc, &element, name_of(row.text(1)?)?)?))
 }
 
@@ -26,7 +27,7 @@ fn name_of(text: &str) -> Result<&'static str> {
     }
 }
 
-fn optional_text(alloc: Global, element: &Value, name: &'static str) -> Result<String> {
+fn optional_text(alloc: Global, element: &Json<'_>, name: &'static str) -> Result<String> {
     match optional::<IdNumber>(alloc, element, name) {
         Ok(Some(n)) => Ok(format!(in alloc; "{n}")?),
         Ok(None) => Ok(format!(in alloc; "none")?),
@@ -35,7 +36,7 @@ fn optional_text(alloc: Global, element: &Value, name: &'static str) -> Result<S
 }
 
 /// What an attribute is read as where it is needed, where it is optional, and where 5 stands for it.
-fn attribute_text(alloc: Global, element: &Value, name: &'static str) -> Result<String> {
+fn attribute_text(alloc: Global, element: &Json<'_>, name: &'static str) -> Result<String> {
     let must = id_text(alloc, needed::<IdNumber>(alloc, element, name))?;
     let may = optional_text(alloc, element, name)?;
     let else5 = id_text(alloc, with_default::<IdNumber>(alloc, element, name, 5))?;

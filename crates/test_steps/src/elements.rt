@@ -1,31 +1,33 @@
 //! Elements of files, their children and the values of their attributes.
 
 use crate::refused::{done_text, number_text, refused_text};
-use anyhow::Result;
+use anyhow::{Result, bail};
+use json_data::{Json, JsonSpace};
 use json_elements::{
     Cause, ElementErr, Form, IdNumber, JsonText, TextOrNumber, WholeNumber, at_child, content_of,
     inside, limit_children, lone_of, read_limited, read_value, refuse, refuse_children, str_of,
 };
 use row_tables::{Row, spelled};
 use schema_lines::put_json_text;
-use serde_json::Value;
 use std::alloc::Global;
 
 /// What is told of a row; nothing where it names another call.
 pub fn told(alloc: Global, row: &Row) -> Result<Option<String>> {
+    let mut space = JsonSpace::new(alloc);
+    let space = &mut space;
     let text = match row.call() {
-        "lone_of" => lone_text(alloc, &value_in(alloc, row)?)?,
-        "content_of" => children_text(alloc, &value_in(alloc, row)?)?,
-        "limit_children" => limited_text(alloc, &value_in(alloc, row)?, row.size(1)?)?,
-        "refuse_children" => none_text(alloc, &value_in(alloc, row)?)?,
-        "WholeNumber" => number_text(alloc, WholeNumber::read(alloc, &value_in(alloc, row)?))?,
-        "IdNumber" => id_text(alloc, IdNumber::read(alloc, &value_in(alloc, row)?))?,
+        "lone_of" => lone_text(alloc, &value_in(space, row)?)?,
+        "content_of" => children_text(alloc, &value_in(space, row)?)?,
+        "limit_children" => limited_text(alloc, &value_in(space, row)?, row.size(1)?)?,
+        "refuse_children" => none_text(alloc, &value_in(space, row)?)?,
+        "WholeNumber" => number_text(alloc, WholeNumber::read(alloc, &value_in(space, row)?))?,
+        "IdNumber" => id_text(alloc, IdNumber::read(alloc, &value_in(space, row)?))?,
         "read_limited" => {
             let most = row.text(1)?.parse::<u32>()?;
-            id_text(alloc, read_limited(alloc, &value_in(alloc, row)?, most))?
+            id_text(alloc, read_limited(alloc, &value_in(space, row)?, most))?
         }
-        "texts" => texts_read(alloc, &value_in(alloc, row)?)?,
-        "read_value" => file_text(alloc, row.bytes(alloc, 0)?.as_slice())?,
+        "texts" => texts_read(alloc, &value_in(space, row)?)?,
+        "read_value" => file_text(alloc, space, row.bytes(alloc, 0)?.as_slice())?,
         "places" => places_text(alloc)?,
         "put_json_text" => escaped_text(alloc, row.bytes(alloc, 0)?.as_slice())?,
         _ => return Ok(None),
@@ -34,15 +36,23 @@ pub fn told(alloc: Global, row: &Row) -> Result<Option<String>> {
 }
 
 /// The JSON value that a row spells first.
-fn value_in(alloc: Global, row: &Row) -> Result<Value> {
-    Ok(Value::from_str(alloc, row.text(0)?)?)
+pub fn value_in<'a>(space: &'a mut JsonSpace, row: &'a Row) -> Result<Json<'a>> {
+    Ok(space.read(row.text(0)?.as_bytes())?)
+}
+
+/// A value that is an integer.
+fn integer_text(alloc: Global, value: &Json<'_>) -> Result<String> {
+    match value.as_i128() {
+        Some(n) => Ok(format!(in alloc; "{n}")?),
+        None => bail!("the value is no integer"),
+    }
 }
 
 /// The name of an element, and its value.
-fn lone_text(alloc: Global, value: &Value) -> Result<String> {
+fn lone_text(alloc: Global, value: &Json<'_>) -> Result<String> {
     match lone_of(value) {
         Some((name, inner)) => {
-            let inner = inner.to_string(alloc)?;
+            let inner = integer_text(alloc, inner)?;
             Ok(format!(in alloc; "{name}: {}", inner.as_str())?)
         }
         None => Ok(format!(in alloc; "no element")?),
@@ -50,21 +60,21 @@ fn lone_text(alloc: Global, value: &Value) -> Result<String> {
 }
 
 /// How many children there are.
-fn children_text(alloc: Global, value: &Value) -> Result<String> {
+fn children_text(alloc: Global, value: &Json<'_>) -> Result<String> {
     match content_of(alloc, value) {
         Ok(children) => Ok(format!(in alloc; "{}", children.len())?),
         Err(e) => refused_text(alloc, e),
     }
 }
 
-fn limited_text(alloc: Global, value: &Value, most: usize) -> Result<String> {
+fn limited_text(alloc: Global, value: &Json<'_>, most: usize) -> Result<String> {
     match content_of(alloc, value) {
         Ok(children) => done_text(alloc, limit_children(alloc, children, most)),
         Err(e) => refused_text(alloc, e),
     }
 }
 
-fn none_text(alloc: Global, value: &Value) -> Result<String> {
+fn none_text(alloc: Global, value: &Json<'_>) -> Result<String> {
     match content_of(alloc, value) {
         Ok(children) => done_text(alloc, refuse_children(alloc, children)),
         Err(e) => refused_text(alloc, e),
@@ -79,21 +89,21 @@ pub fn id_text(alloc: Global, read: std::result::Result<u32, ElementErr>) -> Res
     }
 }
 
-fn str_text(alloc: Global, value: &Value) -> Result<String> {
+fn str_text(alloc: Global, value: &Json<'_>) -> Result<String> {
     match str_of(alloc, value) {
         Ok(text) => spelled(alloc, text.as_bytes()),
         Err(e) => refused_text(alloc, e),
     }
 }
 
-fn json_text(alloc: Global, value: &Value) -> Result<String> {
+fn json_text(alloc: Global, value: &Json<'_>) -> Result<String> {
     match JsonText::read(alloc, value) {
         Ok(text) => spelled(alloc, text.as_slice()),
         Err(e) => refused_text(alloc, e),
     }
 }
 
-fn either_text(alloc: Global, value: &Value) -> Result<String> {
+fn either_text(alloc: Global, value: &Json<'_>) -> Result<String> {
     match TextOrNumber::read(alloc, value) {
         Ok(text) => spelled(alloc, text.as_slice()),
         Err(e) => refused_text(alloc, e),
@@ -101,17 +111,23 @@ fn either_text(alloc: Global, value: &Value) -> Result<String> {
 }
 
 /// What a text is read as by `str_of`, `JsonText` and `TextOrNumber`.
-fn texts_read(alloc: Global, value: &Value) -> Result<String> {
+fn texts_read(alloc: Global, value: &Json<'_>) -> Result<String> {
     let lent = str_text(alloc, value)?;
     let text = json_text(alloc, value)?;
     let either = either_text(alloc, value)?;
     Ok(format!(in alloc; "{}; {}; {}", lent.as_str(), text.as_str(), either.as_str())?)
 }
 
-/// The value of a file.
-fn file_text(alloc: Global, bytes: &[u8]) -> Result<String> {
-    match read_value(alloc, bytes) {
-        Ok(value) => Ok(value.to_string(alloc)?),
+/// The value of a file, which is an array of one integer.
+fn file_text(alloc: Global, space: &mut JsonSpace, bytes: &[u8]) -> Result<String> {
+    match read_value(alloc, space, bytes) {
+        Ok(value) => match value.as_array() {
+            Some([item]) => {
+                let item = integer_text(alloc, item)?;
+                Ok(format!(in alloc; "[{}]", item.as_str())?)
+            }
+            _ => bail!("the value is no array of one item"),
+        },
         Err(e) => refused_text(alloc, e),
     }
 }

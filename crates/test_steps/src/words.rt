@@ -3,7 +3,7 @@
 use anyhow::{Result, bail};
 use row_tables::Row;
 use sbe_base::Limits;
-use sbe_cli::{Command, FORMS, WordsErr, read_words};
+use sbe_cli::{Command, Draws, FORMS, WordsErr, read_words};
 use std::alloc::Global;
 
 /// The words that a row gives after so many others.
@@ -15,13 +15,18 @@ pub fn words_of(alloc: Global, row: &Row, first: usize) -> Result<Vec<String>> {
     Ok(words)
 }
 
-/// The text of a command: its word and its files; where it takes options, how many further schemas it has, and its limits.
+/// The text of a command: its word and its files; where it has numbers, the seed and the count; where it takes options, how many
+/// further schemas it has, and its limits.
 fn command_text(alloc: Global, command: &Command) -> Result<String> {
     let mut text = String::new(alloc);
-    for (form, word, _, options) in FORMS {
+    for (form, word, _, numbers, options) in FORMS {
         if form == command.form {
             text.push_str(word)?;
             put_files(&mut text, command)?;
+            if numbers > 0 {
+                let draws = draws_text(alloc, command)?;
+                text.push_str(draws.as_str())?;
+            }
             if !options.is_empty() {
                 let options = options_text(alloc, command)?;
                 text.push_str(options.as_str())?;
@@ -37,6 +42,11 @@ fn put_files(text: &mut String, command: &Command) -> Result<()> {
         text.push_str(name.as_str())?;
     }
     Ok(())
+}
+
+fn draws_text(alloc: Global, command: &Command) -> Result<String> {
+    let Draws { seed, count } = command.draws;
+    Ok(format!(in alloc; " from {seed}, {count} messages")?)
 }
 
 fn options_text(alloc: Global, command: &Command) -> Result<String> {
@@ -58,7 +68,7 @@ pub fn command_told(alloc: Global, row: &Row) -> Result<String> {
 /// The words of the forms, in their order.
 pub fn forms_told(alloc: Global) -> Result<String> {
     let mut text = String::new(alloc);
-    for (_, word, _, _) in FORMS {
+    for (_, word, _, _, _) in FORMS {
         text.push_str(word)?;
         text.push_str(" ")?;
     }

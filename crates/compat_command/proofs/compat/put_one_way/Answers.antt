@@ -1,4 +1,4 @@
-use Rattle.compat_command.proofs.Putting.{then_put}
+use Rattle.schema_lines.proofs.Growing.{then_put}
 use Rattle.compat_command.proofs.compat.put_one_way.Goals as goal
 
 pub returns : goal.returns

@@ -1,0 +1,11 @@
+//! The words of `selftest`, computed.
+
+ghost use Rattle.std.specs.Prelude.{◌≡◌, ◌∷◌, [], codes};
+ghost use Rattle.command_words.specs.Words.{rows_of};
+ghost use Rattle.command_words.specs.declared.forms.Form.TheVariants as form;
+
+/// Its row in the table of forms.
+pub fn words()
+    ensures { rows_of (codes "selftest")
+        ≡ record { form = form.SelfTest; word = codes "selftest"; files = 1; numbers = 2; options = codes "--max-frame" ∷ [] } ∷ [] }
+{}
