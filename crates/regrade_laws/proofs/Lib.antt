@@ -1,0 +1,9 @@
+pub mod Computing
+pub mod Filling
+pub mod Back
+pub mod Fitting
+pub mod Whole
+pub mod Down
+pub mod Counting
+pub mod Entries
+pub mod Fit

@@ -1,0 +1,6 @@
+pub mod Fill
+pub mod Filled
+pub mod Regraded
+pub mod Counts
+pub mod Sizes
+pub mod Rows
