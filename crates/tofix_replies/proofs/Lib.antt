@@ -1,0 +1,5 @@
+pub mod Delivering
+pub mod Framing
+pub mod Near
+pub mod Noting
+pub mod Replied

@@ -1,0 +1,5 @@
+use Rattle.printers.proofs.Printing.{then_prints, prints_nothing}
+use Rattle.tofix_replies.proofs.notes.put_full.Goals as goal
+
+pub returns : goal.returns
+returns g c = then_prints c.put_refused_front.ensures (then_prints c.put.ensures (then_prints prints_nothing c.put_bytes.ensures))

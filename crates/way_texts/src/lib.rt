@@ -1,0 +1,7 @@
+//! The texts of ways: the way to a place of a message, as it is printed.
+#![tactic(auto)]
+
+mod find;
+mod put;
+
+pub use put::put_way;
