@@ -1,0 +1,5 @@
+pub mod Passed
+pub mod Groups
+pub mod Kinded
+pub mod Entered
+pub mod Walked
