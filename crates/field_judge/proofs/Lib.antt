@@ -1,0 +1,11 @@
+pub mod SliceLemmas
+pub mod Finding
+pub mod Rows
+pub mod Marks
+pub mod RunLemmas
+pub mod Cutting
+pub mod Telling
+pub mod Judging
+pub mod Counting
+pub mod Locating
+pub mod Lacking

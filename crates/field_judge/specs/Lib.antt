@@ -1,0 +1,5 @@
+pub mod Fields
+pub mod Heads
+pub mod Levels
+pub mod Marked
+pub mod Refusals

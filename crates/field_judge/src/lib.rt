@@ -1,0 +1,21 @@
+//! The fields of a tag-value text judged by the structure of a message, groups of any depth included: the first refusal in the
+//! order of the text, and then in the order of the structure.
+#![tactic(auto)]
+
+mod counts;
+mod field;
+mod judge;
+mod level;
+mod missing;
+mod pieces;
+mod refused;
+mod refusing;
+mod runs;
+mod slices;
+
+pub use field::AppField;
+pub use judge::judge_fields;
+pub use level::{BackGroup, BackLevel, BackPart, BackRow};
+pub use missing::missing_field;
+pub use refused::Refused;
+pub use refusing::first_refusal;
