@@ -4,4 +4,4 @@
 
 mod places;
 
-pub use places::LevelPlaces;
+pub use places::{LevelPlaces, first_place};

@@ -1,4 +1,4 @@
-ghost use Rattle.std.specs.Prelude.{◌≡◌, ◌≤◌, ◌∷◌, length, take, drop, option_map, slice_get, MatchOption, Some, None, IfOk};
+ghost use Rattle.std.specs.Prelude.{◌≡◌, ◌≤◌, ◌∷◌, length, take, drop, option_map, slice_get, MatchOption, Some, None, IfOk, IfSome};
 ghost use Rattle.reference_graph.specs.Expansion.{Structure};
 ghost use Rattle.structure_rows.specs.Rows.{rows_of};
 ghost use Rattle.bridge_plan.specs.Mappings.{is_plain, inner_of};
@@ -83,8 +83,9 @@ fn rows_at<'a>(all: &[&'a [PlaceRow]], i: usize) -> Option<&'a [PlaceRow]>
 }
 
 /// The rows of a group's entries, if the row is a group's, and the rows after them.
-fn first_place(row: PlaceRow, rest: &[PlaceRow]) -> (Option<&[PlaceRow]>, &[PlaceRow])
+pub fn first_place(row: PlaceRow, rest: &[PlaceRow]) -> (Option<&[PlaceRow]>, &[PlaceRow])
     ensures shorter { length result.1.now ≤ length rest.now }
+    ensures inside { IfSome result.0 (λ own. length own.now ≤ length rest.now) }
     ensures place { (s : Structure) → row ∷ rest.now ≡ rows_of s → FirstPlace s row.tag (option_map (λ rows. rows.now) result.0) result.1.now }
 {
     match row.entries {
