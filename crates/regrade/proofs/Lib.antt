@@ -1,0 +1,12 @@
+pub mod Items
+pub mod FillWalk
+pub mod DropWalk
+pub mod WayAnswers
+pub mod LiftWalk
+pub mod Rows
+pub mod FillValues
+pub mod FillOne
+pub mod FillWhole
+pub mod Levels
+pub mod Namesakes
+pub mod Whole

@@ -1,0 +1,4 @@
+pub mod Ways
+pub mod Each
+pub mod Fillings
+pub mod Regrades
