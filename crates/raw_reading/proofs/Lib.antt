@@ -1,0 +1,2 @@
+pub mod ItemsOn
+pub mod IsRawReading

@@ -1,0 +1,2 @@
+pub mod RawReplies
+pub mod Stands
