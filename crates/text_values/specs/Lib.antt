@@ -1,0 +1,5 @@
+pub mod Instants
+pub mod Made
+pub mod Read
+pub mod Rows
+pub mod Sets

@@ -1,0 +1,18 @@
+//! The values of the texts of fields: the rows of a plan, each made of a rule of the table of kinds and datatypes. No text takes memory.
+#![tactic(auto)]
+
+mod decimals;
+mod fixed;
+mod given;
+mod making;
+mod missing;
+mod moments;
+mod months;
+mod numbers;
+mod reading;
+mod row;
+mod value;
+
+pub use reading::Reading;
+pub use row::{ConstValue, TextValue};
+pub use value::{Misread, ReadValue};
