@@ -39,7 +39,8 @@ impl Model for TagTable {
 
     ghost view = { λ table. record { header = table.header; lengths = map tags_in table.pairs } };
 
-    ghost invariant = { λ table. (table.length_tags ≡ map (λ (p : Pair). p.length_tag) table.pairs) × (table.data_tags ≡ map (λ (p : Pair). p.tag) table.pairs) };
+    ghost invariant = { λ table. (table.length_tags ≡ map (λ (p : Pair). p.length_tag) table.pairs)
+        × (table.data_tags ≡ map (λ (p : Pair). p.tag) table.pairs) };
 }
 
 impl TagTable {

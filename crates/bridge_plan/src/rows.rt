@@ -18,7 +18,11 @@ ghost use Rattle.bridge_terms.specs.WayBack.{back_refused, unreadable, unlike, m
 ghost use Rattle.bridge_terms.specs.Blocks.{values_of, IsPlanOf};
 ghost use Rattle.bridge_plan.specs.Mappings.{structure_for};
 ghost use Rattle.bridge_plan.specs.Covers.{cover_of, covered_by, unmapped, no_message, templates_of, template_for};
-ghost use Rattle.bridge_plan.specs.Rows.{plan_for, uint8_leaf, tm, st, tm_plan, st_plan, one_moment, one_set, px, rd, gr, order, px_plan, rd_plan, gr_plan, order_plan, lists, price, raw_bytes, one_order, one_bare_entry, order_block, order_fields, tagged, mapping, strange, lines, template, template_of_group, x_at, uncovered_in, empty_component_first, party_plan};
+ghost use Rattle.bridge_plan.specs.Rows.{plan_for, uint8_leaf, tm, st, tm_plan, st_plan, one_moment, one_set, px, rd};
+ghost use Rattle.bridge_plan.specs.Rows.{gr, order, px_plan, rd_plan, gr_plan, order_plan, lists, price, raw_bytes};
+ghost use Rattle.bridge_plan.specs.Rows.{one_order, one_bare_entry, order_block, order_fields, tagged, mapping};
+ghost use Rattle.bridge_plan.specs.Rows.{strange, lines, template, template_of_group, x_at, uncovered_in};
+ghost use Rattle.bridge_plan.specs.Rows.{empty_component_first, party_plan};
 ghost use Rattle.bridge_plan.specs.CaseRows.{lacking, lacking_map, bare_data, bare_data_map, zoned, zoned_map};
 
 /// The plans of covered templates.

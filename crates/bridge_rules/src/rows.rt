@@ -12,8 +12,13 @@ ghost use Rattle.sbe_types.specs.declared.schema.DataField.{DataField};
 ghost use Rattle.bridge_rules.specs.Members.{decimal_value, two_members};
 ghost use Rattle.bridge_rules.specs.Values.{not_read, not_the_constant};
 ghost use Rattle.bridge_rules.specs.Items.{number, instant};
-ghost use Rattle.bridge_rules.specs.Datatypes.{whole_number, decimal_number, character, text, boolean, timestamp, time_of_day, calendar_day, month_of_year, raw, code_set, character_set, unbridged};
-ghost use Rattle.bridge_rules.specs.Rows.{is_covered, shows, reads, lacks, item_told, int32, int8, uint8, uint16, uint64, one_char, text4, decimal, time, longer, month, constant_number, constant_text, constant_code, code, side, lettered, counted, twice_true, truth, flags, pair, four};
+ghost use Rattle.bridge_rules.specs.Datatypes.{whole_number, decimal_number, character, text, boolean, timestamp};
+ghost use Rattle.bridge_rules.specs.Datatypes.{time_of_day, calendar_day, month_of_year, raw, code_set};
+ghost use Rattle.bridge_rules.specs.Datatypes.{character_set, unbridged};
+ghost use Rattle.bridge_rules.specs.Rows.{is_covered, shows, reads, lacks, item_told, int32, int8, uint8, uint16};
+ghost use Rattle.bridge_rules.specs.Rows.{uint64, one_char, text4, decimal, time, longer, month, constant_number};
+ghost use Rattle.bridge_rules.specs.Rows.{constant_text, constant_code, code, side, lettered, counted, twice_true};
+ghost use Rattle.bridge_rules.specs.Rows.{truth, flags, pair, four};
 
 /// An integer.
 pub fn integer_rows()

@@ -1,6 +1,7 @@
 //! Laws of the definitions, as functions without a body.
 
-ghost use Rattle.std.specs.Prelude.{◌≡◌, ◌≤◌, ◌++◌, ◌∷◌, ℕ, Bool, true, false, List, [], Option, Some, None, Ok, Err, ◌⊎◌};
+ghost use Rattle.std.specs.Prelude.{◌≡◌, ◌≤◌, ◌++◌, ◌∷◌, ℕ, Bool, true, false, List, [], Option, Some, None, Ok, Err};
+ghost use Rattle.std.specs.Prelude.{◌⊎◌};
 ghost use Rattle.sbe_types.specs.declared.message.Value.{Value};
 ghost use Rattle.sbe_types.specs.declared.message.Block.{Block};
 ghost use Rattle.sbe_types.specs.declared.schema.Level.{Level};
@@ -10,12 +11,14 @@ ghost use Rattle.bridge_rules.specs.Again.{HasText};
 ghost use Rattle.bridge_rules.specs.Sound.{IsSound, IsShown, IsReadable, ShowsGood};
 ghost use Rattle.bridge_terms.specs.Plans.{Plan, Tree, Each, is_in, AreGood};
 ghost use Rattle.bridge_terms.specs.PlanFacts.{EachRule, IsPlaced, IsRoot, EachValue, AreCounted};
-ghost use Rattle.bridge_terms.specs.Parts.{Part, TagLists, is_application, application_fields, parts_of, run_of, rest_of};
+ghost use Rattle.bridge_terms.specs.Parts.{Part, TagLists, is_application, application_fields, parts_of, run_of};
+ghost use Rattle.bridge_terms.specs.Parts.{rest_of};
 ghost use Rattle.bridge_terms.specs.Gathering.{values_of_fields, items_of_fields, items_of};
 ghost use Rattle.bridge_terms.specs.MessageFields.{fields_of, with_lengths, no_text_at};
 ghost use Rattle.bridge_terms.specs.Places.{Written, places_of, place_fields, first_over, Grows};
 ghost use Rattle.bridge_terms.specs.WayBack.{IsBack, IsFirstWrong, Refusal, back_refused, wrong_in_order};
-ghost use Rattle.bridge_terms.specs.Blocks.{values_of, block_of, IsComplete, AreComplete, HasLengths, HasEntries, IsSeparate, AreSeparate, AreHeld, IsPlanOf, IsBackBlock};
+ghost use Rattle.bridge_terms.specs.Blocks.{values_of, block_of, IsComplete, AreComplete, HasLengths, HasEntries};
+ghost use Rattle.bridge_terms.specs.Blocks.{IsSeparate, AreSeparate, AreHeld, IsPlanOf, IsBackBlock};
 
 /// What is gathered of fields by the structure is the message that they are translated to, and no
 /// other is.
