@@ -18,6 +18,7 @@ EXAMPLES = [
     "  sbe dump feed.json --also orders.json < frames.bin",
     "  sbe build feed.json < lines.jsonl > frames.bin",
     "  sbe fixcheck orders-map.json < texts.bin",
+    "  sbe selftest orders.json 1 10000",
 ]
 USAGE = 2
 
