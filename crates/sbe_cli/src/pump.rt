@@ -165,6 +165,7 @@ impl Work {
     }
 
     /// Answers the next item, or answers the status of the run that ends here.
+    #[inline(always)]
     fn answer_next<I: Source, O: Sink, N: Sink>(
         &mut self,
         kept: &Kept,
