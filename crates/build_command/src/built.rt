@@ -75,7 +75,11 @@ pub fn answer_built<O: Sink, N: Sink>(
 }
 
 /// Writes the answer to a message of one of the schema's templates. It takes no memory.
-fn answer_message<O: Sink, N: Sink>(
+///
+/// # Errors
+///
+/// `WriteFault` where a write fails.
+pub fn answer_message<O: Sink, N: Sink>(
     layout: &Layout,
     item: u64,
     message: &Msg,

@@ -27,7 +27,12 @@ pub fn put_fault<O: Sink>(
 }
 
 /// Prints the line of a refusal. It needs a path of the message that it names.
-fn put_refusal<O: Sink>(printer: &mut Printer<'_, O>, layout: &Layout, item: u64, refusal: &Refusal)
+pub fn put_refusal<O: Sink>(
+    printer: &mut Printer<'_, O>,
+    layout: &Layout,
+    item: u64,
+    refusal: &Refusal,
+)
     requires { IsWay layout.now refusal.now.template refusal.now.path }
     ensures { Prints O.state printer.old printer.new (refused_line item (of_fault_in layout.now refusal.now.template (refused refusal.now))) }
 {

@@ -51,3 +51,5 @@ IsMap (role.Also n) = ⊥
 IsMap role.Old = ⊥
 IsMap role.New = ⊥
 IsMap role.Map = ⊤
+IsMap role.From = ⊥
+IsMap role.To = ⊥

@@ -24,6 +24,7 @@ IsRead (Err (file.Broken rule path)) = ⊤
 IsRead (Err file.SameId) = ⊤
 IsRead (Err file.FormDiffers) = ⊤
 IsRead (Err (file.NoMap code path)) = ⊤
+IsRead (Err (file.NotAnExtension path)) = ⊤
 
 -- what bytes are judged as, unless it ran out of memory
 abbrev pub Reads : Result WireSchema FileRefusal → Result WireSchema LoadStop → Type 0
@@ -72,6 +73,8 @@ loads_up_to (role.Also n) = suc n
 loads_up_to role.Old = 1
 loads_up_to role.New = 2
 loads_up_to role.Map = 1
+loads_up_to role.From = 1
+loads_up_to role.To = 2
 
 -- the count of loads after so many more
 abbrev pub after_loads : ℕ → ℕ → ℕ

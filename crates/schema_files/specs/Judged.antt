@@ -49,6 +49,8 @@ IsWithin many (role.Also n) = (1 ≤ n) × (n ≤ many)
 IsWithin many role.Old = ⊥
 IsWithin many role.New = ⊥
 IsWithin many role.Map = ⊥
+IsWithin many role.From = ⊥
+IsWithin many role.To = ⊥
 
 -- one of two files, the older or the newer
 abbrev pub IsOfTwo : FileRole → Type 0
@@ -57,6 +59,18 @@ IsOfTwo (role.Also n) = ⊥
 IsOfTwo role.Old = ⊤
 IsOfTwo role.New = ⊤
 IsOfTwo role.Map = ⊥
+IsOfTwo role.From = ⊥
+IsOfTwo role.To = ⊥
+
+-- one of two files, that of the messages that are read or that of those that are written
+abbrev pub IsFromTo : FileRole → Type 0
+IsFromTo role.Schema = ⊥
+IsFromTo (role.Also n) = ⊥
+IsFromTo role.Old = ⊥
+IsFromTo role.New = ⊥
+IsFromTo role.Map = ⊥
+IsFromTo role.From = ⊤
+IsFromTo role.To = ⊤
 
 -- ---- several schemas
 

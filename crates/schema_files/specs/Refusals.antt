@@ -23,6 +23,8 @@ role_name (role.Also n) = codes "also" ++ decimal n
 role_name role.Old = codes "old"
 role_name role.New = codes "new"
 role_name role.Map = codes "map"
+role_name role.From = codes "from"
+role_name role.To = codes "to"
 
 -- The line of a file that is refused with this code at this path.
 abbrev pub refused_file : FileRole → List ℕ → List ℕ → List ℕ
@@ -82,6 +84,7 @@ why_line role (file.Broken rule path) = refused_file role (rule_code rule) path
 why_line role file.SameId = refused_file role (codes "X01") []
 why_line role file.FormDiffers = refused_file role (codes "X02") []
 why_line role (file.NoMap code path) = refused_file role (map_code code) path
+why_line role (file.NotAnExtension path) = refused_file role (codes "G01") path
 
 -- the same of a file with its role
 abbrev pub refusal_line : RefusedFile → List ℕ
@@ -96,3 +99,4 @@ refusal_status (file.Broken rule path) = status.SchemaRefused
 refusal_status file.SameId = status.SchemaRefused
 refusal_status file.FormDiffers = status.SchemaRefused
 refusal_status (file.NoMap code path) = status.MapRefused
+refusal_status (file.NotAnExtension path) = status.SchemaRefused

@@ -19,6 +19,10 @@ pub enum FileRole {
     New,
     /// The mapping.
     Map,
+    /// The schema of the messages that are read.
+    From,
+    /// The schema of those that are written.
+    To,
 }
 
 /// Why a file isn't taken.
@@ -38,6 +42,8 @@ pub enum FileRefusal {
     FormDiffers,
     /// It holds no mapping, or one that breaks a rule: why, and where.
     NoMap(MCode, Text),
+    /// Of its schema and that of the messages that are read the later doesn't extend the earlier one: the path of the first difference.
+    NotAnExtension(Text),
 }
 
 /// A file that isn't taken.

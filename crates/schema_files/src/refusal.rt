@@ -23,7 +23,8 @@ pub fn refusal_status(refusal: &FileRefusal) -> Status
         | FileRefusal::Unread(_, _)
         | FileRefusal::Broken(_, _)
         | FileRefusal::SameId
-        | FileRefusal::FormDiffers => Status::SchemaRefused,
+        | FileRefusal::FormDiffers
+        | FileRefusal::NotAnExtension(_) => Status::SchemaRefused,
         FileRefusal::NoMap(_, _) => Status::MapRefused,
     }
 }
@@ -47,6 +48,7 @@ pub fn put_refusal<N: Sink>(printer: &mut Printer<'_, N>, file: &RefusedFile)
         FileRefusal::NoMap(code, path) => {
             put_refused(printer, role, map_code(*code), path.as_slice())
         }
+        FileRefusal::NotAnExtension(path) => put_refused(printer, role, "G01", path.as_slice()),
     }
 }
 
@@ -63,6 +65,8 @@ pub fn put_role<N: Sink>(printer: &mut Printer<'_, N>, role: FileRole)
         FileRole::Old => printer.put(b"old"),
         FileRole::New => printer.put(b"new"),
         FileRole::Map => printer.put(b"map"),
+        FileRole::From => printer.put(b"from"),
+        FileRole::To => printer.put(b"to"),
     }
 }
 
