@@ -35,6 +35,13 @@ class Fuzz(unittest.TestCase):
         self.assertTrue(lines[-1].endswith(" failed") and kept and "items were answered" in kept[0]["why"], lines)
         self.assertLessEqual(min(sizes), 200)
 
+    def test_bytes_of_no_item_are_found(self):
+        with tempfile.TemporaryDirectory() as folder:
+            program = self.script(folder, "cat > .input; exit 0")
+            status, _, kept, _ = self.run_on(program, "--runs", "3", "--command", "rawframe")
+        self.assertEqual(status, 1)
+        self.assertTrue(kept and "the items have 0 bytes" in kept[0]["why"], kept)
+
     def test_a_status_of_no_table_is_found(self):
         with tempfile.TemporaryDirectory() as folder:
             status, _, kept, _ = self.run_on(self.script(folder, "exit 77"), "--runs", "2", "--command", "check")

@@ -18,7 +18,9 @@ EXAMPLES = [
     "  sbe dump feed.json --also orders.json < frames.bin",
     "  sbe build feed.json < lines.jsonl > frames.bin",
     "  sbe fixcheck orders-map.json < texts.bin",
+    "  sbe rawframe orders-map.json < messages.log | sbe fixcheck orders-map.json",
     "  sbe selftest orders.json 1 10000",
+    "  sbe regrade feed.json feed2.json < frames.bin > frames2.bin",
 ]
 USAGE = 2
 

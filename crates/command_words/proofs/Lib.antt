@@ -2,3 +2,4 @@ pub mod WordLists
 pub mod WordNumbers
 pub mod WordOptions
 pub mod WordLimits
+pub mod WordForms

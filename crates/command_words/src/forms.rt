@@ -21,6 +21,10 @@ pub enum Form {
     FixCheck,
     /// `selftest S SEED COUNT`
     SelfTest,
+    /// `regrade FROM TO`
+    Regrade,
+    /// `rawframe M`
+    RawFrame,
 }
 
 /// What words of a form are: a command's word, names of files, numbers, and options in pairs.
@@ -54,13 +58,15 @@ impl Model for Row {
 
 /// All forms, in the order in which they are tried: the form, its word, how many files it names, how many numbers follow these, and
 /// its options.
-pub const FORMS: [(Form, &str, usize, usize, &[&str]); 6] = [
+pub const FORMS: [(Form, &str, usize, usize, &[&str]); 8] = [
     (Form::Check, "check", 1, 0, &[]),
     (Form::Compat, "compat", 2, 0, &[]),
     (Form::Dump, "dump", 1, 0, &[MAX_FRAME, MAX_INPUT, ALSO]),
     (Form::Build, "build", 1, 0, &[MAX_FRAME, MAX_INPUT]),
     (Form::FixCheck, "fixcheck", 1, 0, &[MAX_FRAME, MAX_INPUT]),
     (Form::SelfTest, "selftest", 1, 2, &[MAX_FRAME]),
+    (Form::Regrade, "regrade", 2, 0, &[MAX_FRAME, MAX_INPUT]),
+    (Form::RawFrame, "rawframe", 1, 0, &[MAX_FRAME, MAX_INPUT]),
 ];
 
 impl Row {

@@ -1,7 +1,8 @@
-ghost use Rattle.std.specs.Prelude.{◌≡◌, map, string_bytes, IfOk};
+ghost use Rattle.std.specs.Prelude.{◌≡◌, ◌<◌, map, string_bytes, IfOk, Some, length, slice_get};
 ghost use Rattle.std.specs.List.{list_all};
 ghost use Rattle.command_words.specs.Words.{Says, HasLimits, command_from, command_of, file_at, is_file_name, limits_of};
-ghost use Rattle.command_words.specs.Words.{names_given, said_by, said_after, values_of};
+ghost use Rattle.command_words.specs.Words.{names_given, rows, said_by, said_after, values_of};
+ghost use Rattle.command_words.specs.declared.forms.TheConstants.{FORMS};
 
 use crate::forms::{FORMS, Form, Row, names_file};
 use crate::options::{
@@ -92,19 +93,28 @@ pub fn read_words(alloc: Global, words: &[String]) -> Result<Command, WordsErr>
     ensures says { Says result (command_of (map (λ word. string_bytes word) words.now)) }
     ensures ranges { IfOk result (λ command. HasLimits command) }
 {
-    for (form, word, files, numbers, options) in FORMS {
-        let row = Row {
-            form,
-            word,
-            files,
-            numbers,
-            options,
-        };
+    for place in 0..FORMS.len() {
+        let row = row_at(place);
         if row.fits(words) {
             return read_row(alloc, &row, words);
         }
     }
     Err(WordsErr::Usage)
+}
+
+/// The row of the table at this place.
+fn row_at(place: usize) -> Row
+    requires { place < length FORMS }
+    ensures { slice_get rows place ≡ Some result }
+{
+    let (form, word, files, numbers, options) = FORMS[place];
+    Row {
+        form,
+        word,
+        files,
+        numbers,
+        options,
+    }
 }
 
 /// The command that words of this form say.

@@ -11,6 +11,8 @@ Usage:
   sbe build SCHEMA [OPTION VALUE]..
   sbe fixcheck MAP [OPTION VALUE]..
   sbe selftest SCHEMA SEED COUNT [OPTION VALUE]..
+  sbe regrade FROM TO [OPTION VALUE]..
+  sbe rawframe MAP [OPTION VALUE]..
   sbe --help | -h
   sbe --version
 
@@ -26,10 +28,16 @@ each in a frame of its own, and decodes its body with one byte altered. It print
 many frames these are, how many messages were skipped because a frame has no room for them or a count
 or a length isn't admitted, the frames' bytes and their sum, and how many altered bodies still are
 messages. The same words give the same line.
-SCHEMA, OLD and NEW are files of message schemas, MAP is a mapping file: a FIX Orchestra repository.
+regrade reads SBE frames of the schema FROM from standard input, and writes each message as a frame of
+TO, another version of it: parts that TO lacks are left out, and parts that the message lacks get an
+empty value. A line of standard error then says how many frames were written, and how many parts were
+left out of these and filled in.
+rawframe reads FIX tag-value messages that follow one another without frames, and writes each as a
+frame; it passes over bytes that are none.
+SCHEMA, OLD, NEW, FROM and TO are files of message schemas, MAP is a mapping file: a FIX Orchestra repository.
 Their names don't begin with `--`.
 
-Options of dump, build, fixcheck and selftest, last and in any order:
+Options of dump, build, fixcheck, selftest, regrade and rawframe, last and in any order:
   --also SCHEMA      one more schema, for dump alone; a frame is read by the one whose id
                      it has (at most 15 times; the schema of a message is then printed)
   --max-frame BYTES  the most bytes of a frame, its head included
@@ -38,8 +46,8 @@ Options of dump, build, fixcheck and selftest, last and in any order:
                      (1 to 1099511627776, default 4294967296; at most once)
 
 Answers go to standard output, each before the next frame or line is waited for. Why a run
-ends early is noted on standard error, as a line of JSON; and why build refuses a line, and
-fixcheck a frame.
+ends early is noted on standard error, as a line of JSON; and why build refuses a line, fixcheck or
+regrade a frame, and rawframe some bytes.
 
 Exit status:
    0  the files are in order; the input, if any, was read to its end, and nothing was refused
@@ -62,7 +70,9 @@ Examples:
   sbe dump feed.json --also orders.json < frames.bin
   sbe build feed.json < lines.jsonl > frames.bin
   sbe fixcheck orders-map.json < texts.bin
+  sbe rawframe orders-map.json < messages.log | sbe fixcheck orders-map.json
   sbe selftest orders.json 1 10000
+  sbe regrade feed.json feed2.json < frames.bin > frames2.bin
 ";
 
 /// What `--version` prints.

@@ -15,7 +15,7 @@ use Rattle.command_steps.specs.Steps.{IsStepStatus, IsReported}
 use Rattle.sbe_cli.specs.Jobs.{reads_input, spares_memory}
 use Rattle.sbe_cli.specs.Runs.{Known, WhenKnown, SinkFailed, written_in, Reports, StandsAtRead, StandsAtWrite, StandsAtFile, Fronts, HasRead, Runs}
 use Rattle.schema_files.specs.declared.files.FileRefusal.{FileRefusal}
-use Rattle.schema_files.specs.declared.files.FileRefusal.TheVariants.{Absent, TooLong, Unread, Broken, SameId, FormDiffers, NoMap}
+use Rattle.schema_files.specs.declared.files.FileRefusal.TheVariants.{Absent, TooLong, Unread, Broken, SameId, FormDiffers, NoMap, NotAnExtension}
 use Rattle.sbe_cli.proofs.Reporting.{one_report}
 use Rattle.command_steps.proofs.Standing.{whole_part}
 
@@ -116,6 +116,7 @@ refused_apart (Broken rule path) = (λ x. x, tt, λ h. elim h [ inl e ↦ cc | i
 refused_apart SameId = (λ x. x, tt, λ h. elim h [ inl e ↦ cc | inr e ↦ cc ])
 refused_apart FormDiffers = (λ x. x, tt, λ h. elim h [ inl e ↦ cc | inr e ↦ cc ])
 refused_apart (NoMap code path) = (λ x. x, tt, λ h. elim h [ inl e ↦ cc | inr e ↦ cc ])
+refused_apart (NotAnExtension path) = (λ x. x, tt, λ h. elim h [ inl e ↦ cc | inr e ↦ cc ])
 
 -- nothing went to the output
 pub nothing_out : (old new : Outside) (outcome : Outcome) → new.streams.sinks.output ≡ old.streams.sinks.output → AppendsPart old.streams.sinks.output.told new.streams.sinks.output.told outcome.output

@@ -19,8 +19,12 @@ use Rattle.build_command.proofs.Replied.{build_answers, build_checked}
 use Rattle.map_files.specs.Maps.{file_map}
 use Rattle.fixcheck_command.specs.FixCheck.{tags_judged}
 use Rattle.fixcheck_command.proofs.Replied.{fixcheck_answers}
+use Rattle.raw_steps.proofs.Replied.{raw_answers}
 use Rattle.selftest_command.specs.Tests.{tested_by}
 use Rattle.selftest_command.proofs.Tested.{selftest_answers}
+use Rattle.regrade_command.specs.Regrades.{pair_judged, regraded_for}
+use Rattle.regrade_command.proofs.Loaded.{regrade_good}
+use Rattle.regrade_command.proofs.Replied.{regrade_answers}
 use Rattle.sbe_cli.specs.Jobs as jobs
 use Rattle.sbe_cli.specs.Jobs.{Job, answering_of, Makes, commanding_by, Judges, trial_of}
 
@@ -77,6 +81,11 @@ judging_by form.FixCheck command contents =
     computed (tags_judged (judged_in role.Map (file_map (contents (file_at command 0))))) (λ tags. jobs.FixCheck tags command.limits) (λ tags h. fixcheck_answers tags command.limits)
 judging_by form.SelfTest command contents =
     computed (tested_by (trial_of command) (judged_in role.Schema (file_schema (contents (file_at command 0))))) jobs.SelfTest (λ test h. selftest_answers test)
+judging_by form.Regrade command contents =
+    computed (regraded_for command.limits.frame (pair_judged (file_schema (contents (file_at command 0))) (file_schema (contents (file_at command 1)))))
+    (λ on. jobs.Regrade on command.limits) (λ on h. regrade_answers on command.limits (regrade_good (file_at command 0) (file_at command 1) command.limits.frame contents on h))
+judging_by form.RawFrame command contents =
+    computed (tags_judged (judged_in role.Map (file_map (contents (file_at command 0))))) (λ tags. jobs.RawFrame tags command.limits) (λ tags h. raw_answers tags command.limits)
 
 pub judging : (command : Command) (contents : List ℕ → Option (List ℕ)) → IsJudging (Judges command contents)
 judging command contents = judging_by command.form command contents

@@ -5,3 +5,4 @@ pub mod Draining
 pub mod Finishing
 pub mod Carrying
 pub mod Ending
+pub mod Loading

@@ -19,8 +19,11 @@ use Rattle.dump_command.specs.Dump.{IsDumpReply, dump_files}
 use Rattle.build_command.specs.Builds.{Building, IsBuildReply, build_files}
 use Rattle.tagvalue_codec.specs.declared.data_tags.Pair.{Pair as TagPair}
 use Rattle.fixcheck_command.specs.FixCheck.{IsFixCheckReply, fixcheck_files}
+use Rattle.raw_steps.specs.RawReplies.{by_texts}
 use Rattle.selftest_command.specs.declared.trial.Trial.{Trial}
 use Rattle.selftest_command.specs.Tests.{Testing, IsSelftestReply, selftest_files}
+use Rattle.regrade_command.specs.Regrade.{Regrading, IsRegradeReply, sums_line}
+use Rattle.regrade_command.specs.Regrades.{regrade_files}
 
 -- a command whose files are accepted
 pub data Job : Type 0 where
@@ -30,6 +33,8 @@ pub data Job : Type 0 where
   Build : Building → ℕ → Job
   FixCheck : List TagPair → Limits → Job
   SelfTest : Testing → Job
+  Regrade : Regrading → Limits → Job
+  RawFrame : List TagPair → Limits → Job
 
 -- What each job takes of its input, and what it answers: one line a command.
 abbrev pub answering_of : Job → Answering
@@ -39,6 +44,8 @@ answering_of (Dump schemas limits) = by_frames limits true no_line (IsDumpReply 
 answering_of (Build building input) = by_lines input no_line (IsBuildReply building)
 answering_of (FixCheck tags limits) = by_frames limits true no_line (IsFixCheckReply tags)
 answering_of (SelfTest test) = by_whole (IsSelftestReply test)
+answering_of (Regrade on limits) = by_frames limits false sums_line (IsRegradeReply on)
+answering_of (RawFrame tags limits) = by_texts tags limits
 
 -- how a job reads its input
 abbrev pub reading_of : Job → Reading
@@ -89,6 +96,9 @@ commanding_by form.Dump command = on_input_sparing (making (dump_files (file_at 
 commanding_by form.Build command = on_input (making (build_files (file_at command 0) command.limits.frame) (λ building. Build building command.limits.input))
 commanding_by form.FixCheck command = on_input_sparing (making (fixcheck_files (file_at command 0)) (λ tags. FixCheck tags command.limits))
 commanding_by form.SelfTest command = on_files (making (selftest_files (file_at command 0) (trial_of command)) SelfTest)
+commanding_by form.Regrade command =
+    on_input (making (regrade_files (file_at command 0) (file_at command 1) command.limits.frame) (λ on. Regrade on command.limits))
+commanding_by form.RawFrame command = on_input_sparing (making (fixcheck_files (file_at command 0)) (λ tags. RawFrame tags command.limits))
 
 -- what a command does
 abbrev pub commanding_of : Command → Commanding

@@ -4,6 +4,8 @@ use Rattle.sbe_base.specs.declared.status.Limits.{Limits}
 use Rattle.sbe_base.specs.declared.status.Status.{Status}
 use Rattle.frame_stream.specs.Stream.{StreamState}
 use Rattle.frame_stream.specs.LineTakes.{LineState}
+use Rattle.raw_fix.specs.Stream.{RawState}
+use Rattle.raw_steps.specs.Stands.{StandsRaw, raw_ahead}
 use Rattle.command_steps.specs.Ahead.{Ahead, none_ahead}
 use Rattle.command_steps.specs.Replies.{none_kept}
 use Rattle.command_steps.specs.Stands.{IsBounded, Stands, StandsLines, StandsOnce, lines_ahead}
@@ -15,10 +17,11 @@ use Rattle.sbe_cli.specs.Jobs.{Job}
 use Rattle.sbe_cli.specs.declared.pump.Work.{Work}
 use Rattle.sbe_cli.specs.declared.pump.Work.TheVariants as work
 
--- what is still to come: frames, lines, or nothing of the input
+-- what is still to come: frames, lines, items of a stream without heads, or nothing of the input
 pub data Feed : Type 0 where
   frames : Limits → StreamState → Feed
   lines : Limits → LineState → Feed
+  items : Limits → RawState → Feed
   nothing : Feed
 
 -- The job of work, and what is still to come for it.
@@ -34,6 +37,8 @@ on_job (work.Dump on) = record { job = jobs.Dump on.command on.limits; feed = fr
 on_job (work.Build on) = record { job = jobs.Build on.command on.limits.input; feed = lines on.limits on.stream }
 on_job (work.FixCheck on) = record { job = jobs.FixCheck on.command on.limits; feed = frames on.limits on.stream }
 on_job (work.SelfTest on) = record { job = jobs.SelfTest on.command; feed = nothing }
+on_job (work.Regrade on) = record { job = jobs.Regrade on.command on.limits; feed = frames on.limits on.stream }
+on_job (work.RawFrame on) = record { job = jobs.RawFrame on.command on.limits; feed = items on.limits on.stream }
 
 -- the job of work
 abbrev pub job_of : Work → Job
@@ -43,6 +48,7 @@ job_of on = (on_job on).job
 abbrev pub ahead_in : Feed → Ahead
 ahead_in (frames limits stream) = none_ahead
 ahead_in (lines limits stream) = lines_ahead stream
+ahead_in (items limits stream) = raw_ahead stream
 ahead_in nothing = none_ahead
 
 -- what work knows of the input after its pieces
@@ -53,12 +59,14 @@ ahead_of on = ahead_in (on_job on).feed
 abbrev pub IsSoundFeed : Feed → Type 0
 IsSoundFeed (frames limits stream) = IsBounded limits
 IsSoundFeed (lines limits stream) = IsBounded limits
+IsSoundFeed (items limits stream) = IsBounded limits
 IsSoundFeed nothing = ⊤
 
 -- what holds of it before the end
 abbrev pub StandsIn : Feed → Kept → Type 0
 StandsIn (frames limits stream) kept = Stands limits stream kept
 StandsIn (lines limits stream) kept = StandsLines limits stream kept
+StandsIn (items limits stream) kept = StandsRaw limits stream kept
 StandsIn nothing kept = StandsOnce kept
 
 -- what holds of work at every moment

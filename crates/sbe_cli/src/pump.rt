@@ -19,6 +19,9 @@ use command_words::{Command, Form};
 use compat_command::{Comparer, load_compat};
 use dump_command::{Dumper, load_dump};
 use fixcheck_command::{FixChecker, load_fixcheck};
+use raw_steps::RawWork;
+use rawframe_command::load_rawframe;
+use regrade_command::{Regrader, load_regrade};
 use sbe_base::{Files, Sink, Source, Status};
 use schema_files::JobStop;
 use selftest_command::{Tester, Trial, load_selftest};
@@ -34,6 +37,8 @@ pub enum Work {
     Build(LineWork<Builder>),
     FixCheck(FrameWork<FixChecker>),
     SelfTest(WholeWork<Tester>),
+    Regrade(FrameWork<Regrader>),
+    RawFrame(RawWork),
 }
 
 /// One command on its way through its input.
@@ -88,7 +93,7 @@ impl Pump {
     }
 
     /// Answers the next item of the input, or ends. What an item gives is written before a byte after it is asked
-    /// for; lines are read ahead inside their buffer. A pump that has ended gives the same answer again, and reads and writes nothing.
+    /// for; lines and items are read ahead inside their buffer. A pump that has ended gives the same answer again, and reads and writes nothing.
     pub fn step<I: Source, O: Sink, N: Sink>(
         &mut self,
         input: &mut I,
@@ -154,10 +159,27 @@ impl Work {
                 },
                 Err(stop) => Err(stop),
             },
+            Form::RawFrame => match load_rawframe(alloc, command.file(0), files) {
+                Ok(framer) => match RawWork::open(alloc, framer, command.limits) {
+                    Ok(work) => Ok(Work::RawFrame(work)),
+                    Err(_) => Err(JobStop::NoMemory),
+                },
+                Err(stop) => Err(stop),
+            },
             Form::SelfTest => {
                 let trial = trial_of(&command);
                 match load_selftest(alloc, command.file(0), trial, files) {
                     Ok(tester) => Ok(Work::SelfTest(WholeWork::open(alloc, tester))),
+                    Err(stop) => Err(stop),
+                }
+            }
+            Form::Regrade => {
+                let (from, to) = (command.file(0), command.file(1));
+                match load_regrade(alloc, from, to, command.limits, files) {
+                    Ok(regrader) => match FrameWork::open(alloc, regrader, command.limits) {
+                        Ok(work) => Ok(Work::Regrade(work)),
+                        Err(_) => Err(JobStop::NoMemory),
+                    },
                     Err(stop) => Err(stop),
                 }
             }
@@ -191,6 +213,8 @@ impl Work {
             Work::Build(work) => work.answer_next(kept, input, output, notes),
             Work::FixCheck(work) => work.answer_next(kept, input, output, notes),
             Work::SelfTest(work) => work.answer_next(kept, input, output, notes),
+            Work::Regrade(work) => work.answer_next(kept, input, output, notes),
+            Work::RawFrame(work) => work.answer_next(kept, input, output, notes),
         }
     }
 }

@@ -60,7 +60,7 @@ fn put_unopened<N: Sink>(printer: &mut Printer<'_, N>, why: &Unopened)
 {
     match why {
         Unopened::Usage => printer.put(
-            b"{\"usage\":\"sbe check compat dump build fixcheck tofix tosbe selftest\"}\n",
+            b"{\"usage\":\"sbe check compat dump build fixcheck tofix tosbe selftest regrade rawframe\"}\n",
         ),
         Unopened::FileFault(role) => put_file_fault(printer, *role),
         Unopened::Refused(file) => put_refusal(printer, file),

@@ -1,0 +1,9 @@
+pub mod Pairs
+pub mod Lacking
+pub mod Templates
+pub mod Sizes
+pub mod Answering
+pub mod Noting
+pub mod Replied
+pub mod Loaded
+pub mod Holding

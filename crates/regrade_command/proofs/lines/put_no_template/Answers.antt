@@ -1,0 +1,5 @@
+use Rattle.printers.proofs.Printing.{then_prints}
+use Rattle.regrade_command.proofs.lines.put_no_template.Goals as goal
+
+pub returns : goal.returns
+returns g c = then_prints c.put_refused_front.ensures (then_prints c.put.ensures c.put_refused_back.ensures)

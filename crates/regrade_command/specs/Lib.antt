@@ -1,0 +1,2 @@
+pub mod Regrade
+pub mod Regrades

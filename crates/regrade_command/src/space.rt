@@ -1,0 +1,23 @@
+ghost use Rattle.std.specs.Prelude.{◌≡◌, IfOk};
+
+use lists::NoMem;
+use std::alloc::Global;
+use typed_writer::FrameBuf;
+
+/// What the answers to frames take memory from. It is lent from frame to frame.
+#[derive(Drop)]
+pub(crate) struct FrameSpace {
+    pub(crate) alloc: Global,
+    /// The body of a rewritten message.
+    pub(crate) buffer: FrameBuf,
+}
+
+impl FrameSpace {
+    /// Takes the memory for bodies of at most `limit` bytes.
+    pub(crate) fn new(alloc: Global, limit: usize) -> Result<FrameSpace, NoMem>
+        ensures { IfOk result (λ space. space.buffer.limit ≡ limit) }
+    {
+        let buffer = FrameBuf::new(alloc, limit)?;
+        Ok(FrameSpace { alloc, buffer })
+    }
+}
