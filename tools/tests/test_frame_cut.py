@@ -18,7 +18,9 @@ class Cuts(unittest.TestCase):
             name = Path(folder) / "day.bin"
             name.write_bytes(data)
             done = subprocess.run([sys.executable, TOOL, name, str(count)], capture_output=True, text=True, check=False)
-            return [Path(it).read_bytes() for it in done.stdout.split()], done.returncode, done.stderr
+            listed = [line.split("\t") for line in done.stdout.splitlines()]
+            self.firsts = [int(first) for _, first in listed]
+            return [Path(it).read_bytes() for it, _ in listed], done.returncode, done.stderr
 
     def test_pieces_are_whole_frames_in_order(self):
         frames = [frame(b"x" * (7 * i % 30)) for i in range(100)]
@@ -32,6 +34,12 @@ class Cuts(unittest.TestCase):
             for piece in pieces:
                 self.assertIn(at, borders)
                 at += len(piece)
+
+    def test_each_piece_tells_the_number_of_its_first_frame(self):
+        frames = [frame(b"x" * size) for size in (4, 4, 24, 4, 4, 14)]
+        pieces, _, _ = self.cut(b"".join(frames), 3)
+        self.assertEqual(pieces, [b"".join(frames[0:3]), frames[3], b"".join(frames[4:])])
+        self.assertEqual(self.firsts, [0, 3, 4])
 
     def test_an_empty_file_has_no_pieces(self):
         self.assertEqual(self.cut(b"", 4), ([], 0, ""))

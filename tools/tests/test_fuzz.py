@@ -47,6 +47,34 @@ class Fuzz(unittest.TestCase):
             status, _, kept, _ = self.run_on(self.script(folder, "exit 77"), "--runs", "2", "--command", "check")
         self.assertEqual((status, {it["why"] for it in kept}), (1, {"status 77"}))
 
+    def test_lines_of_another_form_are_found(self):
+        refusal = '{"refused":"%s","item":0,"offset":%s,"path":"","detail":""}'
+        for line, why in (
+            (refusal % ("T05", "0"), "a refusal of another form"),
+            (refusal % ("F05", "-1"), "a refusal of another form"),
+            (refusal % ("F05", "NaN"), "a line that isn't JSON"),
+            ((refusal % ("F05", "0")).replace('"path":""', '"path":{"hex":"E9"}'), "a refusal of another form"),
+            ('{"data":{},"data":{}}', "an object with a key twice"),
+        ):
+            with self.subTest(line=line), tempfile.TemporaryDirectory() as folder:
+                program = self.script(folder, "cat > .input; echo '%s'; exit 1" % line)
+                status, _, kept, _ = self.run_on(program, "--runs", "1", "--command", "dump")
+                self.assertEqual((status, [it["why"].startswith(why) for it in kept]), (1, [True]), kept)
+
+    def test_an_end_without_a_place_is_found(self):
+        with tempfile.TemporaryDirectory() as folder:
+            program = self.script(folder, "cat > .input; echo '{\"framing\":\"EndInside\",\"at\":null,\"number\":1}' >&2; exit 5")
+            status, _, kept, _ = self.run_on(program, "--runs", "1", "--command", "build")
+        self.assertEqual((status, [it["why"].startswith("a place that is no number") for it in kept]), (1, [True]), kept)
+
+    def test_another_answer_to_the_same_input_is_found(self):
+        """A program that counts its runs; every tenth run is done twice, the second time in pieces."""
+        note = '{\"file\":\"schema\",\"refused\":\"C01\",\"path\":\"%s\"}\\n'
+        text = "cat > .input; echo >> .runs; printf '" + note + "' $(wc -l < .runs) >&2; exit 3"
+        with tempfile.TemporaryDirectory() as folder:
+            status, _, kept, _ = self.run_on(self.script(folder, text), "--runs", "60", "--command", "build")
+        self.assertEqual((status, {it["why"] for it in kept}), (1, {"another answer in small pieces"}), kept)
+
     @unittest.skipUnless(os.access(PROGRAM, os.X_OK), "needs the built program")
     def test_nothing_is_found_in_some_runs_of_the_program(self):
         status, lines, _, _ = self.run_on(PROGRAM, "--runs", "60")
