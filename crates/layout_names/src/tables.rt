@@ -1,0 +1,101 @@
+ghost use Rattle.std.specs.Prelude.{◌≡◌, ◌<◌, length, IfOk, IfSome};
+ghost use Rattle.sbe_types.specs.declared.schema.Level.{out-Level};
+ghost use Rattle.sbe_types.specs.declared.schema.WireSchema.{WireSchema};
+ghost use Rattle.schema_facts.specs.Levels.{fields_at, groups_at, parts_at};
+ghost use Rattle.layout_names.specs.Names.{level_names, field_names, group_names, data_names, template_named, field_named, group_named, data_named};
+ghost use Rattle.layout_names.specs.Tables.{part_names, AreNames};
+
+use crate::name_lists::{data_names, field_names, group_names, level_names};
+use id_tables::NameTable;
+use layout_tables::Layout;
+use lists::NoMem;
+use sbe_types::Level;
+use std::alloc::Global;
+
+/// The names of a level's parts.
+#[derive(Drop)]
+pub(crate) struct LevelNames {
+    pub(crate) fields: NameTable,
+    pub(crate) groups: NameTable,
+    pub(crate) parts: NameTable,
+}
+
+/// The names of a layout: those of its messages, and of the parts of each level.
+///
+/// It is made once, and takes all its memory then. A look-up takes time in the length of the name, however many
+/// parts there are. Names are compared byte by byte.
+#[derive(Drop)]
+pub struct LayoutNames {
+    pub(crate) templates: NameTable,
+    pub(crate) levels: Vec<LevelNames>,
+}
+
+impl LayoutNames {
+    /// The names of a layout.
+    pub fn new(alloc: Global, layout: &Layout) -> Result<LayoutNames, NoMem>
+        ensures { IfOk result (λ names. AreNames layout.now names) }
+    {
+        let messages = layout.schema().messages.as_slice();
+        let templates = NameTable::new(alloc, level_names(alloc, messages)?)?;
+        let mut levels = Vec::with_capacity(alloc, layout.levels())?;
+        for n in 0..layout.levels() {
+            levels.push(names_of(alloc, layout.level(n))?)?;
+        }
+        Ok(LayoutNames { templates, levels })
+    }
+
+    /// The number of the first message of that name, or none exactly where no message has it.
+    pub fn template(&self, name: &[u8]) -> Option<usize>
+        ensures is { (schema : WireSchema) → AreNames schema self.now → result ≡ template_named name.now schema }
+        ensures within { (schema : WireSchema) → AreNames schema self.now → IfSome result (λ t. t < length schema.messages) }
+    {
+        self.templates.place(name)
+    }
+
+    /// The number of a level's first field of that name, or none exactly where none of its fields has it.
+    pub fn field(&self, level: usize, name: &[u8]) -> Option<usize>
+        ensures is { (schema : WireSchema) → AreNames schema self.now → result ≡ field_named name.now schema level }
+        ensures within { (schema : WireSchema) → AreNames schema self.now → IfSome result (λ i. i < length (fields_at schema level)) }
+    {
+        match self.levels.get(level) {
+            Some(names) => names.fields.place(name),
+            None => None,
+        }
+    }
+
+    /// The number of a level's first group of that name, or none exactly where none of its groups has it.
+    pub fn group(&self, level: usize, name: &[u8]) -> Option<usize>
+        ensures is { (schema : WireSchema) → AreNames schema self.now → result ≡ group_named name.now schema level }
+        ensures within { (schema : WireSchema) → AreNames schema self.now → IfSome result (λ i. i < length (groups_at schema level)) }
+    {
+        match self.levels.get(level) {
+            Some(names) => names.groups.place(name),
+            None => None,
+        }
+    }
+
+    /// The number of a level's first data part of that name, or none exactly where none of its data has it.
+    pub fn data(&self, level: usize, name: &[u8]) -> Option<usize>
+        ensures is { (schema : WireSchema) → AreNames schema self.now → result ≡ data_named name.now schema level }
+        ensures within { (schema : WireSchema) → AreNames schema self.now → IfSome result (λ i. i < length (parts_at schema level)) }
+    {
+        match self.levels.get(level) {
+            Some(names) => names.parts.place(name),
+            None => None,
+        }
+    }
+}
+
+/// The names of a level's parts.
+fn names_of(alloc: Global, level: &Level) -> Result<LevelNames, NoMem>
+    ensures { IfOk result (λ names. names ≡ part_names level.now) }
+{
+    let fields = NameTable::new(alloc, field_names(alloc, level.fields.as_slice())?)?;
+    let groups = NameTable::new(alloc, group_names(alloc, level.groups.as_slice())?)?;
+    let parts = NameTable::new(alloc, data_names(alloc, level.parts.as_slice())?)?;
+    Ok(LevelNames {
+        fields,
+        groups,
+        parts,
+    })
+}
