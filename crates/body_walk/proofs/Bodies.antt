@@ -1,4 +1,4 @@
--- A whole body: what its header says, the message behind it, and what is left.
+-- A whole body: what its header says, the message after it, and what is left.
 use Rattle.std.proofs.Common.{◌≡◌, ◌≤◌, ◌<◌, ℕ, zero, suc, ◌+◌, ◌-◌, Bool, true, false, cond, List, [], ◌∷◌, ◌++◌, length, take, drop, Option, Some, None, Result, Ok, Err, refl, sym, ap, ◌∙◌, arith, length-drop, length-append}
 use Rattle.std.specs.Prelude.{nat_le, nat_lt, ◌&&◌, ◌==◌, pos, codes, slice_get}
 use Rattle.std.specs.Option.{option_map}
@@ -27,7 +27,7 @@ use Rattle.body_walk.specs.inner.Starts.{rest_told, root_told, message_told}
 use Rattle.body_walk.proofs.Cursor.{EndOf}
 use Rattle.body_walk.proofs.Walks.{entry_leaves, tail_leaves}
 
--- ---- behind the header
+-- ---- after the header
 
 -- a message, by its template and version
 abbrev pub IsMessage : WireSchema → List ℕ → ℕ → ℕ → Type 0
@@ -63,7 +63,7 @@ module _ (schema : WireSchema) (body : List ℕ) (h : Heading) (fits : header_wi
   header_is : length body - length (drop w body) ≡ w
   header_is = omega (arith, length-drop w body)
 
-  -- a fault behind the header is the walk's
+  -- a fault after the header is the walk's
   fault_is : (r : Result (Block × List ℕ) Fault) (f : Fault) → EndOf (drop w body) r → told r ≡ Err f → after r ≡ Err f
   fault_is (Err g) f e h' = ap (λ k. Err (shifted k g)) header_is ∙ ap Err (err_is h')
   fault_is (Ok r) f e h' = ends (mode.known && nat_lt 0 (length r.1)) (mode.known && nat_lt (length body - length r.1) (length body)) refl refl h'
@@ -233,7 +233,7 @@ module _ (schema : WireSchema) (body : List ℕ) where
   fitting true n x is e = (leb-true wide (length body) is, refl, e)
   fitting false n x is e = cc
 
-  -- the message behind a header that names it
+  -- the message after a header that names it
   record Behind (t : ℕ) (level : Level) : Type 0 where
     fits : wide ≤ length body
     there : slice_get schema.messages t ≡ Some level

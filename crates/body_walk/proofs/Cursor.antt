@@ -10,7 +10,7 @@ use Rattle.sbe_wire.specs.declared.codes.FCode.TheVariants as code
 use Rattle.sbe_wire.specs.Reading.{Reader, ◌>>=◌, later, inside, and_then, then_read, nothing, and_judged, read_judged, bytes_read, read_in, times_read, each_read}
 use Rattle.body_walk.specs.inner.Cursor.{placed, skim, steps_told}
 
--- ---- what is left behind a reader is an end of the bytes
+-- ---- what is left after a reader is an end of the bytes
 
 abbrev pub EndOf : {X : Type 0} → List ℕ → Result (X × List ℕ) Fault → Type 0
 EndOf {X} b r = (x : X) (rest : List ℕ) → r ≡ Ok (x, rest) → (k : ℕ) × (k ≤ length b) × (rest ≡ drop k b)

@@ -14,14 +14,14 @@ use Rattle.schema_facts.proofs.KindLists.{list_height, height_comp, width_comp, 
 use Rattle.schema_facts.proofs.KindMembers.{members_kinds}
 use Rattle.body_walk.specs.inner.Kinds.{HasFewMembers, HaveFewMembers, IsReady}
 
--- the member of a composite of n bytes and some height, behind members that end at e
+-- the member of a composite of n bytes and some height, after members that end at e
 pub record MemberReady (n high e : ℕ) (m : Member) : Type 0 where
   pub ready : IsReady m.kind
   pub narrow : EndsWithin e m.offset m.kind
   pub within : is_const m.kind ≡ false → begin_of e m.offset + width m.kind ≤ n
   pub low : height m.kind < high
 
--- the same of members behind members that end at e
+-- the same of members after members that end at e
 abbrev pub AreReady : ℕ → ℕ → ℕ → List Member → Type 0
 AreReady n high e [] = ⊤
 AreReady n high e (m ∷ ms) = MemberReady n high e m × AreReady n high (end_past e m.offset m.kind) ms

@@ -32,7 +32,7 @@ use Rattle.body_walk.specs.inner.Cursor.{placed, skim, steps_told, groups_told, 
 use Rattle.sbe_wire.proofs.Combine.{later_ok}
 use Rattle.body_walk.proofs.Cursor.{fst_is, Leaves, at_if, at_err, at_all, leaves_then, leaves_nothing, leaves_in, leaves_judged, leaves_bytes, leaves_times, leaves_each, skim_then, skim_made, skim_nothing, placed_inside, times_walked, skim_judged}
 
--- ---- what is left behind
+-- ---- what is left after
 
 abbrev bytes_in : DataField → List ℕ → Result DataVal Fault
 bytes_in part whole = Ok (dataval.Bytes (drop (prim_width part.length.prim) whole))

@@ -1,4 +1,4 @@
--- What a header says: its numbers, and the message that it names. From SBE 1.0, Message structure.
+-- What a header gives: its numbers, and the message that it names. From SBE 1.0, Message structure.
 use Rattle.std.specs.Prelude.{ℕ, nat_le, ◌==◌, if◌then◌else◌, Option, Some, None, Result, Ok, Err, List, length, take, pos, codes}
 use Rattle.sbe_types.specs.declared.schema.Level.{Level}
 use Rattle.sbe_types.specs.declared.schema.WireSchema.{WireSchema}
@@ -8,22 +8,22 @@ use Rattle.sbe_wire.specs.Named.{number_named, place_named}
 use Rattle.layout_tables.specs.Heads.{header_width}
 use Rattle.body_walk.specs.declared.header.Start.{Start}
 
--- the header's number of that name
+-- the header's number with this name
 abbrev pub head_number : WireSchema → List ℕ → List ℕ → ℕ
 head_number schema name head = number_named schema.order schema.header.members name head
 
--- where the header has that number
+-- the offset of the header's number with this name
 abbrev pub head_place : WireSchema → List ℕ → ℕ
 head_place schema name = place_named schema.header.members name
 
--- ---- the message that is named
+-- ---- the message that the header names
 
 -- the number of the message that was found
 abbrev pub found_told : WireSchema → ℕ → Option (ℕ × Level) → Result ℕ Fault
 found_told schema id None = Err (fault_at code.Template (head_place schema (codes "templateId")) (pos id))
 found_told schema id (Some m) = Ok m.0
 
--- the number of the message that a header's bytes name, or why they name none
+-- the number of the message that a header's bytes name, or why they don't name one
 abbrev pub named_told : WireSchema → List ℕ → Result ℕ Fault
 named_told schema head =
     let schema_id = head_number schema (codes "schemaId") head in
@@ -32,14 +32,14 @@ named_told schema head =
     then found_told schema id (message_named 0 id schema.messages)
     else Err (fault_at code.SchemaId (head_place schema (codes "schemaId")) (pos schema_id))
 
--- the number of the message that a body's header names, or why there is none
+-- the number of the message that a body's header names, or why it doesn't name one
 abbrev pub template_told : WireSchema → List ℕ → Result ℕ Fault
 template_told schema body =
     if nat_le (header_width schema) (length body)
     then named_told schema (take (header_width schema) body)
     else Err (fault_at code.ShortHeader 0 (pos (length body)))
 
--- ---- the message behind it
+-- ---- what follows it in the header
 
 -- the block length and the version in a body's header
 abbrev pub start_in : WireSchema → List ℕ → Start

@@ -10,11 +10,11 @@ use Rattle.schema_facts.specs.Levels.{root_of}
 use Rattle.body_walk.specs.declared.body.Walked.{Walked}
 use Rattle.body_walk.specs.Heads.{start_in}
 
--- a message without anything
+-- a message without parts
 abbrev pub no_message : Msg
 no_message = record { template = 0; version = 0; block = record { fields = []; groups = []; parts = [] } }
 
--- the message that was read
+-- the message that was read, or one without parts
 abbrev pub read_message : Result Msg Fault → Msg
 read_message (Ok m) = m
 read_message (Err f) = no_message
@@ -23,15 +23,15 @@ read_message (Err f) = no_message
 abbrev pub message_in : WireSchema → List ℕ → Msg
 message_in schema body = read_message (message_of schema body)
 
--- the body is a message of that template and version, whose root is the level
+-- the body is a message of this template and version, with this root level
 pub record IsRead (schema : WireSchema) (level : Level) (body : List ℕ) (template version : ℕ) : Type 0 where
   pub reads : message_of schema body ≡ Ok (message_in schema body)
   pub template_is : (message_in schema body).template ≡ template
   pub version_is : (message_in schema body).version ≡ version
   pub level_is : slice_get schema.messages template ≡ Some level
 
--- what the walk tells is of such a message: its root's block is as long as the header says; the number of the root's level and
--- how values are read are those of its template and its version
+-- what the walk gives is right for the message: its root's block is as long as the header says; the number of the
+-- root's level, and how values are read, are those of its template and its version
 pub record IsWalked (schema : WireSchema) (body : List ℕ) (w : Walked) : Type 0 where
   pub read : IsRead schema w.level.now body w.template w.start.version
   pub block_is : w.start.block ≡ (start_in schema body).block

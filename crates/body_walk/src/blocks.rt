@@ -1,4 +1,4 @@
-// Blocks of a level, by the table of the level's fields.
+// Blocks of a level, checked by the table of the level's fields.
 ghost use Rattle.std.specs.Prelude.{◌≡◌, ◌≤◌, ◌<◌, ◌+◌, ◌-◌, ◌^◌, true, false, length, take, drop, IfSome, IfNone};
 ghost use Rattle.sbe_types.specs.declared.schema.Level.{out-Level};
 ghost use Rattle.flat_rows.specs.Tables.{IsTable, RowsFit};
@@ -14,7 +14,7 @@ use layout_tables::LevelRow;
 use sbe_types::{Level, Order};
 use sbe_wire::{FCode, Mode};
 
-/// The block of so many bytes at a place of the body. None where the body ends before it.
+/// The block of `block` bytes at an offset of the body, or `None` if the body ends before it does.
 #[inline(always)]
 fn block_at(body: &[u8], at: usize, block: u32) -> Option<&[u8]>
     requires { at ≤ length body.now }
@@ -28,8 +28,8 @@ fn block_at(body: &[u8], at: usize, block: u32) -> Option<&[u8]>
     Some(&body[at..at + size])
 }
 
-/// Walks a block of so many bytes at a place of the body, by the row of its level. Answers the place after it; where there is
-/// none, `out` tells the first fault.
+/// Walks a block of `block` bytes at an offset of the body, by the row of its level. Returns the offset after it. If it
+/// returns `None`, `out` receives the first fault.
 #[inline(always)]
 pub(crate) fn walk_block(
     mode: Mode,
@@ -60,7 +60,7 @@ pub(crate) fn walk_block(
     }
 }
 
-/// Whether a block of so many bytes lies at a place of the body, and one look at each value shows it.
+/// Whether there is a block of `block` bytes at an offset of the body, and the fast check accepts each of its values.
 #[inline(always)]
 pub(crate) fn shows_block(mode: Mode, row: &LevelRow, body: &[u8], at: usize, block: u32) -> bool
     requires table { IsTable row.now.flat }
@@ -75,8 +75,8 @@ pub(crate) fn shows_block(mode: Mode, row: &LevelRow, body: &[u8], at: usize, bl
     }
 }
 
-/// Judges the fields of a level's block that begins at a place of the body: by one look at each value of the table, and
-/// else field by field. Where one shows no value, `out` tells the first fault.
+/// Checks the fields of a level's block that begins at an offset of the body: by a fast check of each value of the
+/// table, and otherwise field by field. If one has no valid value, `out` receives the first fault.
 #[inline(always)]
 fn judge_block(
     mode: Mode,
@@ -98,8 +98,8 @@ fn judge_block(
     judge_fields(mode, rows, level.fields.as_slice(), at, block, out)
 }
 
-/// Whether one look at each value of a block, by the table of its level's row, shows it. Numbers that have the highest
-/// byte first aren't looked at, nor blocks of versions without all fields.
+/// Whether the fast check accepts each value of a block, by the table of its level's row. Big-endian numbers aren't
+/// checked, nor are blocks of versions that lack a field; the answer is then false.
 #[inline(always)]
 fn shows_each(mode: Mode, row: &LevelRow, block: &[u8]) -> bool
     requires table { IsTable row.now.flat }

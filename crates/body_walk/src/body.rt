@@ -12,7 +12,7 @@ use layout_tables::Layout;
 use sbe_types::Level;
 use sbe_wire::Mode;
 
-/// What the walk tells of a body that is a message.
+/// What the walk finds in a body that is a message.
 #[derive(Clone, Copy)]
 pub struct Walked<'a> {
     /// The root of its template.
@@ -26,8 +26,8 @@ pub struct Walked<'a> {
     pub mode: Mode,
 }
 
-/// Walks a body once (SBE 1.0, "Message structure"): what it tells of the message that lies there, exactly where one lies
-/// there. Else `last` keeps its first faulty part in wire order.
+/// Walks a body once (SBE 1.0, "Message structure"). Returns what it finds of the message, exactly if the body is one.
+/// Otherwise `last` receives its first faulty part in wire order.
 #[inline(always)]
 #[tactic(auto, using(crate::proofs::ReadyTold::ready_schema))]
 pub fn walk_body<'a>(layout: &'a Layout, body: &[u8], last: &mut LastRefusal) -> Option<Walked<'a>>

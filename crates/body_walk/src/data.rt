@@ -12,7 +12,7 @@ use sbe_types::Step;
 use sbe_wire::{FCode, Mode};
 use var_data::{DataErr, read_data_of};
 
-/// Walks data parts, of which the first is part `first` of its level, from a place on.
+/// Walks data parts from an offset on. The first one is part `first` of its level.
 pub(crate) fn walk_parts(
     mode: Mode,
     rows: &[PartRow],
@@ -41,7 +41,7 @@ pub(crate) fn walk_parts(
     Some(at)
 }
 
-/// Walks a data part from a place on.
+/// Walks a data part from an offset on.
 fn walk_data(mode: Mode, row: &PartRow, body: &[u8], at: usize, out: &mut Found) -> Option<usize>
     requires small { IsSmall row.now.length.prim }
     requires at { at ≤ length body.now }

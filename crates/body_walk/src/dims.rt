@@ -11,7 +11,7 @@ use layout_tables::DimRow;
 use sbe_types::Order;
 use sbe_wire::FCode;
 
-/// Reads the dimension of a group whose entries have at least so many bytes in their blocks.
+/// Reads the dimension of a group whose entries have blocks of at least `least` bytes.
 pub(crate) fn walk_dim(
     order: Order,
     row: &DimRow,

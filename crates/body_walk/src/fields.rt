@@ -11,7 +11,7 @@ use layout_tables::FieldRow;
 use sbe_types::Field;
 use sbe_wire::Mode;
 
-/// Judges the fields of a block that begins at a place of the body. Where one shows no value, `out` tells the
+/// Checks the fields of a block that begins at an offset of the body. If one has no valid value, `out` receives the
 /// first fault.
 #[inline(always)]
 pub(crate) fn judge_fields(
@@ -36,7 +36,7 @@ pub(crate) fn judge_fields(
     true
 }
 
-/// Judges field `i`, where it is alive and no constant.
+/// Checks field `i`, if the version has it and it isn't a constant.
 #[inline(always)]
 #[tactic(auto, using(crate::proofs::AtOnce::part_looks))]
 fn judge_field(

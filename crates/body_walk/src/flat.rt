@@ -17,7 +17,7 @@ use layout_tables::LevelRow;
 use sbe_types::Step;
 use sbe_wire::Mode;
 
-/// The place after a root without groups and data, where one look at each value shows it.
+/// The offset after a root without groups and data, if the fast check accepts each value.
 #[inline(always)]
 pub(crate) fn behind_root(layer: &Layer<'_>, row: &LevelRow, block: u32, at: usize) -> Option<usize>
     requires layer { IsLayer layer.now }
@@ -35,7 +35,7 @@ pub(crate) fn behind_root(layer: &Layer<'_>, row: &LevelRow, block: u32, at: usi
     Some(at + block as usize)
 }
 
-/// The same as [`shows_block`], as a call of its own: a root is looked at where its view is made.
+/// The same as [`shows_block`], as a separate call: a root is checked where its view is made.
 #[inline(never)]
 fn shows_root(mode: Mode, row: &LevelRow, body: &[u8], at: usize, block: u32) -> bool
     requires table { IsTable row.now.flat }
@@ -47,7 +47,7 @@ fn shows_root(mode: Mode, row: &LevelRow, body: &[u8], at: usize, block: u32) ->
     shows_block(mode, row, body, at, block)
 }
 
-/// Walks the entries of a group without groups and data from the end of its dimension on.
+/// Walks the entries of a group without groups and data, from the end of its dimension on.
 pub(crate) fn walk_blocks(layer: &Layer<'_>, dim: Dim, out: &mut Found) -> Option<usize>
     requires layer { IsLayer layer.now }
     requires groups { length (out-Level layer.now.level.now).groups ≡ 0 }
@@ -62,7 +62,7 @@ pub(crate) fn walk_blocks(layer: &Layer<'_>, dim: Dim, out: &mut Found) -> Optio
     let reached = walk_shown(layer, row, dim);
     let mut at = reached.at;
     for i in reached.entry..dim.count {
-        // A copy of its own, so that nothing is stored where it isn't needed.
+        // A separate copy, so that nothing is stored where it isn't needed.
         let layer = *layer;
         match walk_flat(&layer, row, dim.block, at, out) {
             Some(next) => at = next,
@@ -75,14 +75,14 @@ pub(crate) fn walk_blocks(layer: &Layer<'_>, dim: Dim, out: &mut Found) -> Optio
     Some(at)
 }
 
-/// How far entries were walked: up to this one, which begins at this place.
+/// How far entries were walked: up to this one, which begins at this offset.
 #[derive(Clone, Copy)]
 struct Reached {
     entry: u32,
     at: usize,
 }
 
-/// Walks the first entries of a group without groups and data, as far as one look at each value shows them.
+/// Walks the first entries of a group without groups and data, as far as the fast check accepts them.
 #[inline(always)]
 fn walk_shown(layer: &Layer<'_>, row: &LevelRow, dim: Dim) -> Reached
     requires layer { IsLayer layer.now }
@@ -108,7 +108,7 @@ fn walk_shown(layer: &Layer<'_>, row: &LevelRow, dim: Dim) -> Reached
     }
 }
 
-/// The place after an entry of a level without groups and data, where one look at each value shows it.
+/// The offset after an entry of a level without groups and data, if the fast check accepts each value.
 #[inline(always)]
 fn behind_shown(layer: &Layer<'_>, row: &LevelRow, block: u32, at: usize) -> Option<usize>
     requires layer { IsLayer layer.now }

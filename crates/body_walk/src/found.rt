@@ -4,8 +4,7 @@ use sbe_types::{Path, Step};
 use sbe_wire::FCode;
 use std::marker::Model;
 
-/// The steps to a fault. They stand at the end of the array, since each level adds its own in front on the way
-/// out.
+/// The steps to a fault. They are at the end of the array, since each level prepends its own on the way out.
 #[derive(Drop)]
 pub(crate) struct Trail {
     steps: [Step; 20],
@@ -24,7 +23,7 @@ impl Model for Trail {
 }
 
 impl Trail {
-    /// No step.
+    /// Creates an empty trail.
     fn new() -> Trail
         ensures { result ≡ [] }
     {
@@ -45,14 +44,14 @@ impl Trail {
         path
     }
 
-    /// Forgets all steps.
+    /// Removes all steps.
     fn clear(&mut self)
         ensures { self.new ≡ [] }
     {
         self.start = 20;
     }
 
-    /// Adds a step in front.
+    /// Prepends a step.
     #[tactic(auto, using(crate::proofs::Trails::one_in_front, crate::proofs::Trails::room))]
     fn push_front(&mut self, step: Step)
         requires { length self.old < 20 }
@@ -63,7 +62,7 @@ impl Trail {
     }
 }
 
-/// The place of a fault that was found, lent to the walk so that nothing wide is handed back.
+/// The first fault found, lent to the walk so that nothing wide is returned.
 #[derive(Drop)]
 pub(crate) struct Found {
     pub(crate) code: FCode,
@@ -73,7 +72,7 @@ pub(crate) struct Found {
 }
 
 impl Found {
-    /// The place before a fault was found.
+    /// The initial contents, before a fault was found.
     pub(crate) fn new() -> Found
         ensures { length result.path ≡ 0 }
     {
@@ -85,7 +84,7 @@ impl Found {
         }
     }
 
-    /// Tells a fault right here.
+    /// Records a fault at the current place.
     #[cold]
     pub(crate) fn tell(&mut self, code: FCode, offset: usize, detail: i128)
         ensures { self.new ≡ record { code = code; path = []; offset = offset; detail = detail } }
@@ -96,7 +95,7 @@ impl Found {
         self.detail = detail;
     }
 
-    /// The fault lies inside a step.
+    /// Records that the fault is inside this step.
     #[cold]
     pub(crate) fn under(&mut self, step: Step)
         requires { length self.old.path < 20 }

@@ -31,7 +31,7 @@ pub(crate) fn numbers_in(layout: &Layout, head: &[u8]) -> HeadNumbers
     }
 }
 
-/// The numbers of a header that stand one behind another in two bytes each.
+/// The numbers of a header that follow one another in two bytes each.
 #[inline(always)]
 fn usual_numbers(order: Order, head: &[u8]) -> HeadNumbers
     requires { 8 ≤ length head.now }
@@ -49,7 +49,7 @@ fn usual_numbers(order: Order, head: &[u8]) -> HeadNumbers
     }
 }
 
-/// The numbers of a header, wherever they stand.
+/// The numbers of a header, at any offsets.
 #[inline(never)]
 fn any_numbers(layout: &Layout, head: &[u8]) -> HeadNumbers
     requires { length head.now ≡ header_width layout.now }

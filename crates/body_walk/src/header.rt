@@ -17,22 +17,22 @@ use layout_tables::Layout;
 use sbe_types::Level;
 use sbe_wire::{FCode, Mode};
 
-/// What a header says of the message after it.
+/// What a header states of the message after it.
 #[derive(Clone, Copy)]
 pub struct Start {
-    /// How many bytes the root's block has.
+    /// The size of the root's block in bytes.
     pub block: u32,
     pub version: u32,
 }
 
-/// The number of the message that a header names, and what else the header says.
+/// The number of the message that a header names, and what else the header states.
 #[derive(Clone, Copy)]
 pub(crate) struct Named {
     pub(crate) template: usize,
     pub(crate) start: Start,
 }
 
-/// The message that a header names; where it names none of this schema, `out` tells why.
+/// Finds the message that a header names. If it names none of this schema, `out` receives the reason.
 #[inline(always)]
 pub(crate) fn find_template(layout: &Layout, body: &[u8], out: &mut Found) -> Option<Named>
     requires { IsReadySchema layout.now }
@@ -76,8 +76,8 @@ pub(crate) fn find_template(layout: &Layout, body: &[u8], out: &mut Found) -> Op
     }
 }
 
-/// Walks the message of that number after a header that says this, and answers its version; where the body is no
-/// such message, `out` tells the first fault.
+/// Walks the message with this number after its header, and returns its version. If the body isn't such a message,
+/// `out` receives the first fault.
 #[inline(always)]
 pub(crate) fn walk_message(
     layout: &Layout,
@@ -108,7 +108,7 @@ pub(crate) fn walk_message(
     }
 }
 
-/// How the values of a message of that version are read.
+/// How the values of a message of this version are read.
 #[inline(always)]
 pub fn mode_of(layout: &Layout, version: u32) -> Mode
     ensures { result ≡ mode_of layout.now version }
@@ -120,7 +120,7 @@ pub fn mode_of(layout: &Layout, version: u32) -> Mode
     }
 }
 
-/// Judges a header's block length by the floor of the root.
+/// Checks a header's block length against the floor of the root.
 fn judge_start(
     layout: &Layout,
     root: usize,
@@ -147,7 +147,7 @@ fn judge_start(
     Some(start)
 }
 
-/// Judges what is left after the last part of a message of that version.
+/// Checks what is left after the last part of a message of this version.
 fn judge_rest(known: bool, version: u32, body: &[u8], next: usize, out: &mut Found) -> Option<u32>
     requires { next ≤ length body.now }
     ensures told { went result out.new ≡ rest_told known version body.now next }

@@ -1,4 +1,4 @@
-// Values by their bytes, kind by kind.
+// Values checked by their bytes, kind by kind.
 ghost use Rattle.std.specs.Prelude.{◌≡◌, ◌≤◌, ◌<◌, ◌+◌, ◌*◌, ◌^◌, ◌||◌, false, true, not, suc, length, Some, Err};
 ghost use Rattle.sbe_types.specs.declared.kind.Kind.{Comp, Leaf as LeafKind};
 ghost use Rattle.sbe_types.specs.Numbers.{number_of, natural, prim_width};
@@ -20,7 +20,7 @@ use sbe_types::{
 };
 use sbe_wire::{FCode, Mode};
 
-/// Judges the bytes of part `i` of a block or composite, which begin at a place of the body.
+/// Checks the bytes of part `i` of a block or composite, which begin at an offset of the body.
 #[cycle(kind)]
 pub(crate) fn judge_part(
     mode: Mode,
@@ -43,8 +43,8 @@ pub(crate) fn judge_part(
     false
 }
 
-/// Judges the bytes of a kind, which begin at a place of the body. Where they show no value, `out` tells the
-/// first fault.
+/// Checks the bytes of a kind, which begin at an offset of the body. If they aren't a value, `out` receives the first
+/// fault.
 #[cycle(kind)]
 fn judge_kind(mode: Mode, kind: &Kind, at: usize, bytes: &[u8], out: &mut Found) -> bool
     requires ready { IsReady kind.now }
@@ -62,7 +62,7 @@ fn judge_kind(mode: Mode, kind: &Kind, at: usize, bytes: &[u8], out: &mut Found)
     }
 }
 
-/// Judges the members of a composite.
+/// Checks the members of a composite.
 #[cycle(kind)]
 fn judge_members(
     mode: Mode,
@@ -90,7 +90,7 @@ fn judge_members(
     true
 }
 
-/// Judges member `i` of a composite, which stands behind members that end at `end` and itself ends at `behind`.
+/// Checks member `i` of a composite, which follows members that end at `end` and itself ends at `behind`.
 #[cycle(kind)]
 #[tactic(auto, using(crate::proofs::AtOnce::part_looks))]
 fn judge_member(
@@ -123,7 +123,7 @@ fn judge_member(
     }
 }
 
-/// Judges a number, a text or an array.
+/// Checks a number, a text or an array.
 #[inline(always)]
 #[tactic(auto, using(crate::proofs::AtOnce::leaf_good))]
 fn judge_leaf(order: Order, leaf: &Leaf, at: usize, bytes: &[u8], out: &mut Found) -> bool
@@ -139,7 +139,7 @@ fn judge_leaf(order: Order, leaf: &Leaf, at: usize, bytes: &[u8], out: &mut Foun
     judge_each(order, leaf, at, bytes, out)
 }
 
-/// Judges a number, a text or an array, one element or byte after another.
+/// Checks a number, a text or an array, one element or byte at a time.
 #[tactic(auto, using(crate::proofs::LeafTold::leaf_shown))]
 fn judge_each(order: Order, leaf: &Leaf, at: usize, bytes: &[u8], out: &mut Found) -> bool
     requires order { IsLeafInOrder leaf.now }
@@ -160,7 +160,7 @@ fn judge_each(order: Order, leaf: &Leaf, at: usize, bytes: &[u8], out: &mut Foun
     false
 }
 
-/// Tells the fault of a leaf whose bytes begin at a place.
+/// Records the fault of a leaf whose bytes begin at an offset.
 #[cold]
 fn tell_leaf(leaf: &Leaf, at: usize, fault: &LeafFault, out: &mut Found)
     requires { IsLeafFault leaf.now at fault.now }
@@ -183,7 +183,7 @@ fn tell_leaf(leaf: &Leaf, at: usize, fault: &LeafFault, out: &mut Found)
     }
 }
 
-/// Judges an enum.
+/// Checks an enum.
 fn judge_enum(
     mode: Mode,
     leaf: &Leaf,
@@ -205,7 +205,7 @@ fn judge_enum(
     false
 }
 
-/// Judges a set.
+/// Checks a set.
 fn judge_set(
     mode: Mode,
     prim: Prim,

@@ -7,7 +7,7 @@ use layout_tables::Layout;
 use sbe_types::Level;
 use sbe_wire::Mode;
 
-/// A level whose blocks lie in a body, with its number, and how their values are read.
+/// A level whose blocks lie in a body, with its number, and how the values are read.
 #[derive(Clone, Copy)]
 pub struct Layer<'a> {
     pub layout: &'a Layout,
@@ -25,7 +25,7 @@ pub fn is_flat(level: &Level) -> bool
     level.groups.is_empty() && level.parts.is_empty()
 }
 
-/// The number of the level after a level: that of its first group's entries, where it has groups. It needs a level in range.
+/// The number of the next level: that of the first group's entries, if the level has groups. Requires a level in range.
 #[inline(always)]
 pub fn first_child(layout: &Layout, n: usize) -> usize
     requires { n < length (all_nodes layout.now) }

@@ -1,4 +1,4 @@
-//! A body is judged in one walk: it is a message of a schema, or its first faulty part is told.
+//! Checks a body in one walk: either it is a message of a schema, or its first faulty part is reported.
 #![tactic(auto)]
 
 mod blocks;

@@ -1,4 +1,4 @@
-// Values that one look at their bytes shows. Bytes that it doesn't see as a value may be one all the same.
+// Fast validity checks of values. `false` means unknown, not invalid.
 ghost use Rattle.std.specs.Prelude.{◌≡◌, ◌||◌, ℕ, not, true, length, pos, Ok, None};
 ghost use Rattle.sbe_types.specs.declared.kind.Kind.{Leaf as LeafKind};
 ghost use Rattle.sbe_types.specs.declared.kind.Primitive.TheVariants.{Char};
@@ -16,7 +16,7 @@ use crate::numbers::shows_enum;
 use sbe_types::{Kind, Leaf, LeafShape, NamedList, Order, get_num};
 use sbe_wire::Mode;
 
-/// Whether one look shows that bytes are a value of a kind.
+/// Whether the fast check accepts bytes as a value of a kind.
 #[inline(always)]
 #[tactic(auto, using(crate::proofs::AtOnce::leaf_looks, crate::proofs::AtOnce::enum_looks))]
 pub(crate) fn shows_at_once(mode: Mode, kind: &Kind, bytes: &[u8]) -> bool
@@ -41,7 +41,7 @@ fn is_enum(mode: Mode, leaf: &Leaf, values: &NamedList, bytes: &[u8]) -> bool
     shows_enum(leaf, values, mode.known, number)
 }
 
-/// Whether one look shows that bytes are a number or a text.
+/// Whether the fast check accepts bytes as a number or a text.
 #[inline(always)]
 #[tactic(auto, using(crate::proofs::AtOnce::number_looks, crate::proofs::AtOnce::text_looks, crate::proofs::AtOnce::encoded_looks))]
 pub(crate) fn shows_leaf(order: Order, leaf: &Leaf, bytes: &[u8]) -> bool
@@ -57,7 +57,7 @@ pub(crate) fn shows_leaf(order: Order, leaf: &Leaf, bytes: &[u8]) -> bool
     }
 }
 
-/// Whether bytes are a number in the range.
+/// Whether bytes are a number within the range.
 #[inline(always)]
 fn is_in_range(order: Order, leaf: &Leaf, bytes: &[u8]) -> bool
     requires { length bytes.now ≡ prim_width leaf.now.prim }
@@ -66,7 +66,7 @@ fn is_in_range(order: Order, leaf: &Leaf, bytes: &[u8]) -> bool
     leaf.admits(get_num(order, leaf.prim, bytes))
 }
 
-/// Whether the bytes up to the first 00 lie in the range.
+/// Whether the bytes up to the first 00 are within the range.
 fn is_text(leaf: &Leaf, bytes: &[u8]) -> bool
     requires order { IsLeafInOrder leaf.now }
     requires shape { leaf.now.shape ≡ RangedText }
@@ -91,7 +91,7 @@ fn as_byte(number: i128) -> u8
     number as u8
 }
 
-/// Whether a byte lies in the range of a leaf, which is that of the two bytes.
+/// Whether a byte is within the range of a leaf, which is from `low` to `high`.
 #[inline(always)]
 fn is_between(leaf: &Leaf, low: u8, high: u8, byte: u8) -> bool
     requires low { leaf.now.low ≡ pos low }

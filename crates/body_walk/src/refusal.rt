@@ -6,21 +6,22 @@ use sbe_types::Path;
 use sbe_wire::FCode;
 use std::marker::Model;
 
-/// Why a body is no message: its first faulty part in wire order.
+/// Why a body isn't a message: its first faulty part in wire order.
 #[derive(Drop)]
 pub struct Refusal {
     pub code: FCode,
-    /// The number of the message with the header's template id; none where the header names none of this schema.
+    /// The number of the message with the header's template id, or `None` if the header names none of this schema.
     pub template: Option<usize>,
-    /// The way to the part; empty for the root block, the header and what follows the message.
+    /// The path to the part; empty for the root block, the header and what follows the message.
     pub path: Path,
-    /// The place of the fault, counted from the body's first byte.
+    /// The offset of the fault from the body's first byte.
     pub offset: usize,
-    /// The number that is refused, or how many bytes are wanted, there, or too many.
+    /// The number that is refused, or how many bytes are needed, available or superfluous.
     pub detail: i128,
 }
 
-/// Why the body that was looked at last is no message. It is lent, so that a body that is a message costs nothing of it.
+/// Why the last body that was checked isn't a message. It is lent, so that a body that is a message costs nothing for
+/// it.
 #[derive(Drop)]
 pub struct LastRefusal {
     pub(crate) template: Option<usize>,
@@ -37,7 +38,7 @@ impl Model for LastRefusal {
 }
 
 impl LastRefusal {
-    /// The place of a refusal, before a body was looked at.
+    /// The initial contents, before a body was checked.
     pub fn new() -> LastRefusal {
         LastRefusal {
             template: None,
@@ -45,7 +46,7 @@ impl LastRefusal {
         }
     }
 
-    /// The refusal of the body that was looked at last.
+    /// The refusal of the last body that was checked.
     #[cold]
     pub fn refusal(&self) -> Refusal
         ensures fault { refused result ≡ self.now.fault }

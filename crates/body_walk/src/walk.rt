@@ -24,8 +24,8 @@ use layout_tables::Layout;
 use sbe_types::{Group, Level, Step};
 use sbe_wire::Mode;
 
-/// Walks a block of so many bytes at a place of the body, and then the groups and the data of its level. Answers
-/// the place after them; where there is none, `out` tells the first fault.
+/// Walks a block of `block` bytes at an offset of the body, and then the groups and the data of its level. Returns the
+/// offset after them. If it returns `None`, `out` receives the first fault.
 #[cycle(walk)]
 fn walk_entry(
     layout: &Layout,
@@ -57,7 +57,8 @@ fn walk_entry(
     }
 }
 
-/// The same of a root: without groups and data it is looked at by its table first, apart from the walk over groups and data.
+/// The same for a root. If it has no groups and data it is first checked by its table, apart from the walk over groups
+/// and data.
 #[inline(always)]
 pub(crate) fn walk_root(
     layout: &Layout,
@@ -93,7 +94,7 @@ pub(crate) fn walk_root(
     walk_entry(layout, mode, n, level, block, body, at, out)
 }
 
-/// Walks the groups and then the data of a level from a place on.
+/// Walks the groups and then the data of a level, from an offset on.
 #[cycle(walk)]
 fn walk_tail(
     layout: &Layout,
@@ -121,7 +122,7 @@ fn walk_tail(
     }
 }
 
-/// Walks the groups of a level from a place on.
+/// Walks the groups of a level, from an offset on.
 #[cycle(walk)]
 fn walk_groups(
     layout: &Layout,
@@ -157,7 +158,7 @@ fn walk_groups(
     Some(at)
 }
 
-/// The number of a level's first data part among its parts.
+/// The number of a level's first data part, counted among its parts.
 fn first_part(level: &Level) -> usize
     requires { length (out-Level level.now).fields + length (out-Level level.now).groups ≤ PART_LIMIT }
     ensures { result ≡ length (out-Level level.now).fields + length (out-Level level.now).groups }
@@ -165,7 +166,7 @@ fn first_part(level: &Level) -> usize
     level.fields.len() + level.groups.len()
 }
 
-/// Walks a group, whose entries' level has that number, from a place on.
+/// Walks a group, whose entries' level has this number, from an offset on.
 #[cycle(walk)]
 fn walk_group(
     layout: &Layout,
@@ -199,7 +200,7 @@ fn walk_group(
     }
 }
 
-/// Walks the entries of a group from the end of its dimension on.
+/// Walks the entries of a group, from the end of its dimension on.
 #[cycle(walk)]
 fn walk_entries(
     layout: &Layout,

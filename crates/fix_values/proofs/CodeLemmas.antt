@@ -15,7 +15,7 @@ use Rattle.fix_values.specs.Codes.{bit_of, bits_of, codes_in, joined, judged_set
 use Rattle.fix_values.specs.Tables.{with_code, with_codes, is_marked, are_marked}
 use Rattle.fix_values.proofs.NumeralLemmas.{both, together, either, neither, is_not_true, not_true, false≢true, leb-true}
 
--- the items from place i on: this one, and those behind it
+-- the items from place i on: this one, and those after it
 pub item_on : {X : Type 0} (xs ys : List X) (i : ℕ) (x : X) → ys ≡ xs → x ≡ get_or ys i x → i < length ys → drop i xs ≡ x ∷ drop (i + 1) xs
 item_on xs ys i x same is within =
     let within_xs : i < length xs = subst (λ l. i < length l) same within in
@@ -23,7 +23,7 @@ item_on xs ys i x same is within =
     let next : suc i ≡ i + 1 = omega arith in
     drop-cons xs i x within_xs ∙ (ap (λ y. y ∷ drop (suc i) xs) (sym item) ∙ ap (λ k. x ∷ drop k xs) next)
 
--- what passes a test, of one item and of those behind it
+-- what passes a test, of one item and of those after it
 pub filter_on : {X : Type 0} (p : X → Bool) (all : List X) (x : X) (rest : List X) → all ≡ x ∷ rest → filter p all ≡ filter p (x ∷ []) ++ filter p rest
 filter_on p all x rest e = ap (filter p) e ∙ filter-append p (x ∷ []) rest
 
@@ -101,7 +101,7 @@ few codes n h a =
     let all : length (numbers codes) ≤ 64 = length-le_from_distinct_below (numbers codes) 64 (distinct codes h a) (λ q e. numbers_small codes q h e) in
     omega (arith, all, length_filter (has_bit n) codes, length-map codes (λ code. natural code.number))
 
--- the texts of more codes, each behind a space
+-- the texts of more codes, each after a space
 abbrev spaced : List Code → List ℕ
 spaced [] = []
 spaced (x ∷ xs) = 32 ∷ (x.text ++ spaced xs)
@@ -135,7 +135,7 @@ pub first_is : (text : List ℕ) (b : ℕ) → slice_get text 0 ≡ Some b → s
 first_is [] b h = cc
 first_is (x ∷ xs) b h = cc
 
--- a byte that is passed, and those behind it
+-- a byte that is passed, and those after it
 passed : (here : Bool) (marks : List Bool) (x : ℕ) (rest : List ℕ) → not here || is_marked marks x ≡ true → are_marked here marks (x ∷ rest) ≡ are_marked (not here) marks rest
 passed true marks x rest h = rw h
 passed false marks x rest h = refl

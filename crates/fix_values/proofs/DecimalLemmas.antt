@@ -1,4 +1,4 @@
--- The digits of decimals: zeros in front and behind, and the digits of a fraction.
+-- The digits of decimals: zeros in front and after, and the digits of a fraction.
 use Rattle.std.proofs.Common.{◌≡◌, ℕ, zero, suc, ◌+◌, ◌-◌, ◌*◌, ◌/◌, ◌%◌, ◌^◌, ◌<◌, ◌≤◌, Bool, true, false, eqb, ◌==◌, cond, List, [], ◌∷◌, ◌++◌, length, take, get_or, refl, sym, ap, ◌∙◌, arith, subst, append_assoc, inl, inr, decimal, pos, ℤ, negsuc, ◌≢◌, nat_le, Result, Ok, Err, int_le, neg_ℤ, unsigned_abs, ◌<ℤ◌, FitsSigned, to_z, of_z, int_lt, ◌≤ℤ◌, ◌-ℤ◌, nat_abs, nat_lt}
 use Rattle.std.proofs.lemmas.List.{take_more}
 use Rattle.std.proofs.lemmas.Nat.{div-add-mod'}

@@ -51,7 +51,7 @@ pub digits_first : (digits rest : List ℕ) → all_ascii_digits digits ≡ true
 digits_first [] rest h none = none
 digits_first (d ∷ ds) rest h none = no_minus d (both (is_ascii_digit d) (all_ascii_digits ds) h).0
 
--- what stands behind a sign
+-- what follows a sign
 pub sign_taken : (negative : Bool) (rest : List ℕ) → is_negative rest ≡ false → (is_negative (sign negative ++ rest) ≡ negative) × (unsigned (sign negative ++ rest) ≡ rest)
 sign_taken true rest h = (refl, refl)
 sign_taken false [] h = (refl, refl)
@@ -63,7 +63,7 @@ digit_is c h = grind (arith, nat_tests)
 pub digit_small : (c : ℕ) → is_ascii_digit c ≡ true → digit_value c < 10
 digit_small c h = grind (arith, nat_tests)
 
--- digits behind a number only add to it
+-- digits after a number only add to it
 pub value_after_ge : (n : ℕ) (ds : List ℕ) → n ≤ digits_value_after 10 n ds
 value_after_ge n [] = omega arith
 value_after_ge n (d ∷ ds) = omega (arith, value_after_ge (n * 10 + digit_value d) ds)
@@ -84,7 +84,7 @@ pub integer_is : (text : List ℕ) (negative : Bool) (digits : List ℕ) → neg
     is_numeral digits ≡ true → integer_of text ≡ Some (signed negative (digits_value 10 digits))
 integer_is text negative digits sign rest numeral = rw (← sign, ← rest, numeral)
 
--- the bytes from place i on: this one, and those behind it
+-- the bytes from place i on: this one, and those after it
 pub byte_on : (bs : List ℕ) (i : ℕ) → i < length bs → drop i bs ≡ get_or bs i 0 ∷ drop (i + 1) bs
 byte_on bs i within =
     let next : suc i ≡ i + 1 = omega arith in

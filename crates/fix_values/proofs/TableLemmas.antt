@@ -52,7 +52,7 @@ length_marks false t [] = refl
 length_marks true t (b ∷ bs) = length_marks false t bs
 length_marks false t (b ∷ bs) = length_marks true (marked t b) bs ∙ length-set t b true
 
--- whether a text that goes on so ends behind a character
+-- whether a text that goes on so ends after a character
 abbrev ends : Bool → List ℕ → Bool
 ends space [] = space
 ends space (b ∷ bs) = ends (not space) bs

@@ -1,6 +1,6 @@
 -- The texts of listed values: codes, sets of codes and Booleans. From FIX Orchestra, code sets, and the FIX tag-value
 -- encoding, datatypes MultipleCharValue and Boolean. Own profile: the order in which a set is shown, that no character
--- stands twice, and that SOH in a code is refused.
+-- occurs twice, and that SOH in a code is refused.
 use Rattle.std.specs.Prelude.{ℕ, ◌/◌, ◌%◌, ◌^◌, Bool, true, false, not, ◌&&◌, ◌||◌, ◌==◌, nat_eq, nat_lt, int_le, nat_le, if◌then◌else◌, List, [], ◌∷◌, length, map, codes, ℤ, pos, bytes_eq, find, filter, sum_by, Option, Some, None, Result, Ok, Err}
 use Rattle.std.specs.List.{list_any, list_all, join_with_byte}
 use Rattle.std.specs.Ordering.{int_eq}
@@ -23,7 +23,7 @@ abbrev pub found_text : Option Code → Result (List ℕ) V
 found_text None = Err UnknownCode
 found_text (Some code) = if has_soh code.text then Err Soh else Ok code.text
 
--- the text of the first code of this number
+-- the text of the first code with this number
 abbrev pub code_text : List Code → ℤ → Result (List ℕ) V
 code_text codes n = found_text (find (λ code. int_eq code.number n) codes)
 
@@ -48,15 +48,16 @@ has_bit n code = n / bit_of code % 2 == 1
 abbrev pub codes_in : List Code → ℕ → List Code
 codes_in codes n = filter (has_bit n) codes
 
--- the number that the bits of codes make up
+-- the sum of the bits of codes
 abbrev pub bits_of : List Code → ℕ
 bits_of codes = sum_by bit_of codes
 
--- the texts of codes, a space between each two
+-- the texts of codes, separated by spaces
 abbrev pub joined : List Code → List ℕ
 joined codes = join_with_byte 32 (map (λ code. code.text) codes)
 
--- a set's number n whose codes make up `shown`, with this text: each bit needs a code, and there must be one
+-- the text of a set with the number n whose codes have the bits `shown`: each bit needs a code, and there must be at
+-- least one
 abbrev pub judged_set : ℕ → ℕ → List ℕ → Result (List ℕ) V
 judged_set shown n text = if shown == n then (if length text == 0 then Err Empty else (if has_soh text then Err Soh else Ok text)) else Err UnknownCode
 
@@ -64,7 +65,7 @@ judged_set shown n text = if shown == n then (if length text == 0 then Err Empty
 abbrev pub set_text : List Code → ℕ → Result (List ℕ) V
 set_text codes n = judged_set (bits_of (codes_in codes n)) n (joined (codes_in codes n))
 
--- every other byte, from the first on or from the second on
+-- every other byte, beginning with the first or with the second
 abbrev pub every_other : Bool → List ℕ → List ℕ
 every_other here [] = []
 every_other true (b ∷ bs) = b ∷ every_other false bs
@@ -74,16 +75,16 @@ every_other false (b ∷ bs) = every_other true bs
 abbrev pub characters : List ℕ → List ℕ
 characters text = every_other true text
 
--- the number stands in the list
+-- the number is in the list
 abbrev pub is_among : ℕ → List ℕ → Bool
 is_among n xs = list_any (nat_eq n) xs
 
--- no number stands twice in the list
+-- no number occurs twice in the list
 abbrev pub is_distinct : List ℕ → Bool
 is_distinct [] = true
 is_distinct (x ∷ xs) = not (is_among x xs) && is_distinct xs
 
--- a set's text: characters with single spaces between, none of them twice (FIX datatype MultipleCharValue)
+-- the text of a set: characters separated by single spaces, none of them twice (FIX datatype MultipleCharValue)
 abbrev pub is_set_text : List ℕ → Bool
 is_set_text text = (length text % 2 == 1) && (list_all (λ b. b == 32) (every_other false text) && is_distinct (characters text))
 
@@ -99,13 +100,13 @@ has_code codes c = list_any (is_code_of c) codes
 abbrev pub is_named : List ℕ → Code → Bool
 is_named cs code = list_any (λ c. is_code_of c code) cs
 
--- the number of the bits whose codes are named in a text
+-- the number with the bits whose codes are named in a text
 abbrev pub set_number : List Code → List ℕ → Result ℤ V
 set_number codes text =
     let cs = characters text in
     if is_set_text text then (if list_all (has_code codes) cs then Ok (pos (bits_of (filter (is_named cs) codes))) else Err UnknownCode) else Err Spelling
 
--- what stands for a truth value: `Y` for 1 or the character `Y`, `N` for 0 or the character `N` (FIX datatype Boolean)
+-- the text of a truth value: `Y` for 1 or the character `Y`, `N` for 0 or the character `N` (FIX datatype Boolean)
 abbrev pub boolean_text : ℤ → Option ℕ
 boolean_text n = if int_eq n (pos 1) || int_eq n (pos 89) then Some 89 else (if int_eq n (pos 0) || int_eq n (pos 78) then Some 78 else None)
 
@@ -118,7 +119,7 @@ truth_text (Some b) = Ok (b ∷ [])
 abbrev pub boolean_shown : List Named → ℤ → Result (List ℕ) V
 boolean_shown names n = if is_listed names n then truth_text (boolean_text n) else Err UnknownCode
 
--- whether a listed value is spelled by this byte
+-- whether the text of a listed value is this byte
 abbrev pub is_truth : ℕ → Option ℕ → Bool
 is_truth b None = false
 is_truth b (Some t) = b == t
@@ -128,21 +129,21 @@ abbrev pub named_number : Option Named → Result ℤ V
 named_number None = Err UnknownCode
 named_number (Some name) = Ok name.number
 
--- the listed number that is spelled by this byte; the null of an optional leaf counts as not listed
+-- the listed number whose text is this byte; the null of an optional leaf counts as not listed
 abbrev pub truth_number : List Named → LeafOf → ℕ → Result ℤ V
 truth_number names leaf b = named_number (find (λ name. is_truth b (boolean_text name.number) && not (is_null leaf name.number)) names)
 
--- the listed number of a truth value's text
+-- the listed number of the text of a truth value
 abbrev pub boolean_number : List Named → LeafOf → List ℕ → Result ℤ V
 boolean_number names leaf [] = Err Spelling
 boolean_number names leaf (b ∷ []) = if b == 89 || b == 78 then truth_number names leaf b else Err Spelling
 boolean_number names leaf (b ∷ c ∷ bs) = Err Spelling
 
--- a code's text has 1 to 64 bytes
+-- the text of a code has 1 to 64 bytes
 abbrev pub has_short_text : Code → Bool
 has_short_text code = nat_lt 0 (length code.text) && nat_le (length code.text) MOST_BYTES
 
--- a choice's text has one byte, and its number is one of the bits of a set
+-- the text of a choice has one byte, and its number is one of the bits of a set
 abbrev pub is_choice : Code → Bool
 is_choice code = (length code.text == 1) && (int_le (pos 0) code.number && int_le code.number (pos 63))
 
@@ -151,19 +152,19 @@ abbrev pub is_apart : {X : Type 0} → (X → X → Bool) → List X → Bool
 is_apart same [] = true
 is_apart same (x ∷ xs) = not (list_any (same x) xs) && is_apart same xs
 
--- Two codes have one number.
+-- Two codes have the same number.
 abbrev pub same_number : Code → Code → Bool
 same_number a b = int_eq a.number b.number
 
--- Two codes have one text.
+-- Two codes have the same text.
 abbrev pub same_text : Code → Code → Bool
 same_text a b = bytes_eq a.text b.text
 
--- Two truth values are the same one.
+-- Two truth values are the same.
 abbrev pub is_same_truth : Option ℕ → Option ℕ → Bool
 is_same_truth None b = false
 is_same_truth (Some t) b = is_truth t b
 
--- two listed values are spelled by the same byte
+-- two listed values have the same text
 abbrev pub same_truth : Named → Named → Bool
 same_truth a b = is_same_truth (boolean_text a.number) (boolean_text b.number)

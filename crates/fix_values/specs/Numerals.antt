@@ -6,17 +6,17 @@ use Rattle.std.specs.Str.Parse.{digits_value}
 use Rattle.sbe_types.specs.declared.kind.Leaf.{Leaf as LeafOf}
 use Rattle.sbe_types.specs.Shown.{is_null, admits}
 
--- what stands before the digits of a negative number, and of another
+-- the text before the digits: `-` for a negative number, else nothing
 abbrev pub sign : Bool → List ℕ
 sign true = codes "-"
 sign false = []
 
--- the number of this sign and size
+-- the number with this sign and size
 abbrev pub signed : Bool → ℕ → ℤ
 signed true size = neg_ℤ (pos size)
 signed false size = pos size
 
--- whether a number is below zero
+-- whether a number is negative
 abbrev pub is_below_zero : ℤ → Bool
 is_below_zero (pos n) = false
 is_below_zero (negsuc n) = true
@@ -38,7 +38,7 @@ abbrev pub is_negative : List ℕ → Bool
 is_negative [] = false
 is_negative (b ∷ bs) = b == 45
 
--- a text without the minus sign that it may begin with
+-- a text without its leading minus sign, if it has one
 abbrev pub unsigned : List ℕ → List ℕ
 unsigned [] = []
 unsigned (b ∷ bs) = if b == 45 then bs else b ∷ bs
@@ -47,6 +47,6 @@ unsigned (b ∷ bs) = if b == 45 then bs else b ∷ bs
 abbrev pub integer_of : List ℕ → Option ℤ
 integer_of text = if is_numeral (unsigned text) then Some (signed (is_negative text) (digits_value 10 (unsigned text))) else None
 
--- the number is one of the leaf's: in its range, and not the null of an optional leaf
+-- the number is one of the leaf's: within its range, and not the null of an optional leaf
 abbrev pub is_value : LeafOf → ℤ → Bool
 is_value leaf n = not (is_null leaf n) && admits leaf n

@@ -1,10 +1,11 @@
--- What the code keeps on the way: a set's text as it grows, and tables of 256 marks, one for each byte. Own profile.
+-- What the code stores while it works: a set's text as it grows, and tables of 256 marks, one for each byte. Own
+-- profile.
 use Rattle.std.specs.Prelude.{ℕ, Bool, true, false, not, ◌&&◌, ◌==◌, List, [], ◌∷◌, ◌++◌, filter, slice_index, slice_index_or, slice_set}
 use Rattle.std.specs.List.{list_all}
 use Rattle.fix_values.specs.declared.rule.Code.{Code}
 use Rattle.fix_values.specs.Codes.{every_other}
 
--- a space behind a text that isn't empty
+-- a space, after a text that isn't empty
 abbrev pub space_after : List ℕ → List ℕ
 space_after [] = []
 space_after (b ∷ bs) = 32 ∷ []
@@ -22,17 +23,17 @@ with_codes text (code ∷ codes) = with_codes (with_code text code) codes
 abbrev pub is_marked : List Bool → ℕ → Bool
 is_marked marks b = slice_index_or marks b false
 
--- The marks with that of a byte set.
+-- The marks, with that of a byte set.
 abbrev pub marked : List Bool → ℕ → List Bool
 marked marks b = slice_set marks b true
 
--- bytes that go on with a set's text, where a space is to come or a character that isn't marked
+-- the bytes continue a set's text: a space is due (`space`), or else a character that isn't marked
 abbrev pub goes_on : Bool → List Bool → List ℕ → Bool
 goes_on space marks [] = space
 goes_on true marks (b ∷ bs) = (b == 32) && goes_on false marks bs
 goes_on false marks (b ∷ bs) = not (is_marked marks b) && goes_on true (marked marks b) bs
 
--- the marks behind them
+-- the marks after these bytes
 abbrev pub marks_of : Bool → List Bool → List ℕ → List Bool
 marks_of space marks [] = marks
 marks_of true marks (b ∷ bs) = marks_of false marks bs
@@ -46,11 +47,11 @@ first_byte code = slice_index code.text 0
 abbrev pub is_marked_code : List Bool → Code → Bool
 is_marked_code marks code = is_marked marks (first_byte code)
 
--- the codes whose texts are marked
+-- the codes whose first byte is marked
 abbrev pub marked_codes : List Bool → List Code → List Code
 marked_codes marks codes = filter (is_marked_code marks) codes
 
--- the texts of codes marked too
+-- the marks, with those of the codes' first bytes set
 abbrev pub with_marks : List Bool → List Code → List Bool
 with_marks marks [] = marks
 with_marks marks (code ∷ codes) = with_marks (marked marks (first_byte code)) codes

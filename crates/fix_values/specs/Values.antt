@@ -16,7 +16,7 @@ use Rattle.fix_values.specs.Numerals.{integer_of}
 use Rattle.fix_values.specs.Decimals.{decimal_of, fitted, judged}
 use Rattle.fix_values.specs.Codes.{has_soh, code_text, code_number, set_text, set_number, boolean_shown, boolean_number, has_short_text, is_choice, is_apart, same_number, same_text, same_truth}
 
--- a character is the byte of its number, and never SOH
+-- the text of a character: the byte of its number, unless it is SOH
 abbrev pub char_text : ℕ → Result (List ℕ) V
 char_text b = if b == SOH then Err Spelling else Ok (b ∷ [])
 
@@ -29,21 +29,21 @@ text_of (rule.Boolean names) n = boolean_shown names n
 text_of (rule.Code codes) n = code_text codes n
 text_of (rule.Codes codes) n = set_text codes (natural n)
 
--- a whole number that was spelled, or none
+-- a whole number that was spelled, or the refusal that there is none
 abbrev pub spelled_number : Option ℤ → Result ℤ V
 spelled_number None = Err Spelling
 spelled_number (Some n) = Ok n
 
--- The number that a text spells, where the leaf admits it.
+-- The number that a text spells, if it is one of the leaf's.
 abbrev pub integer_value : LeafOf → List ℕ → Result ℤ V
 integer_value leaf text = judged leaf (spelled_number (integer_of text))
 
--- a decimal that is whole
+-- a decimal as a whole number of the leaf's, if it is one
 abbrev pub whole_value : LeafOf → Result Dec V → Result ℤ V
 whole_value leaf (Ok d) = fitted d leaf (pos 0)
 whole_value leaf (Err v) = Err v
 
--- The character that a text is, where the leaf admits it.
+-- The character that a text is, if it is one of the leaf's.
 abbrev pub char_value : LeafOf → List ℕ → Result ℤ V
 char_value leaf [] = Err Spelling
 char_value leaf (b ∷ []) = judged leaf (Ok (pos b))
@@ -58,7 +58,8 @@ value_of (rule.Boolean names) leaf text = boolean_number names leaf text
 value_of (rule.Code codes) leaf text = code_number codes leaf text
 value_of (rule.Codes codes) leaf text = set_number codes text
 
--- numbers can be shown by the rule: its codes have texts of 1 to 64 bytes; those of a set one byte each, and different bits
+-- numbers can be shown by the rule: its codes have texts of 1 to 64 bytes; those of a set have one byte each, and
+-- different bits
 abbrev pub can_show : NumRule → Bool
 can_show rule.Int = true
 can_show rule.Decimal = true
@@ -67,7 +68,7 @@ can_show (rule.Boolean names) = true
 can_show (rule.Code codes) = list_all has_short_text codes
 can_show (rule.Codes codes) = list_all is_choice codes && is_apart same_number codes
 
--- texts can be read by the rule: besides, no two codes or listed values have the same text
+-- texts can be read by the rule: in addition, no two codes or listed values have the same text
 abbrev pub can_read : NumRule → Bool
 can_read rule.Int = true
 can_read rule.Decimal = true
@@ -76,7 +77,7 @@ can_read (rule.Boolean names) = is_apart same_truth names
 can_read (rule.Code codes) = list_all has_short_text codes && is_apart same_text codes
 can_read (rule.Codes codes) = list_all is_choice codes && (is_apart same_number codes && is_apart same_text codes)
 
--- the number may be asked of the rule: a byte of a character, 64 bits of a set
+-- the rule may be asked for the number: a byte for a character, 64 bits for a set
 abbrev pub is_asked : NumRule → ℤ → Bool
 is_asked rule.Int n = true
 is_asked rule.Decimal n = true
@@ -85,16 +86,16 @@ is_asked (rule.Boolean names) n = true
 is_asked (rule.Code codes) n = true
 is_asked (rule.Codes codes) n = int_le (pos 0) n && int_le n (pos 18446744073709551615)
 
--- what a show call leaves: its answer, and the text where there is one, else nothing
+-- what a show call leaves: its answer, and the text if there is one, else nothing
 abbrev pub Leaves : Result Unit V → List ℕ → Result (List ℕ) V → Type 0
 Leaves answer written (Ok text) = (answer ≡ Ok tt) × (written ≡ text)
 Leaves answer written (Err v) = (answer ≡ Err v) × (written ≡ [])
 
--- a text that may be written: not empty, and without SOH
+-- the answer for a text that is to be written: it mustn't be empty or contain SOH
 abbrev pub text_shown : List ℕ → Result Unit V
 text_shown [] = Err Empty
 text_shown (b ∷ bs) = if has_soh (b ∷ bs) then Err Soh else Ok tt
 
--- a text that a char array may have: not longer than it, and of bytes that are allowed
+-- the answer for a text read into a char array: it mustn't be longer than the array, and its bytes must be allowed
 abbrev pub text_read : LeafOf → List ℕ → Result Unit V
 text_read leaf text = if nat_le (length text) leaf.length then (if list_all (is_text_byte leaf) text then Ok tt else Err Spelling) else Err Range

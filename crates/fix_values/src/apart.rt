@@ -1,4 +1,4 @@
-//! What is asked of the codes and listed values of a rule.
+//! What is required of the codes and listed values of a rule.
 
 ghost use Rattle.std.specs.Prelude.{◌≡◌};
 ghost use Rattle.std.specs.List.{list_all, list_any};
@@ -17,7 +17,7 @@ pub fn are_short(list: &[Code]) -> bool
     list.iter().all(|code| !code.text.is_empty() && code.text.len() <= MOST_BYTES)
 }
 
-/// Whether each code is one of a set: its text has one byte, and its number is a bit from 0 to 63.
+/// Whether each code can be one of a set: its text has one byte, and its number is a bit from 0 to 63.
 pub fn are_choices(list: &[Code]) -> bool
     ensures { result ≡ list_all codes.is_choice list.now }
 {
@@ -68,7 +68,7 @@ fn has_text(list: &[Code], other: &Code) -> bool
         .any(|code| other.text.as_slice() == code.text.as_slice())
 }
 
-/// Whether no two listed values are spelled by the same byte as truth values.
+/// Whether no two listed values are written as the same Boolean byte.
 pub fn are_truths_apart(list: &[Named]) -> bool
     ensures { result ≡ is_apart same_truth list.now }
 {

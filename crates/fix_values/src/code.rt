@@ -11,7 +11,7 @@ use crate::text::has_soh;
 use crate::{Code, CodeList, ROOM, Short, V};
 use sbe_types::Leaf;
 
-/// Writes the text of the first code of this number.
+/// Writes the text of the first code with this number.
 pub fn show_code(codes: &CodeList, n: i128, out: &mut Short) -> Result<(), V>
     requires empty { out.old ≡ [] }
     requires short { IsTrue (list_all has_short_text codes.now) }
@@ -50,7 +50,7 @@ pub fn read_code(codes: &CodeList, leaf: &Leaf, text: &[u8]) -> Result<i128, V>
     Err(V::UnknownCode)
 }
 
-/// Writes the texts of the codes of the number's bits, in the list's order, a space between.
+/// Writes the texts of the codes of the number's bits, in the list's order, separated by spaces.
 pub fn show_codes(codes: &CodeList, n: i128, out: &mut Short) -> Result<(), V>
     requires empty { out.old ≡ [] }
     requires choices { IsTrue (list_all is_choice codes.now) }
@@ -64,7 +64,7 @@ pub fn show_codes(codes: &CodeList, n: i128, out: &mut Short) -> Result<(), V>
     judge_codes(bits, shown, out)
 }
 
-/// Writes the codes of those bits, and tells the number that they make up.
+/// Writes the codes of these bits, and returns the number that they make up.
 fn put_codes(codes: &CodeList, bits: u64, out: &mut Short) -> u128
     requires empty { out.old ≡ [] }
     requires choices { IsTrue (list_all is_choice codes.now) }
@@ -79,7 +79,7 @@ fn put_codes(codes: &CodeList, bits: u64, out: &mut Short) -> u128
     shown
 }
 
-/// Writes the code if its bit is one of those, and tells that bit, or else 0.
+/// Writes the code if its bit is one of these, and returns that bit, or 0.
 fn put_choice(code: &Code, bits: u64, out: &mut Short) -> u64
     requires choice { IsTrue (is_choice code.now) }
     requires room { length out.old + 2 * length (codes_in (code.now ∷ []) bits) ≤ ROOM }
@@ -119,7 +119,7 @@ fn put_code(code: &Code, out: &mut Short)
     out.extend(code.text.as_slice());
 }
 
-/// Clears the text of a set where a bit has no code, there is none, or SOH stands in it.
+/// Clears the text of a set if a bit has no code, there is no bit, or the text contains SOH.
 fn judge_codes(bits: u64, shown: u128, out: &mut Short) -> Result<(), V>
     ensures { Leaves result out.new (judged_set shown bits out.old) }
 {
@@ -137,8 +137,7 @@ fn judge_codes(bits: u64, shown: u128, out: &mut Short) -> Result<(), V>
     Ok(())
 }
 
-/// The number of the bits whose codes stand in the text: characters, a space between each two,
-/// none of them twice.
+/// The number of the bits whose codes are in the text: characters separated by single spaces, none of them twice.
 pub fn read_codes(codes: &CodeList, text: &[u8]) -> Result<i128, V>
     requires { IsTrue (list_all is_choice codes.now) }
     ensures { result ≡ set_number codes.now text.now }
@@ -155,7 +154,7 @@ pub fn read_codes(codes: &CodeList, text: &[u8]) -> Result<i128, V>
     Ok(n as i128)
 }
 
-/// Marks the characters of the text, and tells whether it is spelled as a set is.
+/// Marks the characters of the text, and returns whether it is spelled as a set is.
 fn mark_characters(text: &[u8], named: &mut [bool; 256]) -> bool
     ensures spelled { result ≡ tables.goes_on false named.old text.now }
     ensures marks { OnTrue result (named.new ≡ tables.marks_of false named.old text.now) }
@@ -177,7 +176,7 @@ fn mark_characters(text: &[u8], named: &mut [bool; 256]) -> bool
     space
 }
 
-/// Marks the texts of all codes, and tells the number that the named ones make up.
+/// Marks the texts of all codes, and returns the number that the named ones make up.
 fn mark_codes(codes: &CodeList, named: &[bool; 256], coded: &mut [bool; 256]) -> u128
     requires { IsTrue (list_all is_choice codes.now) }
     ensures sum { result ≡ bits_of (tables.marked_codes named.now codes.now) }
@@ -192,7 +191,7 @@ fn mark_codes(codes: &CodeList, named: &[bool; 256], coded: &mut [bool; 256]) ->
     n
 }
 
-/// The bit of a choice whose text is marked, or else 0.
+/// The bit of a choice whose text is marked, or 0.
 fn named_bit(code: &Code, named: &[bool; 256]) -> u64
     requires { IsTrue (is_choice code.now) }
     ensures sum { result ≡ bits_of (tables.marked_codes named.now (code.now ∷ [])) }
@@ -218,7 +217,7 @@ fn are_characters_marked(text: &[u8], marks: &[bool; 256]) -> bool
     true
 }
 
-/// Whether the byte is marked, where it is looked at.
+/// Whether the byte is marked, if it is checked here.
 fn is_passed(here: bool, marks: &[bool; 256], byte: u8) -> bool
     ensures { result ≡ (not here || tables.is_marked marks.now byte) }
 {

@@ -12,22 +12,20 @@ use crate::{Dec, ROOM, Short, V};
 use itoa::Buffer;
 use sbe_types::Leaf;
 
-/// How many digits a decimal's text may have. Ten to this power is the greatest one that an i128
-/// holds; and a number of 64 bits has at most twenty digits, to which an exponent adds at most
-/// eighteen.
+/// How many digits a decimal's text may have. Ten to this power is the largest power of ten that an i128 holds. A
+/// number of 64 bits has at most twenty digits, to which an exponent adds at most eighteen.
 pub const MOST_DIGITS: usize = 38;
 
-/// The greatest exponent that is shown. Its negative is the least one.
+/// The largest exponent that is written. The least one is its negative.
 pub const MOST_EXPONENT: i32 = 18;
 
-/// Writes the text of a decimal, the mantissa times ten to the exponent, as FIX's datatype float: a
-/// minus sign, the whole part without leading zeros, and a point and the digits behind it down to the
-/// last that isn't zero.
+/// Writes the text of a decimal, which is the mantissa times ten to the exponent, as FIX's datatype float: a minus
+/// sign, the whole part without leading zeros, and a point and the digits after it, up to the last that isn't zero.
 ///
 /// # Errors
 ///
-/// `Range` where the exponent is below -18 or above 18, or the text would have more than
-/// [`MOST_DIGITS`] digits and so couldn't be read back. Then `out` is empty.
+/// `Range` if the exponent is below -18 or above 18, or if the text would have more than [`MOST_DIGITS`] digits and so
+/// couldn't be read back. `out` is then empty.
 pub fn show_decimal(mantissa: i128, exponent: i32, out: &mut Short) -> Result<(), V>
     ensures { Leaves result out.new (decimal_text (decimals.dec mantissa exponent)) }
 {
@@ -47,7 +45,7 @@ pub fn show_decimal(mantissa: i128, exponent: i32, out: &mut Short) -> Result<()
     }
 }
 
-/// Writes the sign, the whole part and `rest` parts in ten to `places`.
+/// Writes the sign, the whole part, and the fraction `rest` / 10^`places`.
 fn put_decimal(
     negative: bool,
     whole: u128,
@@ -78,7 +76,7 @@ fn put_sign(negative: bool, out: &mut Short)
     }
 }
 
-/// Writes a whole part, and tells how many digits count: of a zero, none.
+/// Writes a whole part, and returns how many digits count; those of a zero don't.
 fn put_whole(whole: u128, out: &mut Short) -> usize
     requires { length out.old + 40 ≤ ROOM }
     ensures text { out.new ≡ out.old ++ decimal whole }
@@ -92,8 +90,7 @@ fn put_whole(whole: u128, out: &mut Short) -> usize
     if whole == 0 { 0 } else { digits.len() }
 }
 
-/// Writes the point and the digits behind it down to the last that isn't zero, and tells how many
-/// digits these are.
+/// Writes the point and the digits after it, up to the last that isn't zero, and returns the number of these digits.
 fn put_fraction(rest: u128, places: u32, out: &mut Short) -> usize
     requires few { places ≤ 18 }
     requires rest { rest < 10 ^ places }
@@ -130,14 +127,13 @@ fn put_places(rest: u128, places: u32, out: &mut Short) -> usize
     count
 }
 
-/// Reads a decimal, FIX's datatype float. Its mantissa isn't a multiple of ten, and zero has the
-/// exponent 0.
+/// Reads a decimal, FIX's datatype float. Its mantissa isn't a multiple of ten, and zero has the exponent 0.
 ///
 /// # Errors
 ///
-/// `Spelling` unless the text is an optional minus sign and digits with at most one point, at least
-/// one digit; `Range` where it has more than [`MOST_DIGITS`] digits, without the leading zeros of the
-/// whole part and the trailing zeros of the fraction.
+/// `Spelling` unless the text is an optional minus sign and digits with at most one point and at least one digit;
+/// `Range` if it has more than [`MOST_DIGITS`] digits, not counting leading zeros of the whole part and trailing zeros
+/// of the fraction.
 pub fn read_decimal(text: &[u8]) -> Result<Dec, V>
     ensures { result ≡ decimal_of text.now }
 {
@@ -154,7 +150,7 @@ pub fn read_decimal(text: &[u8]) -> Result<Dec, V>
     Ok(reduced(negative, whole, fraction))
 }
 
-/// What stands before the first point, and what behind it.
+/// The parts before and after the first point.
 fn split_point(digits: &[u8]) -> (&[u8], &[u8])
     ensures whole { result.0.now ≡ decimals.before_point digits.now }
     ensures fraction { result.1.now ≡ decimals.behind_point digits.now }
@@ -167,7 +163,7 @@ fn split_point(digits: &[u8]) -> (&[u8], &[u8])
     (digits, &[])
 }
 
-/// Whether both parts are digits, and there is at least one.
+/// Whether both parts consist of digits, and there is at least one digit.
 fn are_digits(whole: &[u8], fraction: &[u8]) -> bool
     ensures { result ≡ decimals.are_digits whole.now fraction.now }
 {
@@ -216,7 +212,7 @@ fn reduced(negative: bool, whole: &[u8], fraction: &[u8]) -> Dec
     }
 }
 
-/// The number of this sign and of the digits of both parts, which are few enough for it.
+/// The number with this sign and the digits of both parts, which are few enough for it.
 fn spelled_few(negative: bool, whole: &[u8], fraction: &[u8]) -> i128
     requires whole { IsTrue (all_ascii_digits whole.now) }
     requires fraction { IsTrue (all_ascii_digits fraction.now) }
@@ -227,12 +223,12 @@ fn spelled_few(negative: bool, whole: &[u8], fraction: &[u8]) -> i128
     signed_small(negative, size)
 }
 
-/// The mantissa that the decimal has under this exponent, as one of the leaf's numbers.
+/// The mantissa that the decimal has with this exponent, as one of the leaf's numbers.
 ///
 /// # Errors
 ///
-/// `Inexact` where the decimal isn't whole under the exponent, `Range` where the mantissa isn't the
-/// leaf's or is its null.
+/// `Inexact` if the decimal isn't an integer with this exponent, `Range` if the mantissa isn't in the leaf's range or
+/// is its null.
 pub fn fit_decimal(dec: &Dec, mantissa: &Leaf, exponent: i32) -> Result<i128, V>
     ensures { result ≡ fitted dec.now mantissa.now exponent }
 {
@@ -261,7 +257,7 @@ fn fit_widened(number: i128, places: u32, leaf: &Leaf) -> Result<i128, V>
     admitted(leaf, widened(number, places))
 }
 
-/// The number divided by ten to `places`, where that is whole.
+/// The number divided by ten to `places`, if that is an integer.
 fn narrowed(number: i128, places: u32) -> Result<i128, V>
     ensures { result ≡ decimals.narrowed number places }
 {
@@ -278,7 +274,7 @@ fn narrowed(number: i128, places: u32) -> Result<i128, V>
     Ok(number / power)
 }
 
-/// The number times ten to `places`, if it is one of an i128.
+/// The number times ten to `places`, if it fits an i128.
 fn widened(number: i128, places: u32) -> Option<i128>
     ensures { let wide = decimals.widened number places in SomeIff result (FitsSigned w128 wide) wide }
 {

@@ -10,7 +10,7 @@ ghost use Rattle.fix_values.specs.Decimals.{judged};
 use crate::V;
 use sbe_types::{Leaf, LeafShape, Presence};
 
-/// Whether the text begins with a minus sign, and what stands behind it.
+/// Whether the text begins with a minus sign, and the rest of the text.
 pub fn split_sign(text: &[u8]) -> (bool, &[u8])
     ensures negative { result.0 ≡ numerals.is_negative text.now }
     ensures digits { result.1.now ≡ numerals.unsigned text.now }
@@ -34,14 +34,14 @@ pub fn is_digits(bytes: &[u8]) -> bool
     true
 }
 
-/// Whether the bytes are one digit or more, and nothing else.
+/// Whether the bytes are one or more digits, and nothing else.
 pub fn is_numeral(bytes: &[u8]) -> bool
     ensures { result ≡ numerals.is_numeral bytes.now }
 {
     !bytes.is_empty() && is_digits(bytes)
 }
 
-/// The number that the digits spell where they follow those of `number`, if it is below 2^128.
+/// The number that the digits spell when appended to those of `number`, if it is below 2^128.
 pub fn number_after(number: u128, digits: &[u8]) -> Option<u128>
     requires { IsTrue (all_ascii_digits digits.now) }
     ensures { let spelled = digits_value_after 10 number digits.now
@@ -55,7 +55,7 @@ pub fn number_after(number: u128, digits: &[u8]) -> Option<u128>
     Some(so_far)
 }
 
-/// The number that the digits spell where they follow those of `number`, which is small.
+/// The number that the digits spell when appended to those of `number`. It is small.
 pub fn small_after(number: u128, digits: &[u8]) -> u128
     requires digits { IsTrue (all_ascii_digits digits.now) }
     requires small { digits_value_after 10 number digits.now < 2 ^ 127 }
@@ -68,7 +68,7 @@ pub fn small_after(number: u128, digits: &[u8]) -> u128
     so_far
 }
 
-/// The number of this sign and these digits, if it is one of an i128.
+/// The number with this sign and these digits, if it fits an i128.
 pub fn spelled(negative: bool, digits: &[u8]) -> Option<i128>
     requires { IsTrue (numerals.is_numeral digits.now) }
     ensures { let number = numerals.signed negative (digits_value 10 digits.now)
@@ -78,7 +78,7 @@ pub fn spelled(negative: bool, digits: &[u8]) -> Option<i128>
     signed(negative, size)
 }
 
-/// The number of this sign and size, if it is one of an i128.
+/// The number with this sign and size, if it fits an i128.
 pub fn signed(negative: bool, size: u128) -> Option<i128>
     ensures { let number = numerals.signed negative size
         in SomeIff result (FitsSigned w128 number) number }
@@ -92,7 +92,7 @@ pub fn signed(negative: bool, size: u128) -> Option<i128>
     None
 }
 
-/// The number of this sign and size, which an i128 holds.
+/// The number with this sign and size, which fits an i128.
 pub fn signed_small(negative: bool, size: u128) -> i128
     requires { size < 2 ^ 127 }
     ensures { result ≡ numerals.signed negative size }
@@ -101,7 +101,7 @@ pub fn signed_small(negative: bool, size: u128) -> i128
     if negative { -number } else { number }
 }
 
-/// A number of the leaf's. None is a number that an i128 doesn't hold, and so not the leaf's.
+/// A number of the leaf. `None` means a number that an i128 doesn't hold, which can't be one of the leaf's.
 pub fn admitted(leaf: &Leaf, number: Option<i128>) -> Result<i128, V>
     ensures value { result ≡ option_map_or (λ n. judged leaf.now (Ok n)) number (Err V.Range) }
     ensures outside { (n : ℤ) → ¬ FitsSigned w128 n → numerals.is_value leaf.now n ≡ false }
@@ -123,8 +123,7 @@ pub fn admitted(leaf: &Leaf, number: Option<i128>) -> Result<i128, V>
     }
 }
 
-/// Whether the number is one of the leaf's: it lies in the range and isn't the null of an optional
-/// leaf.
+/// Whether the number is one of the leaf's: it is within the range and isn't the null of an optional leaf.
 pub fn is_value(leaf: &Leaf, number: i128) -> bool
     ensures { result ≡ numerals.is_value leaf.now number }
 {

@@ -1,6 +1,6 @@
-//! The texts of single values in tag-value messages: how an integer, a decimal, a character, a
-//! code, a Boolean or a text is spelled, and how a spelling is read back. Nothing rounds: what
-//! doesn't fit exactly is refused. No call takes memory.
+//! The texts of single values in tag-value messages: how an integer, a decimal, a character, a code, a Boolean or a
+//! text is written, and how it is read back. Nothing is rounded: what doesn't fit exactly is refused. No call
+//! allocates.
 #![tactic(auto)]
 
 mod apart;

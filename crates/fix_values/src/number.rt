@@ -12,16 +12,17 @@ use crate::digits::{admitted, is_null, is_numeral, is_value, spelled, split_sign
 use crate::text::SOH;
 use crate::{NumRule, Short, V};
 use itoa::Buffer;
+use named_numbers::is_listed;
 use sbe_types::{Leaf, NamedList};
 
-/// Writes the text of a number by its rule: FIX's datatypes int, float, char, Boolean and
-/// MultipleCharValue, and Orchestra's code sets. It needs a rule by which numbers can be shown
-/// ([`NumRule::can_show`]); for a character a number from 0 to 255, for a set one of 64 bits.
+/// Writes the text of a number by its rule: FIX's datatypes int, float, char, Boolean and MultipleCharValue, and
+/// Orchestra's code sets. Requires a rule by which numbers can be written ([`NumRule::can_show`]); for a character also
+/// a number from 0 to 255, for a set one of 64 bits.
 ///
 /// # Errors
 ///
-/// `UnknownCode` where the number or a bit has no code, `Empty` for a set without a bit, `Soh` where
-/// the text of a code has SOH in it, `Spelling` for the character SOH. After a refusal `out` is empty.
+/// `UnknownCode` if the number or a bit has no code, `Empty` for a set without a bit, `Soh` if the text of a code
+/// contains SOH, `Spelling` for the character SOH. After an error `out` is empty.
 pub fn show_num(rule: &NumRule, n: i128, out: &mut Short) -> Result<(), V>
     requires rule { IsTrue (can_show rule.now) }
     requires asked { IsTrue (is_asked rule.now n) }
@@ -37,15 +38,15 @@ pub fn show_num(rule: &NumRule, n: i128, out: &mut Short) -> Result<(), V>
     }
 }
 
-/// Reads a number by its rule, as one of the leaf's: FIX's datatypes int, float, char, Boolean and
-/// MultipleCharValue, and Orchestra's code sets. It needs a rule by which texts can be read
-/// ([`NumRule::can_read`]). For a set the leaf isn't looked at.
+/// Reads a number by its rule, as one of the leaf's: FIX's datatypes int, float, char, Boolean and MultipleCharValue,
+/// and Orchestra's code sets. Requires a rule by which texts can be read ([`NumRule::can_read`]). For a set the leaf is
+/// ignored.
 ///
 /// # Errors
 ///
-/// `Spelling` where the text isn't spelled as the rule says, `Inexact` where a decimal isn't whole,
-/// `Range` where the number isn't the leaf's or is its null, `UnknownCode` where nothing listed but
-/// the null has this text. The first of these that holds.
+/// `Spelling` if the text isn't spelled as the rule requires, `Inexact` if a decimal isn't an integer, `Range` if the
+/// number isn't in the leaf's range or is its null, `UnknownCode` if nothing listed, apart from the null, has this
+/// text: the first of these that applies.
 pub fn read_num(rule: &NumRule, leaf: &Leaf, text: &[u8]) -> Result<i128, V>
     requires { IsTrue (can_read rule.now) }
     ensures { result ≡ value_of rule.now leaf.now text.now }
@@ -90,18 +91,11 @@ fn show_boolean(names: &NamedList, n: i128, out: &mut Short) -> Result<(), V>
     let Some(text) = boolean_text(n) else {
         return Err(V::UnknownCode);
     };
-    if !is_listed(names, n) {
+    if !is_listed(names.as_slice(), n) {
         return Err(V::UnknownCode);
     }
     out.push(text);
     Ok(())
-}
-
-/// Whether the number is one of the listed values.
-fn is_listed(names: &NamedList, n: i128) -> bool
-    ensures { result ≡ shown.is_listed names.now n }
-{
-    names.as_slice().iter().any(|name| name.number == n)
 }
 
 /// `Y` for 1 and the character `Y`, `N` for 0 and the character `N`.
@@ -168,7 +162,7 @@ fn read_truth(names: &NamedList, leaf: &Leaf, byte: u8) -> Result<i128, V>
     Err(V::UnknownCode)
 }
 
-/// Whether this byte stands for the truth value.
+/// Whether this byte is the text of the truth value.
 pub fn is_truth(byte: u8, truth: Option<u8>) -> bool
     ensures { result ≡ codes.is_truth byte truth }
 {

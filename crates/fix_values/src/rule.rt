@@ -9,17 +9,16 @@ use thiserror::Error;
 /// Why a value has no text, or a text no value. The codes V1 to V6 are this project's profile.
 #[derive(Clone, Copy, Debug, PartialEq, Eq, Drop, Error)]
 pub enum V {
-    /// The text isn't spelled as its rule says; or a character to be shown is SOH, which ends a
-    /// field.
+    /// The text isn't spelled as its rule requires; or a character to be written is SOH, which ends a field.
     #[error("V1")]
     Spelling,
-    /// The number isn't one of the field's, or takes more digits than are read.
+    /// The number isn't one of the field's, or has more digits than are read.
     #[error("V2")]
     Range,
-    /// The number isn't whole under the field's exponent.
+    /// The number isn't an integer with the field's exponent.
     #[error("V3")]
     Inexact,
-    /// The text has SOH in it.
+    /// The text contains SOH.
     #[error("V4")]
     Soh,
     /// The text is empty.
@@ -33,8 +32,7 @@ pub enum V {
 /// How many bytes the text of a code may have.
 pub const MOST_BYTES: usize = 64;
 
-/// The text that stands for a number: for a value of an enum its number, for a choice of a set
-/// its bit.
+/// The text of a number: for a value of an enum its number, for a choice of a set its bit.
 #[derive(Debug, Drop)]
 pub struct Code {
     pub number: i128,
@@ -43,26 +41,26 @@ pub struct Code {
 
 pub type CodeList = List<Code>;
 
-/// How a number is spelled, by its kind and the datatype of its field.
+/// How a number is written, by its kind and the datatype of its field.
 #[derive(Drop)]
 pub enum NumRule {
-    /// Digits, `-` before a negative number: the datatypes of whole numbers.
+    /// Digits, with `-` before a negative number: the datatypes of integers.
     Int,
-    /// The same, read as a decimal that must be whole: the datatypes of decimals.
+    /// The same, read as a decimal that must be an integer: the datatypes of decimals.
     Decimal,
-    /// The one byte that the number is.
+    /// The number as one byte.
     Char,
     /// `Y` for 1 or the character `Y`, `N` for 0 or the character `N`, among these listed values.
     Boolean(NamedList),
-    /// The text of the one code of the number.
+    /// The text of the code with the number.
     Code(CodeList),
-    /// The texts of the codes of the number's bits, with a space between.
+    /// The texts of the codes of the number's bits, separated by spaces.
     Codes(CodeList),
 }
 
 impl NumRule {
-    /// Whether numbers can be shown by the rule: its codes have texts of 1 to 64 bytes; those of a
-    /// set have one byte each, and different bits from 0 to 63.
+    /// Whether numbers can be written by the rule: its codes have texts of 1 to 64 bytes; those of a set have one byte
+    /// each, and different bits from 0 to 63.
     pub fn can_show(&self) -> bool
         ensures { result ≡ can_show self.now }
     {
@@ -75,8 +73,8 @@ impl NumRule {
         }
     }
 
-    /// Whether texts can be read by the rule: numbers can be shown by it, and no two codes or listed
-    /// values have the same text.
+    /// Whether texts can be read by the rule: numbers can be written by it, and no two codes or listed values have the
+    /// same text.
     pub fn can_read(&self) -> bool
         ensures { result ≡ can_read self.now }
     {

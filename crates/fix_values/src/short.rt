@@ -2,11 +2,11 @@ ghost use Rattle.std.specs.Prelude.{◌≡◌, ◌∷◌, ◌++◌, [], ◌<◌,
 
 use std::marker::Model;
 
-/// How many bytes a short text may have. The longest one that is shown has 127: sixty-four codes
-/// of one byte, with a space between each two.
+/// How many bytes a short text may have. The longest one that is written has 127: sixty-four codes of one byte,
+/// separated by spaces.
 pub const ROOM: usize = 128;
 
-/// A text of up to [`ROOM`] bytes, without memory.
+/// A text of up to [`ROOM`] bytes, without allocation.
 #[derive(Drop)]
 pub struct Short {
     bytes: [u8; ROOM],
@@ -25,7 +25,7 @@ impl Model for Short {
 }
 
 impl Short {
-    /// The empty text.
+    /// Creates an empty text.
     pub fn new() -> Short
         ensures { result ≡ [] }
     {
@@ -42,28 +42,28 @@ impl Short {
         &self.bytes[..self.len]
     }
 
-    /// How many bytes it has.
+    /// The number of its bytes.
     pub fn len(&self) -> usize
         ensures { result ≡ length self.now }
     {
         self.len
     }
 
-    /// Whether it has none.
+    /// Whether it is empty.
     pub fn is_empty(&self) -> bool
         ensures { result ≡ (length self.now == 0) }
     {
         self.len == 0
     }
 
-    /// Makes it the empty text.
+    /// Empties the text.
     pub fn clear(&mut self)
         ensures { self.new ≡ [] }
     {
         self.len = 0;
     }
 
-    /// Adds one byte at its end.
+    /// Appends one byte.
     pub fn push(&mut self, byte: u8)
         requires { length self.old < ROOM }
         ensures { self.new ≡ self.old ++ byte ∷ [] }
@@ -72,7 +72,7 @@ impl Short {
         self.len += 1;
     }
 
-    /// Adds bytes at its end.
+    /// Appends bytes.
     pub fn extend(&mut self, bytes: &[u8])
         requires { length self.old + length bytes.now ≤ ROOM }
         ensures { self.new ≡ self.old ++ bytes.now }

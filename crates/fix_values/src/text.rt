@@ -10,11 +10,11 @@ use sbe_types::{Leaf, LeafShape};
 /// The byte that ends a field of a tag-value text.
 pub const SOH: u8 = 1;
 
-/// Judges a text that is to be written: FIX's datatype String, of one byte or more without SOH.
+/// Checks a text that is to be written: FIX's datatype String, of one or more bytes without SOH.
 ///
 /// # Errors
 ///
-/// `Empty` where there is no byte, `Soh` where SOH is among them.
+/// `Empty` if there is no byte, `Soh` if one of them is SOH.
 pub fn show_text(bytes: &[u8]) -> Result<(), V>
     ensures { result ≡ text_shown bytes.now }
 {
@@ -27,11 +27,11 @@ pub fn show_text(bytes: &[u8]) -> Result<(), V>
     Ok(())
 }
 
-/// Judges a text that was read for a char array, of as many bytes as the leaf has elements at most.
+/// Checks a text that was read for a char array. It may have at most as many bytes as the leaf has elements.
 ///
 /// # Errors
 ///
-/// `Range` where it is longer than the array, `Spelling` where a byte isn't allowed in it.
+/// `Range` if it is longer than the array, `Spelling` if it contains a byte that isn't allowed.
 pub fn read_text(leaf: &Leaf, bytes: &[u8]) -> Result<(), V>
     ensures { result ≡ text_read leaf.now bytes.now }
 {
@@ -45,22 +45,22 @@ pub fn read_text(leaf: &Leaf, bytes: &[u8]) -> Result<(), V>
     }
 }
 
-/// Whether each byte may stand in the leaf's texts.
+/// Whether each byte is allowed in the leaf's texts.
 fn are_text_bytes(leaf: &Leaf, bytes: &[u8]) -> bool
     ensures { result ≡ list_all (shows.is_text_byte leaf.now) bytes.now }
 {
     bytes.iter().all(|byte| is_text_byte(leaf, *byte))
 }
 
-/// Whether SOH is among the bytes.
+/// Whether the bytes contain SOH.
 pub fn has_soh(bytes: &[u8]) -> bool
     ensures { result ≡ codes.has_soh bytes.now }
 {
     bytes.contains(&SOH)
 }
 
-/// Whether the byte may stand in the leaf's texts: not 00, and in the range where there is no
-/// character encoding.
+/// Whether the byte is allowed in the leaf's texts: it isn't 00, and is within the range if there is no character
+/// encoding.
 fn is_text_byte(leaf: &Leaf, byte: u8) -> bool
     ensures { result ≡ shows.is_text_byte leaf.now byte }
 {

@@ -29,7 +29,7 @@ past_grows : (e : ℕ) (offset : Option ℕ) (kind : Kind) (t : Bool) → is_con
 past_grows e offset kind true c h = omega arith
 past_grows e offset kind false c h = let begins : e ≤ begin_of e offset = h c in omega arith
 
--- the end of fields lies behind their beginning
+-- the end of fields lies after their beginning
 pub fields_grow : (e : ℕ) (fs : List Field) → ArePlaced e fs → e ≤ fields_end e fs
 fields_grow e [] h = omega arith
 fields_grow e (f ∷ fs) h =

@@ -73,7 +73,7 @@ run_goes_on q xs n room all =
     let whole : prefix_len q (take n xs) ≡ length (take n xs) = omega (arith, long, prefix_len-le-length q (take n xs), all) in
     run_of q xs n ∙ cond-true (eqb (prefix_len q (take n xs)) (length (take n xs))) _ _ (eq-eqb _ _ whole) ∙ ap (λ k. k + prefix_len q (drop n xs)) long
 
--- a run over all that stands behind a place
+-- a run over all that stands after a place
 pub run_behind : (q : ℕ → Bool) (xs : List ℕ) (at n : ℕ) → at + n ≤ length xs → n ≤ prefix_len q (take n (drop at xs)) → prefix_len q (drop at xs) ≡ n + prefix_len q (drop (at + n) xs)
 run_behind q xs at n room all = run_goes_on q (drop at xs) n (omega (arith, length-drop at xs)) all ∙ ap (λ ys. n + prefix_len q ys) (drop-drop n at xs)
 
@@ -100,7 +100,7 @@ whole_by q (b ∷ bs) h = whole_next (is_between q (pos b)) b (prefix_len (λ b.
 between_is : (q : Quick) (low high b : ℕ) → q.low ≡ pos low → q.high ≡ pos high → lies_between low high b ≡ is_between q (pos b)
 between_is q low high b least most = sym (ap₂ (λ l h. int_le l (pos b) && int_le (pos b) h) least most)
 
--- the byte behind the run ends the text
+-- the byte after the run ends the text
 pub text_ends : (q : Quick) (low high : ℕ) (bs : List ℕ) (run : ℕ) → q.low ≡ pos low → q.high ≡ pos high → run ≡ prefix_len (lies_between low high) bs → run < length bs → (get_or bs run 0 == 0) ≡ is_text_within q bs
 text_ends q low high bs run least most is h =
     let same : run ≡ prefix_len (λ b. is_between q (pos b)) bs = is ∙ same_run _ _ bs (λ b. between_is q low high b least most) in

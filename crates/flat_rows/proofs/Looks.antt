@@ -55,7 +55,7 @@ number_shows prim q leaf known b is wide h =
 
 -- ---- texts
 
--- good bytes, and what may stand behind them
+-- good bytes, and what may stand after them
 abbrev IsGood : LeafOf → List ℕ → Type 0
 IsGood leaf b = (text : List ℕ) × (after : List ℕ) × (b ≡ text ++ after) × EndsText after × IsTrue (list_all (is_text_byte leaf) text)
 

@@ -11,13 +11,13 @@ use Rattle.schema_facts.specs.Measured.{EndsWithin}
 use Rattle.schema_facts.proofs.KindLists.{width_comp, PlacedList, placed_members, NarrowList, narrow_members}
 use Rattle.schema_facts.proofs.KindMembers.{members_kinds}
 
--- the member of a composite of n bytes, behind members that end at e
+-- the member of a composite of n bytes, after members that end at e
 pub record MemberFits (n e : ℕ) (m : Member) : Type 0 where
   pub order : IsKindInOrder m.kind
   pub narrow : EndsWithin e m.offset m.kind
   pub within : is_const m.kind ≡ false → begin_of e m.offset + width m.kind ≤ n
 
--- the same of members behind members that end at e
+-- the same of members after members that end at e
 abbrev pub AreFit : ℕ → ℕ → List Member → Type 0
 AreFit n e [] = ⊤
 AreFit n e (m ∷ ms) = MemberFits n e m × AreFit n (end_past e m.offset m.kind) ms

@@ -7,7 +7,7 @@ use Rattle.sbe_types.specs.declared.kind.Member.{Member}
 use Rattle.sbe_types.specs.Places.{width, row_end, members_end, end_past}
 use Rattle.schema_facts.specs.Measured.{IsNarrow, IsNarrowRow, EndsWithin}
 
--- members behind members that end at e end within the largest place
+-- members after members that end at e end within the largest place
 abbrev pub AreNarrow : ℕ → List Member → Type 0
 AreNarrow e [] = ⊤
 AreNarrow e (m ∷ ms) = IsNarrow m.kind × EndsWithin e m.offset m.kind × AreNarrow (end_past e m.offset m.kind) ms
@@ -39,7 +39,7 @@ narrow_next e (x ∷ ms) (suc i) m h is all =
     let next : suc i + 1 ≡ suc (i + 1) = omega arith in
     rw next (narrow_next e ms i m (omega arith) is all)
 
--- behind the last member nothing is added
+-- after the last member nothing is added
 pub members_done : (e : ℕ) (ms : List Member) (n : ℕ) → length ms ≤ n → members_end e (drop n ms) ≡ e
 members_done e [] zero h = refl
 members_done e [] (suc n) h = refl

@@ -1,4 +1,4 @@
--- What a row keeps of its kind, so that numbers and texts are judged and printed by a look at their bytes. Own profile.
+-- What a row stores of its kind, so that numbers and texts are checked and printed by their bytes alone. Own profile.
 use Rattle.std.specs.Prelude.{◌≡◌, ◌≤◌, ℕ, Bool, true, false, ◌&&◌, ◌==◌, int_le, if◌then◌else◌, List, [], ◌∷◌, ℤ, pos, ⊤}
 use Rattle.std.specs.Ordering.{int_eq}
 use Rattle.sbe_types.specs.declared.kind.Kind.{Kind, Leaf, Enum}
@@ -12,7 +12,7 @@ use Rattle.flat_rows.specs.declared.rows.Look.{Look}
 use Rattle.flat_rows.specs.declared.rows.Look.TheVariants as look
 use Rattle.flat_rows.specs.declared.rows.Quick.{Quick}
 
--- how a number of the primitive is judged and printed
+-- how a number of the primitive is checked and printed
 abbrev pub look_of : Primitive → Look
 look_of I8 = look.I8
 look_of I16 = look.I16
@@ -24,7 +24,7 @@ look_of U32 = look.U32
 look_of U64 = look.Other
 look_of Char = look.Other
 
--- each number of the primitive has room in 64 bits with a sign, and is printed as an integer
+-- each number of the primitive fits 64 bits with a sign, and is printed as an integer
 abbrev pub is_word : Primitive → Bool
 is_word I8 = true
 is_word I16 = true
@@ -36,7 +36,7 @@ is_word U32 = true
 is_word U64 = false
 is_word Char = false
 
--- the range, and the null where there is one, of a single number of this primitive
+-- the stored range, and the null if there is one, are those of a leaf that is a single number of this primitive
 pub record IsQuickNumber (prim : Primitive) (q : Quick) (leaf : LeafOf) : Type 0 where
   pub shape : leaf.shape ≡ Number
   pub prim_is : leaf.prim ≡ prim
@@ -45,11 +45,11 @@ pub record IsQuickNumber (prim : Primitive) (q : Quick) (leaf : LeafOf) : Type 0
   pub null : q.null ≡ leaf.null
   pub optional : q.optional ≡ is_optional leaf.presence
 
--- the number is one of a byte
+-- the number fits a byte
 abbrev pub IsByte : ℤ → Type 0
 IsByte n = (byte : ℕ) × (n ≡ pos byte) × (byte ≤ 255)
 
--- the range of the bytes of a text
+-- the stored range is that of the bytes of a text
 pub record IsQuickText (q : Quick) (leaf : LeafOf) : Type 0 where
   pub shape : leaf.shape ≡ RangedText
   pub low : q.low ≡ leaf.low
@@ -57,11 +57,11 @@ pub record IsQuickText (q : Quick) (leaf : LeafOf) : Type 0 where
   pub least : IsByte q.low
   pub greatest : IsByte q.high
 
--- the kind is a single number of this primitive, of which this is kept
+-- the kind is a single number of this primitive, and this is stored of it
 abbrev pub KeepsNumber : Primitive → Quick → Kind → Type 0
 KeepsNumber prim q kind = (leaf : LeafOf) × (kind ≡ Leaf leaf) × IsQuickNumber prim q leaf
 
--- the kind is a text, of which this is kept
+-- the kind is a text, and this is stored of it
 abbrev pub KeepsText : Quick → Kind → Type 0
 KeepsText q kind = (leaf : LeafOf) × (kind ≡ Leaf leaf) × IsQuickText q leaf
 
@@ -69,7 +69,7 @@ KeepsText q kind = (leaf : LeafOf) × (kind ≡ Leaf leaf) × IsQuickText q leaf
 abbrev pub IsEnum : Kind → Type 0
 IsEnum kind = (leaf : LeafOf) × (names : List Named) × (kind ≡ Enum leaf names)
 
--- what is kept is that of the kind; of an enum nothing is kept but that it is one, and of other kinds nothing
+-- what is stored is that of the kind; of an enum only that it is one, and of other kinds nothing
 abbrev pub IsQuickAs : Look → Quick → Kind → Type 0
 IsQuickAs look.I8 q kind = KeepsNumber I8 q kind
 IsQuickAs look.I16 q kind = KeepsNumber I16 q kind
@@ -82,7 +82,7 @@ IsQuickAs look.Text q kind = KeepsText q kind
 IsQuickAs look.Enum q kind = IsEnum kind
 IsQuickAs look.Other q kind = ⊤
 
--- the same by the look that it has
+-- the same, by the stored look
 abbrev pub IsQuick : Quick → Kind → Type 0
 IsQuick q kind = IsQuickAs q.look q kind
 
@@ -90,11 +90,11 @@ IsQuick q kind = IsQuickAs q.look q kind
 abbrev pub is_none : Quick → ℤ → Bool
 is_none q n = q.optional && int_eq n q.null
 
--- the number lies in the range
+-- the number is within the range
 abbrev pub is_between : Quick → ℤ → Bool
 is_between q n = int_le q.low n && int_le n q.high
 
--- the bytes up to the first that is out of the range lie in it, and that one is 00
+-- the bytes up to the first that is out of the range are within it, and that one, if there is one, is 00
 abbrev pub is_text_within : Quick → List ℕ → Bool
 is_text_within q [] = true
 is_text_within q (b ∷ bs) = if is_between q (pos b) then is_text_within q bs else b == 0

@@ -24,15 +24,15 @@ pub record IsRow (row : FlatRow) : Type 0 where
   pub quick : IsQuick row.quick row.kind
   pub bytes : AreValidBytes row.valid.items row.kind
 
--- the rows of a table
+-- each row of the table agrees with its kind
 abbrev pub IsTable : FlatRows → Type 0
 IsTable table = AllByRecursion IsRow table.rows.items
 
--- each value's bytes lie in a block of n bytes
+-- the bytes of each value are within a block of n bytes
 abbrev pub RowsFit : ℕ → List FlatRow → Type 0
 RowsFit n rows = AllByRecursion (λ (row : FlatRow). row.end ≤ n) rows
 
--- a table has more values than before
+-- a table grew by these values
 pub record Grows (old new : FlatRows) (scalars : List Scalar) : Type 0 where
   pub table : IsTable old → IsTable new
   pub grown : stands_for new ≡ stands_for old ++ scalars

@@ -14,7 +14,7 @@ use Rattle.sbe_types.specs.declared.schema.Field.{Field}
 use Rattle.flat_rows.specs.Bytes.{is_valid_byte}
 use Rattle.flat_rows.specs.Scalars.{Scalar, scalar_at}
 
--- a required leaf of so many primitives
+-- a required leaf with this many primitives
 abbrev pub leaf : Primitive → ℕ → LeafShape → LeafOf
 leaf prim length shape = record { prim = prim; length = length; shape = shape; presence = Required; null = pos 255; low = pos 0; high = pos 254 }
 
@@ -22,7 +22,7 @@ leaf prim length shape = record { prim = prim; length = length; shape = shape; p
 abbrev pub number : Primitive → Kind
 number prim = Leaf (leaf prim 1 Number)
 
--- a field at a stated offset, or right behind those before it
+-- a field at a stated offset, or directly after those before it
 abbrev pub field : List ℕ → Option ℕ → Kind → Field
 field name offset kind = record { name = name; id = 1; since = 0; offset = offset; kind = kind }
 
@@ -67,20 +67,20 @@ abbrev pub mixed_scalars : List Scalar
 mixed_scalars =
     scalar_at (number U16) 0 ∷ scalar_at side 2 ∷ scalar_at flags 3 ∷ scalar_at text 4 ∷ scalar_at pair 10 ∷ scalar_at (number I32) 14 ∷ scalar_at (number U8) 20 ∷ []
 
--- an enum over this primitive whose names are 0, 65 twice, 200 and 255, and which may be null at 200
+-- an enum over this primitive with the values 0, 65 (twice), 200 and 255, and the null 200
 abbrev pub doubled : Primitive → Kind
 doubled prim =
     Enum (record { prim = prim; length = 1; shape = Number; presence = Optional; null = pos 200; low = pos 0; high = pos 255 })
     (named (codes "Nought") (pos 0) ∷ named (codes "First") (pos 65) ∷ named (codes "Second") (pos 65) ∷ named (codes "Null") (pos 200) ∷ named (codes "Last") (pos 255) ∷ [])
 
--- whether these bytes and two more are valid values of it
+-- whether each of five bytes is a valid value of the kind
 abbrev pub valid_at : Kind → List Bool
 valid_at kind = map (is_valid_byte kind) (0 ∷ 1 ∷ 65 ∷ 200 ∷ 255 ∷ [])
 
--- its own and its null, and no other
+-- those of that enum over a byte: all but 1
 abbrev pub doubled_valid : List Bool
 doubled_valid = true ∷ false ∷ true ∷ true ∷ true ∷ []
 
--- none at all
+-- none of the five
 abbrev pub none_valid : List Bool
 none_valid = false ∷ false ∷ false ∷ false ∷ false ∷ []

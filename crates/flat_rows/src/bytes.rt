@@ -1,4 +1,4 @@
-// The valid values of an enum of one byte, by the byte.
+// The valid values of an enum of one byte, looked up by byte.
 ghost use Rattle.std.specs.Prelude.{◌≡◌, ◌<◌, ◌≢◌, ℕ, IfOk, IfSome, None, true, length, pos};
 ghost use Rattle.sbe_types.specs.declared.kind.Kind.{Enum};
 ghost use Rattle.flat_rows.specs.Bytes.{is_byte, AreListedBytes, AreUnset, AreValidBytes, IsValidByte, Notes, NotesNull};
@@ -8,11 +8,11 @@ use lists::NoMem;
 use sbe_types::{Kind, Leaf, Named, Prim};
 use std::alloc::Global;
 
-/// How many numbers a byte has.
+/// The number of values of a byte.
 const BYTES: usize = 256;
 
-/// Whether the bytes of a value are one byte that is a valid value, by the table of its enum. `false` is inconclusive where the
-/// enum has more bytes.
+/// Whether the bytes of a value are one byte that is a valid value, by the table of its enum. `false` is inconclusive
+/// if the enum has more bytes.
 #[inline(always)]
 pub(crate) fn is_valid(valid: &Vec<u8>, bytes: &[u8]) -> bool
     ensures { result ≡ true → IsValidByte valid.now.items bytes.now }
@@ -24,8 +24,7 @@ pub(crate) fn is_valid(valid: &Vec<u8>, bytes: &[u8]) -> bool
     byte < valid.len() && valid[byte] == 1
 }
 
-/// For each byte whether it is a valid value of an enum of one byte, or its null: 1 where it is, and else 0. Empty for other
-/// kinds.
+/// For each byte, 1 if it is a valid value of an enum of one byte or its null, and 0 otherwise. Empty for other kinds.
 pub(crate) fn valid_bytes(alloc: Global, kind: &Kind) -> Result<Vec<u8>, NoMem>
     ensures { IfOk result (λ valid. AreValidBytes valid.items kind.now) }
 {
@@ -49,7 +48,7 @@ fn enum_bytes(alloc: Global, leaf: &Leaf, names: &[Named]) -> Result<Vec<u8>, No
     }
 }
 
-/// Whether each number of the primitive is the byte that shows it.
+/// Whether each number of the primitive equals its byte.
 fn is_byte(prim: Prim) -> bool
     ensures { result ≡ is_byte prim }
 {
@@ -59,7 +58,7 @@ fn is_byte(prim: Prim) -> bool
     }
 }
 
-/// Notes each name's number, from the last one on.
+/// Marks each name's number, from the last name to the first.
 fn note_names(valid: &mut [u8; BYTES], names: &[Named])
     requires size { length valid.old ≡ BYTES }
     requires none { AreUnset valid.old }
@@ -73,7 +72,7 @@ fn note_names(valid: &mut [u8; BYTES], names: &[Named])
     }
 }
 
-/// Notes the null of an enum, where it may be null.
+/// Marks the null of an enum, if it may be null.
 fn note_null(valid: &mut [u8; BYTES], leaf: &Leaf)
     requires { length valid.old ≡ BYTES }
     ensures size { length valid.new ≡ BYTES }
@@ -84,7 +83,7 @@ fn note_null(valid: &mut [u8; BYTES], leaf: &Leaf)
     }
 }
 
-/// Notes a number, if it is one of a byte.
+/// Marks a number, if it fits a byte.
 fn note(valid: &mut [u8; BYTES], number: i128)
     requires { length valid.old ≡ BYTES }
     ensures size { length valid.new ≡ BYTES }
@@ -95,7 +94,7 @@ fn note(valid: &mut [u8; BYTES], number: i128)
     }
 }
 
-/// The number as a byte, or none where it is none.
+/// The number as a byte, if it fits one.
 fn byte_of(number: i128) -> Option<u8>
     ensures some { IfSome result (λ byte. pos byte ≡ number) }
     ensures small { IfSome result (λ byte. byte < BYTES) }

@@ -1,4 +1,4 @@
-// The values of a block, judged by the rows of its table. What one look doesn't see as a value may be one all the same.
+// Fast validity checks of the values of a block, by the rows of its table. `false` means unknown, not invalid.
 ghost use Rattle.std.specs.Prelude.{◌≡◌, ◌↔◌, ◌≤◌, ◌||◌, Bool, IsTrue, not, true, length, pos, None};
 ghost use Rattle.sbe_types.specs.declared.kind.Kind.{Leaf as LeafKind};
 ghost use Rattle.sbe_types.specs.declared.kind.Order.TheVariants.{Little};
@@ -15,9 +15,10 @@ use crate::bytes::is_valid;
 use crate::rows::{FlatRow, FlatRows, Look, Quick};
 use crate::runs::{LANES, is_lane_text, run_between};
 use byteorder::{ByteOrder, LittleEndian};
+use named_numbers::is_listed;
 use sbe_types::{Kind, Leaf, LeafCause, LeafFault, NamedList, Order, Prim, get_num, leaf_judge};
 
-/// Whether each value of a table lies in a block.
+/// Whether each value of a table is inside a block.
 pub fn fits(table: &FlatRows, block: &[u8]) -> bool
     ensures { IsTrue result ↔ RowsFit (length block.now) table.now.rows.items }
 {
@@ -29,7 +30,7 @@ pub fn fits(table: &FlatRows, block: &[u8]) -> bool
     true
 }
 
-/// Whether one look at the bytes of each value of a block, the lowest byte first, shows that they are one.
+/// Whether the fast check accepts each value of a block, in little-endian order. `false` is inconclusive.
 #[inline(always)]
 pub fn shows_all(table: &FlatRows, known: bool, block: &[u8]) -> bool
     requires table { IsTable table.now }
@@ -44,7 +45,7 @@ pub fn shows_all(table: &FlatRows, known: bool, block: &[u8]) -> bool
     true
 }
 
-/// Whether one look shows that the bytes of a row are a value.
+/// Whether the fast check accepts the value of a row.
 #[inline(always)]
 fn shows_row(row: &FlatRow, known: bool, block: &[u8]) -> bool
     requires row { IsRow row.now }
@@ -54,7 +55,7 @@ fn shows_row(row: &FlatRow, known: bool, block: &[u8]) -> bool
     shows_value(row, known, &block[row.place as usize..row.end as usize])
 }
 
-/// Whether one look shows that bytes are a value of a row.
+/// Whether the fast check accepts these bytes as the value of a row.
 #[inline(always)]
 fn shows_value(row: &FlatRow, known: bool, bytes: &[u8]) -> bool
     requires row { IsRow row.now }
@@ -76,7 +77,7 @@ fn shows_value(row: &FlatRow, known: bool, bytes: &[u8]) -> bool
     }
 }
 
-/// The number that the bytes of one primitive show, the lowest byte first.
+/// The number that the bytes of one primitive encode, in little-endian order.
 #[inline(always)]
 pub fn number_in(prim: Prim, bytes: &[u8]) -> i64
     requires word { is_word prim ≡ true }
@@ -104,7 +105,7 @@ fn read_word<O: ByteOrder>(prim: Prim, bytes: &[u8]) -> i64
     }
 }
 
-/// Whether a number is the null, or in the range.
+/// Whether a number is the null, or within the range.
 #[inline(always)]
 fn shows_number(quick: &Quick, n: i64) -> bool
     ensures { result ≡ (is_none quick.now n || is_between quick.now n) }
@@ -120,7 +121,7 @@ pub fn is_none(quick: &Quick, n: i64) -> bool
     quick.optional && n == quick.null
 }
 
-/// Whether the bytes up to the first 00 lie in the range.
+/// Whether the bytes up to the first 00 are within the range.
 #[inline(always)]
 fn is_text(quick: &Quick, bytes: &[u8]) -> bool
     requires low { IsByte quick.now.low }
@@ -139,7 +140,7 @@ fn is_text(quick: &Quick, bytes: &[u8]) -> bool
     true
 }
 
-/// A number of a byte as a byte.
+/// A number that fits a byte, as a byte.
 #[inline(always)]
 fn as_byte(n: i64) -> u8
     requires { IsByte n }
@@ -148,7 +149,7 @@ fn as_byte(n: i64) -> u8
     n as u8
 }
 
-/// Whether one look shows that bytes are a value of a kind that is no enum.
+/// Whether the fast check accepts bytes as a value of a kind that isn't an enum.
 fn shows_kind(kind: &Kind, bytes: &[u8]) -> bool
     requires order { IsKindInOrder kind.now }
     requires wide { length bytes.now ≡ width kind.now }
@@ -200,20 +201,12 @@ fn shows_leaf(leaf: &Leaf, bytes: &[u8]) -> bool
     leaf_judge(Order::Little, leaf, bytes, &mut fault)
 }
 
-/// Whether bytes are a value of an enum: its null, a listed one, or any where not all are known.
+/// Whether bytes are a value of an enum: its null, a listed one, or any value if not all are known.
 #[inline(always)]
 fn shows_enum(known: bool, leaf: &Leaf, names: &NamedList, bytes: &[u8]) -> bool
     requires { length bytes.now ≡ prim_width leaf.now.prim }
     ensures { let n = number_of Little leaf.now.prim bytes.now in result ≡ (is_null leaf.now n || (is_listed names.now n || not known)) }
 {
     let number = get_num(Order::Little, leaf.prim, bytes);
-    leaf.is_null(number) || (is_listed(names, number) || !known)
-}
-
-/// Whether one of the names has that number.
-#[inline(always)]
-fn is_listed(names: &NamedList, number: i128) -> bool
-    ensures { result ≡ is_listed names.now number }
-{
-    names.as_slice().iter().any(|name| name.number == number)
+    leaf.is_null(number) || (is_listed(names.as_slice(), number) || !known)
 }

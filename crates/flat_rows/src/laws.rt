@@ -12,14 +12,14 @@ ghost use Rattle.flat_rows.specs.Scalars.{scalars_of};
 ghost use Rattle.flat_rows.specs.Judged.{AllAlive, ScalarsShow};
 ghost use Rattle.flat_rows.specs.Tables.{stands_for, IsTable, RowsFit};
 
-/// Where the bytes of each value show one, and all fields stand, the bytes are a block of the fields.
+/// If the bytes of each value are valid and every field exists at the version, the bytes are a block of the fields.
 pub fn values_that_show_are_a_block()
     ensures { (mode : Mode) (fields : List Field) (block : List ℕ) → ArePlaced 0 fields → AllAlive mode.version fields
         → floor mode.version fields ≤ length block → ScalarsShow mode.order mode.known (scalars_of fields) block
         → (vs : List Value) × BlockLays mode fields vs block }
 {}
 
-/// Where all fields stand, the values of their table lie in each block that reaches the floor.
+/// If every field exists at the version, the values of their table are inside each block that reaches the floor.
 pub fn values_lie_in_the_block()
     ensures { (table : FlatRows) (version n : ℕ) (fields : List Field) → ArePlaced 0 fields → AllAlive version fields → floor version fields ≤ n
         → IsTable table → stands_for table ≡ scalars_of fields → RowsFit n table.rows.items }

@@ -1,4 +1,5 @@
-//! The values of a block as a flat table in wire order, composites opened: each at its place, with what judges it quickly.
+//! The values of a block as a flat table in wire order, with composites flattened: each at its offset, with what is
+//! needed to check it quickly.
 #![tactic(auto)]
 
 mod bytes;

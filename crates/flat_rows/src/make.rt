@@ -1,4 +1,4 @@
-// The table of a block's fields, made value by value.
+// Builds the table of a block's fields, value by value.
 ghost use Rattle.std.specs.Prelude.{◌≡◌, ◌≤◌, ◌+◌, ◌∷◌, [], false, IfOk, OnOk};
 ghost use Rattle.std.specs.List.{AllByRecursion};
 ghost use Rattle.sbe_types.specs.declared.kind.Kind.{Comp};
@@ -17,7 +17,8 @@ use lists::NoMem;
 use sbe_types::{Field, Kind, List, Member};
 use std::alloc::Global;
 
-/// The table of the fields of a block. The fields are in order and end within 1,048,576 bytes. The only error is out of memory.
+/// The table of the fields of a block. The fields must be valid and end within 1,048,576 bytes. The only error is out
+/// of memory.
 pub fn flat_rows_of(alloc: Global, fields: &[Field]) -> Result<FlatRows, NoMem>
     requires order { AllByRecursion (λ (f : Field). IsKindInOrder f.kind) fields.now }
     requires narrow { AreNarrowFields 0 fields.now }
@@ -37,7 +38,7 @@ pub fn flat_rows_of(alloc: Global, fields: &[Field]) -> Result<FlatRows, NoMem>
     Ok(table)
 }
 
-/// Adds the values of a kind that begins after a place of the block.
+/// Adds the values of a kind that begins at an offset of the block.
 #[cycle(make)]
 fn add_kind(
     alloc: Global,
@@ -59,7 +60,7 @@ fn add_kind(
     }
 }
 
-/// Adds the values of a composite that begins at a place of the block.
+/// Adds the values of a composite that begins at an offset of the block.
 #[cycle(make)]
 fn add_members(
     alloc: Global,
@@ -80,7 +81,7 @@ fn add_members(
     Ok(())
 }
 
-/// Adds a value of a kind that begins at a place of the block.
+/// Adds a value of a kind that begins at an offset of the block.
 fn add_value(alloc: Global, table: &mut FlatRows, kind: &Kind, at: u32) -> Result<(), NoMem>
     requires order { IsKindInOrder kind.now }
     requires within { at + width kind.now ≤ largest }
@@ -91,7 +92,7 @@ fn add_value(alloc: Global, table: &mut FlatRows, kind: &Kind, at: u32) -> Resul
     Ok(())
 }
 
-/// The row of a value that begins at a place of the block.
+/// The row of a value that begins at an offset of the block.
 pub fn row_of(alloc: Global, kind: &Kind, at: u32) -> Result<FlatRow, NoMem>
     requires order { IsKindInOrder kind.now }
     requires within { at + width kind.now ≤ largest }

@@ -1,4 +1,4 @@
-// Widths and places of kinds.
+// Widths and offsets of kinds.
 ghost use Rattle.std.specs.Prelude.{◌≡◌};
 ghost use Rattle.sbe_types.specs.declared.kind.Kind.{Comp};
 ghost use Rattle.sbe_types.specs.Places.{width, begin_of as begins_at, end_past};
@@ -6,8 +6,8 @@ ghost use Rattle.schema_facts.specs.Measured.{IsNarrow, EndsWithin};
 
 use sbe_types::{Kind, List, Member};
 
-/// How many bytes a value of the kind takes; a constant takes none. It needs a kind whose parts end
-/// within 1,048,576 bytes.
+/// How many bytes a value of the kind takes; a constant takes none. Requires a kind whose parts end within 1,048,576
+/// bytes.
 #[cycle(width)]
 #[inline(always)]
 pub fn width_of(kind: &Kind) -> u32
@@ -23,7 +23,7 @@ pub fn width_of(kind: &Kind) -> u32
     }
 }
 
-/// Where the members end. It needs members that end within 1,048,576 bytes.
+/// The end of the members. Requires members that end within 1,048,576 bytes.
 #[cycle(width)]
 pub fn end_of(members: &List<Member>) -> u32
     requires { IsNarrow (Comp members.now) }
@@ -36,7 +36,7 @@ pub fn end_of(members: &List<Member>) -> u32
     end
 }
 
-/// Where the parts end when one more is added, within 1,048,576 bytes.
+/// The end of the parts when one more is added, which is within 1,048,576 bytes.
 #[cycle(width)]
 #[inline(always)]
 pub fn end_behind(end: u32, offset: Option<u32>, kind: &Kind) -> u32
@@ -52,7 +52,7 @@ pub fn end_behind(end: u32, offset: Option<u32>, kind: &Kind) -> u32
     }
 }
 
-/// Where a part begins behind parts that end at `end`.
+/// The offset of a part after parts that end at `end`.
 pub fn begin_of(end: u32, offset: Option<u32>) -> u32
     ensures { result ≡ begins_at end offset }
 {

@@ -1,4 +1,4 @@
-// What a row keeps of its kind.
+// What a row stores of its kind.
 ghost use Rattle.std.specs.Prelude.{◌≡◌, IfSome, pos};
 ghost use Rattle.sbe_types.specs.declared.kind.Kind.{Leaf as LeafKind};
 ghost use Rattle.sbe_types.specs.declared.kind.LeafShape.TheVariants.{Number, RangedText};
@@ -8,7 +8,7 @@ ghost use Rattle.flat_rows.specs.Quick.{look_of, IsQuick};
 use crate::rows::{Look, Quick};
 use sbe_types::{Kind, Leaf, LeafShape, Presence, Prim};
 
-/// What nothing is kept of.
+/// For kinds of which nothing is stored.
 const OTHER: Quick = Quick {
     look: Look::Other,
     optional: false,
@@ -17,7 +17,7 @@ const OTHER: Quick = Quick {
     high: 0,
 };
 
-/// What is kept of an enum.
+/// What is stored of an enum.
 const ENUM: Quick = Quick {
     look: Look::Enum,
     optional: false,
@@ -26,7 +26,7 @@ const ENUM: Quick = Quick {
     high: 0,
 };
 
-/// What a row keeps of a kind.
+/// What a row stores of a kind.
 pub(crate) fn quick_of(kind: &Kind) -> Quick
     ensures { IsQuick result kind.now }
 {
@@ -37,7 +37,7 @@ pub(crate) fn quick_of(kind: &Kind) -> Quick
     }
 }
 
-/// What a row keeps of a number, a text or an array.
+/// What a row stores of a number, a text or an array.
 fn leaf_quick(leaf: &Leaf) -> Quick
     ensures { IsQuick result (LeafKind leaf.now) }
 {
@@ -48,7 +48,7 @@ fn leaf_quick(leaf: &Leaf) -> Quick
     }
 }
 
-/// What a row keeps of a number.
+/// What a row stores of a number.
 fn number_quick(leaf: &Leaf) -> Quick
     requires { leaf.now.shape ≡ Number }
     ensures { IsQuick result (LeafKind leaf.now) }
@@ -69,7 +69,7 @@ fn number_quick(leaf: &Leaf) -> Quick
     }
 }
 
-/// How a number is judged and printed. A uint64 may need more than 64 bits with a sign, and a char has a text of its own.
+/// How a number is checked and printed. A uint64 may not fit 64 bits with a sign, and a char is printed as text.
 fn look_of(prim: Prim) -> Look
     ensures { result ≡ look_of prim }
 {
@@ -85,7 +85,7 @@ fn look_of(prim: Prim) -> Look
     }
 }
 
-/// What a row keeps of a text.
+/// What a row stores of a text.
 fn text_quick(leaf: &Leaf) -> Quick
     requires { leaf.now.shape ≡ RangedText }
     ensures { IsQuick result (LeafKind leaf.now) }
@@ -102,7 +102,7 @@ fn text_quick(leaf: &Leaf) -> Quick
     }
 }
 
-/// The number as a byte, or none where it is none.
+/// The number as a byte, if it fits one.
 fn byte_of(number: i128) -> Option<u8>
     ensures { IfSome result (λ byte. pos byte ≡ number) }
 {
@@ -113,7 +113,7 @@ fn byte_of(number: i128) -> Option<u8>
     }
 }
 
-/// The number in 64 bits, or none where it needs more.
+/// The number in 64 bits, if it fits.
 fn narrowed(number: i128) -> Option<i64>
     ensures { IfSome result (λ narrow. narrow ≡ number) }
 {

@@ -1,9 +1,9 @@
 use sbe_types::Kind;
 
-/// How a value is judged and printed.
+/// How a value is checked and printed.
 #[derive(Clone, Copy, Debug, PartialEq, Eq)]
 pub enum Look {
-    /// As a single number of this primitive.
+    /// A single number of this primitive.
     I8,
     I16,
     I32,
@@ -11,42 +11,42 @@ pub enum Look {
     U8,
     U16,
     U32,
-    /// As a char array without a character encoding.
+    /// A char array without a character encoding.
     Text,
-    /// As an enum, by its kind.
+    /// An enum, by its kind.
     Enum,
-    /// By its kind, whichever it is.
+    /// Any other kind, by that kind.
     Other,
 }
 
-/// What a row keeps of its kind.
+/// What a row stores of its kind.
 #[derive(Clone, Copy, Debug, PartialEq, Eq)]
 pub struct Quick {
     pub look: Look,
     /// Whether a number may be null.
     pub optional: bool,
     pub null: i64,
-    /// The least number, or byte of a text.
+    /// The least number, or the least byte of a text.
     pub low: i64,
-    /// The greatest one.
+    /// The greatest number or byte.
     pub high: i64,
 }
 
 /// A value of a block.
 #[derive(Drop)]
 pub struct FlatRow {
-    /// Where the value's bytes begin in the block.
+    /// The offset of the value's first byte in the block.
     pub place: u32,
-    /// Where they end.
+    /// The offset of its end.
     pub end: u32,
     pub quick: Quick,
-    /// For each byte whether it is a valid value or the null of an enum of one byte: 1 where it is, and else 0. Empty for
-    /// other kinds.
+    /// For each byte, 1 if it is a valid value or the null of an enum of one byte, and 0 otherwise. Empty for other
+    /// kinds.
     pub valid: Vec<u8>,
     pub kind: Kind,
 }
 
-/// The values of a block in wire order, composites opened and constants left out.
+/// The values of a block in wire order, with composites flattened and constants left out.
 #[derive(Drop)]
 pub struct FlatRows {
     pub rows: Vec<FlatRow>,

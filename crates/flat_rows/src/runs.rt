@@ -1,14 +1,14 @@
-// How many bytes of a text, from the first, lie in a range.
+// How many leading bytes of a text are within a range.
 ghost use Rattle.std.specs.Prelude.{◌≡◌, ◌==◌, ◌+◌, ◌≤◌, length, take, drop};
 ghost use Rattle.std.specs.List.{prefix_len};
 ghost use Rattle.flat_rows.specs.Runs.{first_set, is_set, lies_between};
 
 use std::simd::prelude::*;
 
-/// How many bytes are looked at in one.
+/// How many bytes are checked at once.
 pub(crate) const LANES: usize = 8;
 
-/// How many bytes, from the first, lie in the range of two bytes.
+/// How many leading bytes are within the range from `low` to `high`.
 #[inline(always)]
 pub(crate) fn run_between(low: u8, high: u8, bytes: &[u8]) -> usize
     ensures { result ≡ prefix_len (lies_between low high) bytes.now }
@@ -36,7 +36,7 @@ fn short_run(low: u8, high: u8, bytes: &[u8]) -> usize
     at
 }
 
-/// Whether a byte lies in the range of two bytes.
+/// Whether a byte is within the range from `low` to `high`.
 #[inline(always)]
 fn lies_between(low: u8, high: u8, byte: u8) -> bool
     ensures { result ≡ lies_between low high byte }
@@ -44,7 +44,7 @@ fn lies_between(low: u8, high: u8, byte: u8) -> bool
     low <= byte && byte <= high
 }
 
-/// How many of eight bytes, from the first, lie in the range of two bytes.
+/// How many leading bytes of eight are within the range from `low` to `high`.
 #[inline(always)]
 fn lane_run(low: u8, high: u8, bytes: &[u8], at: usize) -> usize
     requires { at + LANES ≤ length bytes.now }
@@ -55,8 +55,8 @@ fn lane_run(low: u8, high: u8, bytes: &[u8], at: usize) -> usize
     first_set(outside.to_bitmask())
 }
 
-/// Whether the first of eight bytes that is out of the range of two bytes is the first 00, or there is neither. Which way is
-/// taken doesn't go by the bytes.
+/// Whether the first of eight bytes that is out of the range from `low` to `high` is the first 00, or there is neither.
+/// The control flow doesn't depend on the bytes.
 #[inline(always)]
 pub(crate) fn is_lane_text(low: u8, high: u8, bytes: &[u8]) -> bool
     requires { length bytes.now ≡ LANES }
@@ -65,7 +65,7 @@ pub(crate) fn is_lane_text(low: u8, high: u8, bytes: &[u8]) -> bool
     lane_run(low, high, bytes, 0) == set_run(bytes)
 }
 
-/// How many of eight bytes, from the first, are not 00.
+/// How many leading bytes of eight are not 00.
 #[inline(always)]
 fn set_run(bytes: &[u8]) -> usize
     requires { LANES ≤ length bytes.now }
@@ -75,7 +75,7 @@ fn set_run(bytes: &[u8]) -> usize
     first_set(lanes.simd_eq(u8x8::splat(0)).to_bitmask())
 }
 
-/// The place of the lowest bit of eight that is set, or 8.
+/// The position of the lowest of eight bits that is set, or 8.
 #[inline(always)]
 pub fn first_set(mask: u64) -> usize
     ensures { result ≡ first_set mask LANES }

@@ -15,7 +15,7 @@ pub fn no_fields_have_no_values()
     ensures { scalars_of [] ≡ [] }
 {}
 
-/// The valid values of an enum by the byte: over a char and a uint8 each number and the null; else none.
+/// The valid values of an enum, by byte: with a char or a uint8 each number and the null; otherwise none.
 pub fn valid_bytes_of_worked_enums()
     ensures char { valid_at (doubled Char) ≡ doubled_valid }
     ensures byte { valid_at (doubled U8) ≡ doubled_valid }

@@ -31,7 +31,7 @@ use Rattle.body_walk.proofs.MembersReady.{row_in}
 use Rattle.flyweight_view.proofs.MembersTold.{members_lie, members_placed, members_reach}
 use Rattle.flyweight_view.proofs.SlotsTold.{ValueOf, none_there}
 
--- ---- a block with nothing behind it
+-- ---- a block with nothing after it
 
 -- a block of those fields, without groups and data
 abbrev pub fields_only : List Value → Block

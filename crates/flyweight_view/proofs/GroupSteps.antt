@@ -1,4 +1,4 @@
--- The groups of a level, one behind another.
+-- The groups of a level, one after another.
 use Rattle.std.proofs.Common.{◌≡◌, ◌≤◌, ◌<◌, ◌+◌, ℕ, List, [], ◌∷◌, length, drop, Option, Some, Result, refl, sym, ap, ◌∙◌, subst, arith}
 use Rattle.std.specs.Prelude.{IsOk, slice_get}
 use Rattle.std.specs.Option.{option_map}
@@ -15,7 +15,7 @@ use Rattle.layout_tables.specs.Rowed.{RowFor}
 use Rattle.layout_tables.proofs.GroupWalk.{GroupsFrom, group_is}
 use Rattle.layout_tables.proofs.Items.{drop_at, all_dropped}
 use Rattle.group_codec.specs.declared.dim.Dim.{Dim}
-use Rattle.flyweight_view.specs.declared.ends.Spot.{Spot}
+use Rattle.flyweight_view.specs.declared.ends.GroupCursor.{GroupCursor}
 use Rattle.body_walk.specs.declared.layer.Layer.{Layer}
 use Rattle.flyweight_view.specs.inner.Groups.{groups_by, group_entered, next_groups, groups_at, groups_left, StandThere}
 use Rattle.flyweight_view.specs.inner.Layers.{entries_seen}
@@ -30,12 +30,12 @@ use Rattle.body_walk.proofs.Opens.{Child, child_here, child_next, level_within}
 abbrev pub inner_of : Layer → ℕ → Level → Layer
 inner_of l child level = record { layout = l.layout; number = child; level = record { ref_ptr = l.level.ref_ptr; now = level }; mode = l.mode; body = l.body }
 
--- the spot behind a group
-abbrev pub behind_of : Spot → ℕ → ℕ → Spot
+-- the cursor after a group
+abbrev pub behind_of : GroupCursor → ℕ → ℕ → GroupCursor
 behind_of s child at = record { next = s.next + 1; child = child; at = at }
 
--- behind the last group
-pub none_left : (l : Layer) (s : Spot) → length (out-Level l.level.now).groups ≤ s.next → rest_of (groups_at l s) ≡ drop s.at l.body.now
+-- after the last group
+pub none_left : (l : Layer) (s : GroupCursor) → length (out-Level l.level.now).groups ≤ s.next → rest_of (groups_at l s) ≡ drop s.at l.body.now
 unfolding each_read
 none_left l s most = ap (λ gs. rest_of (each_read (groups_by l.mode) 0 gs (drop s.at l.body.now))) (all_dropped (out-Level l.level.now).groups s.next most)
 
@@ -43,7 +43,7 @@ none_left l s most = ap (λ gs. rest_of (each_read (groups_by l.mode) 0 gs (drop
 never_more : (gs : List Group) → gs ≡ [] → (vs ws : List GroupVal) → groups_seen gs vs ≡ groups_seen gs ws
 never_more gs none vs ws = ap (λ z. groups_seen z vs) none ∙ sym (ap (λ z. groups_seen z ws) none)
 
-pub last_stands : (l : Layer) (s : Spot) (row_end at : ℕ) → length (out-Level l.level.now).groups ≤ s.next + 1 → at ≤ length l.body.now → row_end ≡ group_number l.layout.now l.number (s.next + 1) → StandThere l (behind_of s row_end at)
+pub last_stands : (l : Layer) (s : GroupCursor) (row_end at : ℕ) → length (out-Level l.level.now).groups ≤ s.next + 1 → at ≤ length l.body.now → row_end ≡ group_number l.layout.now l.number (s.next + 1) → StandThere l (behind_of s row_end at)
 unfolding each_read
 last_stands l s row_end at most near number = record {
   child = number;
@@ -51,7 +51,7 @@ last_stands l s row_end at most near number = record {
   reads = subst (λ gs. IsOk (each_read (groups_by l.mode) 0 gs (drop at l.body.now))) (sym (all_dropped (out-Level l.level.now).groups (s.next + 1) most)) refl;
 }
 
-module _ (l : Layer) (s : Spot) (g : Group) (layer : IsLayer l) (stand : StandThere l s) (there : slice_get (out-Level l.level.now).groups s.next ≡ Some g) where
+module _ (l : Layer) (s : GroupCursor) (g : Group) (layer : IsLayer l) (stand : StandThere l s) (there : slice_get (out-Level l.level.now).groups s.next ≡ Some g) where
   abbrev groups : List Group
   groups = (out-Level l.level.now).groups
 
@@ -92,7 +92,7 @@ module _ (l : Layer) (s : Spot) (g : Group) (layer : IsLayer l) (stand : StandTh
     pub entered_there : IsOk (group_entered (inner_of l s.child (out-Group g).level) s.at o)
     entered_there = subst (λ (r : Result (GroupVal × List ℕ) Fault). IsOk r) told group_read_there
 
-    -- where it is the last one, the place behind it tells nothing
+    -- where it is the last one, the place after it tells nothing
     pub last_seen : length groups ≤ s.next + 1 → (row_end at : ℕ) → groups_left l s ≡ option_map (entries_seen (inner_of l s.child (out-Group g).level)) o ∷ groups_left l (behind_of s row_end at)
     last_seen most row_end at =
         let none = all_dropped groups (s.next + 1) most in

@@ -1,4 +1,4 @@
--- Items that are read one behind another, one by one.
+-- Items that are read one after another, one by one.
 use Rattle.std.proofs.Common.{◌≡◌, ◌≤◌, ◌+◌, ◌-◌, ℕ, zero, suc, List, [], ◌∷◌, length, drop, Result, Ok, Err, refl, sym, ap, ◌∙◌, subst, arith, length-drop}
 use Rattle.std.specs.Prelude.{IsOk}
 use Rattle.std.proofs.lemmas.List.{drop-drop}
@@ -28,12 +28,12 @@ pub step_ok : {X Y : Type 0} (b : List ℕ) (r : Result (X × List ℕ) Fault) (
 step_ok b (Err f) q y h = cc
 step_ok b (Ok p) q y h = (p, refl, later_ok (length b - length p.1) (q p.0 p.1) y h)
 
--- what is read stays the same behind other bytes
+-- what is read stays the same after other bytes
 pub later_same : {X : Type 0} (n : ℕ) (r : Result X Fault) → IsOk (later n r) → later n r ≡ r
 later_same n (Ok x) h = refl
 later_same n (Err f) h = cc
 
--- ---- one item, and those behind it
+-- ---- one item, and those after it
 
 abbrev cons_read : {X : Type 0} → Step → Reader X → Reader (List X) → Reader (List X)
 cons_read step p more = then_read (read_in step p) (λ x. then_read more (λ xs. nothing (x ∷ xs)))
@@ -82,7 +82,7 @@ each_any {X} {Y} p i j (x ∷ xs) b r h =
     cons_made (way.Part j) (p x) (each_read p (suc j) xs) b c.rest r.1 c.x c.xs c.first (each_any p (suc i) (suc j) xs c.rest (c.xs, r.1) c.others)
     ∙ ap (λ (l : List Y). Ok (l, r.1)) (sym c.whole)
 
--- the first of some items, and those behind it
+-- the first of some items, and those after it
 pub record First {X : Type 0} (p : Reader X) (all more : Reader (List X)) (b : List ℕ) : Type 0 where
   pub x : X
   pub rest : List ℕ
@@ -137,7 +137,7 @@ each_many p i (x ∷ xs) b r h =
 
 -- ---- places
 
--- where it is read, the bytes behind it are those from the place on that is told
+-- where it is read, the bytes after it are those from the place on that is told
 pub read_there : {X : Type 0} (p : Reader X) (body : List ℕ) (at next : ℕ) → at ≤ length body → Leaves p → IsOk (p (drop at body)) → Ok next ≡ skim p body at → (rest_of (p (drop at body)) ≡ drop next body) × (next ≤ length body)
 read_there {X} p body at next near leaves ok is =
     let r = ok_there (p (drop at body)) ok in

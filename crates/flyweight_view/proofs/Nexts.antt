@@ -1,4 +1,4 @@
--- The entries of a group, one behind another.
+-- The entries of a group, one after another.
 use Rattle.std.proofs.Common.{◌≡◌, ◌≤◌, ◌<◌, ◌+◌, ◌-◌, ◌*◌, ℕ, zero, suc, List, ◌∷◌, length, drop, Result, Ok, Err, refl, sym, ap, ◌∙◌, subst, arith, length-drop}
 use Rattle.std.specs.Prelude.{IsOk, map, true, ◌&&◌, ◌==◌}
 use Rattle.std.proofs.lemmas.Bool.Decides.{nat_tests}
@@ -40,7 +40,7 @@ flat_is mode level h =
     let parts : length (out-Level level).parts ≡ 0 = grind (arith, nat_tests) in
     record { groups = groups; parts = parts }
 
--- the entries behind the first one
+-- the entries after the first one
 abbrev pub others_of : Dim → ℕ → Dim
 others_of d behind = record { block = d.block; count = d.count - 1; after = behind }
 
@@ -75,7 +75,7 @@ module _ (l : Layer) (d : Dim) (lie : LieThere l d) where
           reads = (next.rest, (own_block (entry here) (next.x, next.rest) next.first).0);
         }
 
-    -- the place behind it
+    -- the place after it
     pub first_flat : IsFlat l.mode l.level.now → (rest_of (entry here) ≡ drop (d.after + d.block) l.body.now) × (d.after + d.block ≤ length l.body.now)
     first_flat flat =
         let ends = flat_entry l.mode l.level.now d.block l.body.now d.after (next.x, next.rest) flat lie.near next.first in
@@ -120,7 +120,7 @@ module _ (l : Layer) (d : Dim) (lie : LieThere l d) where
         ∙ ap (λ (b : Block). see b ∷ map see (items_of (times_read entry 0 (d.count - 1) next.rest))) (sym (own_block (entry here) (next.x, next.rest) next.first).1)
         ∙ ap (λ n. see (block_of (entry here)) ∷ map see (items_of (times_read entry 0 n next.rest))) none
 
-  -- ---- the place behind them
+  -- ---- the place after them
 
   pub none_behind : d.count ≡ 0 → rest_of (blocks_at l d) ≡ here
   unfolding times_read

@@ -153,7 +153,7 @@ module _ (l : Layer) (i at : ℕ) (part : DataField) (line : LineUp l i at) (the
         ∙ first_part.rests
         ∙ ap (λ b. rest_of (each_read (parts_by l.mode) 0 others b)) rest_is
 
--- behind the last part
+-- after the last part
 pub none_left : (l : Layer) (i at : ℕ) → length (out-Level l.level.now).parts ≤ i → rest_of (parts_at l i at) ≡ drop at l.body.now
 unfolding each_read
 none_left l i at most = ap (λ ps. rest_of (each_read (parts_by l.mode) 0 ps (drop at l.body.now))) (all_dropped (out-Level l.level.now).parts i most)

@@ -20,19 +20,19 @@ use Rattle.body_walk.specs.Walked.{message_in, IsRead}
 use Rattle.body_walk.proofs.Bodies.{by_header, named_at}
 
 -- where a block lies, and how its values are read
-pub record Spot : Type 0 where
+pub record BlockPlace : Type 0 where
   pub mode : Mode
   pub at : ℕ
   pub size : ℕ
 
 -- a block of that level lies there, and is read as this one
-pub record BlockRead (spot : Spot) (level : Level) (body : List ℕ) (block : Block) : Type 0 where
+pub record BlockRead (spot : BlockPlace) (level : Level) (body : List ℕ) (block : Block) : Type 0 where
   pub reaches : floor spot.mode.version (out-Level level).fields ≤ spot.size
   pub near : spot.at + spot.size ≤ length body
   pub reads : (rest : List ℕ) × (entries_read spot.mode level spot.size (drop spot.at body) ≡ Ok (block, rest))
 
--- the root's block behind a header, in a message of that version
-abbrev pub root_spot : WireSchema → List ℕ → ℕ → Spot
+-- the root's block after a header, in a message of that version
+abbrev pub root_spot : WireSchema → List ℕ → ℕ → BlockPlace
 root_spot schema body version = record {
   mode = mode_of schema version;
   at = header_width schema;
@@ -80,7 +80,7 @@ heading_says schema head h = by_id (head_number schema (codes "schemaId") head =
     by_id true f is = judged_says schema head id (message_named 0 id schema.messages) h named is
     by_id false f is = cc
 
--- ---- behind the heading
+-- ---- after the heading
 
 rest_ok : (t : Bool) (m n : Msg) (f : Fault) → cond t (Err f) (Ok m) ≡ Ok n → m ≡ n
 rest_ok true m n f h = cc
@@ -103,7 +103,7 @@ module _ (schema : WireSchema) (body : List ℕ) (level : Level) (m : Msg) (is :
   abbrev behind : List ℕ
   behind = drop w body
 
-  -- the message behind its heading
+  -- the message after its heading
   message_behind : (h : Heading) → w ≤ length body → Says schema (take w body) h → root_read schema h behind ≡ Ok m → BlockRead (root_spot schema body m.version) level body m.block
   message_behind h fits says reads =
       let one = and_then_is behind (entries_read (mode_of schema h.version) h.level h.block behind) _ m reads in
@@ -146,12 +146,12 @@ module _ (schema : WireSchema) (body : List ℕ) (level : Level) (m : Msg) (is :
       let found = fitting (nat_le w (length body)) (heading_of schema (take w body)) _ refl (sym (by_header schema body) ∙ reads) in
       (found.0, message_behind found.1 found.0 (heading_says schema (take w body) found.1 found.2) found.3)
 
-same_spot : (schema : WireSchema) (body : List ℕ) (version : ℕ) (spot : Spot) → spot.mode ≡ mode_of schema version → spot.at ≡ header_width schema →
+same_spot : (schema : WireSchema) (body : List ℕ) (version : ℕ) (spot : BlockPlace) → spot.mode ≡ mode_of schema version → spot.at ≡ header_width schema →
     spot.size ≡ head_number schema (codes "blockLength") (take (header_width schema) body) → root_spot schema body version ≡ spot
 same_spot schema body version spot mode at size =
-    let first : Mode → Spot = λ m. record { mode = m; at = spot.at; size = spot.size } in
-    let second : ℕ → Spot = λ k. record { mode = mode_of schema version; at = k; size = spot.size } in
-    let third : ℕ → Spot = λ k. record { mode = mode_of schema version; at = header_width schema; size = k } in
+    let first : Mode → BlockPlace = λ m. record { mode = m; at = spot.at; size = spot.size } in
+    let second : ℕ → BlockPlace = λ k. record { mode = mode_of schema version; at = k; size = spot.size } in
+    let third : ℕ → BlockPlace = λ k. record { mode = mode_of schema version; at = header_width schema; size = k } in
     sym (ap first mode ∙ ap second at ∙ ap third size)
 
 -- the same by what is known of a body that was read
@@ -166,7 +166,7 @@ module _ (schema : WireSchema) (level : Level) (body : List ℕ) (template versi
   root_lies = subst (λ v. BlockRead (root_spot schema body v) level body (message_in schema body).block) is.version_is both_reads.1
 
   -- a place that is the root's
-  pub root_at : (spot : Spot) → spot.mode ≡ mode_of schema version → spot.at ≡ header_width schema → spot.size ≡ head_number schema (codes "blockLength") (take spot.at body) →
+  pub root_at : (spot : BlockPlace) → spot.mode ≡ mode_of schema version → spot.at ≡ header_width schema → spot.size ≡ head_number schema (codes "blockLength") (take spot.at body) →
       BlockRead spot level body (message_in schema body).block
   root_at spot mode at size =
       let same : root_spot schema body version ≡ spot = same_spot schema body version spot mode at (size ∙ ap (λ n. head_number schema (codes "blockLength") (take n body)) at) in

@@ -1,4 +1,4 @@
--- The groups and the data behind a block, and the entries of a group.
+-- The groups and the data after a block, and the entries of a group.
 use Rattle.std.proofs.Common.{◌≡◌, ◌≤◌, ◌+◌, ◌*◌, ℕ, zero, suc, Bool, true, false, cond, List, [], ◌∷◌, length, take, drop, Result, Ok, Err, refl, sym, ap, ◌∙◌, subst, arith, length-drop}
 use Rattle.std.specs.Prelude.{IsOk, nat_le}
 use Rattle.std.proofs.lemmas.Bool.{leb-true}
@@ -30,7 +30,7 @@ judged_rest {X} true k b q f x h =
     (refl, sym (ap (λ (z : X × List ℕ). z.1) (ok_is found.2)))
 judged_rest false k b q f x h = cc
 
--- a block that is read, with the tail behind it
+-- a block that is read, with the tail after it
 pub record EntryParts (tail : Reader Tail) (k : ℕ) (b : List ℕ) (r : Block × List ℕ) : Type 0 where
   pub fits : k ≤ length b
   pub t : Tail
@@ -55,7 +55,7 @@ entry_parts tail mode fields k b r h =
 -- ---- groups and then data
 
 module _ (mode : Mode) where
-  -- the groups of a tail, and the data behind them
+  -- the groups of a tail, and the data after them
   pub record TailParts (level : Level) (b : List ℕ) (t : Tail) (last : List ℕ) : Type 0 where
     pub middle : List ℕ
     pub groups : each_read (groups_by mode) 0 (out-Level level).groups b ≡ Ok (t.0, middle)
@@ -109,7 +109,7 @@ module _ (mode : Mode) where
       let two = no_items (parts_by mode) (out-Level level).parts t.middle e.t.1 r.1 flat.parts t.parts in
       (two ∙ one ∙ drop-drop k at body, omega (arith, e.fits, length-drop at body, near))
 
-  -- such entries end behind their blocks
+  -- such entries end after their blocks
   pub flat_end : (level : Level) (k n : ℕ) (body : List ℕ) (at : ℕ) → IsFlat level → at ≤ length body → IsOk (times_read (entries_read mode level k) 0 n (drop at body)) →
       (rest_of (times_read (entries_read mode level k) 0 n (drop at body)) ≡ drop (at + n * k) body) × (at + n * k ≤ length body)
   unfolding times_read

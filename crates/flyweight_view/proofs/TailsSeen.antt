@@ -1,4 +1,4 @@
--- The groups and the data behind a block that is seen.
+-- The groups and the data after a block that is seen.
 use Rattle.std.proofs.Common.{◌≡◌, ◌≤◌, ◌<◌, ◌+◌, ℕ, zero, suc, List, [], ◌∷◌, length, drop, Option, Some, Result, Ok, refl, sym, ap, ◌∙◌, subst, arith, length-drop}
 use Rattle.std.specs.Prelude.{map, slice_get}
 use Rattle.std.specs.Option.{option_map}
@@ -11,7 +11,7 @@ use Rattle.sbe_types.specs.declared.schema.Level.{out-Level}
 use Rattle.sbe_wire.specs.Faults.{Fault}
 use Rattle.sbe_wire.specs.Reading.{Tail, each_read}
 use Rattle.sbe_wire.proofs.Combine.{ok_is}
-use Rattle.flyweight_view.specs.declared.ends.Spot.{Spot}
+use Rattle.flyweight_view.specs.declared.ends.GroupCursor.{GroupCursor}
 use Rattle.body_walk.specs.declared.layer.Layer.{Layer}
 use Rattle.flyweight_view.specs.declared.plan.Plan.{Plan}
 use Rattle.flyweight_view.specs.declared.plan.Plan.TheVariants as plan
@@ -30,9 +30,9 @@ use Rattle.flyweight_view.proofs.Tails.{EntryParts, entry_parts, TailParts, tail
 abbrev pub layer_of : Span → Layer → Layer
 layer_of s x = record { layout = x.layout; number = x.number; level = x.level; mode = s.mode; body = s.body }
 
--- the spot of the first group behind a block
-abbrev pub first_spot : Span → ℕ → Spot
-first_spot s child = record { next = 0; child = child; at = s.at + s.size }
+-- the cursor of the first group after a block
+abbrev pub first_cursor : Span → ℕ → GroupCursor
+first_cursor s child = record { next = 0; child = child; at = s.at + s.size }
 
 module _ (s : Span) (p : Plan) (seen : IsSeen s p) where
   abbrev block : Block
@@ -68,19 +68,19 @@ module _ (s : Span) (p : Plan) (seen : IsSeen s p) where
     two = tail_parts s.mode x.level.now (drop (s.at + s.size) s.body.now) (groups, parts) rest
         (subst (λ (q : Plan). tail_of s.mode q (drop (s.at + s.size) s.body.now) ≡ Ok ((groups, parts), rest)) is tail_reads)
 
-    pub first_stands : (child : ℕ) → child ≡ x.number + 1 → StandThere (layer_of s x) (first_spot s child)
+    pub first_stands : (child : ℕ) → child ≡ x.number + 1 → StandThere (layer_of s x) (first_cursor s child)
     first_stands child is = record {
       child = omega (arith, is);
       near = seen.near;
-      reads = ok_from (groups_at (layer_of s x) (first_spot s child)) (groups, two.middle) two.groups;
+      reads = ok_from (groups_at (layer_of s x) (first_cursor s child)) (groups, two.middle) two.groups;
     }
 
-    pub first_left : (child : ℕ) → groups_left (layer_of s x) (first_spot s child) ≡ groups_seen (groups_of p) groups
+    pub first_left : (child : ℕ) → groups_left (layer_of s x) (first_cursor s child) ≡ groups_seen (groups_of p) groups
     first_left child =
         ap (λ (r : Result (List GroupVal × List ℕ) Fault). groups_seen (out-Level x.level.now).groups (items_of r)) two.groups
         ∙ ap (λ (q : Plan). groups_seen (groups_of q) groups) (sym is)
 
-    module _ (child at : ℕ) (ends : rest_of (groups_at (layer_of s x) (first_spot s child)) ≡ drop at s.body.now) where
+    module _ (child at : ℕ) (ends : rest_of (groups_at (layer_of s x) (first_cursor s child)) ≡ drop at s.body.now) where
       middle_is : two.middle ≡ drop at s.body.now
       middle_is = sym (ap rest_of two.groups) ∙ ends
 

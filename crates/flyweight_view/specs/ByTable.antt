@@ -10,7 +10,7 @@ use Rattle.flat_rows.specs.Tables.{stands_for, IsTable, RowsFit}
 use Rattle.flyweight_view.specs.declared.by_table.TableBlock.{TableBlock}
 use Rattle.flyweight_view.specs.Seen.{Seen}
 
--- A block with the table of its values: they lie there, the lowest byte first. They may be of any version that has all fields.
+-- A block with the table of its values, in little-endian order. It may be of any version that has all fields.
 pub record IsTableBlock (b : TableBlock) (s : Seen) : Type 0 where
   pub table_is : IsTable b.table.now
   pub stands : stands_for b.table.now ≡ scalars_of s.fields

@@ -26,11 +26,11 @@ pub record Seen : Type 0 where
 abbrev pub seen_level : Level → Block → Seen
 seen_level level block = record { fields = (out-Level level).fields; groups = (out-Level level).groups; parts = (out-Level level).parts; block = block }
 
--- a member of a composite as a field, which stands at each version
+-- a member of a composite as a field, which exists at each version
 abbrev pub member_field : Member → Field
 member_field m = record { name = m.name; id = 0; since = 0; offset = m.offset; kind = m.kind }
 
--- a composite with the values of its members
+-- a composite by its members and their values
 abbrev pub seen_members : List Member → List Value → Seen
 seen_members members values = record { fields = map member_field members; groups = []; parts = []; block = record { fields = values; groups = []; parts = [] } }
 
@@ -56,13 +56,13 @@ values_in value.Absent = None
 values_in value.Const = None
 values_in value.Null = None
 
--- what is seen of a composite's value
+-- what a composite's value shows
 abbrev pub composite_seen : Option (List Member) → Option (List Value) → Option Seen
 composite_seen (Some members) (Some values) = Some (seen_members members values)
 composite_seen (Some members) None = None
 composite_seen None values = None
 
--- what is seen of a field that is a composite
+-- what a field that is a composite shows
 abbrev pub field_seen : Option Field → Option Value → Option Seen
 field_seen (Some f) (Some v) = composite_seen (members_of f.kind) (values_in v)
 field_seen (Some f) None = None
@@ -70,23 +70,23 @@ field_seen None v = None
 
 -- ---- groups and data
 
--- the bytes of data, or none where it is absent
+-- the bytes of data; None if it is absent
 abbrev pub bytes_in : DataVal → Option (List ℕ)
 bytes_in dataval.Absent = None
 bytes_in (dataval.Bytes bytes) = Some bytes
 
--- what is seen of a group's entries, or none where it is absent
+-- what a group's entries show; None if the group is absent
 abbrev pub entries_in : Level → GroupVal → Option (List Seen)
 entries_in level groupval.Absent = None
 entries_in level (groupval.Entries' n blocks) = Some (map (seen_level level) (items-the_row-Block _ blocks))
 
--- what is seen of the group's entries, where there is a group with a value
+-- what the entries of a group show, if there is a group with a value
 abbrev pub group_seen : Option Group → Option GroupVal → Option (Option (List Seen))
 group_seen (Some g) (Some v) = Some (entries_in (out-Group g).level v)
 group_seen (Some g) None = None
 group_seen None v = None
 
--- what is seen of groups, of each that has a value
+-- what groups show, each of those with a value
 abbrev pub groups_seen : List Group → List GroupVal → List (Option (List Seen))
 groups_seen [] vs = []
 groups_seen (g ∷ gs) [] = []
@@ -94,7 +94,7 @@ groups_seen (g ∷ gs) (v ∷ vs) = entries_in (out-Group g).level v ∷ groups_
 
 -- ---- messages
 
--- a message with the root of its template
+-- a message and the root level of its template
 pub record SeenMessage : Type 0 where
   pub level : Level
   pub message : Msg

@@ -1,4 +1,4 @@
--- Definitions that inner clauses alone cite.
+-- Definitions that only inner clauses cite.
 pub mod Planned
 pub mod Blocks
 pub mod Viewed

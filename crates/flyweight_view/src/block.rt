@@ -25,8 +25,8 @@ use field_values::FieldState;
 use sbe_types::Kind;
 use std::marker::Model;
 
-/// A block of a message that lies in a body: a root, an entry, or the members of a composite. It lends from the
-/// body. Its parts are counted from 0, in the schema's order.
+/// A block of a message that lies in a body: a root, an entry, or the members of a composite. It borrows from the body.
+/// Its parts are counted from 0, in the schema's order.
 #[derive(Drop)]
 pub struct BlockView<'a> {
     span: Span<'a>,
@@ -54,7 +54,7 @@ impl<'a> Model for BlockView<'a> {
 }
 
 impl<'a> BlockView<'a> {
-    /// The block that lies there.
+    /// The block at this location.
     pub(crate) fn new(span: Span<'a>, plan: Plan<'a>) -> BlockView<'a>
         requires { IsSeen span plan }
         ensures { result ≡ seen_at span.entry plan.entry }
@@ -62,7 +62,7 @@ impl<'a> BlockView<'a> {
         BlockView { span, plan }
     }
 
-    /// The same block once more.
+    /// Another view of the same block.
     #[inline(always)]
     pub fn again(&self) -> BlockView<'a>
         ensures { result ≡ self.now }
@@ -73,7 +73,7 @@ impl<'a> BlockView<'a> {
         }
     }
 
-    /// How many fields, groups and data parts it has; a composite has its members as fields, and no more.
+    /// The numbers of fields, groups and data parts. A composite has its members as fields, and no groups or data.
     #[inline(always)]
     pub fn counts(&self) -> (usize, usize, usize)
         ensures { result ≡ (length self.now.fields, length self.now.groups, length self.now.parts) }
@@ -85,7 +85,7 @@ impl<'a> BlockView<'a> {
         )
     }
 
-    /// The name of field `i`. It needs a field in range.
+    /// The name of field `i`. Requires a field in range.
     #[inline(always)]
     pub fn name(&self, i: usize) -> &'a [u8]
         requires { i < length self.now.fields }
@@ -94,7 +94,7 @@ impl<'a> BlockView<'a> {
         name_of(&self.plan, i)
     }
 
-    /// The kind of field `i`. It needs a field in range.
+    /// The kind of field `i`. Requires a field in range.
     pub fn kind(&self, i: usize) -> &'a Kind
         requires { i < length self.now.fields }
         ensures { option_map (λ f. f.kind) (slice_get self.now.fields i) ≡ Some result.now }
@@ -102,7 +102,7 @@ impl<'a> BlockView<'a> {
         kind_of(&self.plan, i)
     }
 
-    /// The name of group `i`. It needs a group in range.
+    /// The name of group `i`. Requires a group in range.
     pub fn group_name(&self, i: usize) -> &'a [u8]
         requires { i < length self.now.groups }
         ensures { option_map group_name (slice_get self.now.groups i) ≡ Some result.now }
@@ -110,7 +110,7 @@ impl<'a> BlockView<'a> {
         name_of_group(&self.plan, i)
     }
 
-    /// The name of data part `i`. It needs a data part in range.
+    /// The name of data part `i`. Requires a data part in range.
     pub fn data_name(&self, i: usize) -> &'a [u8]
         requires { i < length self.now.parts }
         ensures { option_map (λ d. d.name) (slice_get self.now.parts i) ≡ Some result.now }
@@ -118,7 +118,7 @@ impl<'a> BlockView<'a> {
         name_of_data(&self.plan, i)
     }
 
-    /// Whether field `i` has a value. It needs a field in range.
+    /// Whether field `i` has a value. Requires a field in range.
     pub fn state(&self, i: usize) -> FieldState
         requires { i < length self.now.fields }
         ensures { option_map state_of (slice_get self.now.block.fields i) ≡ Some result }
@@ -126,7 +126,7 @@ impl<'a> BlockView<'a> {
         field_state(&self.span, &self.plan, i)
     }
 
-    /// The number of field `i`. It needs a field with a value that is a single number, an enum or a set.
+    /// The number of field `i`. Requires a field with a value that is a single number, an enum or a set.
     pub fn num(&self, i: usize) -> i128
         requires field { i < length self.now.fields }
         requires number { IsSome (option_and_then number_in (slice_get self.now.block.fields i)) }
@@ -135,7 +135,7 @@ impl<'a> BlockView<'a> {
         field_number(&self.span, &self.plan, i)
     }
 
-    /// The text of field `i`: its bytes before the first 00. It needs a field with a value that is a text.
+    /// The text of field `i`: its bytes before the first 00. Requires a field with a value that is a text.
     pub fn text(&self, i: usize) -> &'a [u8]
         requires field { i < length self.now.fields }
         requires text { IsSome (option_and_then text_in (slice_get self.now.block.fields i)) }
@@ -144,8 +144,8 @@ impl<'a> BlockView<'a> {
         field_text(&self.span, &self.plan, i)
     }
 
-    /// Element `j` of field `i`, none where it is null. It needs a field with a value that is an array of more
-    /// than `j` elements.
+    /// Element `j` of field `i`, or `None` if it is null. Requires a field with a value that is an array of more than
+    /// `j` elements.
     pub fn elem(&self, i: usize, j: usize) -> Option<i128>
         requires field { i < length self.now.fields }
         requires element { j < length (all_elements (slice_get self.now.block.fields i)) }
@@ -154,7 +154,7 @@ impl<'a> BlockView<'a> {
         field_element(&self.span, &self.plan, i, j)
     }
 
-    /// Field `i` with its bytes as they lie on the wire, none where it is absent. It needs a field in range.
+    /// Field `i` with its bytes as they are on the wire, or `None` if it is absent. Requires a field in range.
     #[inline(always)]
     pub fn field(&self, i: usize) -> Option<FieldBytes<'a>>
         requires { i < length self.now.fields }
@@ -166,8 +166,8 @@ impl<'a> BlockView<'a> {
         field_bytes(&self.span, &self.plan, i)
     }
 
-    /// Its bytes with the table of its fields, where it is of a level, all fields stand, and numbers have the lowest byte
-    /// first.
+    /// Its bytes with the table of its fields, if it is a block of a level, has every field, and its numbers are
+    /// little-endian.
     #[inline(always)]
     pub fn by_table(&self) -> Option<TableBlock<'a>>
         ensures { IfSome result (λ b. IsTableBlock b self.now) }
@@ -175,7 +175,7 @@ impl<'a> BlockView<'a> {
         table_block(&self.span, &self.plan)
     }
 
-    /// The members of field `i`. It needs a field that is there and a composite.
+    /// The members of field `i`. Requires a field that is present and is a composite.
     pub fn comp(&self, i: usize) -> BlockView<'a>
         requires field { i < length self.now.fields }
         requires composite { IsSome (field_seen (slice_get self.now.fields i) (slice_get self.now.block.fields i)) }
@@ -185,8 +185,8 @@ impl<'a> BlockView<'a> {
         BlockView { span, plan }
     }
 
-    /// The entries of group `i`, none where it is absent. The groups before it are stepped over. It needs a group
-    /// in range.
+    /// The entries of group `i`, or `None` if it is absent. The groups before it are skipped. Requires a group in
+    /// range.
     pub fn group(&self, i: usize) -> Option<EntriesView<'a>>
         requires { i < length self.now.groups }
         ensures { group_seen (slice_get self.now.groups i) (slice_get self.now.block.groups i) ≡ Some result }
@@ -194,8 +194,8 @@ impl<'a> BlockView<'a> {
         group_of(&self.span, &self.plan, i)
     }
 
-    /// The bytes of data part `i`, none where it is absent. What lies before it is stepped over. It needs a data
-    /// part in range.
+    /// The bytes of data part `i`, or `None` if it is absent. What precedes it is skipped. Requires a data part in
+    /// range.
     pub fn data(&self, i: usize) -> Option<&'a [u8]>
         requires { i < length self.now.parts }
         ensures { option_map bytes_in (slice_get self.now.block.parts i) ≡ Some (option_map (λ b. b.now) result) }
@@ -203,7 +203,7 @@ impl<'a> BlockView<'a> {
         data_of(&self.span, &self.plan, i)
     }
 
-    /// Its groups in the schema's order, each found once behind the one before it.
+    /// Its groups in the schema's order. Each is located once, from the end of the previous one.
     #[tactic(auto, using(crate::proofs::TailsSeen::all_groups))]
     pub fn groups(&self) -> GroupsView<'a>
         ensures seen { result ≡ groups_seen self.now.groups self.now.block.groups }

@@ -1,4 +1,4 @@
-// Blocks of a level by the table of the level's fields.
+// Blocks of a level, read by the table of the level's fields.
 ghost use Rattle.std.specs.Prelude.{◌≤◌, ◌+◌, length, IfSome};
 ghost use Rattle.flyweight_view.specs.ByTable.{IsTableBlock};
 ghost use Rattle.flyweight_view.specs.inner.Blocks.{IsRowBlock};
@@ -9,15 +9,15 @@ use flat_rows::FlatRows;
 use layout_tables::LevelRow;
 use sbe_types::Order;
 
-/// The bytes of a block, and the table of its values. Numbers have the lowest byte first.
+/// The bytes of a block, and the table of its values. Its numbers are little-endian.
 #[derive(Clone, Copy)]
 pub struct TableBlock<'a> {
     pub table: &'a FlatRows,
     pub bytes: &'a [u8],
 }
 
-/// A block that lies in a body, with the table of its fields: none where it is a composite, where a field doesn't stand,
-/// or where numbers have the highest byte first.
+/// A block that lies in a body, with the table of its fields. `None` if it is a composite, lacks a field, or its
+/// numbers are big-endian.
 #[inline(always)]
 pub(crate) fn table_block<'a>(span: &Span<'a>, plan: &Plan<'a>) -> Option<TableBlock<'a>>
     requires { IsSeen span.now plan.now }

@@ -1,4 +1,4 @@
-// What lies behind the entries and groups of a body that was walked. Nothing is judged again.
+// What follows the entries and groups of a body that was walked. Nothing is checked again.
 ghost use Rattle.std.specs.Prelude.{◌≡◌, ◌≤◌, ◌<◌, ◌+◌, ◌∷◌, ◌&&◌, ◌==◌, true, length, take, drop, IfSome, IsOk};
 ghost use Rattle.std.specs.Option.{option_map};
 ghost use Rattle.sbe_types.specs.declared.schema.Group.{out-Group};
@@ -21,25 +21,25 @@ use group_codec::Dim;
 use layout_tables::{DimRow, number_at};
 use sbe_types::{Group, Order};
 
-/// The next group of a level: its number there, the number of its entries' level, and where it begins.
+/// The next group of a level: its number there, the number of its entries' level, and its offset.
 #[derive(Clone, Copy)]
-pub(crate) struct Spot {
+pub(crate) struct GroupCursor {
     pub(crate) next: usize,
     pub(crate) child: usize,
     pub(crate) at: usize,
 }
 
-/// A group of a level: the level of its entries, their dimension, and where the next group begins.
+/// A group of a level: the level of its entries, their dimension, and the cursor of the next group.
 #[derive(Clone, Copy)]
 pub(crate) struct NextGroup<'a> {
     pub(crate) inner: Layer<'a>,
     pub(crate) dim: Option<Dim>,
-    pub(crate) behind: Spot,
+    pub(crate) behind: GroupCursor,
 }
 
 // ---- entries
 
-/// The entries behind the first one. Behind the last one no place is looked for.
+/// The entries after the first one. After the last one no offset is computed.
 #[inline(always)]
 pub(crate) fn others_of(layer: &Layer<'_>, left: Dim) -> Dim
     requires layer { IsLayer layer.now }
@@ -58,12 +58,12 @@ pub(crate) fn others_of(layer: &Layer<'_>, left: Dim) -> Dim
     if is_flat(layer.level) {
         return flat_behind(layer, left);
     }
-    // A copy of its own, so that nothing is stored where it isn't needed.
+    // A separate copy, so that nothing is stored where it isn't needed.
     let layer = *layer;
     behind_first(&layer, left)
 }
 
-/// The entries behind the first one, where they have neither groups nor data.
+/// The entries after the first one, if they have neither groups nor data.
 #[inline(always)]
 pub(crate) fn flat_behind(layer: &Layer<'_>, left: Dim) -> Dim
     requires lie { LieThere layer.now left }
@@ -80,7 +80,7 @@ pub(crate) fn flat_behind(layer: &Layer<'_>, left: Dim) -> Dim
     }
 }
 
-/// The place behind entries without groups and data.
+/// The offset after entries without groups and data.
 #[inline(always)]
 fn flat_end(layer: &Layer<'_>, dim: Dim) -> usize
     requires lie { LieThere layer.now dim }
@@ -92,7 +92,7 @@ fn flat_end(layer: &Layer<'_>, dim: Dim) -> usize
     dim.after + dim.count as usize * dim.block as usize
 }
 
-/// The place behind entries that lie one behind another.
+/// The offset after entries that follow one another.
 #[cycle(ends)]
 #[inline(never)]
 fn entries_end(layer: &Layer<'_>, dim: Dim) -> usize
@@ -108,7 +108,7 @@ fn entries_end(layer: &Layer<'_>, dim: Dim) -> usize
     left.after
 }
 
-/// The entries behind the first one.
+/// The entries after the first one.
 #[cycle(ends)]
 fn behind_first(layer: &Layer<'_>, left: Dim) -> Dim
     requires layer { IsLayer layer.now }
@@ -127,7 +127,7 @@ fn behind_first(layer: &Layer<'_>, left: Dim) -> Dim
     }
 }
 
-/// The place behind the first one of some entries.
+/// The offset after the first one of some entries.
 #[cycle(ends)]
 #[inline(never)]
 fn entry_end(layer: &Layer<'_>, left: Dim) -> usize
@@ -137,122 +137,122 @@ fn entry_end(layer: &Layer<'_>, left: Dim) -> usize
     ensures rest { rest_of (entries_read layer.now.mode layer.now.level.now left.block (drop left.after layer.now.body.now)) ≡ drop result layer.now.body.now }
     ensures within { result ≤ length layer.now.body.now }
 {
-    let spot = Spot {
+    let cursor = GroupCursor {
         next: 0,
         child: first_child(layer.layout, layer.number),
         at: left.after + left.block as usize,
     };
-    let at = groups_end(layer, spot);
+    let at = groups_end(layer, cursor);
     parts_end(layer, at)
 }
 
 // ---- groups
 
-/// The next group of a level. Behind the last one no place is looked for.
+/// The next group of a level. After the last one no offset is computed.
 #[inline(always)]
-pub(crate) fn open_group<'a>(layer: &Layer<'a>, spot: Spot) -> NextGroup<'a>
+pub(crate) fn open_group<'a>(layer: &Layer<'a>, cursor: GroupCursor) -> NextGroup<'a>
     requires layer { IsLayer layer.now }
-    requires stand { StandThere layer.now spot }
-    requires more { spot.next < length (out-Level layer.now.level.now).groups }
+    requires stand { StandThere layer.now cursor }
+    requires more { cursor.next < length (out-Level layer.now.level.now).groups }
     ensures inner { IsLayer result.inner }
     ensures lie { IfSome result.dim (λ d. LieThere result.inner d) }
     ensures stand { StandThere layer.now result.behind }
-    ensures next { result.behind.next ≡ spot.next + 1 }
-    ensures seen { groups_left layer.now spot ≡ option_map (entries_seen result.inner) result.dim ∷ groups_left layer.now result.behind }
+    ensures next { result.behind.next ≡ cursor.next + 1 }
+    ensures seen { groups_left layer.now cursor ≡ option_map (entries_seen result.inner) result.dim ∷ groups_left layer.now result.behind }
 {
-    if spot.next + 1 < layer.level.groups.len() {
-        return step_group(layer, spot);
+    if cursor.next + 1 < layer.level.groups.len() {
+        return step_group(layer, cursor);
     }
-    last_group(layer, spot)
+    last_group(layer, cursor)
 }
 
-/// The last group of a level. It tells of no place behind it.
+/// The last group of a level. It has no valid offset for a next group.
 #[inline(always)]
-fn last_group<'a>(layer: &Layer<'a>, spot: Spot) -> NextGroup<'a>
+fn last_group<'a>(layer: &Layer<'a>, cursor: GroupCursor) -> NextGroup<'a>
     requires layer { IsLayer layer.now }
-    requires stand { StandThere layer.now spot }
-    requires last { spot.next + 1 ≡ length (out-Level layer.now.level.now).groups }
+    requires stand { StandThere layer.now cursor }
+    requires last { cursor.next + 1 ≡ length (out-Level layer.now.level.now).groups }
     ensures inner { IsLayer result.inner }
     ensures lie { IfSome result.dim (λ d. LieThere result.inner d) }
     ensures stand { StandThere layer.now result.behind }
-    ensures next { result.behind.next ≡ spot.next + 1 }
-    ensures seen { groups_left layer.now spot ≡ option_map (entries_seen result.inner) result.dim ∷ groups_left layer.now result.behind }
+    ensures next { result.behind.next ≡ cursor.next + 1 }
+    ensures seen { groups_left layer.now cursor ≡ option_map (entries_seen result.inner) result.dim ∷ groups_left layer.now result.behind }
 {
-    let group = layer.level.groups.at(spot.next);
+    let group = layer.level.groups.at(cursor.next);
     let inner = Layer {
         layout: layer.layout,
-        number: spot.child,
+        number: cursor.child,
         level: &group.level,
         mode: layer.mode,
         body: layer.body,
     };
-    let dim = dim_there(&inner, group, spot.at);
-    let child = layer.layout.row(spot.child).end;
+    let dim = dim_there(&inner, group, cursor.at);
+    let child = layer.layout.row(cursor.child).end;
     NextGroup {
         inner,
         dim,
-        behind: Spot {
-            next: spot.next + 1,
+        behind: GroupCursor {
+            next: cursor.next + 1,
             child,
-            at: spot.at,
+            at: cursor.at,
         },
     }
 }
 
-/// The place behind the groups of a level, of which the first one is given.
+/// The offset after the groups of a level, given the first one.
 #[cycle(ends)]
 #[inline(always)]
-pub(crate) fn groups_end(layer: &Layer<'_>, spot: Spot) -> usize
+pub(crate) fn groups_end(layer: &Layer<'_>, cursor: GroupCursor) -> usize
     requires layer { IsLayer layer.now }
-    requires stand { StandThere layer.now spot }
-    requires first { spot.next ≡ 0 }
-    ensures rest { rest_of (groups_at layer.now spot) ≡ drop result layer.now.body.now }
+    requires stand { StandThere layer.now cursor }
+    requires first { cursor.next ≡ 0 }
+    ensures rest { rest_of (groups_at layer.now cursor) ≡ drop result layer.now.body.now }
     ensures within { result ≤ length layer.now.body.now }
 {
-    let mut spot = spot;
+    let mut cursor = cursor;
     for _ in 0..layer.level.groups.len() {
-        spot = step_group(layer, spot).behind;
+        cursor = step_group(layer, cursor).behind;
     }
-    spot.at
+    cursor.at
 }
 
 /// The next group of a level.
 #[cycle(ends)]
 #[inline(always)]
-fn step_group<'a>(layer: &Layer<'a>, spot: Spot) -> NextGroup<'a>
+fn step_group<'a>(layer: &Layer<'a>, cursor: GroupCursor) -> NextGroup<'a>
     requires layer { IsLayer layer.now }
-    requires stand { StandThere layer.now spot }
-    requires more { spot.next < length (out-Level layer.now.level.now).groups }
+    requires stand { StandThere layer.now cursor }
+    requires more { cursor.next < length (out-Level layer.now.level.now).groups }
     ensures inner { IsLayer result.inner }
     ensures lie { IfSome result.dim (λ d. LieThere result.inner d) }
     ensures stand { StandThere layer.now result.behind }
-    ensures next { result.behind.next ≡ spot.next + 1 }
-    ensures seen { groups_left layer.now spot ≡ option_map (entries_seen result.inner) result.dim ∷ groups_left layer.now result.behind }
-    ensures rest { rest_of (groups_at layer.now spot) ≡ rest_of (groups_at layer.now result.behind) }
+    ensures next { result.behind.next ≡ cursor.next + 1 }
+    ensures seen { groups_left layer.now cursor ≡ option_map (entries_seen result.inner) result.dim ∷ groups_left layer.now result.behind }
+    ensures rest { rest_of (groups_at layer.now cursor) ≡ rest_of (groups_at layer.now result.behind) }
 {
-    let group = layer.level.groups.at(spot.next);
+    let group = layer.level.groups.at(cursor.next);
     let inner = Layer {
         layout: layer.layout,
-        number: spot.child,
+        number: cursor.child,
         level: &group.level,
         mode: layer.mode,
         body: layer.body,
     };
-    let dim = dim_there(&inner, group, spot.at);
-    let at = group_end(&inner, dim, spot.at);
-    let child = layer.layout.row(spot.child).end;
+    let dim = dim_there(&inner, group, cursor.at);
+    let at = group_end(&inner, dim, cursor.at);
+    let child = layer.layout.row(cursor.child).end;
     NextGroup {
         inner,
         dim,
-        behind: Spot {
-            next: spot.next + 1,
+        behind: GroupCursor {
+            next: cursor.next + 1,
             child,
             at,
         },
     }
 }
 
-/// The dimension of a group that begins at a place, of whose entries the level is given. None where it is absent.
+/// The dimension of a group that begins at an offset, given the level of its entries. `None` if the group is absent.
 #[inline(always)]
 fn dim_there(layer: &Layer<'_>, group: &Group, at: usize) -> Option<Dim>
     requires layer { IsLayer layer.now }
@@ -273,7 +273,7 @@ fn dim_there(layer: &Layer<'_>, group: &Group, at: usize) -> Option<Dim>
     }
 }
 
-/// The dimension at a place where one lies: its numbers are read, and not judged once more.
+/// The dimension at an offset where there is a valid one: its numbers are read, and not checked again.
 #[inline(always)]
 fn stood_dim(order: Order, row: &DimRow, body: &[u8], at: usize) -> Dim
     requires row { IsDimRow row.now }
@@ -291,8 +291,8 @@ fn stood_dim(order: Order, row: &DimRow, body: &[u8], at: usize) -> Dim
     }
 }
 
-/// The place behind a group that begins at a place, by its dimension. Without groups and data in its entries it is known
-/// at once.
+/// The offset after a group that begins at an offset, given its dimension. If its entries have no groups and data it is
+/// computed directly.
 #[cycle(ends)]
 #[inline(always)]
 fn group_end(layer: &Layer<'_>, dim: Option<Dim>, at: usize) -> usize
@@ -308,7 +308,7 @@ fn group_end(layer: &Layer<'_>, dim: Option<Dim>, at: usize) -> usize
             if is_flat(layer.level) {
                 return flat_end(layer, dim);
             }
-            // A copy of its own, so that nothing is stored where it isn't needed.
+            // A separate copy, so that nothing is stored where it isn't needed.
             let layer = *layer;
             entries_end(&layer, dim)
         }

@@ -15,7 +15,7 @@ use body_walk::{Layer, is_flat};
 use group_codec::Dim;
 use std::marker::Model;
 
-/// The entries of a group that are left, each found behind the one before it. It lends from the body.
+/// The remaining entries of a group. Each is located from the end of the previous one. It borrows from the body.
 #[derive(Drop)]
 pub struct EntriesView<'a> {
     layer: Layer<'a>,
@@ -44,7 +44,7 @@ impl<'a> Model for EntriesView<'a> {
 }
 
 impl<'a> EntriesView<'a> {
-    /// The entries that lie there.
+    /// The entries at this location.
     pub(crate) fn new(layer: Layer<'a>, left: Dim) -> EntriesView<'a>
         requires layer { IsLayer layer }
         requires lie { LieThere layer left }
@@ -53,15 +53,15 @@ impl<'a> EntriesView<'a> {
         EntriesView { layer, left }
     }
 
-    /// How many entries are left.
+    /// The number of remaining entries.
     pub fn len(&self) -> usize
         ensures { result ≡ length self.now }
     {
         self.left.count as usize
     }
 
-    /// The block of the next entry with the table of its fields, where it has neither groups nor data, all its fields
-    /// stand, and numbers have the lowest byte first. Else none, and the entry is still left.
+    /// Takes the next entry as a block with the table of its fields, if the level has neither groups nor data, the
+    /// version has every field, and numbers are little-endian. Otherwise returns `None`, and the entry remains.
     #[inline(always)]
     pub fn next_table(&mut self) -> Option<TableBlock<'a>>
         ensures taken { IfSome result (λ block. TakesTable block self.old self.new) }

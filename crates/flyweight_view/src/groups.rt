@@ -8,19 +8,19 @@ ghost use Rattle.body_walk.specs.inner.Layers.{IsLayer};
 ghost use Rattle.flyweight_view.specs.Seen.{groups_seen, group_seen};
 ghost use Rattle.flyweight_view.specs.inner.Planned.{block_of, block_told, groups_of, IsSeen};
 
-use crate::ends::{Spot, open_group};
+use crate::ends::{GroupCursor, open_group};
 use crate::entries::EntriesView;
 use crate::plan::{Plan, Span};
 use body_walk::{Layer, first_child};
 use group_codec::Dim;
 use std::marker::Model;
 
-/// The groups of a block that are left, each found behind the one before it. It lends from the body.
+/// The remaining groups of a block. Each is located from the end of the previous one. It borrows from the body.
 #[derive(Drop)]
 pub struct GroupsView<'a> {
-    /// None where there are no groups, as in a composite.
+    /// `None` if there are no groups, as in a composite.
     layer: Option<Layer<'a>>,
-    spot: Spot,
+    cursor: GroupCursor,
 }
 
 impl<'a> Model for GroupsView<'a> {
@@ -45,13 +45,13 @@ impl<'a> Model for GroupsView<'a> {
 }
 
 impl<'a> GroupsView<'a> {
-    /// No group.
+    /// No groups.
     fn empty() -> GroupsView<'a>
         ensures { result ≡ [] }
     {
         GroupsView {
             layer: None,
-            spot: Spot {
+            cursor: GroupCursor {
                 next: 0,
                 child: 0,
                 at: 0,
@@ -60,18 +60,18 @@ impl<'a> GroupsView<'a> {
     }
 
     /// The groups of a level from the next one on.
-    fn over(layer: Layer<'a>, spot: Spot) -> GroupsView<'a>
+    fn over(layer: Layer<'a>, cursor: GroupCursor) -> GroupsView<'a>
         requires layer { IsLayer layer }
-        requires stand { StandThere layer spot }
-        ensures { result ≡ groups_left layer.entry spot }
+        requires stand { StandThere layer cursor }
+        ensures { result ≡ groups_left layer.entry cursor }
     {
         GroupsView {
             layer: Some(layer),
-            spot,
+            cursor,
         }
     }
 
-    /// The next group: its entries, or none where it is absent. It needs a group that is left.
+    /// The next group: its entries, or `None` if it is absent. Requires a remaining group.
     #[inline(always)]
     pub fn next_group(&mut self) -> Option<EntriesView<'a>>
         requires { 0 < length self.old }
@@ -79,8 +79,8 @@ impl<'a> GroupsView<'a> {
     {
         match self.layer {
             Some(layer) => {
-                let step = open_group(&layer, self.spot);
-                self.spot = step.behind;
+                let step = open_group(&layer, self.cursor);
+                self.cursor = step.behind;
                 entries_over(&step.inner, step.dim)
             }
             None => unreachable!(),
@@ -105,18 +105,18 @@ pub(crate) fn groups_in<'a>(span: &Span<'a>, plan: &Plan<'a>) -> GroupsView<'a>
                 mode: span.mode,
                 body: span.body,
             };
-            let spot = Spot {
+            let cursor = GroupCursor {
                 next: 0,
                 child: first_child(layout, number),
                 at: span.at + span.size,
             };
-            GroupsView::over(layer, spot)
+            GroupsView::over(layer, cursor)
         }
         Plan::Members(_) => GroupsView::empty(),
     }
 }
 
-/// Group `i` of a block: its entries, or none where it is absent. The groups before it are stepped over.
+/// Group `i` of a block: its entries, or `None` if it is absent. The groups before it are skipped.
 pub(crate) fn group_of<'a>(span: &Span<'a>, plan: &Plan<'a>, i: usize) -> Option<EntriesView<'a>>
     requires seen { IsSeen span.now plan.now }
     requires group { i < length (groups_of plan.now) }
@@ -129,7 +129,7 @@ pub(crate) fn group_of<'a>(span: &Span<'a>, plan: &Plan<'a>, i: usize) -> Option
     groups.next_group()
 }
 
-/// The entries of a group, by its dimension.
+/// The entries of a group, given its dimension.
 #[inline(always)]
 fn entries_over<'a>(layer: &Layer<'a>, dim: Option<Dim>) -> Option<EntriesView<'a>>
     requires layer { IsLayer layer.now }

@@ -1,4 +1,4 @@
-//! A body is validated once, and its parts are lent.
+//! Validates a body once, and lends its parts.
 #![tactic(auto)]
 
 mod block;

@@ -7,16 +7,16 @@ ghost use Rattle.flyweight_view.specs.Seen.{bytes_in};
 ghost use Rattle.flyweight_view.specs.inner.Parts.{parts_left, LineUp};
 ghost use Rattle.flyweight_view.specs.inner.Planned.{block_of, block_told, parts_of, IsSeen};
 
-use crate::ends::{Spot, groups_end};
+use crate::ends::{GroupCursor, groups_end};
 use crate::plan::{Plan, Span};
 use crate::ranges::{behind_range, next_range, range_of};
 use body_walk::{Layer, first_child};
 use std::marker::Model;
 
-/// The data parts of a block that are left, each found behind the one before it. It lends from the body.
+/// The remaining data parts of a block. Each is located from the end of the previous one. It borrows from the body.
 #[derive(Drop)]
 pub struct PartsView<'a> {
-    /// None where there is no data, as in a composite.
+    /// `None` if there is no data, as in a composite.
     layer: Option<Layer<'a>>,
     next: usize,
     at: usize,
@@ -38,7 +38,7 @@ impl<'a> Model for PartsView<'a> {
 }
 
 impl<'a> PartsView<'a> {
-    /// No data part.
+    /// No data parts.
     fn empty() -> PartsView<'a>
         ensures { result ≡ [] }
     {
@@ -49,7 +49,7 @@ impl<'a> PartsView<'a> {
         }
     }
 
-    /// The data parts of a level, of which the first one begins at a place.
+    /// The data parts of a level, the first of which begins at an offset.
     fn over(layer: Layer<'a>, at: usize) -> PartsView<'a>
         requires layer { IsLayer layer }
         requires line { LineUp layer 0 at }
@@ -62,7 +62,7 @@ impl<'a> PartsView<'a> {
         }
     }
 
-    /// The next data part: its bytes, or none where it is absent. It needs a data part that is left.
+    /// The next data part: its bytes, or `None` if it is absent. Requires a remaining data part.
     #[inline(always)]
     pub fn next_part(&mut self) -> Option<&'a [u8]>
         requires { 0 < length self.old }
@@ -98,19 +98,19 @@ pub(crate) fn parts_in<'a>(span: &Span<'a>, plan: &Plan<'a>) -> PartsView<'a>
                 mode: span.mode,
                 body: span.body,
             };
-            let spot = Spot {
+            let cursor = GroupCursor {
                 next: 0,
                 child: first_child(layout, number),
                 at: span.at + span.size,
             };
-            let at = groups_end(&layer, spot);
+            let at = groups_end(&layer, cursor);
             PartsView::over(layer, at)
         }
         Plan::Members(_) => PartsView::empty(),
     }
 }
 
-/// Data part `i` of a block: its bytes, or none where it is absent. What lies before it is stepped over.
+/// Data part `i` of a block: its bytes, or `None` if it is absent. What precedes it is skipped.
 pub(crate) fn data_of<'a>(span: &Span<'a>, plan: &Plan<'a>, i: usize) -> Option<&'a [u8]>
     requires seen { IsSeen span.now plan.now }
     requires part { i < length (parts_of plan.now) }

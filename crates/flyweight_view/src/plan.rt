@@ -1,4 +1,4 @@
-// The blocks of a body: where they lie, and what the schema says of them.
+// The blocks of a body: where they are, and what the schema says about them.
 ghost use Rattle.std.specs.Prelude.{◌≡◌, ◌<◌, ◌≤◌, ◌+◌, true, false, if◌then◌else◌, [], length, map, slice_get, take, drop, Some};
 ghost use Rattle.std.specs.Option.{option_map};
 ghost use Rattle.sbe_types.specs.declared.schema.Field.{Field};
@@ -17,7 +17,7 @@ use layout_tables::{FieldRow, Layout, member_place};
 use sbe_types::{Field, Kind, Level, List, Member};
 use sbe_wire::Mode;
 
-/// Where a block lies in a body, and how its values are read.
+/// Where a block is in a body, and how its values are read.
 #[derive(Clone, Copy)]
 pub(crate) struct Span<'a> {
     pub(crate) mode: Mode,
@@ -26,16 +26,16 @@ pub(crate) struct Span<'a> {
     pub(crate) size: usize,
 }
 
-/// What the schema says of a block.
+/// What the schema says about a block.
 #[derive(Clone, Copy)]
 pub(crate) enum Plan<'a> {
-    /// It is of a level, which has that number.
+    /// It is a block of the level with this number.
     Level(&'a Layout, usize, &'a Level),
-    /// It is of the members of a composite.
+    /// It consists of the members of a composite.
     Members(&'a List<Member>),
 }
 
-/// A field of a block: whether it is alive, its kind and its bytes, which a constant has none of.
+/// A field of a block: whether the version has it, its kind and its bytes. A constant has none.
 #[derive(Clone, Copy)]
 pub(crate) struct Slot<'a> {
     pub(crate) alive: bool,
@@ -128,7 +128,7 @@ fn field_row<'a>(
     &row.fields[i]
 }
 
-/// A field of a block by its row.
+/// A field of a block, given its row.
 #[inline(always)]
 fn row_slot<'a>(span: &Span<'a>, field: &'a Field, row: &FieldRow) -> Slot<'a>
     requires row { IsFieldRow span.now.mode.version span.now.size field.now row.now }

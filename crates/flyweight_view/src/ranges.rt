@@ -1,4 +1,4 @@
-// Where the data parts of a level lie in a body that was walked. Nothing is judged again.
+// Where the data parts of a level are in a body that was walked. Nothing is checked again.
 ghost use Rattle.std.specs.Prelude.{◌≡◌, ◌≤◌, ◌<◌, ◌+◌, ◌∷◌, length, drop, IfSome, IsOk};
 ghost use Rattle.std.specs.Option.{option_map};
 ghost use Rattle.sbe_types.specs.declared.schema.Level.{out-Level};
@@ -12,7 +12,7 @@ use sbe_types::DataField;
 use sbe_wire::Mode;
 use var_data::standing_data;
 
-/// The place after the data parts of a level, of which the first one begins at a place.
+/// The offset after the data parts of a level, the first of which begins at an offset.
 pub(crate) fn parts_end(layer: &Layer<'_>, at: usize) -> usize
     requires layer { IsLayer layer.now }
     requires line { LineUp layer.now 0 at }
@@ -26,7 +26,7 @@ pub(crate) fn parts_end(layer: &Layer<'_>, at: usize) -> usize
     at
 }
 
-/// Where the bytes of data part `i` of a level lie, which begins at a place. None where it is absent.
+/// The range of the bytes of data part `i` of a level, which begins at an offset. `None` if it is absent.
 #[inline(always)]
 pub(crate) fn next_range(layer: &Layer<'_>, i: usize, at: usize) -> Option<(usize, usize)>
     requires layer { IsLayer layer.now }
@@ -40,7 +40,7 @@ pub(crate) fn next_range(layer: &Layer<'_>, i: usize, at: usize) -> Option<(usiz
     part_range(layer.mode, layer.level.parts.at(i), layer.body, at)
 }
 
-/// Where the bytes of a data part lie that begins at a place. None where it is absent.
+/// The range of the bytes of a data part that begins at an offset. `None` if it is absent.
 fn part_range(mode: Mode, part: &DataField, body: &[u8], at: usize) -> Option<(usize, usize)>
     requires small { IsSmall part.now.length.prim }
     requires at { at ≤ length body.now }
@@ -54,7 +54,7 @@ fn part_range(mode: Mode, part: &DataField, body: &[u8], at: usize) -> Option<(u
     Some(standing_data(mode.order, &part.length, body, at))
 }
 
-/// The place after a data part that begins at a place.
+/// The offset after a data part that begins at an offset.
 pub(crate) fn behind_range(range: Option<(usize, usize)>, at: usize) -> usize
     ensures { result ≡ range_end at range }
 {

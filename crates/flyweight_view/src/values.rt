@@ -13,7 +13,7 @@ use crate::plan::{Plan, Span, slot_of};
 use field_values::{FieldState, element_in, number_in, state_in, text_in};
 use sbe_types::{Kind, List, Member, Order};
 
-/// The bytes of a field that is there, and what tells of them. A constant has none.
+/// The bytes of a field that is present, with its kind. A constant has none.
 #[derive(Clone, Copy)]
 pub struct FieldBytes<'a> {
     pub order: Order,
@@ -56,7 +56,7 @@ pub(crate) fn field_text<'a>(span: &Span<'a>, plan: &Plan<'a>, i: usize) -> &'a 
     text_in(slot.bytes)
 }
 
-/// Element `j` of the array that field `i` of a block is.
+/// Element `j` of the array in field `i` of a block.
 pub(crate) fn field_element(span: &Span<'_>, plan: &Plan<'_>, i: usize, j: usize) -> Option<i128>
     requires seen { IsSeen span.now plan.now }
     requires field { i < length (fields_of plan.now) }
@@ -67,7 +67,7 @@ pub(crate) fn field_element(span: &Span<'_>, plan: &Plan<'_>, i: usize, j: usize
     element_in(span.mode.order, slot.kind, slot.bytes, j)
 }
 
-/// The bytes of field `i` of a block, none where it is absent.
+/// The bytes of field `i` of a block, or `None` if it is absent.
 #[inline(always)]
 pub(crate) fn field_bytes<'a>(span: &Span<'a>, plan: &Plan<'a>, i: usize) -> Option<FieldBytes<'a>>
     requires seen { IsSeen span.now plan.now }

@@ -16,7 +16,7 @@ use body_walk::{LastRefusal, Refusal, Walked, walk_body};
 use layout_tables::Layout;
 use std::marker::Model;
 
-/// A message that lies in a body, as lent from it.
+/// A message that lies in a body, from which it borrows.
 #[derive(Drop)]
 pub struct MsgView<'a> {
     layout: &'a Layout,
@@ -73,7 +73,7 @@ impl<'a> MsgView<'a> {
         root_of(self.layout, self.body, &self.walked)
     }
 
-    /// The layout of its schema, which is in order.
+    /// The layout of its schema, which is checked.
     pub fn schema(&self) -> &'a Layout
         ensures order { IsChecked result.now }
         ensures level { slice_get result.now.messages self.now.message.template ≡ Some self.now.level }
@@ -83,12 +83,12 @@ impl<'a> MsgView<'a> {
     }
 }
 
-/// Walks a body once (SBE 1.0, "Message structure"): a view of the message that lies in it, or the first faulty
+/// Walks a body once (SBE 1.0, "Message structure"). Returns a view of the message that lies in it, or the first faulty
 /// part in wire order.
 ///
 /// # Errors
 ///
-/// A [`Refusal`] exactly where no message of the schema lies in the body.
+/// A [`Refusal`] exactly if no message of the schema lies in the body.
 pub fn validate<'a>(layout: &'a Layout, body: &'a [u8]) -> Result<MsgView<'a>, Refusal>
     ensures lies { IfOk result (λ view. Lays layout.now view.message body.now) }
     ensures level { IfOk result (λ view. slice_get layout.now.messages view.message.template ≡ Some view.level) }
@@ -102,8 +102,8 @@ pub fn validate<'a>(layout: &'a Layout, body: &'a [u8]) -> Result<MsgView<'a>, R
     }
 }
 
-/// Looks at a body as [`validate`] does: a view of the message that lies in it, exactly where one lies in it. Else
-/// `last` keeps its first faulty part in wire order.
+/// Like [`validate`], but reports the fault through `last`: returns a view of the message exactly if one lies in the
+/// body. Otherwise `last` receives its first faulty part in wire order.
 #[inline(always)]
 pub fn look<'a>(layout: &'a Layout, body: &'a [u8], last: &mut LastRefusal) -> Option<MsgView<'a>>
     ensures lies { IfSome result (λ view. Lays layout.now view.message body.now) }

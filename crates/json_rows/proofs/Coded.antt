@@ -28,7 +28,7 @@ slot_within texts place size =
     let at = 16 * (place - 1) in
     omega (arith, size, length-take 16 (drop at texts), length-drop at texts)
 
--- they stay where more stands behind
+-- they stay where more stands after
 same_slot : (texts more : List ℕ) (place : ℕ) → length (slot_at texts place) ≡ 16 → slot_at (texts ++ more) place ≡ slot_at texts place
 same_slot texts more place size =
     let at = 16 * (place - 1) in

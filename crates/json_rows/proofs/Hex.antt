@@ -86,7 +86,7 @@ hex_is bytes h =
 
 -- ---- strings
 
--- a byte that is seen: behind a `\` if need be
+-- a byte that is seen: after a `\` if need be
 seen_escaped : (b : ℕ) → is_seen b ≡ true → ((b == 34) || (b == 92)) ≡ true → 92 ∷ b ∷ [] ≡ escape_byte b
 unfolding escape_byte
 seen_escaped b h k = grind (arith, nat_tests)
@@ -101,6 +101,6 @@ byte_escaped b old new h k is = is ∙ ap (λ l. old ++ l) (seen_escaped b h k)
 pub byte_itself : (b : ℕ) (old new : List ℕ) → is_seen b ≡ true → ((b == 34) || (b == 92)) ≡ false → new ≡ old ++ (b ∷ []) → new ≡ old ++ escape_byte b
 byte_itself b old new h k is = is ∙ ap (λ l. old ++ l) (seen_itself b h k)
 
--- three texts, one behind another
+-- three texts, one after another
 pub three_added : (old a b c x y z : List ℕ) → x ≡ old ++ a → y ≡ x ++ b → z ≡ y ++ c → z ≡ old ++ (a ++ (b ++ c))
 three_added old a b c x y z h k l = l ∙ ap (λ s. s ++ c) (k ∙ ap (λ s. s ++ b) h) ∙ append_assoc (old ++ a) b c ∙ append_assoc old a (b ++ c)

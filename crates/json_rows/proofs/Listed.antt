@@ -8,7 +8,7 @@ use Rattle.sbe_types.specs.Places.{begin_of, end_past}
 use Rattle.json_rows.specs.Texts.{key_of}
 use Rattle.json_rows.specs.Pieces.{Piece, literal, kind_pieces, member_pieces}
 
--- the pieces of members behind members that end at e, with the closing bracket
+-- the pieces of members after members that end at e, with the closing bracket
 abbrev pub listed_pieces : Bool → ℕ → ℕ → List Member → List Piece
 listed_pieces later at e [] = literal (codes "}") ∷ []
 listed_pieces later at e (m ∷ ms) = literal (key_of later m.name) ∷ (kind_pieces m.kind (at + begin_of e m.offset) ++ listed_pieces true at (end_past e m.offset m.kind) ms)

@@ -1,4 +1,4 @@
--- What a table of texts holds, beside the values of a block. Own profile.
+-- What a table of texts contains besides the values of a block. Own profile.
 use Rattle.std.specs.Prelude.{◌≡◌, ◌≤◌, ℕ, ◌-◌, List, [], ◌∷◌, ◌++◌, length, map, take, drop, ⊤}
 use Rattle.std.specs.List.{AllByRecursion}
 use Rattle.flat_rows.specs.Scalars.{Scalar, scalar_at}
@@ -26,7 +26,7 @@ slots_of bytes (s ∷ ss) (r ∷ rs) = (record { before = take (r.end - r.start)
 abbrev pub with_texts : List Scalar → TextRows → Joined
 with_texts scalars t = record { slots = slots_of t.bytes.items scalars t.rows.items; last = drop t.last t.bytes.items }
 
--- a row is that of a value, of whose kind it keeps names, and its literal lies within n bytes
+-- a row is that of a value, with the names of its kind, and its literal is within n bytes
 pub record IsTextRow (n : ℕ) (s : Scalar) (r : TextRow) : Type 0 where
   pub value : value_of r ≡ s
   pub row : IsRow r.value
@@ -34,19 +34,19 @@ pub record IsTextRow (n : ℕ) (s : Scalar) (r : TextRow) : Type 0 where
   pub ordered : r.start ≤ r.end
   pub within : r.end ≤ n
 
--- a row for each value
+-- the rows are those of the values, one for each
 abbrev pub AreTextRows : ℕ → List Scalar → List TextRow → Type 0
 AreTextRows n [] [] = ⊤
 AreTextRows n [] (r ∷ rs) = ⊥
 AreTextRows n (s ∷ ss) [] = ⊥
 AreTextRows n (s ∷ ss) (r ∷ rs) = IsTextRow n s r × AreTextRows n ss rs
 
--- the rows of a table for these values
+-- the table is one for these values
 pub record IsTextTable (scalars : List Scalar) (t : TextRows) : Type 0 where
   pub rows : AreTextRows (length t.bytes.items) scalars t.rows.items
   pub last : t.last ≤ length t.bytes.items
 
--- each value's bytes lie in a block of n bytes
+-- the bytes of each value are within a block of n bytes
 abbrev pub TextsFit : ℕ → List TextRow → Type 0
 TextsFit n rows = AllByRecursion (λ (r : TextRow). r.value.end ≤ n) rows
 
@@ -56,11 +56,11 @@ scalars_in [] = []
 scalars_in (literal bytes ∷ ps) = scalars_in ps
 scalars_in (shown kind place ∷ ps) = scalar_at kind place ∷ scalars_in ps
 
--- a table holds the literals of these pieces, and is a table for their values
+-- a table has the literals of these pieces, and is one for their values
 pub record HasPieces (ps : List Piece) (t : TextRows) : Type 0 where
   pub table : IsTextTable (scalars_in ps) t
   pub stands : with_texts (scalars_in ps) t ≡ joined ps
 
--- a table holds more pieces than before
+-- a table grew by these pieces
 abbrev pub Grows : TextRows → TextRows → List Piece → Type 0
 Grows old new more = (ps : List Piece) → HasPieces ps old → HasPieces (ps ++ more) new

@@ -6,11 +6,11 @@ use Rattle.flat_rows.specs.Worked.{number, side, flags, text, pair}
 use Rattle.json_rows.specs.Codes.{byte_name}
 use Rattle.json_rows.specs.Pieces.{Slot, Joined}
 
--- a value with what stands before it
+-- a value and what is before it
 abbrev pub slot : List ℕ → Kind → ℕ → Slot
 slot before kind place = record { before = before; kind = kind; place = place }
 
--- their values between a bracket and a comma, each with what stands before it
+-- the values of a block of each kind, between a bracket and a comma, each with what is before it
 abbrev pub mixed_joined : Joined
 mixed_joined =
     record {
@@ -20,18 +20,18 @@ mixed_joined =
       last = codes "}},\"c\":\"U\\\"D\",\"d\":\"Sell\",\"h\":{\"hex\":\"61ff\"}},";
     }
 
--- what a block without fields has
+-- the pieces of a block without fields
 abbrev pub nothing : Joined
 nothing = record { slots = []; last = codes "}" }
 
--- the names that it has for these bytes and for one more
+-- the names that a kind has for five bytes
 abbrev pub names_at : Kind → List (Option (List ℕ))
 names_at kind = map (byte_name kind) (0 ∷ 1 ∷ 65 ∷ 200 ∷ 255 ∷ [])
 
--- of two names with one number the first, and none for the null
+-- the first of two names with the same number, and none for the null
 abbrev pub doubled_names : List (Option (List ℕ))
 doubled_names = Some (codes "Nought") ∷ None ∷ Some (codes "First") ∷ None ∷ Some (codes "Last") ∷ []
 
--- none at all
+-- none of the five has a name
 abbrev pub no_names : List (Option (List ℕ))
 no_names = None ∷ None ∷ None ∷ None ∷ None ∷ []

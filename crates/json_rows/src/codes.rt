@@ -1,4 +1,4 @@
-// The names of an enum of one byte, looked up by the byte.
+// The names of an enum of one byte, looked up by byte.
 ghost use Rattle.std.specs.Prelude.{◌≡◌, ◌+◌, ◌≤◌, ◌<◌, ◌≢◌, ◌∷◌, ℕ, List, IfOk, IfSome, OnOk, None, true, length, get_or, pos};
 ghost use Rattle.sbe_types.specs.declared.kind.Kind.{Kind, Enum};
 ghost use Rattle.sbe_types.specs.declared.kind.Named.{Named};
@@ -11,23 +11,23 @@ use lists::NoMem;
 use sbe_types::{Kind, Leaf, Named, Prim};
 use std::alloc::Global;
 
-/// How many numbers a byte has.
+/// The number of values of a byte.
 const NUMBERS: usize = 256;
 
-/// How many bytes are kept for a text: the text, spaces after it, and how many bytes the text has.
+/// The size of a stored text: the text, spaces after it, and the length of the text.
 const SLOT_BYTES: usize = 16;
 
-/// How many bytes a name has at most whose text is kept.
+/// The longest name whose text is stored.
 const NAME_BYTES: usize = 13;
 
-/// How many texts are kept at most.
+/// The most texts that are stored.
 const MOST_TEXTS: usize = 255;
 
 /// As many spaces as follow the shortest text.
 const SPACES: &[u8] = b"             ";
 
-/// The text of an enum's value of one byte: 16 bytes, and how many of them, from the first, are the text. There is none where
-/// no text is kept.
+/// The text of the enum's value in this byte: 16 bytes, and how many of them, from the first, are the text. `None` if
+/// no text is stored for it.
 #[inline(always)]
 pub fn text_of_code(codes: &Codes, byte: u8) -> Option<(&[u8], usize)>
     requires { KeepsTexts codes.now }
@@ -42,7 +42,7 @@ pub fn text_of_code(codes: &Codes, byte: u8) -> Option<(&[u8], usize)>
     Some((slot, slot[SLOT_BYTES - 1] as usize))
 }
 
-/// Which of the texts is that of a byte, counted from 1, or 0 where none is kept.
+/// Which of the texts is that of a byte, counted from 1, or 0 if none is stored.
 #[inline(always)]
 fn place_of(codes: &Codes, byte: u8) -> usize
     ensures { result ≡ get_or codes.now.index.items byte 0 }
@@ -55,7 +55,7 @@ fn place_of(codes: &Codes, byte: u8) -> usize
     }
 }
 
-/// The texts that a row keeps of its kind.
+/// The texts that a row stores of its kind.
 pub(crate) fn codes_of(alloc: Global, kind: &Kind) -> Result<Codes, NoMem>
     ensures { IfOk result (λ kept. AreCodes kept kind.now) }
 {
@@ -86,7 +86,7 @@ fn enum_codes(alloc: Global, leaf: &Leaf, names: &[Named]) -> Result<Codes, NoMe
     }
 }
 
-/// Whether each number of the primitive is the byte that shows it.
+/// Whether each number of the primitive equals its byte.
 fn is_byte(prim: Prim) -> bool
     ensures { result ≡ is_byte prim }
 {
@@ -96,8 +96,8 @@ fn is_byte(prim: Prim) -> bool
     }
 }
 
-/// The texts of an enum of one byte. The names are taken from the last to the first: so of two with one number the first
-/// stands.
+/// The texts of an enum of one byte. The names are added from the last to the first, so of two with the same number the
+/// first one applies.
 fn byte_codes(alloc: Global, leaf: &Leaf, names: &[Named]) -> Result<Codes, NoMem>
     requires { is_byte leaf.now.prim ≡ true }
     ensures { IfOk result (λ kept. AreCodes kept (Enum leaf.now names.now)) }
@@ -113,7 +113,8 @@ fn byte_codes(alloc: Global, leaf: &Leaf, names: &[Named]) -> Result<Codes, NoMe
     Ok(Codes { index, texts })
 }
 
-/// Adds the text of a name, which stands before others. A name that has no text here takes the text of its number away.
+/// Adds the text of a name, which precedes the names added so far. A name that can't be stored removes the text of its
+/// number.
 fn add_text(
     index: &mut [u8; NUMBERS],
     texts: &mut Vec<u8>,
@@ -141,7 +142,7 @@ fn add_text(
     Ok(())
 }
 
-/// The number of a name as a byte, or none where it is none.
+/// The number of a name as a byte, if it fits one.
 fn byte_in(named: &Named) -> Option<u8>
     ensures some { IfSome result (λ byte. pos byte ≡ named.now.number) }
     ensures small { IfSome result (λ byte. byte < NUMBERS) }
@@ -154,14 +155,15 @@ fn byte_in(named: &Named) -> Option<u8>
     }
 }
 
-/// Whether the text of a name has that place: its number is no null, and neither it nor the texts are too long.
+/// Whether the text of a name can be stored at this place: its number isn't the null, and neither it nor the texts are
+/// too long.
 fn is_kept(leaf: &Leaf, named: &Named, place: usize) -> bool
     ensures { result ≡ true → IsKept leaf.now named.now place }
 {
     !leaf.is_null(named.number) && named.name.len() <= NAME_BYTES && place <= MOST_TEXTS
 }
 
-/// Adds a name between quotes, with spaces after it and how many bytes it has with the quotes.
+/// Adds a name between quotes, spaces after it, and the number of its bytes including the quotes.
 fn put_text(texts: &mut Vec<u8>, name: &[u8]) -> Result<(), NoMem>
     requires { length name.now ≤ NAME_BYTES }
     ensures { OnOk result (AddsText texts.old.items texts.new.items name.now) }
@@ -175,7 +177,7 @@ fn put_text(texts: &mut Vec<u8>, name: &[u8]) -> Result<(), NoMem>
     Ok(())
 }
 
-/// How many bytes a name has with its quotes.
+/// The number of bytes of a name including its quotes.
 fn count_of(name: &[u8]) -> u8
     requires { length name.now ≤ NAME_BYTES }
     ensures { result ≡ length name.now + 2 }
@@ -183,7 +185,7 @@ fn count_of(name: &[u8]) -> u8
     name.len() as u8 + 2
 }
 
-/// So many spaces.
+/// `count` spaces.
 fn spaces(count: usize) -> &'static [u8]
     requires { count ≤ NAME_BYTES }
     ensures { length result.now ≡ count }

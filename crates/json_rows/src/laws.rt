@@ -6,7 +6,7 @@ ghost use Rattle.flat_rows.specs.Scalars.{scalars_of};
 ghost use Rattle.json_rows.specs.Pieces.{pieces_between};
 ghost use Rattle.json_rows.specs.Tables.{scalars_in};
 
-/// The pieces of fields show the values of the block, in wire order.
+/// The pieces of fields contain the values of the block, in wire order.
 pub fn pieces_have_the_values()
     ensures { (before behind : List ℕ) (fields : List Field) → scalars_in (pieces_between before behind fields) ≡ scalars_of fields }
 {}

@@ -1,5 +1,5 @@
-//! The fields of a block as pieces of a line of JSON: what is printed of them alike in each line, row by row beside the table of
-//! their values.
+//! The fields of a block as pieces of a line of JSON: the text that is the same in each line, row by row next to the
+//! table of their values.
 #![tactic(auto)]
 
 mod codes;

@@ -1,4 +1,4 @@
-// What is printed of a block's fields alike in each line, made piece by piece.
+// Builds the text of a block's fields that is the same in each line, piece by piece.
 ghost use Rattle.std.specs.Prelude.{◌≡◌, ◌≤◌, ◌+◌, ◌∷◌, [], false, IfOk, OnOk};
 ghost use Rattle.std.specs.List.{AllByRecursion};
 ghost use Rattle.sbe_types.specs.declared.kind.Kind.{Comp};
@@ -18,8 +18,8 @@ use lists::NoMem;
 use sbe_types::{ConstValue, Field, Kind, List, Member};
 use std::alloc::Global;
 
-/// What is printed of the fields of a block alike in each line, between two texts. The fields are in order and end within
-/// 1,048,576 bytes. The only error is out of memory.
+/// The text of the fields of a block that is the same in each line, between two texts. The fields must be valid and end
+/// within 1,048,576 bytes. The only error is out of memory.
 pub fn text_rows_of(
     alloc: Global,
     before: &[u8],
@@ -56,7 +56,7 @@ pub fn text_rows_of(
     Ok(table)
 }
 
-/// Adds the pieces of a kind that begins after a place of the block.
+/// Adds the pieces of a kind that begins at an offset of the block.
 #[cycle(make)]
 fn add_kind(
     alloc: Global,
@@ -78,7 +78,7 @@ fn add_kind(
     }
 }
 
-/// Adds the pieces of a composite that begins at a place of the block.
+/// Adds the pieces of a composite that begins at an offset of the block.
 #[cycle(make)]
 fn add_members(
     alloc: Global,
@@ -104,7 +104,7 @@ fn add_members(
     Ok(())
 }
 
-/// Adds a value of a kind that begins at a place of the block.
+/// Adds a value of a kind that begins at an offset of the block.
 fn add_value(alloc: Global, table: &mut TextRows, kind: &Kind, at: u32) -> Result<(), NoMem>
     requires order { IsKindInOrder kind.now }
     requires within { at + width kind.now ≤ largest }
@@ -144,7 +144,7 @@ fn add_constant(alloc: Global, table: &mut TextRows, constant: &ConstValue) -> R
     Ok(())
 }
 
-/// Adds bytes that are alike in each line.
+/// Adds bytes that are the same in each line.
 fn add_bytes(table: &mut TextRows, bytes: &[u8]) -> Result<(), NoMem>
     ensures { OnOk result (Grows table.old table.new (literal bytes.now ∷ [])) }
 {

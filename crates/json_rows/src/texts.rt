@@ -1,4 +1,4 @@
-// The texts that stand in each line alike, added to bytes.
+// Adds the texts that are the same in each line to bytes.
 ghost use Rattle.std.specs.Prelude.{◌≡◌, ◌++◌, ◌==◌, ◌||◌, true, OnOk, if◌then◌else◌};
 ghost use Rattle.std.specs.List.{list_all};
 ghost use Rattle.json.specs.Print.{escape, escape_byte, quoted};
@@ -8,11 +8,12 @@ ghost use Rattle.schema_facts.specs.InOrder.{IsConstantInOrder};
 ghost use Rattle.json_rows.specs.Texts.{key_of, constant_text, hex_text, is_seen};
 
 use itoa::Buffer;
+use json_values::{HEX_END, HEX_FRONT};
 use lists::NoMem;
 use sbe_types::ConstValue;
 use std::alloc::Global;
 
-/// Adds a quoted name and a colon, behind a comma where another member stands before.
+/// Adds a quoted name and a colon, preceded by a comma if another member precedes it.
 pub(crate) fn put_key(bytes: &mut Vec<u8>, later: bool, name: &[u8]) -> Result<(), NoMem>
     ensures { OnOk result (bytes.new.items ≡ bytes.old.items ++ key_of later name.now) }
 {
@@ -26,7 +27,7 @@ pub(crate) fn put_key(bytes: &mut Vec<u8>, later: bool, name: &[u8]) -> Result<(
     Ok(())
 }
 
-/// Adds a constant as the value that it has; a valid value by its name.
+/// Adds a constant as its value; a valid value by its name.
 pub(crate) fn put_constant(
     alloc: Global,
     bytes: &mut Vec<u8>,
@@ -51,7 +52,7 @@ fn put_number(bytes: &mut Vec<u8>, n: &i128) -> Result<(), NoMem>
     Ok(())
 }
 
-/// Adds bytes as a string where each is from 20 to 7e, and else as `{"hex":"61ff"}`.
+/// Adds bytes as a string if each is from 20 to 7e, and otherwise as `{"hex":"61ff"}`.
 fn put_text(alloc: Global, bytes: &mut Vec<u8>, text: &[u8]) -> Result<(), NoMem>
     ensures { OnOk result (bytes.new.items ≡ bytes.old.items ++ (if list_all is_seen text.now then quoted text.now else hex_text text.now)) }
 {
@@ -80,7 +81,7 @@ fn put_quoted(bytes: &mut Vec<u8>, text: &[u8]) -> Result<(), NoMem>
     Ok(())
 }
 
-/// Adds bytes from 20 to 7e, each escaped if need be.
+/// Adds bytes from 20 to 7e, escaped where necessary.
 fn put_escaped(bytes: &mut Vec<u8>, text: &[u8]) -> Result<(), NoMem>
     requires { list_all is_seen text.now ≡ true }
     ensures { OnOk result (bytes.new.items ≡ bytes.old.items ++ escape text.now) }
@@ -91,7 +92,7 @@ fn put_escaped(bytes: &mut Vec<u8>, text: &[u8]) -> Result<(), NoMem>
     Ok(())
 }
 
-/// Adds a byte from 20 to 7e, behind a `\` if need be.
+/// Adds a byte from 20 to 7e, preceded by a `\` if necessary.
 #[tactic(auto, using(crate::proofs::Hex::byte_escaped, crate::proofs::Hex::byte_itself))]
 fn put_byte(bytes: &mut Vec<u8>, byte: u8) -> Result<(), NoMem>
     requires { is_seen byte ≡ true }
@@ -106,20 +107,20 @@ fn put_byte(bytes: &mut Vec<u8>, byte: u8) -> Result<(), NoMem>
     }
 }
 
-/// Whether a `\` stands before the byte.
+/// Whether the byte needs a `\` before it.
 fn is_escaped(byte: u8) -> bool
     ensures { result ≡ ((byte == 34) || (byte == 92)) }
 {
     byte == b'"' || byte == b'\\'
 }
 
-/// Adds bytes by their digits to the base 16, as an object.
+/// Adds bytes as an object with their hexadecimal digits.
 fn put_hex(alloc: Global, bytes: &mut Vec<u8>, text: &[u8]) -> Result<(), NoMem>
     ensures { OnOk result (bytes.new.items ≡ bytes.old.items ++ hex_text text.now) }
 {
     let digits = hex::encode(alloc, text)?;
-    bytes.extend_from_slice(b"{\"hex\":\"")?;
+    bytes.extend_from_slice(HEX_FRONT)?;
     bytes.extend_from_slice(digits.as_bytes())?;
-    bytes.extend_from_slice(b"\"}")?;
+    bytes.extend_from_slice(HEX_END)?;
     Ok(())
 }

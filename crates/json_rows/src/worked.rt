@@ -1,4 +1,4 @@
-//! The definitions of pieces and of names by the byte, computed on worked fields.
+//! The definitions of pieces and of names by byte, computed on worked fields.
 
 ghost use Rattle.std.specs.Prelude.{◌≡◌, [], codes};
 ghost use Rattle.json_rows.specs.Pieces.{joined, pieces_between};
@@ -11,12 +11,13 @@ pub fn pieces_of_worked_fields()
     ensures { joined (pieces_between (codes "{") (codes ",") mixed) ≡ mixed_joined }
 {}
 
-/// Without fields there is the closing bracket alone.
+/// Without fields there is only the closing bracket.
 pub fn no_fields_are_a_bracket()
     ensures { joined (pieces_between [] [] []) ≡ nothing }
 {}
 
-/// The names of an enum by the byte: over a char and a uint8 the first of each number, but none of the null; else none.
+/// The names of an enum by byte: with a char and a uint8 the first name of each number, but none of the null; otherwise
+/// none.
 pub fn names_of_worked_bytes()
     ensures char { names_at (doubled Char) ≡ doubled_names }
     ensures byte { names_at (doubled U8) ≡ doubled_names }

@@ -11,7 +11,7 @@ use Rattle.json_values.specs.Plain.{key_text, plain_text, plain_items, entry_tex
 pub there : {A : Type 0} (xs : List A) (i : ℕ) (x : A) → i < length xs → x ≡ get_or xs i x → drop i xs ≡ x ∷ drop (i + 1) xs
 there xs i x h is = rw add-one (drop-cons xs i x h ∙ ap (λ y. y ∷ drop (suc i) xs) (sym is))
 
--- the text of a member, and then of those behind it
+-- the text of a member, and then of those after it
 pub entry_next : (later : Bool) (name : List ℕ) (o : Option Data) (es : List Entry)
     → entries_text later ((name, o) ∷ es) ≡ entry_text later (name, o) ++ entries_text (later_behind later o) es
 entry_next later name None es = refl
@@ -68,7 +68,7 @@ ends_so done piece before all h k = ap (λ r. done ++ r) h ∙ k
 
 -- ---- items
 
--- one item of an array, and then those behind it
+-- one item of an array, and then those after it
 pub item_next : (later : Bool) (d : Data) (rest : Items) → plain_items later (item d rest) ≡ (comma_if later ++ plain_text d) ++ plain_items true rest
 item_next later d rest = sym (append_assoc (comma_if later) (plain_text d) (plain_items true rest))
 

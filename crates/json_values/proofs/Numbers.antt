@@ -72,7 +72,7 @@ split_two n least h =
     ∙ append_assoc (decimal (n / 10 / 10)) ((48 + n / 10 % 10) ∷ []) ((48 + n % 10) ∷ [])
     ∙ rw (x, y, z) refl
 
--- a number of at most two digits, with two digits behind
+-- a number of at most two digits, with two digits after
 pub lead_pair : {O : Type 0} {state : O → Object (List ℕ)} {a b : Printer O} {y : List ℕ} (x : List ℕ) (r n : ℕ) → 100 ≤ n → n < 10000 → r ≡ digits_in (n / 100) → take (digits_in (n / 100)) x ≡ decimal (n / 100) →
     y ≡ (48 + n % 100 / 10) ∷ (48 + n % 100 % 10) ∷ [] → Prints state a b (take r x ++ (y ++ [])) → Prints state a b (plain_text (number_data (pos n)))
 lead_pair x r n least h run is q w =
@@ -106,7 +106,7 @@ split_four n least h =
 pairs_are : {y z : List ℕ} (l : ℕ) → l < 10000 → y ≡ (48 + l / 100 / 10) ∷ (48 + l / 100 % 10) ∷ [] → z ≡ (48 + l % 100 / 10) ∷ (48 + l % 100 % 10) ∷ [] → y ++ z ≡ last_four l
 pairs_are l low q r = ap₂ (λ (s t : List ℕ). s ++ t) q r ∙ four_are l low
 
--- a number of at most two digits, and four digits behind it
+-- a number of at most two digits, and four digits after it
 pub lead_four : {O : Type 0} {state : O → Object (List ℕ)} {a b : Printer O} {y z : List ℕ} (x : List ℕ) (many h l : ℕ) → many ≡ digits_in h → take (digits_in h) x ≡ decimal h → l < 10000 →
     y ≡ (48 + l / 100 / 10) ∷ (48 + l / 100 % 10) ∷ [] → z ≡ (48 + l % 100 / 10) ∷ (48 + l % 100 % 10) ∷ [] →
     Prints state a b (take many x ++ (y ++ z)) → Prints state a b (plain_text (number_data (pos h)) ++ last_four l)

@@ -1,4 +1,4 @@
--- Names that stand for themselves. Own profile.
+-- Names that need no escapes. Own profile.
 use Rattle.std.specs.Prelude.{ℕ, List}
 use Rattle.std.specs.List.{AllByRecursion}
 use Rattle.sbe_types.specs.declared.kind.Named.{Named}
@@ -9,6 +9,6 @@ use Rattle.json_values.specs.Plain.{IsPlainName}
 abbrev pub AreNamed : List Named → Type 0
 AreNamed values = AllByRecursion (λ (v : Named). IsName v.name) values
 
--- The law: a name of a schema stands for itself.
+-- The law: a name of a schema needs no escapes.
 abbrev pub NamesStand : Type 0
 NamesStand = (name : List ℕ) → IsName name → IsPlainName name

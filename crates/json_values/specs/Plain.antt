@@ -1,4 +1,4 @@
--- The text of data as it is printed: keys stand as they are, and members are left out one by one. Own profile.
+-- The text of data as it is printed: keys are not escaped, and members may be left out one by one. Own profile.
 use Rattle.std.specs.Prelude.{◌≡◌, ℕ, if◌then◌else◌, not, ◌&&◌, ◌||◌, ◌==◌, Bool, true, false, List, [], ◌∷◌, ◌++◌, codes, Option, Some, None, ⊤}
 use Rattle.json.specs.Print.{escape, quoted}
 use Rattle.serde_json.specs.Data.{Data, null, boolean, number, string, array, object, Items, no_items, item, Members, no_members, member}
@@ -11,7 +11,7 @@ abbrev pub key_text : List ℕ → List ℕ
 key_text name = codes "\"" ++ (name ++ codes "\":")
 
 abbrev mutual
-  -- the text without a space, in which the bytes of a key are not escaped
+  -- the text without spaces, in which the bytes of a key are not escaped
   pub plain_text : Data → List ℕ
   plain_text null = compact_text null
   plain_text (boolean b) = compact_text (boolean b)
@@ -20,36 +20,36 @@ abbrev mutual
   plain_text (array items) = 91 ∷ plain_items false items
   plain_text (object members) = 123 ∷ plain_members false members
 
-  -- the items of an array behind others, with the closing bracket
+  -- the items of an array after others, with the closing bracket
   pub plain_items : Bool → Items → List ℕ
   plain_items later no_items = codes "]"
   plain_items later (item d items) = comma_if later ++ (plain_text d ++ plain_items true items)
 
-  -- the members of an object behind others, with the closing bracket
+  -- the members of an object after others, with the closing bracket
   pub plain_members : Bool → Members → List ℕ
   plain_members later no_members = codes "}"
   plain_members later (member name d members) = comma_if later ++ (key_text name ++ (plain_text d ++ plain_members true members))
 
--- what a member adds behind others: nothing where it is left out
+-- what a member adds after others: nothing if it is left out
 abbrev pub entry_text : Bool → Entry → List ℕ
 entry_text later (name, None) = []
 entry_text later (name, Some d) = comma_if later ++ (key_text name ++ plain_text d)
 
--- what a choice of a set adds after others: its name where its bit is set
+-- what a choice of a set adds after others: its name if its bit is set
 abbrev pub choice_text : Bool → ℕ → Named → List ℕ
 choice_text later bits choice = if has_bit bits choice.number then comma_if later ++ plain_text (string choice.name) else []
 
--- whether a member stands, now that this one follows
+-- whether there is a member, after this one
 abbrev pub later_behind : Bool → Option Data → Bool
 later_behind later None = later
 later_behind later (Some d) = true
 
--- the text of data that is there
+-- the text of data that is there, else nothing
 abbrev pub shown_text : Option Data → List ℕ
 shown_text None = []
 shown_text (Some d) = plain_text d
 
--- the text of an object's members behind others, with the closing bracket
+-- the text of an object's members after others, with the closing bracket
 abbrev pub entries_text : Bool → List Entry → List ℕ
 entries_text later entries = plain_members later (listed entries)
 
@@ -60,7 +60,7 @@ abbrev pub IsPlainName : List ℕ → Type 0
 IsPlainName name = escape name ≡ name
 
 abbrev mutual
-  -- all keys are plain names
+  -- all keys are names without escapes
   pub HasPlainKeys : Data → Type 0
   HasPlainKeys null = ⊤
   HasPlainKeys (boolean b) = ⊤
@@ -69,16 +69,16 @@ abbrev mutual
   HasPlainKeys (array items) = ItemsHavePlainKeys items
   HasPlainKeys (object members) = MembersHavePlainKeys members
 
-  -- the keys in each item
+  -- the same for the keys in each item
   pub ItemsHavePlainKeys : Items → Type 0
   ItemsHavePlainKeys no_items = ⊤
   ItemsHavePlainKeys (item d items) = HasPlainKeys d × ItemsHavePlainKeys items
 
-  -- each key, and the keys in its value
+  -- the same for each key, and the keys in its value
   pub MembersHavePlainKeys : Members → Type 0
   MembersHavePlainKeys no_members = ⊤
   MembersHavePlainKeys (member name d members) = IsPlainName name × HasPlainKeys d × MembersHavePlainKeys members
 
--- a printable byte that stands for itself in a string
+-- a printable byte that isn't escaped in a string
 abbrev pub is_plain_byte : ℕ → Bool
 is_plain_byte b = is_printable b && not ((b == 34) || (b == 92))

@@ -23,7 +23,7 @@ use Rattle.sbe_types.specs.Shown.{has_listed_bits}
 
 -- ---- members of an object
 
--- a name, and what stands under it; none where it is left out
+-- a name and its value; None if it is left out
 abbrev pub Entry : Type 0
 Entry = List ℕ × Option Data
 
@@ -33,7 +33,7 @@ listed [] = no_members
 listed ((name, None) ∷ entries) = listed entries
 listed ((name, Some d) ∷ entries) = member name d (listed entries)
 
--- two lists side by side, as far as both go
+-- two lists combined item by item, as far as both go
 abbrev pub zipped : {A B : Type 0} → (A → B → Entry) → List A → List B → List Entry
 zipped f (x ∷ xs) (y ∷ ys) = f x y ∷ zipped f xs ys
 zipped f (x ∷ xs) [] = []
@@ -41,15 +41,15 @@ zipped f [] ys = []
 
 -- ---- texts
 
--- a byte from 20 to 7e: a space, or a character that is seen
+-- a byte from 20 to 7e: a space, or a visible character
 abbrev pub is_printable : ℕ → Bool
 is_printable b = nat_le 32 b && nat_le b 126
 
--- bytes as an object with their digits to the base 16, in lower case
+-- bytes as an object with their hexadecimal digits, in lower case
 abbrev pub hex : List ℕ → Data
 hex bytes = object (member (codes "hex") (string (encode_lower bytes)) no_members)
 
--- bytes as a string where each is printable, else by their digits
+-- bytes as a string if each is printable, else by their hexadecimal digits
 abbrev pub text_data : List ℕ → Data
 text_data bytes = if list_all is_printable bytes then string bytes else hex bytes
 
@@ -63,15 +63,15 @@ number_data n = number (of_integer n)
 abbrev pub last_four : ℕ → List ℕ
 last_four n = (48 + n / 10 / 10 / 10 % 10) ∷ (48 + n / 10 / 10 % 10) ∷ (48 + n / 10 % 10) ∷ (48 + n % 10) ∷ []
 
--- the two digits of each number below 100, one behind another
+-- the two digits of each number below 100, concatenated
 abbrev pub digit_pairs : List ℕ
 digit_pairs = codes "00010203040506070809101112131415161718192021222324252627282930313233343536373839404142434445464748495051525354555657585960616263646566676869707172737475767778798081828384858687888990919293949596979899"
 
--- the digits of each byte to the base 10, filled to four bytes by spaces behind them
+-- the decimal digits of each byte, each padded to four bytes with spaces after it
 abbrev pub padded_digits : List ℕ
 padded_digits = codes "0   1   2   3   4   5   6   7   8   9   10  11  12  13  14  15  16  17  18  19  20  21  22  23  24  25  26  27  28  29  30  31  32  33  34  35  36  37  38  39  40  41  42  43  44  45  46  47  48  49  50  51  52  53  54  55  56  57  58  59  60  61  62  63  64  65  66  67  68  69  70  71  72  73  74  75  76  77  78  79  80  81  82  83  84  85  86  87  88  89  90  91  92  93  94  95  96  97  98  99  100 101 102 103 104 105 106 107 108 109 110 111 112 113 114 115 116 117 118 119 120 121 122 123 124 125 126 127 128 129 130 131 132 133 134 135 136 137 138 139 140 141 142 143 144 145 146 147 148 149 150 151 152 153 154 155 156 157 158 159 160 161 162 163 164 165 166 167 168 169 170 171 172 173 174 175 176 177 178 179 180 181 182 183 184 185 186 187 188 189 190 191 192 193 194 195 196 197 198 199 200 201 202 203 204 205 206 207 208 209 210 211 212 213 214 215 216 217 218 219 220 221 222 223 224 225 226 227 228 229 230 231 232 233 234 235 236 237 238 239 240 241 242 243 244 245 246 247 248 249 250 251 252 253 254 255 "
 
--- the two digits of each byte to the base 16, one behind another
+-- the two hexadecimal digits of each byte, concatenated
 abbrev pub hex_pairs : List ℕ
 hex_pairs = codes "000102030405060708090a0b0c0d0e0f101112131415161718191a1b1c1d1e1f202122232425262728292a2b2c2d2e2f303132333435363738393a3b3c3d3e3f404142434445464748494a4b4c4d4e4f505152535455565758595a5b5c5d5e5f606162636465666768696a6b6c6d6e6f707172737475767778797a7b7c7d7e7f808182838485868788898a8b8c8d8e8f909192939495969798999a9b9c9d9e9fa0a1a2a3a4a5a6a7a8a9aaabacadaeafb0b1b2b3b4b5b6b7b8b9babbbcbdbebfc0c1c2c3c4c5c6c7c8c9cacbcccdcecfd0d1d2d3d4d5d6d7d8d9dadbdcdddedfe0e1e2e3e4e5e6e7e8e9eaebecedeeeff0f1f2f3f4f5f6f7f8f9fafbfcfdfeff"
 
@@ -79,11 +79,11 @@ hex_pairs = codes "000102030405060708090a0b0c0d0e0f101112131415161718191a1b1c1d1
 abbrev pub digits_in : ℕ → ℕ
 digits_in n = if nat_lt n 10 then 1 else 2
 
--- how many digits a byte has
+-- how many decimal digits a byte has
 abbrev pub digits_in_byte : ℕ → ℕ
 digits_in_byte n = if nat_lt n 10 then 1 else (if nat_lt n 100 then 2 else 3)
 
--- a char as a string of one character where it is printable, else as its number
+-- a char as a string of one character if it is printable, else as its number
 abbrev pub char_data : ℤ → Data
 char_data n = if int_le (pos 32) n && int_le n (pos 126) then string (natural n ∷ []) else number_data n
 
@@ -131,7 +131,7 @@ named_in (Leaf l) = []
 named_in (Const c) = []
 named_in (Comp' n members) = []
 
--- the name of the first valid value of that number
+-- the name of the first valid value with this number
 abbrev pub name_of : List Named → ℤ → Option (List ℕ)
 name_of [] n = None
 name_of (v ∷ vs) n = if int_eq v.number n then Some v.name else name_of vs n
@@ -140,7 +140,7 @@ name_of (v ∷ vs) n = if int_eq v.number n then Some v.name else name_of vs n
 abbrev pub enum_data : List Named → ℤ → Data
 enum_data names n = option_map_or string (name_of names n) (number_data n)
 
--- the bit of that number is set
+-- the bit with this number is set
 abbrev pub has_bit : ℕ → ℤ → Bool
 has_bit bits (pos k) = bit_at bits k == 1
 has_bit bits (negsuc k) = false
@@ -150,7 +150,7 @@ abbrev pub chosen : ℕ → List Named → Items
 chosen bits [] = no_items
 chosen bits (c ∷ cs) = if has_bit bits c.number then item (string c.name) (chosen bits cs) else chosen bits cs
 
--- a set by the names of its choices, or by its number where a bit is no choice
+-- a set by the names of its choices, or by its number if a bit isn't a choice
 abbrev pub set_data : List Named → ℕ → Data
 set_data names bits = if has_listed_bits names 64 bits then array (chosen bits names) else number (unsigned bits)
 
@@ -162,7 +162,7 @@ constant_data (constant.Num n) = number_data n
 constant_data (constant.Text bytes) = text_data bytes
 constant_data (constant.Code p named) = string named.name
 
--- the constant that a kind is
+-- the constant of a kind, if it is one
 abbrev pub constant_of : Kind → Option ConstValue
 constant_of (Const c) = Some c
 constant_of (Leaf l) = None
@@ -172,7 +172,7 @@ constant_of (Comp' n members) = None
 
 -- ---- values
 
--- the members of a composite; no other kind has any
+-- the members of a composite; any other kind has none
 abbrev pub members_in : Kind → List Member
 members_in (Comp' n members) = items-the_row-Member _ members
 members_in (Leaf l) = []
@@ -180,7 +180,7 @@ members_in (Enum l names) = []
 members_in (Set p names) = []
 members_in (Const c) = []
 
--- the value of a kind, where the values of a composite become such members; none where it is absent
+-- the value of a kind, given the members of a composite by its values; None if it is absent
 abbrev pub shown_data : Kind → (List Value → List Entry) → Value → Option Data
 shown_data kind members (value.Num n) = Some (single_data (is_char kind) n)
 shown_data kind members value.Null = Some null
@@ -197,7 +197,7 @@ abbrev pub no_entries : List Value → List Entry
 no_entries values = []
 
 unfoldable mutual
-  -- the value of a kind; none where it is absent
+  -- the value of a kind; None if it is absent
   pub value_data : Kind → Value → Option Data
   value_data (Leaf l) v = shown_data (Leaf l) no_entries v
   value_data (Enum l names) v = shown_data (Enum l names) no_entries v
@@ -211,11 +211,11 @@ unfoldable mutual
   row_entries (more_of-Member name offset kind rest) [] = []
   row_entries (more_of-Member name offset kind rest) (v ∷ values) = (name, value_data kind v) ∷ row_entries rest values
 
--- a composite's member with its value
+-- a composite's member and its value
 abbrev pub member_entry : Member → Value → Entry
 member_entry m v = (m.name, value_data m.kind v)
 
--- a value is there, and a constant where its kind is one
+-- the value is there; a constant only if the kind is one
 abbrev pub is_there : Kind → Value → Bool
 is_there kind value.Absent = false
 is_there kind value.Const = is_some (constant_of kind)

@@ -2,7 +2,7 @@
 
 ghost use Rattle.json_values.specs.Names.{NamesStand};
 
-/// The name of a schema's part stands for itself in a line.
+/// The name of a schema's part needs no escaping in a line.
 pub fn names_stand_for_themselves()
     ensures { NamesStand }
 {}

@@ -10,7 +10,7 @@ mod values;
 pub use laws::names_stand_for_themselves;
 pub use runs::plain_front;
 pub use sets::put_set;
-pub use texts::{hex_digit, put_key, put_plain_front, put_string, put_text};
+pub use texts::{HEX_END, HEX_FRONT, hex_digit, put_key, put_plain_front, put_string, put_text};
 pub use values::{
     name_of, put_char, put_comma, put_constant, put_count, put_enum, put_null, put_number,
     put_single, put_small_number,

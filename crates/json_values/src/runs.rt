@@ -1,4 +1,4 @@
-// How many bytes of a text stand for themselves in a string of JSON.
+// How many bytes of a text need no escaping in a string of JSON.
 ghost use Rattle.std.specs.Prelude.{◌≡◌, ◌+◌, ◌-◌, ◌≤◌, ◌<◌, ◌==◌, true, not, length, take, drop, IfSome};
 ghost use Rattle.std.specs.List.{prefix_len, list_all};
 ghost use Rattle.field_values.specs.Told.{before_zero};
@@ -9,7 +9,8 @@ use std::simd::prelude::*;
 
 const LANES: usize = 8;
 
-/// How many bytes the text before the first 00 has, where it has some and each of them is printable and stands for itself.
+/// The length of the text before the first 00, if it isn't empty and each of its bytes is printable and needs no
+/// escaping.
 #[inline(always)]
 #[tactic(auto, using(crate::proofs::Fronts::run_is_front, crate::proofs::Lanes::run_passes))]
 pub fn plain_front(bytes: &[u8]) -> Option<usize>
@@ -31,7 +32,7 @@ pub fn plain_front(bytes: &[u8]) -> Option<usize>
     Some(run)
 }
 
-/// The same of eight bytes: no branch goes by how many bytes the text has.
+/// The same for eight bytes: no branch depends on the length of the text.
 #[inline(always)]
 fn lane_front(bytes: &[u8]) -> Option<usize>
     requires { length bytes.now ≡ LANES }
@@ -47,7 +48,7 @@ fn lane_front(bytes: &[u8]) -> Option<usize>
     Some(run)
 }
 
-/// How many bytes, from the first, are printable and stand for themselves.
+/// How many leading bytes are printable and need no escaping.
 #[inline(always)]
 pub(crate) fn plain_run(bytes: &[u8]) -> usize
     ensures { result ≡ prefix_len is_plain_byte bytes.now }
@@ -66,7 +67,7 @@ pub(crate) fn plain_run(bytes: &[u8]) -> usize
     at + short_run(&bytes[at..])
 }
 
-/// The same, where only the last eight bytes are still to be looked at.
+/// The same, when only the last eight bytes are left to check.
 #[inline(always)]
 fn last_run(bytes: &[u8]) -> usize
     requires long { LANES ≤ length bytes.now }
@@ -89,7 +90,7 @@ fn short_run(bytes: &[u8]) -> usize
     at
 }
 
-/// Whether a byte is printable, and stands for itself.
+/// Whether a byte is printable and needs no escaping.
 #[inline(always)]
 fn is_plain(b: u8) -> bool
     ensures { result ≡ is_plain_byte b }
@@ -97,7 +98,7 @@ fn is_plain(b: u8) -> bool
     b >= b' ' && b <= b'~' && !(b == b'"' || b == b'\\')
 }
 
-/// How many of eight bytes, from the first, are printable and stand for themselves.
+/// How many leading bytes of eight are printable and need no escaping.
 #[inline(always)]
 fn lane_run(bytes: &[u8], at: usize) -> usize
     requires { at + LANES ≤ length bytes.now }
@@ -109,7 +110,7 @@ fn lane_run(bytes: &[u8], at: usize) -> usize
     first_set((outside | escaped).to_bitmask())
 }
 
-/// How many of eight bytes stand before the first 00.
+/// How many of eight bytes precede the first 00.
 #[inline(always)]
 fn lane_text(bytes: &[u8], at: usize) -> usize
     requires { at + LANES ≤ length bytes.now }

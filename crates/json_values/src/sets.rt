@@ -11,8 +11,8 @@ use printers::Printer;
 use sbe_base::Sink;
 use sbe_types::Named;
 
-/// Prints a set: an array of the names of its choices in the schema's order, or its number where a
-/// bit is no choice.
+/// Prints a set: an array of the names of its choices in the schema's order, or its number if one of its bits isn't a
+/// choice.
 #[inline(never)]
 pub fn put_set<O: Sink>(printer: &mut Printer<'_, O>, names: &[Named], bits: u64)
     ensures { Prints O.state printer.old printer.new (plain_text (set_data names.now bits)) }
@@ -24,7 +24,7 @@ pub fn put_set<O: Sink>(printer: &mut Printer<'_, O>, names: &[Named], bits: u64
     }
 }
 
-/// Whether the bit of that number is set.
+/// Whether the bit with this number is set.
 #[inline(always)]
 #[tactic(auto, using(crate::proofs::Bits::bit_seen, crate::proofs::Bits::no_bit_seen))]
 fn has_bit(bits: u64, number: &i128) -> bool
@@ -48,7 +48,7 @@ fn put_chosen<O: Sink>(printer: &mut Printer<'_, O>, names: &[Named], bits: u64)
     printer.put(b"]");
 }
 
-/// Prints the name of a choice whose bit is set, and tells whether a name is printed now.
+/// Prints the name of a choice whose bit is set, and returns whether a name has been printed by now.
 fn put_choice<O: Sink>(printer: &mut Printer<'_, O>, later: bool, choice: &Named, bits: u64) -> bool
     ensures later { result ≡ (has_bit bits choice.now.number || later) }
     ensures text { Prints O.state printer.old printer.new (choice_text later bits choice.now) }

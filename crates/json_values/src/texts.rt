@@ -15,7 +15,7 @@ use sbe_base::Sink;
 
 const HEX_DIGITS: &[u8; 16] = b"0123456789abcdef";
 
-/// Prints bytes as a string where each is from 20 to 7e, and else as `{"hex":"61ff"}`.
+/// Prints bytes as a string if each is from 20 to 7e, and otherwise as `{"hex":"61ff"}`.
 #[tactic(auto, using(crate::proofs::Plainly::shows_plain, crate::proofs::Plainly::shows_printable, crate::proofs::Plainly::shows_hex))]
 pub fn put_text<O: Sink>(printer: &mut Printer<'_, O>, bytes: &[u8])
     ensures { Prints O.state printer.old printer.new (plain_text (text_data bytes.now)) }
@@ -40,7 +40,7 @@ pub fn put_string<O: Sink>(printer: &mut Printer<'_, O>, bytes: &[u8])
     }
 }
 
-/// Prints the key of a member, after a comma where another member precedes it: its name between quotes, and a colon.
+/// Prints the key of a member, preceded by a comma if another member precedes it: its name between quotes, and a colon.
 #[inline(always)]
 pub fn put_key<O: Sink>(printer: &mut Printer<'_, O>, later: bool, name: &[u8])
     ensures { Prints O.state printer.old printer.new (comma_if later ++ key_text name.now) }
@@ -52,7 +52,7 @@ pub fn put_key<O: Sink>(printer: &mut Printer<'_, O>, later: bool, name: &[u8])
     }
 }
 
-/// Whether each byte is printable, and stands for itself in a string.
+/// Whether each byte is printable and needs no escaping in a string.
 #[inline(always)]
 fn is_plain(bytes: &[u8]) -> bool
     ensures { result ≡ list_all is_plain_byte bytes.now }
@@ -67,7 +67,7 @@ fn is_printable(bytes: &[u8]) -> bool
     bytes.iter().all(|b| *b >= b' ' && *b <= b'~')
 }
 
-/// Prints bytes that stand for themselves between quotes.
+/// Prints bytes that need no escaping between quotes.
 #[inline(always)]
 fn put_plain<O: Sink>(printer: &mut Printer<'_, O>, bytes: &[u8])
     requires { list_all is_plain_byte bytes.now ≡ true }
@@ -76,7 +76,7 @@ fn put_plain<O: Sink>(printer: &mut Printer<'_, O>, bytes: &[u8])
     printer.put_in_quotes(bytes);
 }
 
-/// Prints the first `run` bytes of a field, which stand for themselves, between quotes.
+/// Prints the first `run` bytes of a field, which need no escaping, between quotes.
 #[inline(always)]
 pub fn put_plain_front<O: Sink>(printer: &mut Printer<'_, O>, field: &[u8], run: usize)
     requires run { run ≤ length field.now }
@@ -86,7 +86,7 @@ pub fn put_plain_front<O: Sink>(printer: &mut Printer<'_, O>, field: &[u8], run:
     printer.put_front_in_quotes(field, run);
 }
 
-/// Prints bytes between quotes, each of them escaped if need be.
+/// Prints bytes between quotes, escaped where necessary.
 #[inline(never)]
 fn put_quoted<O: Sink>(printer: &mut Printer<'_, O>, bytes: &[u8])
     ensures { Prints O.state printer.old printer.new (plain_text (string bytes.now)) }
@@ -96,7 +96,7 @@ fn put_quoted<O: Sink>(printer: &mut Printer<'_, O>, bytes: &[u8])
     printer.put(b"\"");
 }
 
-/// Prints bytes, each of them escaped if need be.
+/// Prints bytes, escaped where necessary.
 fn put_escaped<O: Sink>(printer: &mut Printer<'_, O>, bytes: &[u8])
     ensures { Prints O.state printer.old printer.new (escape bytes.now) }
 {
@@ -119,7 +119,7 @@ fn put_escaped_byte<O: Sink>(printer: &mut Printer<'_, O>, byte: u8)
     }
 }
 
-/// The letter behind the `\` of a byte's short escape, or 0 where it has none.
+/// The letter after the `\` of a byte's short escape, or 0 if it has none.
 fn escape_letter(byte: u8) -> u8
     ensures { result ≡ escape_letter byte }
 {
@@ -134,7 +134,7 @@ fn escape_letter(byte: u8) -> u8
     }
 }
 
-/// Prints a byte below a space by its number.
+/// Prints a byte below a space as its number.
 fn put_control<O: Sink>(printer: &mut Printer<'_, O>, byte: u8)
     ensures { Prints O.state printer.old printer.new (92 ∷ 117 ∷ 48 ∷ 48 ∷ digit_char (byte / 16) ∷ digit_char (byte % 16) ∷ []) }
 {
@@ -142,14 +142,20 @@ fn put_control<O: Sink>(printer: &mut Printer<'_, O>, byte: u8)
     printer.put(&[hex_digit(byte / 16), hex_digit(byte % 16)]);
 }
 
-/// Prints bytes by their digits to the base 16, as an object.
+/// The text before the digits of bytes that are printed in hexadecimal.
+pub const HEX_FRONT: &[u8] = b"{\"hex\":\"";
+
+/// The text after these digits.
+pub const HEX_END: &[u8] = b"\"}";
+
+/// Prints bytes as an object with their hexadecimal digits.
 #[inline(never)]
 fn put_hex<O: Sink>(printer: &mut Printer<'_, O>, bytes: &[u8])
     ensures { Prints O.state printer.old printer.new (plain_text (hex bytes.now)) }
 {
-    printer.put(b"{\"hex\":\"");
+    printer.put(HEX_FRONT);
     put_digits(printer, bytes);
-    printer.put(b"\"}");
+    printer.put(HEX_END);
 }
 
 /// Prints two digits for each byte.
@@ -161,7 +167,7 @@ fn put_digits<O: Sink>(printer: &mut Printer<'_, O>, bytes: &[u8])
     }
 }
 
-/// The two digits of each byte to the base 16, one behind another.
+/// The two hexadecimal digits of each byte, one after another.
 const HEX_PAIRS: &[u8] =
     b"000102030405060708090a0b0c0d0e0f101112131415161718191a1b1c1d1e1f202122232425262728292a2b2c2d2e2f303132333435363738393a3b3c3d3e3f404142434445464748494a4b4c4d4e4f505152535455565758595a5b5c5d5e5f606162636465666768696a6b6c6d6e6f707172737475767778797a7b7c7d7e7f808182838485868788898a8b8c8d8e8f909192939495969798999a9b9c9d9e9fa0a1a2a3a4a5a6a7a8a9aaabacadaeafb0b1b2b3b4b5b6b7b8b9babbbcbdbebfc0c1c2c3c4c5c6c7c8c9cacbcccdcecfd0d1d2d3d4d5d6d7d8d9dadbdcdddedfe0e1e2e3e4e5e6e7e8e9eaebecedeeeff0f1f2f3f4f5f6f7f8f9fafbfcfdfeff";
 
@@ -172,7 +178,7 @@ fn put_byte<O: Sink>(printer: &mut Printer<'_, O>, byte: u8)
     printer.put(hex_pair(byte));
 }
 
-/// The two digits of a byte to the base 16.
+/// The two hexadecimal digits of a byte.
 #[inline(always)]
 #[tactic(auto, using(crate::proofs::Plainly::hex_pair_there))]
 fn hex_pair(byte: u8) -> &'static [u8]
@@ -190,7 +196,7 @@ fn hex_digits_at(at: usize) -> &'static [u8]
     &HEX_PAIRS[at..at + 2]
 }
 
-/// A digit to the base 16.
+/// A hexadecimal digit.
 #[inline(always)]
 pub fn hex_digit(n: u8) -> u8
     requires { n < 16 }

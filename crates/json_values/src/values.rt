@@ -84,7 +84,7 @@ fn put_short<O: Sink>(printer: &mut Printer<'_, O>, n: u16)
     printer.put_front(lead_of(high), digits_of(high), pair_of(n % 100), b"");
 }
 
-/// Prints a number of at most four digits, and four digits behind it.
+/// Prints a number of at most four digits, followed by four more digits.
 #[inline(always)]
 #[tactic(auto, using(crate::proofs::Numbers::lead_four))]
 fn put_long<O: Sink>(printer: &mut Printer<'_, O>, high: u16, low: u16)
@@ -104,7 +104,7 @@ fn put_long<O: Sink>(printer: &mut Printer<'_, O>, high: u16, low: u16)
     }
 }
 
-/// Prints a number of three or four digits, and four digits behind it.
+/// Prints a number of three or four digits, followed by four more digits.
 #[inline(never)]
 #[tactic(auto, using(crate::proofs::Numbers::longer))]
 fn put_longer<O: Sink>(printer: &mut Printer<'_, O>, high: u16, low: u16)
@@ -117,7 +117,7 @@ fn put_longer<O: Sink>(printer: &mut Printer<'_, O>, high: u16, low: u16)
     printer.put_between(pair_of(low / 100), pair_of(low % 100), b"");
 }
 
-/// The two digits of each number below 100, one behind another.
+/// The two digits of each number below 100, one after another.
 const PAIRS: &[u8] =
     b"00010203040506070809101112131415161718192021222324252627282930313233343536373839404142434445464748495051525354555657585960616263646566676869707172737475767778798081828384858687888990919293949596979899";
 
@@ -162,7 +162,7 @@ fn two_at(at: usize) -> &'static [u8]
     &PAIRS[at..at + 2]
 }
 
-/// The digits of each byte to the base 10, filled to four bytes by spaces behind them.
+/// The decimal digits of each byte, padded with spaces to four bytes.
 const PADDED_DIGITS: &[u8] =
     b"0   1   2   3   4   5   6   7   8   9   10  11  12  13  14  15  16  17  18  19  20  21  22  23  24  25  26  27  28  29  30  31  32  33  34  35  36  37  38  39  40  41  42  43  44  45  46  47  48  49  50  51  52  53  54  55  56  57  58  59  60  61  62  63  64  65  66  67  68  69  70  71  72  73  74  75  76  77  78  79  80  81  82  83  84  85  86  87  88  89  90  91  92  93  94  95  96  97  98  99  100 101 102 103 104 105 106 107 108 109 110 111 112 113 114 115 116 117 118 119 120 121 122 123 124 125 126 127 128 129 130 131 132 133 134 135 136 137 138 139 140 141 142 143 144 145 146 147 148 149 150 151 152 153 154 155 156 157 158 159 160 161 162 163 164 165 166 167 168 169 170 171 172 173 174 175 176 177 178 179 180 181 182 183 184 185 186 187 188 189 190 191 192 193 194 195 196 197 198 199 200 201 202 203 204 205 206 207 208 209 210 211 212 213 214 215 216 217 218 219 220 221 222 223 224 225 226 227 228 229 230 231 232 233 234 235 236 237 238 239 240 241 242 243 244 245 246 247 248 249 250 251 252 253 254 255 ";
 
@@ -184,7 +184,7 @@ fn first_of(n: u8) -> &'static [u8]
     four_at(4 * n as usize)
 }
 
-/// Four bytes of the filled digits.
+/// Four bytes of the padded digits.
 #[inline(always)]
 fn four_at(at: usize) -> &'static [u8]
     requires { at + 4 ≤ 1_024 }
@@ -236,7 +236,7 @@ fn put_any_count<O: Sink>(printer: &mut Printer<'_, O>, n: u64)
     printer.put(buffer.format(n).as_bytes());
 }
 
-/// Prints a char: from 20 to 7e as a string of one character, and else as an integer.
+/// Prints a char: as a string of one character if it is from 20 to 7e, and otherwise as an integer.
 pub fn put_char<O: Sink>(printer: &mut Printer<'_, O>, n: &i128)
     ensures { Prints O.state printer.old printer.new (plain_text (char_data n.now)) }
 {
@@ -258,7 +258,7 @@ pub fn put_single<O: Sink>(printer: &mut Printer<'_, O>, is_char: bool, n: &i128
     }
 }
 
-/// Prints a comma, where something stands before.
+/// Prints a comma if something precedes.
 #[inline(always)]
 pub fn put_comma<O: Sink>(printer: &mut Printer<'_, O>, later: bool)
     ensures { Prints O.state printer.old printer.new (comma_if later) }
@@ -268,7 +268,7 @@ pub fn put_comma<O: Sink>(printer: &mut Printer<'_, O>, later: bool)
     }
 }
 
-/// The name of the first valid value of that number.
+/// The name of the first valid value with this number.
 pub fn name_of<'a>(names: &'a [Named], n: &i128) -> Option<&'a [u8]>
     ensures { option_map (λ name. name.now) result ≡ name_of names.now n.now }
 {
@@ -280,7 +280,7 @@ pub fn name_of<'a>(names: &'a [Named], n: &i128) -> Option<&'a [u8]>
     None
 }
 
-/// Prints an enum: the name of its number, or the number where no valid value has it.
+/// Prints an enum: the name of its number, or the number if no valid value has it.
 pub fn put_enum<O: Sink>(printer: &mut Printer<'_, O>, names: &[Named], n: &i128)
     ensures { Prints O.state printer.old printer.new (plain_text (enum_data names.now n.now)) }
 {
@@ -290,7 +290,7 @@ pub fn put_enum<O: Sink>(printer: &mut Printer<'_, O>, names: &[Named], n: &i128
     }
 }
 
-/// Prints a constant as the value that it has; a valid value by its name.
+/// Prints a constant as its value; a valid value by its name.
 pub fn put_constant<O: Sink>(printer: &mut Printer<'_, O>, constant: &ConstValue)
     ensures { Prints O.state printer.old printer.new (plain_text (constant_data constant.now)) }
 {

@@ -16,7 +16,7 @@ use Rattle.sbe_wire.specs.Misfit.{Misfit, or_else, misfit_in, other_kind, same_l
 use Rattle.schema_facts.specs.InOrder.{height, IsKindInOrder}
 use Rattle.schema_facts.proofs.KindLists.{list_height, height_comp, made_members}
 use Rattle.schema_facts.proofs.KindMembers.{members_kinds}
-use Rattle.kind_bytes.specs.declared.error.Unfit.{Unfit}
+use Rattle.kind_bytes.specs.declared.error.ValueMisfit.{ValueMisfit}
 use Rattle.kind_bytes.specs.Misfits.{members_misfit, unfit_of}
 
 -- the row of a composite
@@ -107,14 +107,14 @@ drop_at [] i x h = absurd cc
 drop_at (y ∷ ys) zero x h = ap (λ z. z ∷ ys) (some_is h)
 drop_at (y ∷ ys) (suc i) x h = drop_at ys i x h
 
-under_is : (u next : Unfit) (s : Step) → next ≡ record { cause = u.cause; path = s ∷ u.path; detail = u.detail } → ◌≡◌ {A = Option Misfit} (Some (unfit_of next)) (misfit_in s (Some (unfit_of u)))
-under_is u next s h = ap (λ (x : Unfit). Some (unfit_of x)) h
+under_is : (u next : ValueMisfit) (s : Step) → next ≡ record { cause = u.cause; path = s ∷ u.path; detail = u.detail } → ◌≡◌ {A = Option Misfit} (Some (unfit_of next)) (misfit_in s (Some (unfit_of u)))
+under_is u next s h = ap (λ (x : ValueMisfit). Some (unfit_of x)) h
 
 module _ (i : ℕ) (ms : List Member) (vs : List Value) (m : Member) (v : Value) (at : slice_get ms i ≡ Some m) (there : slice_get vs i ≡ Some v) where
   pub member_next : members_misfit i (drop i ms) (drop i vs) ≡ or_else (misfit_in (way.Part i) (value_misfit m.kind v)) (members_misfit (suc i) (drop (suc i) ms) (drop (suc i) vs))
   member_next = ap₂ (members_misfit i) (drop_at ms i m at) (drop_at vs i v there)
 
-  pub member_refused : (u next : Unfit) → Some (unfit_of u) ≡ value_misfit m.kind v → next ≡ record { cause = u.cause; path = way.Part i ∷ u.path; detail = u.detail }
+  pub member_refused : (u next : ValueMisfit) → Some (unfit_of u) ≡ value_misfit m.kind v → next ≡ record { cause = u.cause; path = way.Part i ∷ u.path; detail = u.detail }
       → Some (unfit_of next) ≡ members_misfit i (drop i ms) (drop i vs)
   member_refused u next h is =
       under_is u next (way.Part i) is ∙ ap (λ o. or_else (misfit_in (way.Part i) o) (members_misfit (suc i) (drop (suc i) ms) (drop (suc i) vs))) h ∙ sym member_next
@@ -125,6 +125,6 @@ module _ (i : ℕ) (ms : List Member) (vs : List Value) (m : Member) (v : Value)
       ap (λ j. members_misfit j (drop j ms) (drop j vs)) (sym on)
       ∙ ap (λ o. or_else (misfit_in (way.Part i) o) (members_misfit (suc i) (drop (suc i) ms) (drop (suc i) vs))) h ∙ sym member_next
 
--- behind the last member
+-- after the last member
 pub none_behind : (i : ℕ) (ms : List Member) (vs : List Value) → length ms ≤ i → None ≡ members_misfit i (drop i ms) (drop i vs)
 none_behind i ms vs h = sym (ap (λ l. members_misfit i l (drop i vs)) (drop_all i ms h))

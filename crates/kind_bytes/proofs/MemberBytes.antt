@@ -1,4 +1,4 @@
--- The bytes of a composite's members, one behind another.
+-- The bytes of a composite's members, one after another.
 use Rattle.std.proofs.Common.{◌≡◌, ◌≤◌, ◌+◌, ◌-◌, ℕ, suc, Bool, true, false, cond, List, [], ◌∷◌, ◌++◌, length, take, drop, replicate, Option, Some, None, refl, sym, ap, ap₂, ◌∙◌, subst, arith, append_assoc}
 use Rattle.std.specs.Prelude.{slice_get, ⊤}
 use Rattle.std.specs.List.{AllByRecursion}
@@ -85,7 +85,7 @@ const_fits order (Comp' n members) v is h = cc
 
 -- ---- where members stand
 
--- a member behind members that end at e
+-- a member after members that end at e
 pub record Stands (e : ℕ) (m : Member) : Type 0 where
   pub order : IsKindInOrder m.kind
   pub begins : BeginsBehind e m.offset m.kind
@@ -148,7 +148,7 @@ next order i e all ms vs m v at there stand ends fits =
       bytes = ap₂ (members_bytes order e) here value_here;
     }
 
--- ---- bytes behind bytes
+-- ---- bytes after bytes
 
 none_is : (bytes : List ℕ) → ◌≡◌ {A = Option (List ℕ)} None (Some bytes) → ⊥
 none_is bytes h = cc
@@ -156,7 +156,7 @@ none_is bytes h = cc
 some_is : (a b : List ℕ) → Some a ≡ Some b → a ≡ b
 some_is a b h = cc
 
--- what is left behind a piece, and what is left behind all
+-- what is left after a piece, and what is left after all
 pub behind_next : (xs ys : List ℕ) (a b : Option (List ℕ)) → behind xs a ≡ Some ys → behind ys b ≡ behind xs (both a b)
 behind_next xs ys None b h = absurd (none_is ys h)
 behind_next xs ys (Some a) None h = refl
@@ -166,7 +166,7 @@ pub behind_nothing : (x : Option (List ℕ)) → behind [] x ≡ x
 behind_nothing None = refl
 behind_nothing (Some x) = refl
 
--- nothing is left behind the last member
+-- nothing is left after the last member
 pub ended : (order : Order) (i e : ℕ) (ms : List Member) (vs : List Value) (out : List ℕ) → length ms ≤ i → length ms ≡ length vs → members_end e (drop i ms) ≡ length out →
     behind (take e out) (members_bytes order e (drop i ms) (drop i vs)) ≡ Some out
 ended order i e ms vs out last many ends =

@@ -9,37 +9,37 @@ use sbe_types::{Path, Step};
 #[derive(Drop)]
 pub struct FieldErr {
     pub cause: FieldCause,
-    /// The way to the part that doesn't fit: the field's part in its block, then members of composites, then an
+    /// The path to the part that doesn't fit: the field's part in its block, then members of composites, then an
     /// element of an array.
     pub path: Path,
-    /// The number or the byte, or the length of a text; 0 where the value is of another kind.
+    /// The number or the byte, or the length of a text; 0 if the value has another kind.
     pub detail: i128,
 }
 
 /// The first part of a value that doesn't fit its kind. It is lent to the walk over the value, so that nothing wide is
-/// handed back.
+/// returned.
 #[derive(Drop)]
-pub struct Unfit {
+pub struct ValueMisfit {
     pub cause: FieldCause,
-    /// The way to the part: members of composites, then an element of an array.
+    /// The path to the part: members of composites, then an element of an array.
     pub path: Trail,
-    /// The number or the byte, or the length of a text; 0 where the value is of another kind.
+    /// The number or the byte, or the length of a text; 0 if the value has another kind.
     pub detail: i128,
 }
 
-impl Unfit {
-    /// What stands before a part was found that doesn't fit.
-    pub fn new() -> Unfit
+impl ValueMisfit {
+    /// The initial contents, before a misfit was found.
+    pub fn new() -> ValueMisfit
         ensures { length result.path ≡ 0 }
     {
-        Unfit {
+        ValueMisfit {
             cause: FieldCause::Kind,
             path: Trail::new(),
             detail: 0,
         }
     }
 
-    /// Tells that it doesn't fit right here.
+    /// Records that the value itself doesn't fit.
     #[cold]
     pub(crate) fn tell(&mut self, cause: FieldCause, detail: i128)
         ensures { self.new ≡ record { cause = cause; path = []; detail = detail } }
@@ -49,7 +49,7 @@ impl Unfit {
         self.detail = detail;
     }
 
-    /// The part lies inside a step.
+    /// Records that the misfit is inside this step.
     #[cold]
     pub(crate) fn under(&mut self, step: Step)
         requires { length self.old.path < 20 }
@@ -58,7 +58,7 @@ impl Unfit {
         self.path.push_front(step);
     }
 
-    /// The same as an error.
+    /// The same, as an error.
     #[cold]
     pub(crate) fn to_err(&self) -> FieldErr
         ensures { misfit_of result ≡ unfit_of self.now }

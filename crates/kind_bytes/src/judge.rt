@@ -11,11 +11,11 @@ ghost use Rattle.schema_facts.specs.InOrder.{height, IsKindInOrder};
 ghost use Rattle.field_bytes.specs.Faults.{as_misfit, is_single};
 ghost use Rattle.kind_bytes.specs.Misfits.{field_misfit, misfit_of, told, unfit_of};
 
-use crate::error::{FieldErr, Unfit};
+use crate::error::{FieldErr, ValueMisfit};
 use field_bytes::{FieldCause, ValueFault, value_judge};
 use sbe_types::{Kind, List, Member, Step, Value, ValueList};
 
-/// Judges the value that part `part` of a block, a field, is set to. A constant is set to none.
+/// Checks a value for part `part` of a block, which is a field. A constant can't be set.
 ///
 /// # Errors
 ///
@@ -24,7 +24,7 @@ pub fn judge_field(kind: &Kind, part: u32, v: &Value) -> Result<(), FieldErr>
     requires { IsKindInOrder kind.now }
     ensures { option_map misfit_of (result_err result) ≡ misfit_in (Part part) (field_misfit kind.now v.now) }
 {
-    let mut unfit = Unfit::new();
+    let mut unfit = ValueMisfit::new();
     if takes_value(kind, v, &mut unfit) {
         return Ok(());
     }
@@ -32,8 +32,8 @@ pub fn judge_field(kind: &Kind, part: u32, v: &Value) -> Result<(), FieldErr>
     Err(unfit.to_err())
 }
 
-/// Whether a field may be set to a value; if not, `out` tells the first part that doesn't fit.
-fn takes_value(kind: &Kind, v: &Value, out: &mut Unfit) -> bool
+/// Whether a field may be set to a value. If not, `out` receives the first part that doesn't fit.
+fn takes_value(kind: &Kind, v: &Value, out: &mut ValueMisfit) -> bool
     requires ready { IsKindInOrder kind.now }
     ensures told { told result out.new ≡ field_misfit kind.now v.now }
     ensures low { result ≡ false → length out.new.path ≤ suc (height kind.now) }
@@ -49,9 +49,10 @@ fn takes_value(kind: &Kind, v: &Value, out: &mut Unfit) -> bool
     }
 }
 
-/// Whether a value fits its kind, a constant its own value too; if not, `out` tells the first part that doesn't.
+/// Whether a value fits its kind; for a constant, whether it is the constant's value. If not, `out` receives the first
+/// part that doesn't fit.
 #[cycle(kind)]
-pub fn fits_kind(kind: &Kind, v: &Value, out: &mut Unfit) -> bool
+pub fn fits_kind(kind: &Kind, v: &Value, out: &mut ValueMisfit) -> bool
     requires ready { IsKindInOrder kind.now }
     ensures told { told result out.new ≡ value_misfit kind.now v.now }
     ensures low { result ≡ false → length out.new.path ≤ suc (height kind.now) }
@@ -68,7 +69,7 @@ pub fn fits_kind(kind: &Kind, v: &Value, out: &mut Unfit) -> bool
 /// Whether a value fits a composite.
 #[cycle(kind)]
 #[tactic(auto, using(crate::proofs::Composites::comp_none, crate::proofs::Composites::comp_some))]
-fn fits_composite(members: &List<Member>, v: &Value, out: &mut Unfit) -> bool
+fn fits_composite(members: &List<Member>, v: &Value, out: &mut ValueMisfit) -> bool
     requires ready { IsKindInOrder (Comp members.now) }
     ensures told { told result out.new ≡ value_misfit (Comp members.now) v.now }
     ensures low { result ≡ false → length out.new.path ≤ suc (height (Comp members.now)) }
@@ -82,10 +83,10 @@ fn fits_composite(members: &List<Member>, v: &Value, out: &mut Unfit) -> bool
     }
 }
 
-/// Whether the values of a composite fit its members; their number is judged first.
+/// Whether the values of a composite fit its members; their number is checked first.
 #[cycle(kind)]
 #[tactic(auto, using(crate::proofs::Composites::comp_other))]
-fn fits_members(members: &List<Member>, values: &ValueList, out: &mut Unfit) -> bool
+fn fits_members(members: &List<Member>, values: &ValueList, out: &mut ValueMisfit) -> bool
     requires ready { IsKindInOrder (Comp members.now) }
     ensures told { told result out.new ≡ value_misfit (Comp members.now) (CompValue values.now) }
     ensures low { result ≡ false → length out.new.path ≤ suc (height (Comp members.now)) }
@@ -122,7 +123,7 @@ pub(crate) fn values_in(v: &Value) -> Option<&ValueList>
 }
 
 /// Whether a value is that of a constant.
-fn fits_constant(v: &Value, out: &mut Unfit) -> bool
+fn fits_constant(v: &Value, out: &mut ValueMisfit) -> bool
     ensures told { told result out.new ≡ const_misfit v.now }
     ensures low { result ≡ false → length out.new.path ≤ 0 }
 {
@@ -144,7 +145,7 @@ fn fits_constant(v: &Value, out: &mut Unfit) -> bool
 
 /// Whether a value fits a leaf, an enum or a set.
 #[tactic(auto, using(crate::proofs::Elements::fault_small))]
-fn fits_single(kind: &Kind, v: &Value, out: &mut Unfit) -> bool
+fn fits_single(kind: &Kind, v: &Value, out: &mut ValueMisfit) -> bool
     requires ready { IsKindInOrder kind.now }
     requires single { is_single kind.now ≡ true }
     ensures told { told result out.new ≡ value_misfit kind.now v.now }
@@ -162,8 +163,8 @@ fn fits_single(kind: &Kind, v: &Value, out: &mut Unfit) -> bool
     false
 }
 
-/// Tells why a value doesn't fit.
-fn tell_fault(fault: &ValueFault, out: &mut Unfit)
+/// Records why a value doesn't fit.
+fn tell_fault(fault: &ValueFault, out: &mut ValueMisfit)
     requires { IfSome fault.now.elem (λ i. i < 2 ^ 32) }
     ensures told { unfit_of out.new ≡ as_misfit fault.now }
     ensures low { length out.new.path ≤ 1 }

@@ -1,4 +1,4 @@
-//! The bytes of values of any kind, composites too (SBE 1.0, "Field encoding" and "Composite encoding").
+//! The bytes of values of any kind, including composites (SBE 1.0, "Field encoding" and "Composite encoding").
 #![tactic(auto)]
 
 mod error;
@@ -7,7 +7,7 @@ mod put;
 mod trail;
 mod writes;
 
-pub use error::{FieldErr, Unfit};
+pub use error::{FieldErr, ValueMisfit};
 pub use judge::{fits_kind, judge_field};
 pub use put::put_kind;
 pub use trail::Trail;

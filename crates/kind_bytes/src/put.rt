@@ -15,7 +15,7 @@ use field_bytes::put_value;
 use flat_rows::{begin_of, width_of};
 use sbe_types::{Kind, List, Member, Order, Value, ValueList};
 
-/// Writes a value that fits its kind, with zeros where a composite has no member. It needs as many bytes as the kind is
+/// Writes a value that fits its kind, with zeros where a composite has no member. Requires as many bytes as the kind is
 /// wide.
 #[cycle(kind)]
 pub fn put_kind(order: Order, kind: &Kind, v: &Value, out: &mut [u8])
@@ -48,7 +48,7 @@ fn put_composite(order: Order, members: &List<Member>, v: &Value, out: &mut [u8]
     }
 }
 
-/// Writes values that fit the members of a composite, one behind another.
+/// Writes values that fit the members of a composite, one after another.
 #[cycle(kind)]
 fn put_members(order: Order, members: &List<Member>, values: &ValueList, out: &mut [u8])
     requires ready { IsKindInOrder (Comp members.now) }
@@ -62,7 +62,7 @@ fn put_members(order: Order, members: &List<Member>, values: &ValueList, out: &m
     }
 }
 
-/// Writes a value that fits a member behind members that end at `end`, and tells where it ends.
+/// Writes a value that fits a member after members that end at `end`, and returns where it ends.
 #[cycle(kind)]
 fn put_member(order: Order, member: &Member, end: u32, v: &Value, out: &mut [u8]) -> u32
     requires ready { IsKindInOrder member.now.kind }

@@ -3,8 +3,8 @@ ghost use Rattle.std.specs.Prelude.{◌≡◌, ◌∷◌, [], ◌<◌, length};
 use sbe_types::{Path, Step};
 use std::marker::Model;
 
-/// The steps to a part that doesn't fit. They stand at the end of the array, since each composite adds its own in
-/// front on the way out.
+/// The steps to a part that doesn't fit. They are at the end of the array, since each composite prepends its own on the
+/// way out.
 #[derive(Drop)]
 pub struct Trail {
     steps: [Step; 20],
@@ -23,7 +23,7 @@ impl Model for Trail {
 }
 
 impl Trail {
-    /// No step.
+    /// Creates an empty trail.
     pub fn new() -> Trail
         ensures { result ≡ [] }
     {
@@ -44,14 +44,14 @@ impl Trail {
         path
     }
 
-    /// Forgets all steps.
+    /// Removes all steps.
     pub fn clear(&mut self)
         ensures { self.new ≡ [] }
     {
         self.start = 20;
     }
 
-    /// Adds a step in front.
+    /// Prepends a step.
     #[tactic(auto, using(crate::proofs::Trails::one_in_front, crate::proofs::Trails::room))]
     pub fn push_front(&mut self, step: Step)
         requires { length self.old < 20 }

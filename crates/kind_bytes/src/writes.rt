@@ -13,12 +13,12 @@ use crate::judge::judge_field;
 use crate::put::put_kind;
 use sbe_types::{Kind, Order, Value};
 
-/// Writes the value of part `part` of a block, a field of any kind (SBE 1.0, "Field encoding"), with zeros behind a
-/// text and where a composite has no member. It needs as many bytes as the kind is wide.
+/// Writes the value of part `part` of a block, a field of any kind (SBE 1.0, "Field encoding"), with zeros after a text
+/// and where a composite has no member. Requires as many bytes as the kind is wide.
 ///
 /// # Errors
 ///
-/// The first member, element or byte that doesn't fit; any value of a constant. `out` is as before.
+/// The first member, element or byte that doesn't fit; any value for a constant. `out` is then unchanged.
 pub fn field_writes(
     order: Order,
     kind: &Kind,

@@ -1,11 +1,11 @@
-// The arrays of numbers that seem to stand at a place of a line. No clause speaks of them.
+// Arrays of numbers at a place of a line, taken on trust. No contract covers the result.
 use crate::bits::bits_of;
 use crate::cursor::Cursor;
 use crate::draft::BodyDraft;
 use crate::numbers::integer_in;
 use sbe_types::{Leaf, Order};
 
-/// The elements of an array, from a place of the draft on.
+/// The elements of an array, from an offset of the draft on.
 #[inline(never)]
 pub(crate) fn array_in(
     cursor: &mut Cursor<'_>,

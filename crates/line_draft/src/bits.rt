@@ -1,7 +1,7 @@
-// Numbers as their bits. No clause speaks of them.
+// Numbers as their bits. No contract covers the result.
 ghost use Rattle.std.specs.Prelude.{◌≡◌, length};
 
-/// The last bits, the least first.
+/// The lowest bits, in little-endian order.
 #[inline(always)]
 pub(crate) fn little(bits: u64, out: &mut [u8])
     ensures { length out.new ≡ length out.old }
@@ -19,7 +19,7 @@ pub(crate) fn little(bits: u64, out: &mut [u8])
     }
 }
 
-/// The last bits, the least last.
+/// The lowest bits, in big-endian order.
 #[inline(always)]
 pub(crate) fn big(bits: u64, out: &mut [u8])
     ensures { length out.new ≡ length out.old }
@@ -37,7 +37,7 @@ pub(crate) fn big(bits: u64, out: &mut [u8])
     }
 }
 
-/// The bits of a number, in two's complement; 0 where it has more than 64.
+/// The bits of a number, in two's complement, or 0 if it doesn't fit 64 bits.
 pub(crate) fn bits_of(number: i128) -> u64 {
     match u64::try_from(number) {
         Ok(bits) => bits,

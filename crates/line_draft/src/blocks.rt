@@ -1,11 +1,11 @@
-// The blocks that seem to stand at a place of a line. No clause speaks of them.
+// Blocks at a place of a line, taken on trust. No contract covers the result.
 use crate::cursor::Cursor;
 use crate::draft::BodyDraft;
 use crate::kinds::{begin_of, end_of, past, value_in};
 use crate::parts::{parts_in, past_parts};
 use sbe_types::{Field, Group, Kind, Level, Member, Order};
 
-/// What the object of a root or of an entry begins with.
+/// The beginning of the object of a root or of an entry.
 pub(crate) const FRONT: &[u8] = b"{\"data\":{";
 
 /// The object of a message's root or of an entry, without the closing bracket.
@@ -37,7 +37,7 @@ pub(crate) fn block_in(
         && parts_in(&mut data, order, parts, draft)
 }
 
-/// The fields of a block that begins at a place of the draft.
+/// The fields of a block that begins at an offset of the draft.
 fn fields_in(
     cursor: &mut Cursor<'_>,
     order: Order,
@@ -121,7 +121,7 @@ fn entries_in(
     Some(count)
 }
 
-/// The numbers of a dimension that begins at a place of the draft. Its two names differ in how many bytes they have.
+/// The numbers of a dimension that begins at an offset of the draft. Its two names have different lengths.
 fn put_dim(
     order: Order,
     members: &[Member],

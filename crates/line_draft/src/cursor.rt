@@ -1,7 +1,7 @@
-// A place in a line that seems to be printed. What is read here is a guess, and no clause speaks of it.
+// A position in a line that is assumed to be printed. What is read here is a guess, and no contract covers it.
 ghost use Rattle.std.specs.Prelude.{◌≤◌, length};
 
-/// A line, and how many of its bytes were passed.
+/// A line, and how many of its bytes were skipped.
 #[derive(Drop)]
 pub(crate) struct Cursor<'a> {
     line: &'a [u8],
@@ -10,12 +10,12 @@ pub(crate) struct Cursor<'a> {
 }
 
 impl<'a> Cursor<'a> {
-    /// The first byte of a line.
+    /// The start of a line.
     pub(crate) fn new(line: &'a [u8]) -> Cursor<'a> {
         Cursor { line, at: 0 }
     }
 
-    /// The same place once more.
+    /// A copy of the cursor.
     pub(crate) fn again(&self) -> Cursor<'a> {
         Cursor {
             line: self.line,
@@ -29,7 +29,7 @@ impl<'a> Cursor<'a> {
         &self.line[self.at..]
     }
 
-    /// The next byte; behind the last, 00.
+    /// The next byte, or 00 at the end.
     #[inline(always)]
     pub(crate) fn next(&self) -> u8 {
         if self.at < self.line.len() {
@@ -39,7 +39,7 @@ impl<'a> Cursor<'a> {
         }
     }
 
-    /// Passes so many bytes, or all that are left.
+    /// Skips `count` bytes, or all that are left.
     #[inline(always)]
     pub(crate) fn pass(&mut self, count: usize) {
         if count <= self.line.len() - self.at {
@@ -49,7 +49,7 @@ impl<'a> Cursor<'a> {
         }
     }
 
-    /// Passes a byte, if it comes next.
+    /// Skips a byte, if it comes next.
     #[inline(always)]
     pub(crate) fn takes(&mut self, byte: u8) -> bool {
         if self.at < self.line.len() && self.line[self.at] == byte {
@@ -59,7 +59,7 @@ impl<'a> Cursor<'a> {
         false
     }
 
-    /// Passes a text, if it comes next.
+    /// Skips a text, if it comes next.
     #[inline(always)]
     pub(crate) fn takes_text(&mut self, text: &[u8]) -> bool {
         if text.len() <= self.line.len() - self.at
@@ -71,8 +71,8 @@ impl<'a> Cursor<'a> {
         false
     }
 
-    /// Passes a text where no other can stand, if its last byte stands where the text would end. Whether the others stand
-    /// there too is seen once the message is printed again.
+    /// Skips a text where no other is possible, if its last byte is where the text would end. Whether the other bytes
+    /// match is found out when the message is printed again.
     #[inline(always)]
     pub(crate) fn passes_text(&mut self, text: &[u8]) -> bool {
         let long = text.len();
@@ -86,8 +86,8 @@ impl<'a> Cursor<'a> {
         true
     }
 
-    /// Passes the key of a member, behind a comma where another stands before, if it has the quotes and the colon of that
-    /// name's key. Whether it is that name is seen once the message is printed again.
+    /// Skips the key of a member, with a comma before it if it isn't the first, if it has the quotes and the colon of
+    /// this name's key. Whether it is this name is found out when the message is printed again.
     #[inline(always)]
     pub(crate) fn passes_key(&mut self, later: bool, name: &[u8]) -> bool {
         if later && !self.takes(b',') {
@@ -105,7 +105,7 @@ impl<'a> Cursor<'a> {
         true
     }
 
-    /// The bytes before the next byte of that value, which are passed with it; none where it doesn't come.
+    /// The bytes before the next `stop`, which are skipped together with it, or `None` if there is no `stop`.
     #[inline(always)]
     pub(crate) fn up_to(&mut self, stop: u8) -> Option<&'a [u8]> {
         let rest = self.rest();

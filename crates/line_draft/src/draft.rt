@@ -4,10 +4,10 @@ use crate::bits::{big, little};
 use sbe_types::{Order, Prim};
 use std::marker::Model;
 
-/// How many bytes a draft has room for. A longer body goes the general way.
+/// The size of a draft in bytes. A longer body takes the general path.
 pub const DRAFT_BYTES: usize = 4096;
 
-/// Bytes that are written as a body. It takes no memory but its own.
+/// Bytes that are written as a body. It allocates nothing.
 #[derive(Drop)]
 pub struct BodyDraft {
     room: [u8; DRAFT_BYTES],
@@ -26,7 +26,7 @@ impl Model for BodyDraft {
 }
 
 impl BodyDraft {
-    /// A draft without bytes.
+    /// Creates an empty draft.
     pub fn new() -> BodyDraft
         ensures { result ≡ [] }
     {
@@ -43,12 +43,12 @@ impl BodyDraft {
         &self.room[..self.len]
     }
 
-    /// Lets go of the bytes.
+    /// Removes the bytes.
     pub(crate) fn clear(&mut self) {
         self.len = 0;
     }
 
-    /// Appends so many zeros, and tells where they begin; none where there is no room.
+    /// Appends `many` zeros, and returns where they begin, or `None` if there is no room.
     #[inline(always)]
     pub(crate) fn zeros(&mut self, many: usize) -> Option<usize> {
         let at = self.len;
@@ -60,7 +60,7 @@ impl BodyDraft {
         Some(at)
     }
 
-    /// Counts so many bytes more, which were put behind the last; false where there is no room.
+    /// Counts `many` more bytes, which were written after the last one; false if there is no room.
     pub(crate) fn passes(&mut self, many: usize) -> bool {
         if many > DRAFT_BYTES - self.len {
             return false;
@@ -69,7 +69,7 @@ impl BodyDraft {
         true
     }
 
-    /// Writes bytes at a place; false where they don't lie there.
+    /// Writes bytes at an offset; false if they don't fit there.
     #[inline(always)]
     pub(crate) fn put(&mut self, at: usize, bytes: &[u8]) -> bool {
         if at > DRAFT_BYTES || bytes.len() > DRAFT_BYTES - at {
@@ -79,7 +79,7 @@ impl BodyDraft {
         true
     }
 
-    /// Writes a number of a primitive, as its bits, at a place; false where there is no room.
+    /// Writes a number of a primitive, given as its bits, at an offset; false if there is no room.
     #[inline(always)]
     pub(crate) fn put_bits(&mut self, order: Order, prim: Prim, bits: u64, at: usize) -> bool {
         let wide = prim.width();

@@ -1,4 +1,4 @@
-// The value that seems to stand at a place of a line. No clause speaks of it.
+// Values at a place of a line, taken on trust. No contract covers the result.
 use crate::arrays::array_in;
 use crate::bits::bits_of;
 use crate::cursor::Cursor;
@@ -21,7 +21,7 @@ fn width_of(kind: &Kind) -> usize {
     }
 }
 
-/// Where members end.
+/// The end of the members.
 #[cycle(width)]
 pub(crate) fn end_of(members: &[Member]) -> usize {
     let mut end = 0usize;
@@ -31,7 +31,7 @@ pub(crate) fn end_of(members: &[Member]) -> usize {
     end
 }
 
-/// Where a part begins behind parts that end at `end`.
+/// The offset of a part after parts that end at `end`.
 #[inline(always)]
 pub(crate) fn begin_of(end: usize, offset: Option<u32>) -> usize {
     match offset {
@@ -40,7 +40,7 @@ pub(crate) fn begin_of(end: usize, offset: Option<u32>) -> usize {
     }
 }
 
-/// Where a part ends that begins at a place, behind parts that end at `end`.
+/// The end of a part that begins at an offset, after parts that end at `end`.
 #[cycle(width)]
 #[inline(always)]
 pub(crate) fn past(end: usize, begin: usize, kind: &Kind) -> usize {
@@ -52,7 +52,7 @@ pub(crate) fn past(end: usize, begin: usize, kind: &Kind) -> usize {
     }
 }
 
-/// The value of a kind, at a place of the draft.
+/// The value of a kind, at an offset of the draft.
 #[cycle(kind)]
 pub(crate) fn value_in(
     cursor: &mut Cursor<'_>,
@@ -140,7 +140,7 @@ fn single_in(cursor: &mut Cursor<'_>, leaf: &Leaf) -> u64 {
     integer_in(cursor)
 }
 
-/// The byte of a string of one character, whose first quote was passed.
+/// The byte of a string of one character, whose first quote was skipped.
 fn char_in(cursor: &mut Cursor<'_>) -> u64 {
     cursor.takes(b'\\');
     let byte = cursor.next();
@@ -149,7 +149,7 @@ fn char_in(cursor: &mut Cursor<'_>) -> u64 {
     byte as u64
 }
 
-/// A constant, whose bytes are passed.
+/// Skips a constant.
 fn is_constant(cursor: &mut Cursor<'_>, constant: &ConstValue) -> bool {
     match constant {
         ConstValue::Num(_) => {
@@ -161,7 +161,7 @@ fn is_constant(cursor: &mut Cursor<'_>, constant: &ConstValue) -> bool {
     }
 }
 
-/// A number, or a char as a string, which is passed.
+/// Skips a number, or a char as a string.
 fn single_past(cursor: &mut Cursor<'_>) {
     if cursor.takes(b'"') {
         char_in(cursor);

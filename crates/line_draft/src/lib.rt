@@ -1,5 +1,5 @@
-//! The body of the message that a printed line seems to hold. It is a draft: no clause says that the line holds that message,
-//! nor that it is a body, so whoever takes it reads it, prints its message again and compares.
+//! Drafts the body of the message that a printed line seems to hold. No contract says that the line holds that message,
+//! or that the draft is a body: a caller has to read it, print its message again and compare.
 #![tactic(auto)]
 
 mod arrays;

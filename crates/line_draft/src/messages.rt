@@ -5,8 +5,8 @@ use crate::kinds::{begin_of, end_of, past};
 use crate::tail::template_in;
 use sbe_types::{Kind, Level, WireSchema};
 
-/// Writes the body of the message that a line seems to hold, if it was printed by the schema. False is for a line that can't have
-/// been, and for want of room; neither answer promises anything.
+/// Writes the body of the message that a line seems to hold, if it was printed by the schema. Returns false if the line
+/// can't have been printed by it, or if the draft is full. Neither answer is guaranteed: a caller has to verify it.
 pub fn draft_body(schema: &WireSchema, line: &[u8], draft: &mut BodyDraft) -> bool {
     draft.clear();
     if !line.starts_with(FRONT) {
@@ -25,7 +25,7 @@ fn message_in(schema: &WireSchema, level: &Level, line: &[u8], draft: &mut BodyD
     put_header(schema, level, draft) && block_in(&mut cursor, schema.order, level, draft)
 }
 
-/// The number of a header's member. The four names differ in how many bytes they have, so no more of them is looked at.
+/// The number of a header's member. The four names have different lengths, so only the length is compared.
 fn header_number(schema: &WireSchema, level: &Level, name: &[u8]) -> u32 {
     let long = name.len();
     if long == b"blockLength".len() {

@@ -1,10 +1,11 @@
-// The names of enums and sets that seem to stand at a place of a line. No clause speaks of them.
+// Names of enums and sets at a place of a line, taken on trust. No contract covers the result.
 use crate::bits::bits_of;
 use crate::cursor::Cursor;
 use crate::numbers::{integer_in, natural_in};
+use named_numbers::bit_of;
 use sbe_types::{Leaf, Named};
 
-/// The number of a name.
+/// The number with this name.
 #[inline(always)]
 fn number_of(names: &[Named], name: &[u8]) -> Option<i128> {
     for named in names {
@@ -37,7 +38,7 @@ pub(crate) fn set_in(cursor: &mut Cursor<'_>, names: &[Named]) -> Option<u64> {
         if !cursor.takes(b'"') {
             break;
         }
-        bits |= bit_of(number_of(names, cursor.up_to(b'"')?)?);
+        bits |= set_of(number_of(names, cursor.up_to(b'"')?)?);
         cursor.takes(b',');
     }
     if !cursor.takes(b']') {
@@ -46,10 +47,10 @@ pub(crate) fn set_in(cursor: &mut Cursor<'_>, names: &[Named]) -> Option<u64> {
     Some(bits)
 }
 
-/// The set of one choice.
-fn bit_of(number: i128) -> u64 {
-    match u32::try_from(number) {
-        Ok(place) if place < 64 => 1 << place,
-        _ => 0,
+/// The set of one choice, or the empty set if the number isn't that of a bit.
+fn set_of(number: i128) -> u64 {
+    match bit_of(&number) {
+        Some(place) => 1 << place,
+        None => 0,
     }
 }

@@ -1,4 +1,4 @@
-// The numbers that seem to stand at a place of a line. No clause speaks of them.
+// Numbers at a place of a line, taken on trust. No contract covers the result.
 use crate::cursor::Cursor;
 
 /// The bits of an integer.

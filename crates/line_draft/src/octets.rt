@@ -1,11 +1,8 @@
-// The bytes whose digits to the base 16 seem to stand in a line. No clause speaks of them.
+// Bytes given by their hexadecimal digits in a line, taken on trust. No contract covers the result.
 use crate::cursor::Cursor;
 use crate::draft::BodyDraft;
 
-/// What stands before the digits of bytes that are no string.
-pub(crate) const HEX_FRONT: &[u8] = b"{\"hex\":\"";
-
-/// The bytes whose digits stand up to the next quote, at a place of the draft; how many there are.
+/// Writes the bytes whose digits come before the next quote at an offset of the draft, and returns their number.
 #[inline(never)]
 pub(crate) fn octets_in(
     cursor: &mut Cursor<'_>,
@@ -28,7 +25,7 @@ pub(crate) fn octets_in(
     Some(digits.len() / 2)
 }
 
-/// The number of a digit to the base 16.
+/// The number of a hexadecimal digit.
 fn nibble(digit: u8) -> u8 {
     if digit >= b'a' {
         digit.wrapping_sub(b'a' - 10) & 15

@@ -1,10 +1,10 @@
-// The data that seem to stand at a place of a line. They stand before the fields there, and behind the groups in a body.
+// Data at a place of a line, taken on trust. In a line the data precede the fields; in a body they follow the groups.
 use crate::cursor::Cursor;
 use crate::draft::BodyDraft;
 use crate::texts::{past_text, text_in};
 use sbe_types::{DataField, Order};
 
-/// Passes the data of a level.
+/// Skips the data of a level.
 pub(crate) fn past_parts(cursor: &mut Cursor<'_>, parts: &[DataField]) -> bool {
     let mut later = false;
     for part in parts {

@@ -3,7 +3,7 @@ ghost use Rattle.std.specs.Prelude.{◌<◌, length, IfSome};
 
 use sbe_types::Level;
 
-/// What stands before the last quote of a text.
+/// The bytes before the last quote of a text.
 fn before_quote(text: &[u8]) -> Option<&[u8]>
     ensures { IfSome result (λ front. length front.now < length text.now) }
 {
@@ -11,7 +11,7 @@ fn before_quote(text: &[u8]) -> Option<&[u8]>
     Some(&text[..end])
 }
 
-/// The name of the template, which stands between the last quotes but two.
+/// The name of the template, which is between the fourth and the third quote from the end.
 fn name_in(line: &[u8]) -> Option<&[u8]> {
     let key = before_quote(line)?;
     let behind = before_quote(key)?;

@@ -1,9 +1,11 @@
-// The texts that seem to stand at a place of a line. No clause speaks of them.
+// Texts at a place of a line, taken on trust. No contract covers the result.
 use crate::cursor::Cursor;
 use crate::draft::BodyDraft;
-use crate::octets::{HEX_FRONT, octets_in};
+use crate::octets::octets_in;
+use json_values::HEX_FRONT;
 
-/// The bytes of a string, or of an object with their digits, at a place of the draft; how many there are.
+/// Writes the bytes of a string, or of an object with their digits, at an offset of the draft, and returns their
+/// number.
 #[inline(always)]
 pub(crate) fn text_in(cursor: &mut Cursor<'_>, draft: &mut BodyDraft, at: usize) -> Option<usize> {
     if cursor.takes(b'"') {
@@ -15,7 +17,7 @@ pub(crate) fn text_in(cursor: &mut Cursor<'_>, draft: &mut BodyDraft, at: usize)
     None
 }
 
-/// The bytes of a string whose first quote was passed.
+/// The bytes of a string whose first quote was skipped.
 #[inline(always)]
 fn string_in(cursor: &mut Cursor<'_>, draft: &mut BodyDraft, at: usize) -> Option<usize> {
     let rest = cursor.rest();
@@ -30,7 +32,7 @@ fn string_in(cursor: &mut Cursor<'_>, draft: &mut BodyDraft, at: usize) -> Optio
     Some(end)
 }
 
-/// The same, where a byte is escaped.
+/// The same, if a byte is escaped.
 #[inline(never)]
 fn escaped_in(cursor: &mut Cursor<'_>, draft: &mut BodyDraft, at: usize) -> Option<usize> {
     let mut many = 0usize;
@@ -48,7 +50,7 @@ fn escaped_in(cursor: &mut Cursor<'_>, draft: &mut BodyDraft, at: usize) -> Opti
     None
 }
 
-/// How many bytes a string, or an object with their digits, has; it is passed.
+/// Skips a string, or an object with hexadecimal digits, and returns the number of its bytes.
 pub(crate) fn past_text(cursor: &mut Cursor<'_>) -> Option<usize> {
     if cursor.takes(b'"') {
         return past_string(cursor);
@@ -63,7 +65,7 @@ pub(crate) fn past_text(cursor: &mut Cursor<'_>) -> Option<usize> {
     Some(digits.len() / 2)
 }
 
-/// The same of a string whose first quote was passed.
+/// The same for a string whose first quote was skipped.
 fn past_string(cursor: &mut Cursor<'_>) -> Option<usize> {
     let rest = cursor.rest();
     let end = rest.iter().position(|b| *b == b'"' || *b == b'\\')?;
@@ -74,7 +76,7 @@ fn past_string(cursor: &mut Cursor<'_>) -> Option<usize> {
     past_escaped(cursor)
 }
 
-/// The same, where a byte is escaped.
+/// The same, if a byte is escaped.
 #[inline(never)]
 fn past_escaped(cursor: &mut Cursor<'_>) -> Option<usize> {
     let mut many = 0usize;

@@ -26,7 +26,8 @@ use Rattle.schema_facts.specs.InOrder.{IsBitOf}
 use Rattle.json_values.specs.Values.{name_of, enum_data, number_data, has_bit, chosen, set_data}
 use Rattle.line_values.specs.Refusals.{◌>>=◌, or_refuse}
 use Rattle.line_values.specs.declared.refusals.JCode.TheVariants as code
-use Rattle.line_values.specs.Values.{number_named, enum_in, integer_in, bit_of, bit_named, with_bit, choices_in, set_in}
+use Rattle.named_numbers.specs.Bits.{bit_of}
+use Rattle.line_values.specs.Values.{number_named, enum_in, integer_in, bit_named, with_bit, choices_in, set_in}
 use Rattle.line_laws.specs.AsRead.{as_read, items_as_read}
 use Rattle.line_laws.proofs.Differ.{IsOther, DoDiffer, not_same}
 
@@ -119,7 +120,7 @@ bit_there (x ∷ front) c rest h =
     behind name [] c rest h = h.0
     behind name (x ∷ front) c rest h = behind name front c rest h.1
 
--- what was read so far: the bits that no choice behind it has
+-- what was read so far: the bits that no choice after it has
 abbrev AreRead : ℕ → List Named → ℕ → Type 0
 AreRead bits behind so_far = (k : ℕ) → bit_at so_far k ≡ (if is_listed behind (pos k) then 0 else bit_at bits k)
 

@@ -1,4 +1,4 @@
--- Members by a list of names, of which some are left out: what was listed is found. From RFC 8259, Objects.
+-- Members by a list of names, some of which are left out: what was listed is found. From RFC 8259, Objects.
 use Rattle.std.specs.Prelude.{◌≡◌, ◌≢◌, ℕ, List, [], ◌∷◌, None, IsTrue, ⊤}
 use Rattle.std.specs.Option.{option_map}
 use Rattle.serde_json.specs.Data.{Members, no_members}
@@ -12,17 +12,17 @@ abbrev pub IsNew : List ℕ → List Entry → Type 0
 IsNew name [] = ⊤
 IsNew name (e ∷ es) = (name ≢ e.0) × IsNew name es
 
--- no two entries have one name
+-- no two entries have the same name
 abbrev pub AreDistinct : List Entry → Type 0
 AreDistinct [] = ⊤
 AreDistinct (e ∷ es) = IsNew e.0 es × AreDistinct es
 
--- each name finds its value among the members
+-- each name has its value among the members
 abbrev pub Finds : List Entry → Members → Type 0
 Finds [] ms = ⊤
 Finds (e ∷ es) ms = (get_member e.0 ms ≡ option_map as_read e.1) × Finds es ms
 
--- The law: what was listed is found by each name.
+-- The law: what was listed is found by its name.
 abbrev pub ListedIsFound : Type 0
 ListedIsFound = (es : List Entry) → AreDistinct es → Finds es (put_all (listed es) no_members)
 
@@ -31,6 +31,6 @@ abbrev pub AreKnown : List (List ℕ) → List Entry → Type 0
 AreKnown names [] = ⊤
 AreKnown names (e ∷ es) = IsTrue (is_named e.0 names) × AreKnown names es
 
--- The law: where each listed name is known, no key is unknown.
+-- The law: if each listed name is known, no key is unknown.
 abbrev pub ListedIsKnown : Type 0
 ListedIsKnown = (names : List (List ℕ)) (es : List Entry) → AreKnown names es → first_unknown names (put_all (listed es) no_members) ≡ None

@@ -18,14 +18,14 @@ in_order = object (member (codes "arr") (array (item (number (unsigned 184467440
     (member (codes "groups") (object no_members)
     (member (codes "template") (string (codes "Ping")) no_members)))))
 
--- its text
+-- the text of that data
 abbrev pub line : List ℕ
 line = codes "{\"data\":{},\"fields\":{\"qty\":-42,\"b\":null,\"account\":\"q\\\"\\\\\"},\"groups\":{},\"template\":\"Ping\",\"arr\":[18446744073709551615,null]}"
 
--- two members of one key
+-- two members with the same key
 abbrev pub twice : Data
 twice = object (member (codes "a") (number (unsigned 1)) (member (codes "a") (number (unsigned 2)) no_members))
 
--- the later one alone
+-- only the later of the two
 abbrev pub once : Data
 once = object (member (codes "a") (number (unsigned 2)) no_members)

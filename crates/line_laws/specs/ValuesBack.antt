@@ -19,7 +19,7 @@ use Rattle.line_laws.specs.AsRead.{as_read}
 
 -- ---- bytes
 
--- a text is made of bytes; of other values nothing is asked
+-- a text consists of bytes; any other value may be anything
 abbrev pub TextHasBytes : Value → Type 0
 TextHasBytes (value.Text bytes) = IsBytes bytes
 TextHasBytes (value.Num n) = ⊤
@@ -31,14 +31,14 @@ TextHasBytes (value.Comp' n values) = ⊤
 TextHasBytes value.Const = ⊤
 TextHasBytes value.Absent = ⊤
 
--- a constant that is a text is made of bytes
+-- a constant that is a text consists of bytes
 abbrev pub ConstantHasBytes : ConstValue → Type 0
 ConstantHasBytes (constant.Text bytes) = IsBytes bytes
 ConstantHasBytes (constant.Num n) = ⊤
 ConstantHasBytes (constant.Code prim named) = ⊤
 
 abbrev mutual
-  -- the texts of a value, and the constants in its kind, are made of bytes, as the code's types say
+  -- the texts of a value, and the constants of its kind, consist of bytes, as the code's types ensure
   pub HasBytes : Kind → Value → Type 0
   HasBytes (Leaf l) v = TextHasBytes v
   HasBytes (Enum l names) v = ⊤
@@ -46,7 +46,7 @@ abbrev mutual
   HasBytes (Const c) v = ConstantHasBytes c
   HasBytes (Comp' n members) v = RowHasBytes members (member_values v)
 
-  -- the same of the values of a composite's members
+  -- the same for the values of a composite's members
   pub RowHasBytes : {n : _} → Row_of-Member n → Option (List Value) → Type 0
   RowHasBytes row None = ⊤
   RowHasBytes end_of-Member (Some vs) = ⊤
@@ -55,7 +55,7 @@ abbrev mutual
 
 -- ---- values
 
--- the value of a kind, by what stands under its name
+-- the value of a kind, by the data under its name
 abbrev pub read_under : Kind → Option Data → Reading Value
 read_under kind found = there_or (lack kind) (λ d. kind_in kind d) found
 

@@ -11,8 +11,9 @@ use Rattle.line_values.specs.declared.refusals.JCode.TheVariants as code
 use Rattle.json_data.specs.declared.data.Json.{Json}
 use Rattle.json_data.specs.Trees.{data_of, items_of}
 use Rattle.sbe_types.specs.declared.kind.Named.{Named}
+use Rattle.named_numbers.specs.Bits.{bit_of}
 use Rattle.line_values.specs.Refusals.{◌>>=◌, refuse}
-use Rattle.line_values.specs.Values.{number_named, bit_of, bit_named, with_bit, choice_in, choices_in}
+use Rattle.line_values.specs.Values.{number_named, bit_named, with_bit, choice_in, choices_in}
 use Rattle.line_values.proofs.NameSteps.{there}
 use Rattle.line_values.proofs.ItemSteps.{item_there}
 

@@ -12,7 +12,7 @@ use Rattle.line_values.specs.Values.{element_in, elements_of, array_in}
 use Rattle.line_values.proofs.NameSteps.{there}
 use Rattle.line_values.proofs.ListSteps.{with_front, front_more}
 
--- item i of the values, and those behind it
+-- item i of the values, and those after it
 pub item_there : (vs : List Json) (i : ℕ) (v : Json) → i < length vs → v ≡ get_or vs i v → items_of (drop i vs) ≡ item (data_of v) (items_of (drop (i + 1) vs))
 item_there vs i v h is = ap items_of (there vs i v h is)
 

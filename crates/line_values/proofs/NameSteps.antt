@@ -11,7 +11,7 @@ use Rattle.line_values.specs.Objects.{is_named}
 use Rattle.line_values.specs.Keys.{field_names, data_names, group_name}
 use Rattle.line_values.specs.Code.{member_list_names, group_list_names}
 
--- item i of a list, and those behind it
+-- item i of a list, and those after it
 pub there : {A : Type 0} (xs : List A) (i : ℕ) (x : A) → i < length xs → x ≡ get_or xs i x → drop i xs ≡ x ∷ drop (i + 1) xs
 there xs i x h is = rw add-one (drop-cons xs i x h ∙ ap (λ y. y ∷ drop (suc i) xs) (sym is))
 

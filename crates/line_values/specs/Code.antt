@@ -15,12 +15,12 @@ use Rattle.line_values.specs.Refusals.{Reading, ◌>>=◌}
 use Rattle.line_values.specs.Values.{value_in}
 use Rattle.line_values.specs.Keys.{field_names, data_names, group_name, entry_names, message_names}
 
--- an object's members; none where it is missing
+-- an object's members; none if it is missing
 abbrev pub seen : Option (Bor (List (Bor (List ℕ) × Json))) → Members
 seen None = no_members
 seen (Some ms) = members_of ms.now
 
--- the least of a key and one that was found before, by bytes
+-- the least, by bytes, of a key and one that was found before
 abbrev pub least_of : Option (List ℕ) → List ℕ → List ℕ
 least_of None key = key
 least_of (Some found) key = if is_lt (slice_cmp nat_cmp found key) then found else key

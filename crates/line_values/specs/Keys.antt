@@ -1,4 +1,4 @@
--- The names that the keys of objects may have. Own profile.
+-- The names that keys of objects may have. Own profile.
 use Rattle.std.specs.Prelude.{ℕ, List, [], ◌∷◌, codes}
 use Rattle.sbe_types.specs.declared.schema.Field.{Field}
 use Rattle.sbe_types.specs.declared.schema.DataField.{DataField}

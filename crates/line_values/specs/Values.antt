@@ -1,5 +1,5 @@
 -- The value of a kind, as JSON gives it. Own profile.
-use Rattle.std.specs.Prelude.{ℕ, ◌+◌, ◌^◌, ◌==◌, ◌&&◌, nat_lt, Bool, true, false, if◌then◌else◌, List, [], ◌∷◌, length, replicate, slice_index, codes, ℤ, pos, negsuc, Option, Some, None, Ok}
+use Rattle.std.specs.Prelude.{ℕ, ◌+◌, ◌^◌, ◌==◌, ◌&&◌, Bool, true, false, if◌then◌else◌, List, [], ◌∷◌, length, replicate, slice_index, codes, ℤ, pos, Option, Some, None, Ok}
 use Rattle.std.specs.Str.{bytes_eq}
 use Rattle.std.specs.Ordering.{int_eq}
 use Rattle.std.specs.Int.{bit_at}
@@ -14,6 +14,7 @@ use Rattle.sbe_types.specs.declared.kind.Named.{Named}
 use Rattle.sbe_types.specs.declared.kind.ConstValue.{ConstValue}
 use Rattle.sbe_types.specs.declared.kind.ConstValue.TheVariants as constant
 use Rattle.sbe_types.specs.declared.kind.Kind.{Kind, Leaf, Enum, Set, Const, Comp', Row_of-Member, end_of-Member, more_of-Member}
+use Rattle.named_numbers.specs.Bits.{bit_of}
 use Rattle.sbe_types.specs.declared.message.Elem.{Elem}
 use Rattle.sbe_types.specs.declared.message.Elem.TheVariants as elem
 use Rattle.sbe_types.specs.declared.message.Value.{Value}
@@ -25,7 +26,7 @@ use Rattle.line_values.specs.Objects.{known, there_or, each, integer_of, bytes_i
 
 -- ---- numbers, texts and arrays
 
--- a JSON null, where one may stand
+-- the value of a JSON null, if it is allowed
 abbrev pub null_in : Bool → Reading Value
 null_in optional = if optional then Ok value.Null else refuse code.Kind []
 
@@ -75,7 +76,7 @@ text_in l (array ds) = text_of (array ds)
 abbrev pub element_of : Data → Reading Elem
 element_of d = or_refuse code.Kind [] (integer_of d) >>= (λ z. Ok (elem.Num z))
 
--- an element of an array in which nulls may stand, or may not
+-- an element of an array; `nulls`: it may be null
 abbrev pub element_in : Bool → Data → Reading Elem
 element_in nulls null = if nulls then Ok elem.Null else refuse code.Kind []
 element_in nulls (number n) = element_of (number n)
@@ -102,7 +103,7 @@ shape_in Numbers l d = array_in true d
 
 -- ---- enums, sets and constants
 
--- the number of the first valid value of that name
+-- the number of the first valid value with this name
 abbrev pub number_named : List Named → List ℕ → Option ℤ
 number_named [] s = None
 number_named (v ∷ vs) s = if bytes_eq v.name s then Some v.number else number_named vs s
@@ -120,17 +121,12 @@ enum_in l names (boolean b) = refuse code.Kind []
 enum_in l names (array ds) = refuse code.Kind []
 enum_in l names (object ms) = refuse code.Kind []
 
--- the place of a bit, where it is one of 64
-abbrev pub bit_of : ℤ → Option ℕ
-bit_of (pos k) = if nat_lt k 64 then Some k else None
-bit_of (negsuc k) = None
-
--- the bit of the first choice of that name
+-- the bit of the first choice with this name
 abbrev pub bit_named : List Named → List ℕ → Option ℕ
 bit_named [] s = None
 bit_named (c ∷ cs) s = if bytes_eq c.name s then bit_of c.number else bit_named cs s
 
--- the bits with one more, which may not be set yet
+-- the bits with one more, which must not be set yet
 abbrev pub with_bit : ℕ → ℕ → Reading ℕ
 with_bit bits k = if bit_at bits k == 0 then Ok (bits + 2 ^ k) else refuse code.Kind []
 
@@ -141,7 +137,7 @@ choice_in names bits d = do
   k ← or_refuse code.UnknownName [] (bit_named names s)
   with_bit bits k
 
--- the bits of choices by their names, and of those before them
+-- the bits of choices by their names, added to those before them
 unfoldable pub choices_in : List Named → ℕ → Items → Reading ℕ
 choices_in names bits no_items = Ok bits
 choices_in names bits (item d ds) = choice_in names bits d >>= (λ more. choices_in names more ds)
@@ -155,11 +151,11 @@ set_in names (boolean b) = refuse code.Kind []
 set_in names (string s) = refuse code.Kind []
 set_in names (object ms) = refuse code.Kind []
 
--- a constant, where what stands is its value
+-- a constant, if the data is its value
 abbrev pub fixed : Bool → Reading Value
 fixed same = if same then Ok value.Const else refuse code.Kind []
 
--- the integer is that number
+-- the integer is this number
 abbrev pub is_number : ℤ → Option ℤ → Bool
 is_number n None = false
 is_number n (Some z) = int_eq z n
@@ -177,7 +173,7 @@ is_code v (object ms) = false
 abbrev pub fixed_text : List ℕ → Data → Reading Value
 fixed_text bytes d = bytes_in d >>= (λ found. fixed (bytes_eq found bytes))
 
--- a constant, which may stand as the value that it has
+-- a constant, which may be given as the value that it has
 abbrev pub constant_in : ConstValue → Data → Reading Value
 constant_in (constant.Num n) d = fixed (is_number n (integer_of d))
 constant_in (constant.Text bytes) d = fixed_text bytes d
@@ -185,15 +181,15 @@ constant_in (constant.Code p named) d = fixed (is_code named d)
 
 -- ---- values
 
--- what the lack of an optional leaf gives
+-- the value of an optional leaf that is missing
 abbrev pub lack_as : LeafOf → Value → Reading Value
 lack_as l v = if is_optional l.presence then Ok v else refuse code.Shape []
 
--- what the lack of an array gives: as many nulls
+-- the value of an array that is missing: all nulls
 abbrev pub array_lack : LeafOf → Reading Value
 array_lack l = lack_as l (value.Nums (replicate l.length elem.Null))
 
--- what the lack of a leaf gives: null, or as many nulls; octets must be there
+-- the value of a leaf that is missing: null, or all nulls; octets must not be missing
 abbrev pub leaf_lack : LeafShape → LeafOf → Reading Value
 leaf_lack Number l = lack_as l value.Null
 leaf_lack RangedText l = lack_as l value.Null
@@ -201,7 +197,7 @@ leaf_lack EncodedText l = lack_as l value.Null
 leaf_lack Octets l = refuse code.Shape []
 leaf_lack Numbers l = array_lack l
 
--- what the lack of a value gives
+-- the value of a kind that is missing
 abbrev pub lack : Kind → Reading Value
 lack (Leaf l) = leaf_lack l.shape l
 lack (Enum l names) = lack_as l value.Null
@@ -214,7 +210,7 @@ abbrev pub row_names : {n : _} → Row_of-Member n → List (List ℕ)
 row_names end_of-Member = []
 row_names (more_of-Member name offset kind rest) = name ∷ row_names rest
 
--- the members of an object with these names, as those of a composite
+-- a composite by the members of an object, which have these names
 abbrev pub composite_of : List (List ℕ) → (Members → Reading (List Value)) → Members → Reading Value
 composite_of names by ms = do
   _ ← known names ms
@@ -244,6 +240,6 @@ unfoldable mutual
     vs ← row_in rest ms
     Ok (v ∷ vs)
 
--- what stands under a name in an object, as a value of the kind
+-- the value of the kind that an object has under a name
 abbrev pub value_in : List ℕ → Kind → Members → Reading Value
 value_in name kind ms = inside name (there_or (lack kind) (kind_in kind) (get_member name ms))

@@ -1,16 +1,17 @@
 ghost use Rattle.std.specs.Prelude.{◌≡◌, ◌<◌, IfSome};
 ghost use Rattle.json_data.specs.Trees.{data_of, items_of};
 ghost use Rattle.line_values.specs.Refusals.{Gives};
-ghost use Rattle.line_values.specs.Values.{number_named, valid_in, enum_in, bit_of, bit_named, with_bit, choice_in, choices_in, set_in, fixed, is_number, is_code, fixed_text, constant_in};
+ghost use Rattle.line_values.specs.Values.{number_named, valid_in, enum_in, bit_named, with_bit, choice_in, choices_in, set_in, fixed, is_number, is_code, fixed_text, constant_in};
 
 use crate::leaves::{integer_of, read_integer, read_null};
 use crate::refusals::{JCode, LineFault, refuse};
 use crate::texts::read_bytes;
 use json_data::Json;
+use named_numbers::bit_of;
 use sbe_types::{ConstValue, Leaf, Named, Value};
 use std::alloc::Global;
 
-/// The number of the first valid value of that name.
+/// The number of the first valid value with this name.
 #[tactic(auto, using(crate::proofs::ChoiceSteps::number_next))]
 fn number_named(names: &[Named], name: &[u8]) -> Option<i128>
     ensures { result ≡ number_named names.now name.now }
@@ -23,7 +24,7 @@ fn number_named(names: &[Named], name: &[u8]) -> Option<i128>
     None
 }
 
-/// A valid value by its name.
+/// A valid value, by its name.
 fn read_valid(alloc: Global, names: &[Named], name: &[u8]) -> Result<Value, LineFault>
     ensures { Gives result (valid_in names.now name.now) }
 {
@@ -50,18 +51,7 @@ pub fn read_enum(
     }
 }
 
-/// The place of a bit, where it is one of 64.
-fn bit_of(number: &i128) -> Option<u32>
-    ensures value { result ≡ bit_of number.now }
-    ensures small { IfSome result (λ place. place < 64) }
-{
-    match u32::try_from(*number) {
-        Ok(place) if place < 64 => Some(place),
-        _ => None,
-    }
-}
-
-/// The bit of the first choice of that name.
+/// The bit of the first choice with this name.
 #[tactic(auto, using(crate::proofs::ChoiceSteps::bit_next))]
 fn bit_named(names: &[Named], name: &[u8]) -> Option<u32>
     ensures value { result ≡ bit_named names.now name.now }
@@ -75,7 +65,7 @@ fn bit_named(names: &[Named], name: &[u8]) -> Option<u32>
     None
 }
 
-/// The bits with one more, which may not be set yet.
+/// The bits with one more, which must not be set yet.
 #[tactic(auto, using(crate::proofs::ChoiceSteps::bit_added))]
 fn with_bit(alloc: Global, bits: u64, place: u32) -> Result<u64, LineFault>
     requires { place < 64 }
@@ -87,7 +77,7 @@ fn with_bit(alloc: Global, bits: u64, place: u32) -> Result<u64, LineFault>
     refuse(alloc, JCode::Kind, b"")
 }
 
-/// The bits with that of a choice by its name.
+/// The bits with that of a choice added, by its name.
 fn read_choice(
     alloc: Global,
     names: &[Named],
@@ -105,7 +95,7 @@ fn read_choice(
     }
 }
 
-/// The bits of choices by their names.
+/// The bits of choices, by their names.
 #[tactic(auto, unfolding(crate::specs::Values::choices_in), using(crate::proofs::ChoiceSteps::choices_more))]
 fn read_choices(alloc: Global, names: &[Named], items: &[Json<'_>]) -> Result<u64, LineFault>
     ensures { Gives result (choices_in names.now 0 (items_of items.now)) }
@@ -131,7 +121,7 @@ pub fn read_set(alloc: Global, names: &[Named], found: &Json<'_>) -> Result<Valu
     }
 }
 
-/// A constant, where what stands is its value.
+/// A constant, if what was found is its value.
 fn fixed(alloc: Global, same: bool) -> Result<Value, LineFault>
     ensures { Gives result (fixed same) }
 {
@@ -141,7 +131,7 @@ fn fixed(alloc: Global, same: bool) -> Result<Value, LineFault>
     refuse(alloc, JCode::Kind, b"")
 }
 
-/// Whether the integer is that number.
+/// Whether the integer is this number.
 fn is_number(number: &i128, found: Option<i128>) -> bool
     ensures { result ≡ is_number number.now found }
 {
@@ -151,7 +141,7 @@ fn is_number(number: &i128, found: Option<i128>) -> bool
     }
 }
 
-/// Whether it is a valid value by its name or its number.
+/// Whether it is a valid value, by its name or its number.
 fn is_code(value: &Named, found: &Json<'_>) -> bool
     ensures { result ≡ is_code value.now (data_of found.now) }
 {
@@ -162,7 +152,7 @@ fn is_code(value: &Named, found: &Json<'_>) -> bool
     }
 }
 
-/// A constant as the text that it is.
+/// Reads a constant that is a text.
 fn read_fixed_text(alloc: Global, bytes: &[u8], found: &Json<'_>) -> Result<Value, LineFault>
     ensures { Gives result (fixed_text bytes.now (data_of found.now)) }
 {
@@ -170,7 +160,7 @@ fn read_fixed_text(alloc: Global, bytes: &[u8], found: &Json<'_>) -> Result<Valu
     fixed(alloc, told.as_slice() == bytes)
 }
 
-/// A constant, which may stand as the value that it has.
+/// Reads a constant, which may be given as its value.
 pub fn read_constant(
     alloc: Global,
     constant: &ConstValue,

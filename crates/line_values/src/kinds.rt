@@ -16,7 +16,7 @@ use lists::List;
 use sbe_types::{Kind, Member, MemberList, Value, ValueList};
 use std::alloc::Global;
 
-/// What the lack of a value gives.
+/// The value for a missing field.
 fn lack(alloc: Global, kind: &Kind) -> Result<Value, LineFault>
     ensures { Gives result (lack_in kind.now) }
 {
@@ -28,7 +28,7 @@ fn lack(alloc: Global, kind: &Kind) -> Result<Value, LineFault>
     }
 }
 
-/// The value of a kind.
+/// Reads a value of a kind.
 #[cycle(kind)]
 #[tactic(auto, unfolding(crate::specs::Values::kind_in))]
 fn read_kind(alloc: Global, kind: &Kind, found: &Json<'_>) -> Result<Value, LineFault>
@@ -51,7 +51,7 @@ fn read_composite(alloc: Global, members: &MemberList, found: &Json<'_>) -> Resu
     read_object(alloc, members, found)
 }
 
-/// An object with the names of members, as a composite.
+/// Reads an object with the names of members, as a composite.
 #[cycle(kind)]
 fn read_object(alloc: Global, members: &MemberList, found: &Json<'_>) -> Result<Value, LineFault>
     ensures { Gives result (composite_in (member_list_names members.now) (member_list_read members.now) (data_of found.now)) }
@@ -66,7 +66,7 @@ fn read_object(alloc: Global, members: &MemberList, found: &Json<'_>) -> Result<
     }
 }
 
-/// What stands in the object of a composite.
+/// Reads the contents of a composite's object.
 #[cycle(kind)]
 fn read_inner(
     alloc: Global,
@@ -96,7 +96,7 @@ fn read_members(
     Ok(out)
 }
 
-/// What stands under a name in an object, as a value of the kind.
+/// Reads the member of an object with this name, as a value of the kind.
 #[cycle(kind)]
 pub fn read_value(
     alloc: Global,
@@ -109,7 +109,7 @@ pub fn read_value(
     inside(alloc, name, read_there(alloc, kind, find_in(object, name)))
 }
 
-/// A value, or what its lack gives.
+/// Reads a value, or gives the one for a missing field.
 #[cycle(kind)]
 fn read_there(alloc: Global, kind: &Kind, found: Option<&Json<'_>>) -> Result<Value, LineFault>
     ensures { Gives result (there_or (lack_in kind.now) (kind_in kind.now) (option_map (λ v. data_of v.now) found.entry)) }

@@ -1,13 +1,13 @@
-//! Laws of the definition of what a line holds.
+//! Laws of the definition of a line's contents.
 
 ghost use Rattle.line_values.specs.Ordered.{LeastIsTold, ReadHasOrder};
 
-/// What is read of a JSON text has the keys of each object in order, by bytes.
+/// The data read from a JSON text has the keys of each object in order, by bytes.
 pub fn keys_are_read_in_order()
     ensures { ReadHasOrder }
 {}
 
-/// Of the unknown keys of an object in order the least is told.
+/// Of the unknown keys of an object in order the least one is reported.
 pub fn the_least_unknown_key_is_told()
     ensures { LeastIsTold }
 {}

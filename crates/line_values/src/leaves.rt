@@ -25,7 +25,7 @@ fn is_optional(presence: Presence) -> bool
     }
 }
 
-/// A JSON null, where the leaf may be null.
+/// Reads a JSON null, if the leaf may be null.
 pub fn read_null(alloc: Global, leaf: &Leaf) -> Result<Value, LineFault>
     ensures { Gives result (null_in (optional leaf.now.presence)) }
 {
@@ -62,7 +62,7 @@ fn is_character(prim: Prim) -> bool
     }
 }
 
-/// A char as a string of one byte.
+/// Reads a char from a string of one byte.
 fn read_char(alloc: Global, prim: Prim, text: &[u8]) -> Result<Value, LineFault>
     ensures { Gives result (char_in prim text.now) }
 {
@@ -72,7 +72,7 @@ fn read_char(alloc: Global, prim: Prim, text: &[u8]) -> Result<Value, LineFault>
     refuse(alloc, JCode::Kind, b"")
 }
 
-/// A single number.
+/// Reads a single number.
 fn read_number(alloc: Global, leaf: &Leaf, found: &Json<'_>) -> Result<Value, LineFault>
     ensures { Gives result (number_in leaf.now (data_of found.now)) }
 {
@@ -84,7 +84,7 @@ fn read_number(alloc: Global, leaf: &Leaf, found: &Json<'_>) -> Result<Value, Li
     }
 }
 
-/// A text.
+/// Reads a text.
 fn read_text(alloc: Global, leaf: &Leaf, found: &Json<'_>) -> Result<Value, LineFault>
     ensures { Gives result (text_in leaf.now (data_of found.now)) }
 {
@@ -94,7 +94,7 @@ fn read_text(alloc: Global, leaf: &Leaf, found: &Json<'_>) -> Result<Value, Line
     }
 }
 
-/// An element of an array in which nulls may stand, or may not.
+/// Reads an element of an array. `nulls` says whether nulls are allowed.
 fn read_element(alloc: Global, nulls: bool, found: &Json<'_>) -> Result<Elem, LineFault>
     ensures { Gives result (element_in nulls (data_of found.now)) }
 {
@@ -110,7 +110,7 @@ fn read_element(alloc: Global, nulls: bool, found: &Json<'_>) -> Result<Elem, Li
     }
 }
 
-/// The elements of an array.
+/// Reads the elements of an array.
 #[tactic(auto, unfolding(crate::specs::Objects::each), using(crate::proofs::ItemSteps::elements_more))]
 fn read_elements(alloc: Global, nulls: bool, items: &[Json<'_>]) -> Result<ElemList, LineFault>
     ensures { Gives result (each (element_in nulls) 0 (items_of items.now)) }
@@ -122,7 +122,7 @@ fn read_elements(alloc: Global, nulls: bool, items: &[Json<'_>]) -> Result<ElemL
     Ok(out)
 }
 
-/// The elements of an array, as a value.
+/// Reads the elements of an array, as a value.
 fn read_numbers(alloc: Global, nulls: bool, items: &[Json<'_>]) -> Result<Value, LineFault>
     ensures { Gives result (elements_of nulls (items_of items.now)) }
 {
@@ -130,7 +130,7 @@ fn read_numbers(alloc: Global, nulls: bool, items: &[Json<'_>]) -> Result<Value,
     Ok(Value::Nums(elements))
 }
 
-/// An array.
+/// Reads an array.
 fn read_array(alloc: Global, nulls: bool, found: &Json<'_>) -> Result<Value, LineFault>
     ensures { Gives result (array_in nulls (data_of found.now)) }
 {
@@ -140,7 +140,7 @@ fn read_array(alloc: Global, nulls: bool, found: &Json<'_>) -> Result<Value, Lin
     }
 }
 
-/// A number, a text or an array.
+/// Reads a number, a text or an array.
 pub fn read_leaf(alloc: Global, leaf: &Leaf, found: &Json<'_>) -> Result<Value, LineFault>
     ensures { Gives result (shape_in leaf.now.shape leaf.now (data_of found.now)) }
 {
@@ -152,7 +152,7 @@ pub fn read_leaf(alloc: Global, leaf: &Leaf, found: &Json<'_>) -> Result<Value, 
     }
 }
 
-/// So many nulls.
+/// `length` nulls.
 fn nulls(alloc: Global, length: u32) -> Result<ElemList, NoMem>
     ensures { IfOk result (λ elements. elements ≡ replicate length elem.Null) }
 {
@@ -163,7 +163,7 @@ fn nulls(alloc: Global, length: u32) -> Result<ElemList, NoMem>
     Ok(out)
 }
 
-/// What the lack of a leaf or enum that may be null gives.
+/// The value for a missing leaf or enum, if it may be null.
 pub fn lack_as(alloc: Global, leaf: &Leaf, value: Value) -> Result<Value, LineFault>
     ensures { Gives result (lack_as leaf.now value) }
 {
@@ -173,7 +173,7 @@ pub fn lack_as(alloc: Global, leaf: &Leaf, value: Value) -> Result<Value, LineFa
     refuse(alloc, JCode::Shape, b"")
 }
 
-/// What the lack of an array gives, in which nulls may stand.
+/// The value for a missing array that allows nulls.
 fn lack_array(alloc: Global, leaf: &Leaf) -> Result<Value, LineFault>
     ensures { Gives result (array_lack leaf.now) }
 {
@@ -183,7 +183,7 @@ fn lack_array(alloc: Global, leaf: &Leaf) -> Result<Value, LineFault>
     Ok(Value::Nums(nulls(alloc, leaf.length)?))
 }
 
-/// What the lack of a leaf gives: null, or as many nulls; octets must be there.
+/// The value for a missing leaf: null, or an array of nulls. Octets must not be missing.
 pub fn lack_leaf(alloc: Global, leaf: &Leaf) -> Result<Value, LineFault>
     ensures { Gives result (leaf_lack leaf.now.shape leaf.now) }
 {

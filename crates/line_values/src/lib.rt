@@ -1,5 +1,5 @@
-//! The values of a message's fields, read from JSON data, and how a line is refused: a code and the place of what
-//! is wrong.
+//! Reads the values of a message's fields from JSON data. A refusal of a line has a code and the place of what is
+//! wrong.
 #![tactic(auto)]
 
 mod choices;

@@ -21,7 +21,7 @@ pub enum Names<'a> {
     Members(&'a [Member]),
     /// `data`, `fields` and `groups`.
     Entry,
-    /// The same, `template` and `version`.
+    /// Those, and `template` and `version`.
     Message,
 }
 
@@ -43,7 +43,7 @@ impl Names<'_> {
     }
 }
 
-/// Whether a key is the name in that place: most keys come in the order of the names.
+/// Whether a key is the name at this position: most keys come in the order of the names.
 fn is_in_place(names: &Names<'_>, i: usize, key: &[u8]) -> bool
     ensures { result ≡ true → is_named key.now (names_in names.now) ≡ true }
 {
@@ -56,7 +56,7 @@ fn is_in_place(names: &Names<'_>, i: usize, key: &[u8]) -> bool
     }
 }
 
-/// Whether a key is name `i` of an entry's.
+/// Whether a key is name `i` of an entry.
 fn is_entry_at(i: usize, key: &[u8]) -> bool
     ensures { result ≡ true → is_named key.now entry_names ≡ true }
 {
@@ -68,7 +68,7 @@ fn is_entry_at(i: usize, key: &[u8]) -> bool
     }
 }
 
-/// Whether a key is name `i` of a message's.
+/// Whether a key is name `i` of a message.
 fn is_message_at(i: usize, key: &[u8]) -> bool
     ensures { result ≡ true → is_named key.now message_names ≡ true }
 {
@@ -82,7 +82,7 @@ fn is_message_at(i: usize, key: &[u8]) -> bool
     }
 }
 
-/// Whether a key is one of the names, where it is likely to be name `i`.
+/// Whether a key is one of the names; it is likely to be name `i`.
 fn has_near(names: &Names<'_>, i: usize, key: &[u8]) -> bool
     ensures { result ≡ is_named key.now (names_in names.now) }
 {
@@ -164,7 +164,7 @@ fn is_of_entry(key: &[u8]) -> bool
     key == "data".as_bytes() || key == "fields".as_bytes() || key == "groups".as_bytes()
 }
 
-/// The least of a key and one that was found before, by bytes.
+/// The lesser, by bytes, of a key and one that was found before.
 fn least_of<'a>(found: Option<&'a str>, key: &'a str) -> &'a str
     ensures { result.now ≡ least_of (option_map (λ s. s.now) found.entry) key.now }
 {
@@ -177,7 +177,7 @@ fn least_of<'a>(found: Option<&'a str>, key: &'a str) -> &'a str
     }
 }
 
-/// The least key that is no name.
+/// The least key that isn't one of the names.
 #[tactic(auto, using(crate::proofs::Unknown::unknown_there))]
 pub fn unknown<'a>(members: &[Pair<'a>], names: &Names<'_>) -> Option<&'a str>
     ensures { option_map (λ s. s.now) result ≡ first_unknown (names_in names.now) (members_of members.now) }

@@ -11,7 +11,7 @@ use itoa::Buffer;
 use json_data::{Json, Pair, find};
 use std::alloc::Global;
 
-/// The value under a name in an object, which may be missing.
+/// The value under a name in an object. Both may be missing.
 pub fn find_in<'v, 'a>(members: Option<&'v [Pair<'a>]>, name: &[u8]) -> Option<&'v Json<'a>>
     ensures { option_map (λ v. data_of v.now) result ≡ get_member name.now (seen members.entry) }
 {
@@ -38,7 +38,7 @@ pub fn refuse_unknown(
     }
 }
 
-/// The object under a key, where it isn't missing.
+/// The object under a key, if it isn't missing.
 fn members_at<'v, 'a>(
     alloc: Global,
     key: &str,
@@ -69,7 +69,7 @@ pub fn part<'v, 'a>(
     Ok(found)
 }
 
-/// What was read of item `i`, seen from the array.
+/// The result of reading item `i`, as seen from the array.
 pub fn at_item<T: Drop>(alloc: Global, i: usize, read: Result<T, LineFault>) -> Result<T, LineFault>
     ensures { (told : Reading T) → Gives read told → Gives result (at_item i told) }
 {

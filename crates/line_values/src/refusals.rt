@@ -5,25 +5,25 @@ use lists::{List, NoMem, Text};
 use std::alloc::Global;
 use thiserror::Error;
 
-/// Why a line is no message, as `J01` to `J04`.
+/// Why a line isn't a message, as `J01` to `J04`.
 #[derive(Clone, Copy, Debug, PartialEq, Eq, Error)]
 pub enum JCode {
-    /// `J01`: it is no JSON text (RFC 8259).
+    /// `J01`: it isn't a JSON text (RFC 8259).
     #[error("J01")]
     NotJson,
-    /// `J02`: it is no object, or what must stand in it is missing.
+    /// `J02`: it isn't an object, or something required in it is missing.
     #[error("J02")]
     Shape,
-    /// `J03`: a key, a template, a valid value or a choice that isn't known.
+    /// `J03`: a key, a template, a valid value or a choice is unknown.
     #[error("J03")]
     UnknownName,
-    /// `J04`: a value of another kind.
+    /// `J04`: a value has the wrong kind.
     #[error("J04")]
     Kind,
 }
 
-/// Why nothing was read: a refusal with its place, or want of memory. A place is the path of a field,
-/// group or data part, as `legs[0].q`, or a bare key; empty for the line itself.
+/// Why nothing was read: a refusal with its place, or out of memory. A place is the path of a field, group or data
+/// part, such as `legs[0].q`, or a bare key; it is empty for the line itself.
 #[derive(Debug, Drop, Error)]
 pub enum LineFault {
     #[error("{0}")]
@@ -42,7 +42,7 @@ impl From<NoMem> for LineFault {
     }
 }
 
-/// A refusal at a place, as what was read.
+/// Refuses what is at this place.
 pub fn refuse<T: Drop>(alloc: Global, code: JCode, place: &[u8]) -> Result<T, LineFault>
     ensures { Gives result (refuse code place.now) }
 {
@@ -52,7 +52,7 @@ pub fn refuse<T: Drop>(alloc: Global, code: JCode, place: &[u8]) -> Result<T, Li
     }
 }
 
-/// A step, and a place behind it.
+/// A step, followed by a place.
 fn place_of(alloc: Global, step: &[u8], place: &[u8]) -> Result<Text, NoMem>
     ensures { IfOk result (λ text. text ≡ step.now ++ place.now) }
 {
@@ -61,7 +61,7 @@ fn place_of(alloc: Global, step: &[u8], place: &[u8]) -> Result<Text, NoMem>
     Ok(text)
 }
 
-/// What was read one step below, seen from here.
+/// The result of reading one level below, as seen from here: the place of a refusal gets one more step.
 pub fn inside<T: Drop>(
     alloc: Global,
     step: &[u8],

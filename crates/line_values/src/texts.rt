@@ -11,7 +11,7 @@ use json_data::{Json, Pair, find};
 use lists::{Bytes, List};
 use std::alloc::Global;
 
-/// The bytes of a text: those of a string, or as an object with their hex digits.
+/// The bytes of a text: those of a string, or of an object with their hex digits.
 pub fn read_bytes(alloc: Global, found: &Json<'_>) -> Result<Bytes, LineFault>
     ensures { Gives result (bytes_in (data_of found.now)) }
 {
@@ -35,7 +35,7 @@ fn is_hex(members: &[Pair<'_>]) -> bool
     true
 }
 
-/// The bytes of an object of the one key `hex`.
+/// The bytes of an object whose only key is `hex`.
 fn read_hex(alloc: Global, members: &[Pair<'_>]) -> Result<Bytes, LineFault>
     ensures { Gives result (hex_in (members_of members.now)) }
 {

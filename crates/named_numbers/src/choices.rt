@@ -1,4 +1,4 @@
-ghost use Rattle.std.specs.Prelude.{◌≡◌, ◌<◌, if◌then◌else◌, pos, ℕ};
+ghost use Rattle.std.specs.Prelude.{◌≡◌, ◌<◌, if◌then◌else◌, pos, ℕ, IfSome};
 ghost use Rattle.std.specs.Int.{bit_at};
 ghost use Rattle.std.specs.Ordering.{int_eq};
 ghost use Rattle.sbe_types.specs.Shown.{has_listed_bits, is_listed};
@@ -6,15 +6,15 @@ ghost use Rattle.named_numbers.specs.Bits.{bit_of};
 
 use sbe_types::Named;
 
-/// Whether one of the names has that number.
-#[inline]
+/// Whether `number` is the number of one of the names.
+#[inline(always)]
 pub fn is_listed(names: &[Named], number: i128) -> bool
     ensures { result ≡ is_listed names.now number }
 {
     names.iter().any(|name| name.number == number)
 }
 
-/// Whether each bit that is set is a choice.
+/// Whether each bit that is set belongs to a choice.
 #[inline]
 pub fn are_listed(choices: &[Named], bits: u64) -> bool
     ensures { result ≡ has_listed_bits choices.now 64 bits }
@@ -26,10 +26,11 @@ pub fn are_listed(choices: &[Named], bits: u64) -> bool
     left == 0
 }
 
-/// The place of a bit, where it is one of 64.
+/// The position of a choice's bit, or `None` if it isn't one of the 64 bits.
 #[inline(always)]
 pub fn bit_of(number: &i128) -> Option<u32>
-    ensures { result ≡ bit_of number.now }
+    ensures place { result ≡ bit_of number.now }
+    ensures small { IfSome result (λ place. place < 64) }
 {
     match u32::try_from(*number) {
         Ok(place) if place < 64 => Some(place),
@@ -37,7 +38,7 @@ pub fn bit_of(number: &i128) -> Option<u32>
     }
 }
 
-/// The bits without that of a number.
+/// The bits with the bit of this number cleared.
 #[inline(always)]
 #[tactic(auto, using(crate::proofs::Bits::bit_cleared, crate::proofs::Bits::no_bit_cleared))]
 fn without(bits: u64, number: &i128) -> u64

@@ -1,4 +1,4 @@
-//! Valid values and choices by their numbers, and the bits of a set (SBE 1.0, "Field encoding").
+//! Valid values and choices looked up by number, and the bits of a set (SBE 1.0, "Field encoding").
 #![tactic(auto)]
 
 mod choices;

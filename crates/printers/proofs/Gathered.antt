@@ -1,36 +1,24 @@
 -- Bytes that were placed one after another.
-use Rattle.std.proofs.Common.{◌≡◌, ℕ, ◌+◌, ◌≤◌, List, ◌++◌, length, take, sym, ap, ◌∙◌, append_assoc, arith, length-take-le, take-take}
-use Rattle.std.proofs.Math.Seq.{take-append-add}
-use Rattle.json.specs.Filled.{Placed}
-use Rattle.json.proofs.Printed.Places.{Placed-then}
+use Rattle.std.proofs.Common.{◌≡◌, ℕ, ◌+◌, ◌≤◌, List, ◌++◌, length, take, ap, ◌∙◌, append_assoc, arith, length-take-le, take-take}
+use Rattle.byte_places.specs.Places.{IsPlaced}
+use Rattle.byte_places.proofs.Placing.{front_placed, placed_after}
 
--- three texts behind what stood there
-pub three_placed : {a b c d : List ℕ} {i j k l : ℕ} (x y z : List ℕ) → Placed a b i x j → Placed b c j y k → Placed c d k z l → take l d ≡ take i a ++ (x ++ (y ++ z))
+-- three texts after what was there
+pub three_placed : {a b c d : List ℕ} {i j k l : ℕ} (x y z : List ℕ) → IsPlaced a b i x j → IsPlaced b c j y k → IsPlaced c d k z l → take l d ≡ take i a ++ (x ++ (y ++ z))
 three_placed {a} {b} {c} {d} {i} x y z p q r =
-    (Placed-then (Placed-then p q) r).bytes ∙ ap (λ s. take i a ++ s) (append_assoc x y z)
+    (placed_after (x ++ y) z (placed_after x y p q) r).front ∙ ap (λ s. take i a ++ s) (append_assoc x y z)
 
--- a text of which only the first n bytes are kept
-front_of : {b c : List ℕ} {j k : ℕ} (n : ℕ) (y : List ℕ) → n ≤ length y → j ≤ length b → Placed b c j y k → Placed b c j (take n y) (j + n)
-front_of {b} {c} {j} {k} n y most within p =
-    let long : length (take j b) ≡ j = length-take-le j b within in
-    let less : j + n ≤ k = omega (arith, most, p.moved) in
-    record {
-      bytes = sym (take-take (j + n) k c less) ∙ ap (take (j + n)) p.bytes ∙ ap (λ m. take (m + n) (take j b ++ y)) (sym long) ∙ take-append-add (take j b) y n;
-      moved = omega (arith, length-take-le n y most);
-      len = p.len;
-    }
-
--- the first n bytes of a text that was placed behind what stood there
-pub lead_placed : {a b : List ℕ} {i j : ℕ} (n k : ℕ) (x : List ℕ) → n ≤ k → k ≤ length x → i ≤ length a → Placed a b i (take k x) j → take (i + n) b ≡ take i a ++ take n x
+-- the first n bytes of a text that was placed after what was there
+pub lead_placed : {a b : List ℕ} {i j : ℕ} (n k : ℕ) (x : List ℕ) → n ≤ k → k ≤ length x → i ≤ length a → IsPlaced a b i (take k x) j → take (i + n) b ≡ take i a ++ take n x
 lead_placed {a} {b} {i} {j} n k x less most within p =
-    (front_of n (take k x) (omega (arith, less, length-take-le k x most)) within p).bytes ∙ ap (λ r. take i a ++ r) (take-take n k x less)
+    (front_placed n (take k x) within (omega (arith, less, length-take-le k x most)) p).front ∙ ap (λ r. take i a ++ r) (take-take n k x less)
 
--- a text, the first bytes of a second one, and a third one behind what stood there
-pub front_placed : {a b c d : List ℕ} {i j k l n : ℕ} (x y z : List ℕ) → n ≤ length y → j ≤ length b → Placed a b i x j → Placed b c j y k → Placed c d (j + n) z l
+-- a text, the first bytes of a second one, and a third one after what was there
+pub middle_placed : {a b c d : List ℕ} {i j k l n : ℕ} (x y z : List ℕ) → n ≤ length y → j ≤ length b → IsPlaced a b i x j → IsPlaced b c j y k → IsPlaced c d (j + n) z l
     → take l d ≡ take i a ++ (x ++ (take n y ++ z))
-front_placed {n = n} x y z most within p q r = three_placed x (take n y) z p (front_of n y most within q) r
+middle_placed {n = n} x y z most within p q r = three_placed x (take n y) z p (front_placed n y within most q) r
 
--- the first bytes of a text, and two others behind what stood there
-pub front_then : {a b c d : List ℕ} {i j k l n : ℕ} (x y z : List ℕ) → n ≤ length x → i ≤ length a → Placed a b i x j → Placed b c (i + n) y k → Placed c d k z l
+-- the first bytes of a text, and two others after what was there
+pub front_then : {a b c d : List ℕ} {i j k l n : ℕ} (x y z : List ℕ) → n ≤ length x → i ≤ length a → IsPlaced a b i x j → IsPlaced b c (i + n) y k → IsPlaced c d k z l
     → take l d ≡ take i a ++ (take n x ++ (y ++ z))
-front_then {n = n} x y z most within p q r = three_placed (take n x) y z (front_of n x most within p) q r
+front_then {n = n} x y z most within p q r = three_placed (take n x) y z (front_placed n x within most p) q r

@@ -2,13 +2,13 @@ ghost use Rattle.std.specs.Prelude.{◌≡◌, ◌+◌, ◌≤◌, ◌++◌, [],
 ghost use Rattle.printers.specs.declared.chunk.TheConstants.{CHUNK_BYTES};
 ghost use Rattle.printers.specs.Chunks.{nothing_gathered};
 
-use crate::places::{place, place_front};
+use byte_places::{place, place_front};
 use std::marker::Model;
 
-/// How many bytes a chunk gathers.
+/// How many bytes a chunk can gather.
 pub const CHUNK_BYTES: usize = 1_024;
 
-/// Bytes that wait to be written, and whether a write has failed. It takes no memory but its own.
+/// Bytes waiting to be written, and whether a write has failed. It allocates nothing.
 #[derive(Drop)]
 pub struct Chunk {
     room: [u8; CHUNK_BYTES],
@@ -29,7 +29,7 @@ impl Model for Chunk {
 }
 
 impl Chunk {
-    /// A chunk that holds nothing.
+    /// Creates an empty chunk.
     pub fn new() -> Chunk
         ensures { result ≡ nothing_gathered }
     {
@@ -40,7 +40,7 @@ impl Chunk {
         }
     }
 
-    /// How many bytes it holds.
+    /// The number of bytes it holds.
     #[inline(always)]
     pub(crate) fn len(&self) -> usize
         ensures count { result ≡ length self.now.bytes }
@@ -57,7 +57,7 @@ impl Chunk {
         self.failed
     }
 
-    /// Gathers bytes, for which it has room.
+    /// Adds bytes, for which there is room.
     #[inline(always)]
     pub(crate) fn add(&mut self, bytes: &[u8])
         requires { length self.old.bytes + length bytes.now ≤ CHUNK_BYTES }
@@ -66,14 +66,14 @@ impl Chunk {
         self.len = place(&mut self.room, self.len, bytes);
     }
 
-    /// What it has gathered.
+    /// The bytes gathered so far.
     pub(crate) fn as_slice(&self) -> &[u8]
         ensures { result.now ≡ self.now.bytes }
     {
         &self.room[..self.len]
     }
 
-    /// Lets go of what it has gathered.
+    /// Empties the chunk.
     pub(crate) fn clear(&mut self, failed: bool)
         ensures { self.new ≡ record { bytes = []; failed = failed } }
     {
@@ -81,8 +81,8 @@ impl Chunk {
         self.failed = failed;
     }
 
-    /// Gathers `run` bytes of a text from a place in it on. N bytes are copied, whatever `run` is, so the copy has no branch
-    /// on it; the length grows by `run` alone.
+    /// Adds `run` bytes of `text` from `start` on. Always copies `N` bytes, so there is no branch on `run`; the length
+    /// grows by `run` only.
     #[inline(always)]
     pub(crate) fn add_lead<const N: usize>(&mut self, text: &[u8], start: usize, run: usize)
         requires run { run ≤ N }
@@ -95,8 +95,8 @@ impl Chunk {
         self.len = at + run;
     }
 
-    /// Gathers the first `run` bytes of a field between quotes. It has room for the whole field, which is copied: so the way
-    /// of the copy goes by the field, and not by the text in it.
+    /// Adds the first `run` bytes of a field between quotes. The whole field is copied and needs room, so the copy
+    /// depends on the field's size and not on the text in it.
     #[inline(always)]
     pub(crate) fn add_front_in_quotes(&mut self, field: &[u8], run: usize)
         requires run { run ≤ length field.now }
@@ -108,7 +108,8 @@ impl Chunk {
         self.len = place(&mut self.room, at + run, b"\"");
     }
 
-    /// Gathers the first `run` bytes of a few, all of which are copied, and others behind them. It has room for all.
+    /// Adds the first `run` bytes of `front`, all of which is copied, and then `behind` and `last`. There is room for
+    /// all of it.
     #[inline(always)]
     pub(crate) fn add_front(&mut self, front: &[u8], run: usize, behind: &[u8], last: &[u8])
         requires run { run ≤ length front.now }
@@ -121,7 +122,7 @@ impl Chunk {
         self.len = place(&mut self.room, then, last);
     }
 
-    /// Gathers bytes between others, for all of which it has room.
+    /// Adds bytes between two others. There is room for all of them.
     #[inline(always)]
     #[tactic(auto, using(crate::proofs::Gathered::three_placed))]
     pub(crate) fn add_between(&mut self, before: &[u8], bytes: &[u8], behind: &[u8])

@@ -7,13 +7,13 @@ ghost use Rattle.printers.specs.Prints.{Begins, Finishes, Prints};
 use crate::chunk::{CHUNK_BYTES, Chunk};
 use sbe_base::{Failed, Sink, WriteFault, write_all_to};
 
-/// How many bytes are copied of a lead, however few it has.
+/// How many bytes of a lead are copied, however few it has.
 const LEAD_BYTES: usize = 32;
 
-/// How many are copied of a lead that has no more than these.
+/// How many are copied of a lead that has at most that many.
 const SHORT_LEAD_BYTES: usize = 16;
 
-/// Prints to a sink by way of a chunk. It takes no memory. Once a write has failed, nothing more is written.
+/// Prints to a sink through a chunk. It allocates nothing. Once a write has failed, nothing more is written.
 #[derive(Drop)]
 pub struct Printer<'a, O> {
     sink: &'a mut O,
@@ -21,7 +21,7 @@ pub struct Printer<'a, O> {
 }
 
 impl<'a, O: Sink> Printer<'a, O> {
-    /// A printer that has printed nothing. What the chunk held is let go.
+    /// A printer that has printed nothing yet. Discards what the chunk held.
     #[inline(always)]
     pub fn new(sink: &'a mut O, chunk: &'a mut Chunk) -> Printer<'a, O>
         ensures same_reference { result.sink.ghost_name ≡ sink.entry.ghost_name }
@@ -31,7 +31,7 @@ impl<'a, O: Sink> Printer<'a, O> {
         Printer { sink, chunk }
     }
 
-    /// Prints bytes: they are gathered, and go to the sink once there is no more room.
+    /// Prints bytes: they are gathered, and go to the sink when the chunk is full.
     #[inline(always)]
     pub fn put(&mut self, bytes: &[u8])
         ensures { Prints O.state self.old self.new bytes.now }
@@ -43,7 +43,7 @@ impl<'a, O: Sink> Printer<'a, O> {
         }
     }
 
-    /// Writes what the chunk has gathered, and then bytes.
+    /// Writes what the chunk has gathered, and then `bytes`.
     #[cold]
     #[inline(never)]
     fn spill(&mut self, bytes: &[u8])
@@ -61,7 +61,7 @@ impl<'a, O: Sink> Printer<'a, O> {
         self.chunk.clear(failed);
     }
 
-    /// Prints `run` bytes of a text, from a place in it on. They lead to a value.
+    /// Prints `run` bytes of `text` from `start` on: the text that leads to a value.
     #[inline(always)]
     pub fn put_lead(&mut self, text: &[u8], start: usize, run: usize)
         requires { start + run ≤ length text.now }
@@ -114,7 +114,7 @@ impl<'a, O: Sink> Printer<'a, O> {
         }
     }
 
-    /// Prints the first `run` bytes of a few, and others after them.
+    /// Prints the first `run` bytes of `front`, which is short, and then `behind` and `last`.
     #[inline(always)]
     pub fn put_front(&mut self, front: &[u8], run: usize, behind: &[u8], last: &[u8])
         requires run { run ≤ length front.now }
@@ -128,7 +128,7 @@ impl<'a, O: Sink> Printer<'a, O> {
         }
     }
 
-    /// Prints bytes between a few others.
+    /// Prints bytes between two others, which are short.
     #[inline(always)]
     pub fn put_between(&mut self, before: &[u8], bytes: &[u8], behind: &[u8])
         requires { length before.now + length behind.now ≤ CHUNK_BYTES }
@@ -141,7 +141,7 @@ impl<'a, O: Sink> Printer<'a, O> {
         }
     }
 
-    /// Prints bytes by a call of its own: a lead that is long, or stands near an end.
+    /// Prints bytes by a separate call: a lead that is long, or that is near the end of its text.
     #[inline(never)]
     fn put_apart(&mut self, bytes: &[u8])
         ensures { Prints O.state self.old self.new bytes.now }
@@ -160,11 +160,11 @@ impl<'a, O: Sink> Printer<'a, O> {
         self.put(behind);
     }
 
-    /// Writes what is gathered, and tells whether a write has failed.
+    /// Writes what is gathered, and reports whether a write has failed.
     ///
     /// # Errors
     ///
-    /// Where a write failed, now or before; the sink then holds a front of what was printed.
+    /// [`WriteFault`] if a write failed, now or before. The sink then holds a prefix of what was printed.
     #[inline(always)]
     pub fn finish(self) -> Result<(), WriteFault>
         ensures { Finishes O.state self.entry (O.state self.exit.0.now) result }
@@ -177,7 +177,7 @@ impl<'a, O: Sink> Printer<'a, O> {
     }
 }
 
-/// Writes all bytes to the sink itself: by one call, where that takes them all. For no bytes it calls nothing.
+/// Writes all bytes to the sink: by one call, if that accepts them all. If there are none, the sink isn't called.
 #[inline(always)]
 fn write_whole<O: Sink>(sink: &mut O, bytes: &[u8]) -> Result<(), WriteFault>
     ensures { Writes (O.state sink.old) (O.state sink.new) bytes.now result }
@@ -192,7 +192,7 @@ fn write_whole<O: Sink>(sink: &mut O, bytes: &[u8]) -> Result<(), WriteFault>
     }
 }
 
-/// Writes the bytes that one call didn't take.
+/// Writes the bytes that one call didn't accept.
 #[cold]
 #[inline(never)]
 fn write_rest<O: Sink>(sink: &mut O, bytes: &[u8]) -> Result<(), WriteFault>
@@ -201,7 +201,7 @@ fn write_rest<O: Sink>(sink: &mut O, bytes: &[u8]) -> Result<(), WriteFault>
     write_all_to(sink, bytes)
 }
 
-/// Writes bytes to the sink itself, and tells whether that failed.
+/// Writes bytes to the sink, and returns whether that failed.
 fn has_fault<O: Sink>(sink: &mut O, bytes: &[u8]) -> bool
     ensures { Ends result (O.state sink.old) (O.state sink.new) bytes.now }
 {

@@ -7,7 +7,7 @@ use Rattle.sbe_types.specs.declared.path.Step.TheVariants as way
 use Rattle.sbe_types.specs.declared.schema.Field.{Field}
 use Rattle.sbe_wire.specs.Misfit.{Misfit, or_else, misfit_in, value_misfit, fields_misfit}
 use Rattle.body_walk.specs.inner.Kinds.{IsReady}
-use Rattle.tree_codec.specs.declared.unfit.Unfit.{Unfit}
+use Rattle.tree_codec.specs.declared.first_misfit.FirstMisfit.{FirstMisfit}
 use Rattle.tree_codec.specs.Fitting.{AreReady}
 use Rattle.tree_codec.specs.Shapes.{misfit_of}
 
@@ -26,14 +26,14 @@ drop_at [] i x h = absurd cc
 drop_at (y ∷ ys) zero x h = ap (λ z. z ∷ ys) (some_is h)
 drop_at (y ∷ ys) (suc i) x h = drop_at ys i x h
 
-under_is : (u next : Unfit) (s : Step) → next ≡ record { code = u.code; path = s ∷ u.path; detail = u.detail } → ◌≡◌ {A = Option Misfit} (Some (misfit_of next)) (misfit_in s (Some (misfit_of u)))
-under_is u next s h = ap (λ (x : Unfit). Some (misfit_of x)) h
+under_is : (u next : FirstMisfit) (s : Step) → next ≡ record { code = u.code; path = s ∷ u.path; detail = u.detail } → ◌≡◌ {A = Option Misfit} (Some (misfit_of next)) (misfit_in s (Some (misfit_of u)))
+under_is u next s h = ap (λ (x : FirstMisfit). Some (misfit_of x)) h
 
 module _ (i : ℕ) (fs : List Field) (vs : List Value) (f : Field) (v : Value) (at : slice_get fs i ≡ Some f) (there : slice_get vs i ≡ Some v) where
   field_next : fields_misfit i (drop i fs) (drop i vs) ≡ or_else (misfit_in (way.Part i) (value_misfit f.kind v)) (fields_misfit (suc i) (drop (suc i) fs) (drop (suc i) vs))
   field_next = ap₂ (fields_misfit i) (drop_at fs i f at) (drop_at vs i v there)
 
-  pub field_refused : (u next : Unfit) → Some (misfit_of u) ≡ value_misfit f.kind v → next ≡ record { code = u.code; path = way.Part i ∷ u.path; detail = u.detail }
+  pub field_refused : (u next : FirstMisfit) → Some (misfit_of u) ≡ value_misfit f.kind v → next ≡ record { code = u.code; path = way.Part i ∷ u.path; detail = u.detail }
       → Some (misfit_of next) ≡ fields_misfit i (drop i fs) (drop i vs)
   field_refused u next h is =
       under_is u next (way.Part i) is ∙ ap (λ o. or_else (misfit_in (way.Part i) o) (fields_misfit (suc i) (drop (suc i) fs) (drop (suc i) vs))) h ∙ sym field_next
@@ -49,6 +49,6 @@ no_fields i [] vs h = refl
 no_fields i (f ∷ fs) [] h = refl
 no_fields i (f ∷ fs) (v ∷ vs) h = absurd (omega (arith, h))
 
--- behind the last field that has a value
+-- after the last field that has a value
 pub no_field : (i : ℕ) (fs : List Field) (vs : List Value) → min (length fs) (length vs) ≤ i → None ≡ fields_misfit i (drop i fs) (drop i vs)
 no_field i fs vs h = sym (no_fields i (drop i fs) (drop i vs) (omega (arith, length-drop i fs, length-drop i vs, h)))

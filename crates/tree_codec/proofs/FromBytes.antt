@@ -74,7 +74,7 @@ module _ (order : Order) (leaf : LeafOf) where
   array_shown : (b : List ℕ) → length b ≡ one * leaf.length → (v : Value) → ShowsArray order leaf v b → value.Nums (elements_from order leaf leaf.length b) ≡ v
   array_shown b wide v h = sym (h.1 ∙ ap value.Nums (elements_are h.0 leaf.length b h.2 wide))
 
--- one element behind those that were read
+-- one element after those that were read
 pub elements_next : (order : Order) (leaf : LeafOf) (left : ℕ) (b rest : List ℕ) (done all : List Elem) (n : ℤ) → 0 < left → n ≡ number_of order leaf.prim (take (prim_width leaf.prim) b) → rest ≡ drop (prim_width leaf.prim) b
     → done ++ elements_from order leaf left b ≡ all → (done ++ element_value leaf n ∷ []) ++ elements_from order leaf (left - 1) rest ≡ all
 elements_next order leaf zero b rest done all n some is same h = absurd (omega (arith, some))

@@ -16,7 +16,7 @@ use Rattle.sbe_types.specs.declared.schema.Level as levels
 use Rattle.sbe_types.specs.declared.schema.Level.{Level, Level', out-Level, Row_of-Group, end_of-Group, more_of-Group, items-the_row-Group, items_shown-the_row-Group-0}
 use Rattle.sbe_wire.specs.Canonical.{entries_in}
 use Rattle.sbe_wire.specs.Misfit.{Misfit, or_else, misfit_in, bad_shape, parts_shape, each_misfit, entries_shape, block_shape, groups_shape, group_shape}
-use Rattle.tree_codec.specs.declared.unfit.Unfit.{Unfit}
+use Rattle.tree_codec.specs.declared.first_misfit.FirstMisfit.{FirstMisfit}
 use Rattle.tree_codec.specs.Shapes.{groups_unfit, misfit_of, is_gone, Throughout, ThroughoutRow, ThroughoutGroup}
 
 some_is : {A : Type 0} {x y : A} → ◌≡◌ {A = Option A} (Some x) (Some y) → x ≡ y
@@ -107,11 +107,11 @@ below P (Level' name id semantic since block_length fields n groups parts) i g h
 -- ---- steps
 
 -- the misfit inside a step
-under_is : (u next : Unfit) (s : Step) → next ≡ record { code = u.code; path = s ∷ u.path; detail = u.detail } → ◌≡◌ {A = Option Misfit} (Some (misfit_of next)) (misfit_in s (Some (misfit_of u)))
-under_is u next s h = ap (λ (x : Unfit). Some (misfit_of x)) h
+under_is : (u next : FirstMisfit) (s : Step) → next ≡ record { code = u.code; path = s ∷ u.path; detail = u.detail } → ◌≡◌ {A = Option Misfit} (Some (misfit_of next)) (misfit_in s (Some (misfit_of u)))
+under_is u next s h = ap (λ (x : FirstMisfit). Some (misfit_of x)) h
 
 module _ (k i : ℕ) (gs : List Group) (vs : List GroupVal) (g : Group) (v : GroupVal) (at : slice_get gs i ≡ Some g) (there : slice_get vs i ≡ Some v) where
-  pub group_refused : (u next : Unfit) → Some (misfit_of u) ≡ entries_shape (λ entry. block_shape (out-Group g).level entry) (entries_in v)
+  pub group_refused : (u next : FirstMisfit) → Some (misfit_of u) ≡ entries_shape (λ entry. block_shape (out-Group g).level entry) (entries_in v)
       → next ≡ record { code = u.code; path = way.Part k ∷ u.path; detail = u.detail } → Some (misfit_of next) ≡ groups_unfit k (drop i gs) (drop i vs)
   group_refused u next h is =
       under_is u next (way.Part k) is
@@ -127,7 +127,7 @@ module _ (k i : ℕ) (gs : List Group) (vs : List GroupVal) (g : Group) (v : Gro
       ∙ sym (groups_next k i gs vs g v at there)
 
 module _ (f : Block → Option Misfit) (i : ℕ) (bs : List Block) (b : Block) (at : slice_get bs i ≡ Some b) where
-  pub entry_refused : (u next : Unfit) → Some (misfit_of u) ≡ f b → next ≡ record { code = u.code; path = way.Entry i ∷ u.path; detail = u.detail } → Some (misfit_of next) ≡ each_misfit f i (drop i bs)
+  pub entry_refused : (u next : FirstMisfit) → Some (misfit_of u) ≡ f b → next ≡ record { code = u.code; path = way.Entry i ∷ u.path; detail = u.detail } → Some (misfit_of next) ≡ each_misfit f i (drop i bs)
   entry_refused u next h is =
       under_is u next (way.Entry i) is ∙ ap (λ m. or_else (misfit_in (way.Entry i) m) (each_misfit f (suc i) (drop (suc i) bs))) h ∙ sym (entries_next f i bs b at)
 
@@ -141,10 +141,10 @@ pub few_entries : (f : Block → Option Misfit) (bs : List Block) → length bs 
 few_entries f bs h = ap (λ t. cond t (each_misfit f 0 bs) None) (lt-ltb (length bs) (2 ^ 32) h)
 
 module _ (k i : ℕ) (vs : List DataVal) (v : DataVal) (at : slice_get vs i ≡ Some v) where
-  pub part_refused : (u next : Unfit) → true ≡ is_gone v → u ≡ record { code = code.Shape; path = []; detail = pos 0 } → next ≡ record { code = u.code; path = way.Part k ∷ u.path; detail = u.detail }
+  pub part_refused : (u next : FirstMisfit) → true ≡ is_gone v → u ≡ record { code = code.Shape; path = []; detail = pos 0 } → next ≡ record { code = u.code; path = way.Part k ∷ u.path; detail = u.detail }
       → Some (misfit_of next) ≡ parts_shape k (drop i vs)
   part_refused u next gone h is =
-      under_is u next (way.Part k) is ∙ ap (λ (x : Unfit). misfit_in (way.Part k) (Some (misfit_of x))) h ∙ sym (parts_next k i vs v true at (sym gone))
+      under_is u next (way.Part k) is ∙ ap (λ (x : FirstMisfit). misfit_in (way.Part k) (Some (misfit_of x))) h ∙ sym (parts_next k i vs v true at (sym gone))
 
   pub part_passed : (k' : ℕ) → k' ≡ suc k → false ≡ is_gone v → parts_shape k' (drop (i + 1) vs) ≡ parts_shape k (drop i vs)
   part_passed k' is gone =

@@ -45,7 +45,7 @@ clash h = cc
 pub never_absent : (g : Group) (v : GroupVal) → v ≡ groupval.Absent → group_shape g v ≡ None → ⊥
 never_absent g v is h = clash (sym (shape_is g v ∙ ap (λ x. entries_shape (λ entry. block_shape (out-Group g).level entry) (entries_in x)) is) ∙ h)
 
--- the groups of a block have room where all that is behind it has
+-- the groups of a block have room where all that is after it has
 pub groups_have_room : (limit before : ℕ) (level : Level) (block : Block) → refusal_of (tail_taken limit before level block) ≡ None →
     refusal_of (groups_room limit (length (out-Level level).fields) before (out-Level level).groups (out-Block block).groups) ≡ None
 groups_have_room limit before level block room =
@@ -54,7 +54,7 @@ groups_have_room limit before level block room =
 
 -- ---- groups
 
--- The writer stands behind the first i groups of a block; what is left of them follows behind its bytes, and is counted on from
+-- The writer stands after the first i groups of a block; what is left of them follows after its bytes, and is counted on from
 -- there.
 pub record GroupsAt (schema : WireSchema) (n : ℕ) (level : Level) (block : Block) (i : ℕ) (old now : Held) : Type 0 where
   pub state : AppendsParts schema now
@@ -216,7 +216,7 @@ module _ (schema : WireSchema) (n : ℕ) (g : Group) (v : GroupVal) (es : List B
 
 -- ---- entries
 
--- The writer stands behind the first i entries of a group; what is left of them follows behind its bytes, and is counted on from
+-- The writer stands after the first i entries of a group; what is left of them follows after its bytes, and is counted on from
 -- there.
 pub record EntriesAt (schema : WireSchema) (n : ℕ) (level : Level) (es : List Block) (i : ℕ) (old now : Held) : Type 0 where
   pub state : AppendsEntries schema now
@@ -332,7 +332,7 @@ module _ (schema : WireSchema) (n : ℕ) (level : Level) (entry : Block) (old op
     pub tail_begins : parts_done tailed.frames ≡ 0
     tail_begins = ap (λ (h : Held). parts_done h.frames) tailed_is
 
-    -- what is behind the block has room
+    -- what is after the block has room
     pub tail_has_room : refusal_of (tail_taken tailed.limit (length tailed.bytes) level entry) ≡ None
     tail_has_room =
         ap (λ (h : Held). refusal_of (tail_taken h.limit (length h.bytes) level entry)) tailed_is

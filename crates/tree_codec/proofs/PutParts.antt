@@ -1,4 +1,4 @@
--- What the writers of a message's parts do, one behind another.
+-- What the writers of a message's parts do, one after another.
 use Rattle.std.proofs.Common.{◌≡◌, ◌≤◌, ◌<◌, ◌+◌, ◌-◌, ℕ, suc, true, false, List, ◌∷◌, length, drop, Option, Some, None, Ok, refl, sym, ap, ◌∙◌, subst, arith}
 use Rattle.std.specs.Prelude.{slice_get}
 use Rattle.std.specs.Option.{option_and_then, option_map_or, IsSome}
@@ -99,7 +99,7 @@ module _ (schema : WireSchema) (part : DataField) (v : DataVal) (bytes : List �
 
 -- ---- data
 
--- The writer stands behind the first i data parts of a block; what is left of them follows behind its bytes, and is counted on
+-- The writer stands after the first i data parts of a block; what is left of them follows after its bytes, and is counted on
 -- from there.
 pub record PartsAt (schema : WireSchema) (n : ℕ) (level : Level) (block : Block) (i : ℕ) (old now : Held) : Type 0 where
   pub state : AppendsParts schema now

@@ -1,4 +1,4 @@
--- What has room goes on: the steps of the loops that put a message's parts one behind another.
+-- What has room goes on: the steps of the loops that put a message's parts one after another.
 use Rattle.std.proofs.Common.{◌≡◌, ◌≤◌, ◌<◌, ◌+◌, ◌-◌, ◌*◌, ◌^◌, ℕ, suc, Bool, true, false, cond, List, [], ◌∷◌, ◌++◌, length, drop, replicate, length-append, Option, Some, None, Ok, Err, Result, pos, refl, sym, ap, ap₂, ◌∙◌, subst, arith, eqb-true}
 use Rattle.std.specs.Prelude.{slice_get, nat_le, codes, int_le, ◌==◌}
 use Rattle.std.specs.Option.{option_map_or}
@@ -128,7 +128,7 @@ both_are None b all h = absurd (none_some h)
 both_are (Some x) None all h = absurd (none_some h)
 both_are (Some x) (Some y) all h = (x, y, refl, refl, sym (some_is h))
 
--- the piece behind the front
+-- the piece after the front
 pub behind_is : (front : List ℕ) (o : Option (List ℕ)) (all : List ℕ) → behind front o ≡ Some all → (piece : List ℕ) × (o ≡ Some piece) × (all ≡ front ++ piece)
 behind_is front None all h = absurd (none_some h)
 behind_is front (Some piece) all h = (piece, refl, sym (some_is h))
@@ -267,7 +267,7 @@ module _ (limit before : ℕ) (g : Group) (v : GroupVal) (es : List Block) (is :
 
 -- ---- one part of a row more
 
--- what is left behind a piece
+-- what is left after a piece
 pub left_behind : (old new : List ℕ) (piece rest all goal : Option (List ℕ)) → behind old piece ≡ Some new → all ≡ both piece rest → behind old all ≡ goal → behind new rest ≡ goal
 left_behind old new piece rest all goal h is left = sym (behind_next old new piece rest h) ∙ ap (behind old) (sym is) ∙ left
 

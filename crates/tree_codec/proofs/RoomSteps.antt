@@ -26,7 +26,7 @@ use Rattle.layout_tables.specs.declared.rows.LevelRow.{LevelRow}
 use Rattle.layout_tables.specs.Parts.{dim_at}
 use Rattle.layout_tables.specs.Rowed.{DimIs, RowFor}
 use Rattle.group_codec.proofs.DimRows.{row_dim, never_none}
-use Rattle.tree_codec.specs.declared.unfit.Unfit.{Unfit}
+use Rattle.tree_codec.specs.declared.first_misfit.FirstMisfit.{FirstMisfit}
 use Rattle.tree_codec.specs.Rooms.{dim_room, groups_room, entry_room}
 use Rattle.tree_codec.specs.Shapes.{misfit_of}
 use Rattle.body_walk.specs.inner.Ready.{IsReadySchema}
@@ -60,7 +60,7 @@ lifted step m = if is_full m.code then m else inside_step step m
 step_went : (s : Step) (t : Taken) (f : ℕ → Taken) (m : ℕ) → Ok m ≡ t → f m ≡ (taken_in s t then f)
 step_went s t f m h = ap (λ (x : Taken). taken_in s x then f) h
 
-step_stopped : (s : Step) (t : Taken) (f : ℕ → Taken) (u next : Unfit) → Err (misfit_of u) ≡ t → misfit_of next ≡ lifted s (misfit_of u) → ◌≡◌ {A = Taken} (Err (misfit_of next)) (taken_in s t then f)
+step_stopped : (s : Step) (t : Taken) (f : ℕ → Taken) (u next : FirstMisfit) → Err (misfit_of u) ≡ t → misfit_of next ≡ lifted s (misfit_of u) → ◌≡◌ {A = Taken} (Err (misfit_of next)) (taken_in s t then f)
 step_stopped s t f u next h is = ap Err is ∙ ap (λ (x : Taken). taken_in s x then f) h
 
 -- ---- data parts
@@ -77,7 +77,7 @@ module _ (limit k i at : ℕ) (ps : List DataField) (vs : List DataVal) (p : Dat
       let on : suc i ≡ i + 1 = omega arith in
       ap₂ (λ n j. parts_taken limit n m (drop j ps) (drop j vs)) is (sym on) ∙ step_went (way.Part k) (part_taken limit at p v) parts_behind m h ∙ sym part_next
 
-  pub part_stopped : (u next : Unfit) → Err (misfit_of u) ≡ part_taken limit at p v → misfit_of next ≡ lifted (way.Part k) (misfit_of u) → Err (misfit_of next) ≡ parts_taken limit k at (drop i ps) (drop i vs)
+  pub part_stopped : (u next : FirstMisfit) → Err (misfit_of u) ≡ part_taken limit at p v → misfit_of next ≡ lifted (way.Part k) (misfit_of u) → Err (misfit_of next) ≡ parts_taken limit k at (drop i ps) (drop i vs)
   part_stopped u next h is = step_stopped (way.Part k) (part_taken limit at p v) parts_behind u next h is ∙ sym part_next
 
 no_parts : (limit k at : ℕ) (ps : List DataField) (vs : List DataVal) → min (length ps) (length vs) ≤ 0 → parts_taken limit k at ps vs ≡ Ok at
@@ -105,7 +105,7 @@ module _ (limit i at : ℕ) (level : Level) (bs : List Block) (b : Block) (there
       let on : suc i ≡ i + 1 = omega arith in
       ap (λ j. each_taken by j m (drop j bs)) (sym on) ∙ step_went (way.Entry i) (by at b) entries_behind m h ∙ sym entry_next
 
-  pub entry_stopped : (u next : Unfit) → Err (misfit_of u) ≡ by at b → misfit_of next ≡ lifted (way.Entry i) (misfit_of u) → Err (misfit_of next) ≡ each_taken by i at (drop i bs)
+  pub entry_stopped : (u next : FirstMisfit) → Err (misfit_of u) ≡ by at b → misfit_of next ≡ lifted (way.Entry i) (misfit_of u) → Err (misfit_of next) ≡ each_taken by i at (drop i bs)
   entry_stopped u next h is = step_stopped (way.Entry i) (by at b) entries_behind u next h is ∙ sym entry_next
 
 -- ---- groups
@@ -122,7 +122,7 @@ module _ (limit k i at : ℕ) (gs : List Group) (vs : List GroupVal) (g : Group)
       let on : suc i ≡ i + 1 = omega arith in
       ap₂ (λ n j. groups_room limit n m (drop j gs) (drop j vs)) is (sym on) ∙ step_went (way.Part k) (group_taken limit at g v) groups_behind m h ∙ sym group_next
 
-  pub group_stopped : (u next : Unfit) → Err (misfit_of u) ≡ group_taken limit at g v → misfit_of next ≡ lifted (way.Part k) (misfit_of u) → Err (misfit_of next) ≡ groups_room limit k at (drop i gs) (drop i vs)
+  pub group_stopped : (u next : FirstMisfit) → Err (misfit_of u) ≡ group_taken limit at g v → misfit_of next ≡ lifted (way.Part k) (misfit_of u) → Err (misfit_of next) ≡ groups_room limit k at (drop i gs) (drop i vs)
   group_stopped u next h is = step_stopped (way.Part k) (group_taken limit at g v) groups_behind u next h is ∙ sym group_next
 
 no_groups : (limit k at : ℕ) (gs : List Group) (vs : List GroupVal) → min (length gs) (length vs) ≤ 0 → groups_room limit k at gs vs ≡ Ok at
@@ -190,7 +190,7 @@ count_few schema n row spot many h is here t =
 pub dim_there : (schema : WireSchema) (n : ℕ) (row : LevelRow) → RowFor schema n row → row.dim ≡ None → IsSome (dim_at schema n) → ⊥
 dim_there schema n row is none some = never_none schema n row is none some
 
--- a group's entries behind its dimension
+-- a group's entries after its dimension
 pub group_entries : (limit before after : ℕ) (g : Group) (v : GroupVal) (entries : List Block) → entries_in v ≡ Some entries → Ok after ≡ dim_room limit before (out-Group g).dim (length entries)
     → is_admitted (out-Group g).dim (codes "numInGroup") (length entries) ≡ true
     → each_taken (λ at entry. entry_room limit (out-Group g).level at entry) 0 after entries ≡ group_taken limit before g v

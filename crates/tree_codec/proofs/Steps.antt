@@ -5,7 +5,7 @@ use Rattle.std.specs.Prelude.{slice_get, map, IfOk}
 some_is : {A : Type 0} {x y : A} → ◌≡◌ {A = Option A} (Some x) (Some y) → x ≡ y
 some_is h = cc
 
--- what follows from an answer that isn't want of memory
+-- what follows from an answer that isn't out of memory
 pub if_ok : {A E : Type 0} {P Q : A → Type 0} (r : Result A E) → ((x : A) → P x → Q x) → IfOk r P → IfOk r Q
 if_ok (Ok x) f h = f x h
 if_ok (Err e) f h = h

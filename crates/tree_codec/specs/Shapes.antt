@@ -1,4 +1,4 @@
--- The first misfit that a walk over a message tells, and groups in a list.
+-- The first misfit that a walk over a message reports, and groups in a list.
 use Rattle.std.specs.Prelude.{ℕ, suc, Bool, true, false, Option, Some, None, List, [], ◌∷◌, ⊤}
 use Rattle.sbe_types.specs.declared.message.DataVal.{DataVal}
 use Rattle.sbe_types.specs.declared.message.DataVal.TheVariants as dataval
@@ -7,18 +7,18 @@ use Rattle.sbe_types.specs.declared.path.Step.TheVariants as way
 use Rattle.sbe_types.specs.declared.schema.Group.{Group, Group'}
 use Rattle.sbe_types.specs.declared.schema.Level.{Level, Level', Row_of-Group, end_of-Group, more_of-Group}
 use Rattle.sbe_wire.specs.Misfit.{Misfit, or_else, misfit_in, group_shape}
-use Rattle.tree_codec.specs.declared.unfit.Unfit.{Unfit}
+use Rattle.tree_codec.specs.declared.first_misfit.FirstMisfit.{FirstMisfit}
 
--- the misfit that is left
-abbrev pub misfit_of : Unfit → Misfit
+-- the misfit in the slot
+abbrev pub misfit_of : FirstMisfit → Misfit
 misfit_of unfit = record { code = unfit.code; path = unfit.path; detail = unfit.detail }
 
--- what a yes or no tells
-abbrev pub told : Bool → Unfit → Option Misfit
+-- the result that `true` or `false` and the misfit slot encode
+abbrev pub told : Bool → FirstMisfit → Option Misfit
 told true unfit = None
 told false unfit = Some (misfit_of unfit)
 
--- the first misfit of groups that are counted from i
+-- the first misfit of groups, counted from i
 abbrev pub groups_unfit : ℕ → List Group → List GroupVal → Option Misfit
 groups_unfit i [] vs = None
 groups_unfit i (g ∷ gs) [] = None
@@ -30,15 +30,15 @@ is_gone dataval.Absent = true
 is_gone (dataval.Bytes bytes) = false
 
 abbrev mutual
-  -- it holds of the level, and of the levels of all groups below it
+  -- P holds of the level, and of the levels of all groups below it
   pub Throughout : (Level → Type 0) → Level → Type 0
   Throughout P (Level' name id semantic since block_length fields n groups parts) = P (Level' name id semantic since block_length fields n groups parts) × ThroughoutRow P groups
 
-  -- the same of groups
+  -- the same for groups
   pub ThroughoutRow : (Level → Type 0) → {n : _} → Row_of-Group n → Type 0
   ThroughoutRow P end_of-Group = ⊤
   ThroughoutRow P (more_of-Group g rest) = ThroughoutGroup P g × ThroughoutRow P rest
 
-  -- the same of a group
+  -- the same for a group
   pub ThroughoutGroup : (Level → Type 0) → Group → Type 0
   ThroughoutGroup P (Group' dim level) = Throughout P level

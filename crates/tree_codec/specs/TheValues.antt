@@ -23,7 +23,7 @@ enum_value leaf n = if is_null leaf n then value.Null else value.Enum n
 abbrev pub element_value : Leaf → ℤ → Elem
 element_value leaf n = if is_null leaf n then elem.Null else elem.Num n
 
--- so many elements of an array
+-- n elements of an array
 abbrev pub elements_from : Order → Leaf → ℕ → List ℕ → List Elem
 elements_from order leaf zero bytes = []
 elements_from order leaf (suc n) bytes =

@@ -12,16 +12,16 @@ use Rattle.flyweight_view.specs.Seen.{Seen}
 
 -- ---- trees
 
--- the data part of these bytes; without bytes it is absent
+-- the data part with these bytes; without bytes it is absent
 abbrev pub part_of : Option (List ℕ) → DataVal
 part_of None = dataval.Absent
 part_of (Some bytes) = dataval.Bytes bytes
 
--- the blocks of entries that are seen
+-- the blocks of the entries that a view shows
 abbrev pub blocks_of : List Seen → List Block
 blocks_of entries = map (λ (s : Seen). s.block) entries
 
--- the group of these entries; without entries it is absent
+-- the group with these entries; without entries it is absent
 abbrev pub group_of : Option (List Seen) → GroupVal
 group_of None = groupval.TheVariants.Absent
 group_of (Some entries) = groupval.TheVariants.Entries (blocks_of entries)
@@ -33,51 +33,51 @@ abbrev pub entries_of : GroupVal → List Block
 entries_of groupval.Absent = []
 entries_of (groupval.Entries' n row) = items-the_row-Block _ row
 
--- it holds of each
+-- the property holds of each block
 abbrev pub Each : (Block → Type 0) → List Block → Type 0
 Each P [] = ⊤
 Each P (b ∷ bs) = P b × Each P bs
 
 abbrev mutual
-  -- as many values as the level has fields and groups, at all depths
+  -- there are as many values as the level has fields and groups, at all depths
   pub IsWhole : Level → Block → Type 0
   IsWhole (Level' name id semantic since block_length fields n groups parts) block =
       (length (out-Block block).fields ≡ length fields) × AreWhole groups (out-Block block).groups
 
-  -- the same of a level's groups
+  -- the same for a level's groups
   pub AreWhole : {n : _} → Row_of-Group n → List GroupVal → Type 0
   AreWhole end_of-Group [] = ⊤
   AreWhole end_of-Group (v ∷ vs) = ⊥
   AreWhole (more_of-Group g rest) [] = ⊥
   AreWhole (more_of-Group g rest) (v ∷ vs) = GroupIsWhole g v × AreWhole rest vs
 
-  -- the same of a group
+  -- the same for a group
   pub GroupIsWhole : Group → GroupVal → Type 0
   GroupIsWhole (Group' dim level) v = Each (λ entry. IsWhole level entry) (entries_of v)
 
--- the same of groups in a list
+-- the same for groups in a list
 abbrev pub GroupsAreWhole : List Group → List GroupVal → Type 0
 GroupsAreWhole [] [] = ⊤
 GroupsAreWhole [] (v ∷ vs) = ⊥
 GroupsAreWhole (g ∷ gs) [] = ⊥
 GroupsAreWhole (g ∷ gs) (v ∷ vs) = GroupIsWhole g v × GroupsAreWhole gs vs
 
--- what is seen of a block is whole
+-- what a block shows is whole
 pub record IsWholeSeen (s : Seen) : Type 0 where
   pub fields : length (out-Block s.block).fields ≡ length s.fields
   pub groups : GroupsAreWhole s.groups (out-Block s.block).groups
 
--- the same of entries
+-- the same for entries
 abbrev pub AllWhole : List Seen → Type 0
 AllWhole [] = ⊤
 AllWhole (s ∷ ss) = IsWholeSeen s × AllWhole ss
 
--- the same of the entries of a group that is there
+-- the same for the entries of a group that is there
 abbrev pub GroupSeenWhole : Option (List Seen) → Type 0
 GroupSeenWhole None = ⊤
 GroupSeenWhole (Some es) = AllWhole es
 
--- the same of groups that are seen
+-- the same for what groups show
 abbrev pub GroupsSeenWhole : List (Option (List Seen)) → Type 0
 GroupsSeenWhole [] = ⊤
 GroupsSeenWhole (o ∷ os) = GroupSeenWhole o × GroupsSeenWhole os

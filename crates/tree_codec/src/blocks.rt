@@ -41,7 +41,7 @@ fn field_values(alloc: Global, block: &BlockView<'_>) -> Result<ValueList, NoMem
     Ok(values)
 }
 
-/// The value of field `i`. It needs a field in range.
+/// The value of field `i`. Requires a field in range.
 fn field_value(alloc: Global, block: &BlockView<'_>, i: usize) -> Result<Value, NoMem>
     requires { i < length block.now.fields }
     ensures { IfOk result (λ v. slice_get (out-Block block.now.block).fields i ≡ Some v) }
@@ -67,7 +67,7 @@ fn part_trees(alloc: Global, block: &BlockView<'_>) -> Result<DataValList, NoMem
     Ok(trees)
 }
 
-/// A data part of these bytes; without bytes it is absent.
+/// A data part of these bytes, or an absent one if there are none.
 fn part_tree(alloc: Global, bytes: Option<&[u8]>) -> Result<DataVal, NoMem>
     ensures { IfOk result (λ v. v ≡ part_of (option_map (λ b. b.now) bytes.entry)) }
 {
@@ -94,7 +94,7 @@ fn group_trees(alloc: Global, block: &BlockView<'_>) -> Result<GroupValList, NoM
     Ok(trees)
 }
 
-/// A group of these entries; without entries it is absent.
+/// A group of these entries, or an absent one if there are none.
 #[cycle(block)]
 fn group_tree(alloc: Global, entries: Option<EntriesView<'_>>) -> Result<GroupVal, NoMem>
     requires { GroupSeenWhole entries }

@@ -11,12 +11,12 @@ use lists::NoMem;
 use sbe_types::Msg;
 use std::alloc::Global;
 
-/// Why there is no tree of a body.
+/// Why a body has no tree.
 #[derive(Drop)]
 pub enum DecodeErr {
     /// No message of the schema lies in the body.
     Refused(Refusal),
-    /// Memory is wanting.
+    /// Out of memory.
     Memory,
 }
 
@@ -24,7 +24,7 @@ pub enum DecodeErr {
 ///
 /// # Errors
 ///
-/// `Refused` exactly where no message of the schema lies in the body, and `Memory` for want of memory.
+/// `Refused` exactly if no message of the schema lies in the body, and `Memory` if memory runs out.
 pub fn decode(alloc: Global, layout: &Layout, body: &[u8]) -> Result<Msg, DecodeErr>
     ensures lies { IfOk result (λ m. Lays layout.now m body.now) }
     ensures refused { IfErr result (λ e. IsRefused layout.now body.now e) }
@@ -38,7 +38,7 @@ pub fn decode(alloc: Global, layout: &Layout, body: &[u8]) -> Result<Msg, Decode
     }
 }
 
-/// The tree of a message that is seen.
+/// The tree of a message, built from its view.
 fn message_tree(alloc: Global, view: &MsgView<'_>) -> Result<Msg, NoMem>
     requires { IsWholeSeen (seen_level view.now.level view.now.message.block) }
     ensures { IfOk result (λ m. m ≡ view.now.message) }

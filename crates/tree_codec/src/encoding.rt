@@ -11,13 +11,12 @@ use layout_tables::Layout;
 use sbe_types::Msg;
 use typed_writer::FrameBuf;
 
-/// Writes the canonical body of a message, in place of what stood in the buffer, and gives the number of its bytes
-/// (SBE 1.0, "Message structure"). It takes no memory.
+/// Writes the canonical body of a message, replacing the contents of the buffer, and returns its length in bytes (SBE
+/// 1.0, "Message structure"). Allocates nothing.
 ///
 /// # Errors
 ///
-/// The first misfit, exactly where the message has no canonical body within the buffer's limit. The buffer is then
-/// empty.
+/// The first misfit, exactly if the message has no canonical body within the buffer's limit. The buffer is then empty.
 #[tactic(auto, using(body_walk::proofs::ReadyTold::ready_schema))]
 pub fn encode(layout: &Layout, msg: &Msg, buf: &mut FrameBuf) -> Result<usize, EncodeErr>
     ensures told { misfit layout.now msg.now buf.old.limit ≡ refusal_of (sized result) }
@@ -36,7 +35,7 @@ pub fn encode(layout: &Layout, msg: &Msg, buf: &mut FrameBuf) -> Result<usize, E
     }
 }
 
-/// Writes a message that fits, and gives the number of its bytes.
+/// Writes a message that fits, and returns its length in bytes.
 fn put_message(layout: &Layout, msg: &Msg, buf: &mut FrameBuf) -> usize
     requires schema { IsReadySchema layout.now }
     requires fits { misfit layout.now msg.now buf.old.limit ≡ None }

@@ -1,4 +1,4 @@
-// Blocks in a buffer: each field is set to its value.
+// Fills blocks in a buffer: each field is set to its value.
 ghost use Rattle.std.specs.Prelude.{◌≡◌, ◌<◌, None, Some, length};
 ghost use Rattle.sbe_types.specs.declared.message.Block.{out-Block};
 ghost use Rattle.sbe_types.specs.declared.schema.Level.{out-Level};
@@ -27,7 +27,7 @@ pub(crate) fn fill_block(layout: &Layout, level: &Level, block: &Block, buf: &mu
     }
 }
 
-/// Sets field `i` of the block that was begun last to its value, which fits; a constant stays as it is.
+/// Sets field `i` of the block that was begun last to its value, which fits; a constant is left as it is.
 fn set_field(layout: &Layout, level: &Level, block: &Block, i: usize, buf: &mut FrameBuf)
     requires schema { IsReadySchema layout.now }
     requires state { SetsFields layout.now buf.old }

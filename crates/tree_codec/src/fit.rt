@@ -5,19 +5,19 @@ ghost use Rattle.sbe_wire.specs.Misfit.{fields_misfit};
 ghost use Rattle.tree_codec.specs.Fitting.{AreReady};
 ghost use Rattle.tree_codec.specs.Shapes.{told};
 
+use crate::first_misfit::FirstMisfit;
 use crate::rooms::shorter;
-use crate::unfit::Unfit;
-use kind_bytes::{Unfit as ValueUnfit, fits_kind};
+use kind_bytes::{ValueMisfit, fits_kind};
 use sbe_types::{FieldList, Step, ValueList};
 
-/// Whether the values of a block fit its fields; if not, `out` tells the first misfit.
-pub(crate) fn fit_fields(fields: &FieldList, values: &ValueList, out: &mut Unfit) -> bool
+/// Whether the values of a block fit its fields. If not, `out` receives the first misfit.
+pub(crate) fn fit_fields(fields: &FieldList, values: &ValueList, out: &mut FirstMisfit) -> bool
     requires ready { AreReady fields.now }
     requires few { length fields.now ≤ PART_LIMIT }
     ensures told { told result out.new ≡ fields_misfit 0 fields.now values.now }
     ensures low { result ≡ false → length out.new.path ≤ 6 }
 {
-    let mut value = ValueUnfit::new();
+    let mut value = ValueMisfit::new();
     for i in 0..shorter(fields.len(), values.len()) {
         if !fits_kind(&fields.at(i).kind, values.at(i), &mut value) {
             out.take(value);

@@ -5,12 +5,12 @@ mod blocks;
 mod decoding;
 mod encoding;
 mod fills;
+mod first_misfit;
 mod fit;
 mod puts;
 mod rooms;
 mod shape;
 mod sizing;
-mod unfit;
 mod values;
 
 pub use decoding::{DecodeErr, decode};

@@ -1,4 +1,4 @@
-// The parts of a message that fits, in a buffer, one after another in wire order.
+// Writes the parts of a message that fits to a buffer, one after another in wire order.
 ghost use Rattle.std.specs.Prelude.{◌≡◌, ◌≤◌, ◌<◌, ◌+◌, ◌-◌, length, false, None, Some};
 ghost use Rattle.sbe_types.specs.declared.schema.Group.{out-Group};
 ghost use Rattle.sbe_types.specs.declared.schema.Level.{out-Level};
@@ -19,7 +19,7 @@ use typed_writer::FrameBuf;
 
 // ---- data
 
-/// The next data part.
+/// Writes the next data part.
 fn put_part(layout: &Layout, part: &DataField, value: &DataVal, buf: &mut FrameBuf)
     requires state { AppendsParts layout.now buf.old }
     requires groups { length (groups_at layout.now (level_of buf.old.frames)) ≤ parts_done buf.old.frames }
@@ -39,7 +39,7 @@ fn put_part(layout: &Layout, part: &DataField, value: &DataVal, buf: &mut FrameB
     }
 }
 
-/// The data parts of a block, behind its groups.
+/// Writes the data parts of a block, after its groups.
 fn put_parts(layout: &Layout, level: &Level, block: &Block, buf: &mut FrameBuf)
     requires level { level_at layout.now (level_of buf.old.frames) ≡ Some level.now }
     requires shape { block_shape level.now block.now ≡ None }
@@ -56,7 +56,7 @@ fn put_parts(layout: &Layout, level: &Level, block: &Block, buf: &mut FrameBuf)
 
 // ---- groups
 
-/// The groups and data of a block.
+/// Writes the groups and data of a block.
 #[cycle(put)]
 pub(crate) fn put_tail(layout: &Layout, level: &Level, block: &Block, buf: &mut FrameBuf)
     requires schema { IsReadySchema layout.now }
@@ -72,7 +72,7 @@ pub(crate) fn put_tail(layout: &Layout, level: &Level, block: &Block, buf: &mut 
     put_parts(layout, level, block, buf);
 }
 
-/// The groups of a block.
+/// Writes the groups of a block.
 #[cycle(put)]
 fn put_groups(layout: &Layout, level: &Level, block: &Block, buf: &mut FrameBuf)
     requires schema { IsReadySchema layout.now }
@@ -89,7 +89,7 @@ fn put_groups(layout: &Layout, level: &Level, block: &Block, buf: &mut FrameBuf)
     }
 }
 
-/// The next group.
+/// Writes the next group.
 #[cycle(put)]
 fn put_group(layout: &Layout, group: &Group, value: &GroupVal, buf: &mut FrameBuf)
     requires schema { IsReadySchema layout.now }
@@ -114,7 +114,7 @@ fn put_group(layout: &Layout, group: &Group, value: &GroupVal, buf: &mut FrameBu
     }
 }
 
-/// The entries of a group, behind its dimension.
+/// Writes the entries of a group, after its dimension.
 #[cycle(put)]
 fn put_entries(layout: &Layout, level: &Level, entries: &List<Block>, buf: &mut FrameBuf)
     requires schema { IsReadySchema layout.now }
@@ -131,7 +131,7 @@ fn put_entries(layout: &Layout, level: &Level, entries: &List<Block>, buf: &mut 
     }
 }
 
-/// The next entry of a group.
+/// Writes the next entry of a group.
 #[cycle(put)]
 fn put_entry(layout: &Layout, level: &Level, entry: &Block, buf: &mut FrameBuf)
     requires schema { IsReadySchema layout.now }

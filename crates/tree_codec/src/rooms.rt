@@ -17,23 +17,23 @@ ghost use Rattle.body_walk.specs.inner.Ready.{IsReadySchema};
 ghost use Rattle.tree_codec.specs.Fitting.{AreReady};
 ghost use Rattle.tree_codec.specs.Rooms.{dim_room, entry_room, groups_room, went};
 
+use crate::first_misfit::FirstMisfit;
 use crate::fit::fit_fields;
-use crate::unfit::Unfit;
 use layout_tables::Layout;
 use sbe_types::{
     Block, DataField, DataVal, FieldList, Group, GroupVal, Level, List, Step, ValueList,
 };
 use sbe_wire::NCode;
 
-/// What the walk over a message's tree goes by: its schema's layout, and the most bytes of a body.
+/// What the walk over a message's tree depends on: its schema's layout, and the most bytes of a body.
 #[derive(Clone, Copy)]
 pub(crate) struct Walk<'a> {
     pub(crate) layout: &'a Layout,
     pub(crate) limit: usize,
 }
 
-/// So many bytes more, within the limit.
-fn take_room(limit: usize, before: usize, more: usize, out: &mut Unfit) -> Option<usize>
+/// Adds `more` bytes, within the limit.
+fn take_room(limit: usize, before: usize, more: usize, out: &mut FirstMisfit) -> Option<usize>
     requires { before ≤ limit }
     ensures told { went result out.new ≡ take_bytes limit before more }
     ensures within { IfSome result (λ n. n ≤ limit) }
@@ -46,14 +46,14 @@ fn take_room(limit: usize, before: usize, more: usize, out: &mut Unfit) -> Optio
     Some(before + more)
 }
 
-/// A block of so many bytes: its room comes before its fields.
+/// Counts a block: its room is checked before its fields.
 pub(crate) fn take_block(
     limit: usize,
     before: usize,
     size: usize,
     fields: &FieldList,
     values: &ValueList,
-    out: &mut Unfit,
+    out: &mut FirstMisfit,
 ) -> Option<usize>
     requires near { before ≤ limit }
     requires ready { AreReady fields.now }
@@ -75,13 +75,13 @@ pub(crate) fn take_block(
 
 // ---- data
 
-/// A data part: its length comes before its room.
+/// Counts a data part: its length is checked before its room.
 fn take_part(
     limit: usize,
     before: usize,
     part: &DataField,
     value: &DataVal,
-    out: &mut Unfit,
+    out: &mut FirstMisfit,
 ) -> Option<usize>
     requires near { before ≤ limit }
     ensures told { went result out.new ≡ part_taken limit before part.now value.now }
@@ -94,13 +94,13 @@ fn take_part(
     }
 }
 
-/// The bytes of a data part, and their number.
+/// Counts the bytes of a data part.
 fn take_data(
     limit: usize,
     before: usize,
     part: &DataField,
     bytes: &[u8],
-    out: &mut Unfit,
+    out: &mut FirstMisfit,
 ) -> Option<usize>
     requires near { before ≤ limit }
     ensures told { went result out.new ≡ part_taken limit before part.now (BytesVal bytes.now) }
@@ -115,13 +115,13 @@ fn take_data(
     take_room(limit, before, part.length.prim.width() + count, out)
 }
 
-/// The data parts of a block.
+/// Counts the data parts of a block.
 fn take_parts(
     limit: usize,
     before: usize,
     level: &Level,
     block: &Block,
-    out: &mut Unfit,
+    out: &mut FirstMisfit,
 ) -> Option<usize>
     requires near { before ≤ limit }
     requires few { HasFewParts level.now }
@@ -146,7 +146,7 @@ fn take_parts(
 
 // ---- groups
 
-/// An entry, or a message's root behind its header: its block, and then its groups and data.
+/// Counts an entry, or a message's root after its header: its block, and then its groups and data.
 #[cycle(room)]
 #[tactic(auto, using(crate::proofs::RoomSteps::behind_block))]
 fn take_entry(
@@ -155,7 +155,7 @@ fn take_entry(
     level: &Level,
     entry: &Block,
     before: usize,
-    out: &mut Unfit,
+    out: &mut FirstMisfit,
 ) -> Option<usize>
     requires near { before ≤ walk.now.limit }
     requires schema { IsReadySchema walk.now.layout.now }
@@ -173,7 +173,7 @@ fn take_entry(
     }
 }
 
-/// The groups and then the data of a block.
+/// Counts the groups and then the data of a block.
 #[cycle(room)]
 pub(crate) fn take_tail(
     walk: &Walk<'_>,
@@ -181,7 +181,7 @@ pub(crate) fn take_tail(
     level: &Level,
     block: &Block,
     before: usize,
-    out: &mut Unfit,
+    out: &mut FirstMisfit,
 ) -> Option<usize>
     requires near { before ≤ walk.now.limit }
     requires schema { IsReadySchema walk.now.layout.now }
@@ -198,7 +198,7 @@ pub(crate) fn take_tail(
     }
 }
 
-/// The groups of a block.
+/// Counts the groups of a block.
 #[cycle(room)]
 fn take_groups(
     walk: &Walk<'_>,
@@ -206,7 +206,7 @@ fn take_groups(
     level: &Level,
     block: &Block,
     before: usize,
-    out: &mut Unfit,
+    out: &mut FirstMisfit,
 ) -> Option<usize>
     requires near { before ≤ walk.now.limit }
     requires schema { IsReadySchema walk.now.layout.now }
@@ -233,7 +233,7 @@ fn take_groups(
     Some(at)
 }
 
-/// The number of the level behind a level.
+/// The number of the level that follows a level.
 pub(crate) fn first_child(layout: &Layout, n: usize) -> usize
     requires { n < length (all_nodes layout.now) }
     ensures { result ≡ n + 1 }
@@ -242,7 +242,7 @@ pub(crate) fn first_child(layout: &Layout, n: usize) -> usize
     n + 1
 }
 
-/// A group, whose entries' level has that number: the number of its entries comes before the room for its
+/// Counts a group, whose entries' level has this number: the number of its entries is checked before the room for its
 /// dimension.
 #[cycle(room)]
 fn take_group(
@@ -251,7 +251,7 @@ fn take_group(
     group: &Group,
     value: &GroupVal,
     before: usize,
-    out: &mut Unfit,
+    out: &mut FirstMisfit,
 ) -> Option<usize>
     requires near { before ≤ walk.now.limit }
     requires schema { IsReadySchema walk.now.layout.now }
@@ -274,14 +274,14 @@ fn take_group(
     }
 }
 
-/// The dimension of so many entries of a group, whose entries' level has that number.
+/// Counts the dimension of a group, whose entries' level has this number.
 #[tactic(auto, using(crate::proofs::RoomSteps::dim_there, crate::proofs::RoomSteps::dim_refused, crate::proofs::RoomSteps::dim_taken, crate::proofs::RoomSteps::count_few))]
 fn take_dim(
     walk: &Walk<'_>,
     n: usize,
     count: usize,
     before: usize,
-    out: &mut Unfit,
+    out: &mut FirstMisfit,
 ) -> Option<usize>
     requires near { before ≤ walk.now.limit }
     requires schema { IsReadySchema walk.now.layout.now }
@@ -305,7 +305,7 @@ fn take_dim(
     }
 }
 
-/// The entries of a group, whose level has that number.
+/// Counts the entries of a group, whose level has this number.
 #[cycle(room)]
 fn take_entries(
     walk: &Walk<'_>,
@@ -313,7 +313,7 @@ fn take_entries(
     level: &Level,
     entries: &List<Block>,
     before: usize,
-    out: &mut Unfit,
+    out: &mut FirstMisfit,
 ) -> Option<usize>
     requires near { before ≤ walk.now.limit }
     requires schema { IsReadySchema walk.now.layout.now }

@@ -1,4 +1,4 @@
-// Whether a message has as many values as the schema has parts, and no group or data that is absent.
+// Whether a message has as many values as the schema has parts, and no group or data part that is absent.
 ghost use Rattle.std.specs.Prelude.{◌≡◌, ◌==◌, ◌&&◌, ◌≤◌, ◌+◌, ◌*◌, false, length, Some};
 ghost use Rattle.sbe_types.specs.declared.message.Block.{out-Block};
 ghost use Rattle.sbe_types.specs.declared.schema.Level.{out-Level};
@@ -8,14 +8,14 @@ ghost use Rattle.schema_rules.specs.PartRules.{most_groups};
 ghost use Rattle.schema_facts.specs.CheckedLevels.{groups_deep, HasFewParts};
 ghost use Rattle.tree_codec.specs.Shapes.{groups_unfit, is_gone, told, Throughout};
 
-use crate::unfit::Unfit;
+use crate::first_misfit::FirstMisfit;
 use sbe_types::{Block, DataVal, GroupVal, Level, List, Step};
 use sbe_wire::NCode;
 
-/// Whether a block has the shape of its level, in wire order; if not, `out` tells the first part that hasn't.
+/// Whether a block has the shape of its level, in wire order. If not, `out` receives the first part that hasn't.
 #[cycle(shape)]
 #[tactic(auto, using(crate::proofs::LevelShapes::shape_none, crate::proofs::LevelShapes::shape_all, crate::proofs::LevelShapes::here))]
-pub(crate) fn shape_block(level: &Level, block: &Block, out: &mut Unfit) -> bool
+pub(crate) fn shape_block(level: &Level, block: &Block, out: &mut FirstMisfit) -> bool
     requires few { Throughout HasFewParts level.now }
     requires shallow { groups_deep level.now ≤ most_groups }
     ensures told { told result out.new ≡ block_shape level.now block.now }
@@ -42,9 +42,9 @@ fn same_counts(level: &Level, block: &Block) -> bool
         && level.parts.len() == block.parts.len()
 }
 
-/// The same of the groups of a block.
+/// The same for the groups of a block.
 #[cycle(shape)]
-fn shape_groups(level: &Level, block: &Block, out: &mut Unfit) -> bool
+fn shape_groups(level: &Level, block: &Block, out: &mut FirstMisfit) -> bool
     requires few { Throughout HasFewParts level.now }
     requires shallow { groups_deep level.now ≤ most_groups }
     requires same { length (out-Level level.now).groups ≡ length (out-Block block.now).groups }
@@ -61,9 +61,9 @@ fn shape_groups(level: &Level, block: &Block, out: &mut Unfit) -> bool
     true
 }
 
-/// The same of a group, of which this is the level of its entries.
+/// The same for a group, given the level of its entries.
 #[cycle(shape)]
-fn shape_group(level: &Level, group: &GroupVal, out: &mut Unfit) -> bool
+fn shape_group(level: &Level, group: &GroupVal, out: &mut FirstMisfit) -> bool
     requires few { Throughout HasFewParts level.now }
     requires shallow { groups_deep level.now ≤ most_groups }
     ensures told { told result out.new ≡ entries_shape (λ entry. block_shape level.now entry) (entries_in group.now) }
@@ -78,9 +78,9 @@ fn shape_group(level: &Level, group: &GroupVal, out: &mut Unfit) -> bool
     }
 }
 
-/// The same of entries. Of more than any count can say, none is looked at.
+/// The same for entries. If there are more than any count can state, none is checked.
 #[cycle(shape)]
-fn shape_entries(level: &Level, entries: &List<Block>, out: &mut Unfit) -> bool
+fn shape_entries(level: &Level, entries: &List<Block>, out: &mut FirstMisfit) -> bool
     requires few { Throughout HasFewParts level.now }
     requires shallow { groups_deep level.now ≤ most_groups }
     ensures told { told result out.new ≡ entries_shape (λ entry. block_shape level.now entry) (Some entries.now) }
@@ -98,8 +98,8 @@ fn shape_entries(level: &Level, entries: &List<Block>, out: &mut Unfit) -> bool
     true
 }
 
-/// The same of the data parts of a block.
-fn shape_parts(level: &Level, block: &Block, out: &mut Unfit) -> bool
+/// The same for the data parts of a block.
+fn shape_parts(level: &Level, block: &Block, out: &mut FirstMisfit) -> bool
     requires few { HasFewParts level.now }
     requires groups { length (out-Level level.now).groups ≡ length (out-Block block.now).groups }
     requires parts { length (out-Level level.now).parts ≡ length (out-Block block.now).parts }

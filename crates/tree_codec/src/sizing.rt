@@ -6,28 +6,28 @@ ghost use Rattle.tree_codec.specs.Rooms.{went};
 ghost use Rattle.tree_codec.specs.Sized.{sized, sized_err};
 ghost use Rattle.tree_codec.specs.Shapes.{misfit_of};
 
+use crate::first_misfit::FirstMisfit;
 use crate::rooms::{Walk, take_block, take_tail};
 use crate::shape::shape_block;
-use crate::unfit::Unfit;
 use layout_tables::Layout;
 use sbe_types::{Block, Level, Msg, Path};
 use sbe_wire::NCode;
 
-/// Why a message can't be written: its first misfit. Its shape is judged first, then its parts in wire order.
+/// Why a message can't be written: its first misfit. Its shape is checked first, then its parts in wire order.
 #[derive(Drop)]
 pub struct EncodeErr {
     pub code: NCode,
-    /// The way to the part; empty for the message, and for want of room.
+    /// The path to the part; empty for the message, and for lack of room.
     pub path: Path,
-    /// The number or byte that doesn't fit, a length or a number of entries, or the bytes needed so far.
+    /// The number or byte that doesn't fit, a length or a number of entries, or the number of bytes needed so far.
     pub detail: i128,
 }
 
-/// How many bytes the canonical body of a message has, which may be at most `limit`.
+/// The size in bytes of the canonical body of a message, which may be at most `limit`.
 ///
 /// # Errors
 ///
-/// The first misfit, exactly where the message has no canonical body of at most `limit` bytes.
+/// The first misfit, exactly if the message has no canonical body of at most `limit` bytes.
 #[tactic(auto, using(body_walk::proofs::ReadyTold::ready_schema))]
 pub fn body_size(layout: &Layout, msg: &Msg, limit: usize) -> Result<usize, EncodeErr>
     ensures told { misfit layout.now msg.now limit ≡ refusal_of (sized result) }
@@ -35,7 +35,7 @@ pub fn body_size(layout: &Layout, msg: &Msg, limit: usize) -> Result<usize, Enco
         → root_taken layout.now limit level msg.now.block ≡ Ok n) }
 {
     let _schema = layout.schema();
-    let mut unfit = Unfit::new();
+    let mut unfit = FirstMisfit::new();
     match judge_message(layout, msg, limit, &mut unfit) {
         Some(n) => Ok(n),
         None => Err(refuse(&unfit)),
@@ -43,7 +43,7 @@ pub fn body_size(layout: &Layout, msg: &Msg, limit: usize) -> Result<usize, Enco
 }
 
 /// The misfit that was found.
-fn refuse(unfit: &Unfit) -> EncodeErr
+fn refuse(unfit: &FirstMisfit) -> EncodeErr
     ensures { sized_err result ≡ misfit_of unfit.now }
 {
     EncodeErr {
@@ -53,8 +53,8 @@ fn refuse(unfit: &Unfit) -> EncodeErr
     }
 }
 
-/// How many bytes the body has; if there is none, `out` tells the first misfit.
-fn judge_message(layout: &Layout, msg: &Msg, limit: usize, out: &mut Unfit) -> Option<usize>
+/// The size of the body in bytes. If it returns `None`, `out` receives the first misfit.
+fn judge_message(layout: &Layout, msg: &Msg, limit: usize, out: &mut FirstMisfit) -> Option<usize>
     requires { IsReadySchema layout.now }
     ensures told { misfit layout.now msg.now limit ≡ refusal_of (went result out.new) }
     ensures size { IfSome result (λ n. (level : Level) → slice_get layout.now.messages msg.now.template ≡ Some level
@@ -75,14 +75,14 @@ fn judge_message(layout: &Layout, msg: &Msg, limit: usize, out: &mut Unfit) -> O
     take_root(layout, limit, msg.template, level, &msg.block, out)
 }
 
-/// The header and the root's block, as one step, and then the groups and data.
+/// Counts the header and the root's block as one step, and then the groups and data.
 fn take_root(
     layout: &Layout,
     limit: usize,
     template: usize,
     level: &Level,
     block: &Block,
-    out: &mut Unfit,
+    out: &mut FirstMisfit,
 ) -> Option<usize>
     requires schema { IsReadySchema layout.now }
     requires root { slice_get layout.now.messages template ≡ Some level.now }

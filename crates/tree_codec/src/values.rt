@@ -1,4 +1,4 @@
-// The values that bytes show.
+// The values that bytes encode.
 ghost use Rattle.std.specs.Prelude.{◌≡◌, ◌≤◌, ◌+◌, ◌*◌, pos, false, true, length, take, drop, IfOk};
 ghost use Rattle.sbe_types.specs.declared.kind.Kind.{Leaf as LeafKind, Comp};
 ghost use Rattle.sbe_types.specs.declared.message.Value.TheVariants.{Comp as CompValue, Nums as NumsValue};
@@ -18,7 +18,7 @@ use sbe_types::{
 };
 use std::alloc::Global;
 
-/// The value that the bytes of a kind show. It needs a kind in order, and as many bytes as it is wide.
+/// The value that the bytes of a kind encode. Requires a valid kind, and as many bytes as it is wide.
 #[cycle(kind)]
 pub(crate) fn value_of(
     alloc: Global,
@@ -65,8 +65,8 @@ fn member_values(
     Ok(values)
 }
 
-/// The bytes of a composite's member, which stands behind members that end at `end` and itself ends at
-/// `behind`. A constant has none.
+/// The bytes of a composite's member, which follows members that end at `end` and itself ends at `behind`. A constant
+/// has none.
 fn member_bytes<'a>(member: &Member, end: u32, behind: u32, bytes: &'a [u8]) -> &'a [u8]
     requires behind { behind ≡ end_past end member.now.offset member.now.kind }
     requires within { is_const member.now.kind ≡ false → begins_at end member.now.offset + width member.now.kind ≤ length bytes.now }
@@ -130,7 +130,7 @@ fn number_value(order: Order, leaf: &Leaf, bytes: &[u8]) -> Value
     }
 }
 
-/// The text before the first 00: null where it is empty and the leaf optional.
+/// The text before the first 00, or null if it is empty and the leaf is optional.
 fn text_value(alloc: Global, leaf: &Leaf, bytes: &[u8]) -> Result<Value, NoMem>
     ensures { IfOk result (λ v. v ≡ text_value leaf.now (before_zero bytes.now)) }
 {

@@ -1,4 +1,4 @@
--- Readers with a cursor: the place in the body behind what is read, or the fault by its place there.
+-- Readers with a cursor: the offset in the body after what is read, or the fault with its offset in the body.
 use Rattle.std.specs.Prelude.{ℕ, zero, suc, ◌+◌, ◌-◌, nat_le, if◌then◌else◌, Option, Some, None, Result, Ok, Err, List, [], ◌∷◌, length, take, drop, pos}
 use Rattle.sbe_types.specs.declared.kind.Member.{Member}
 use Rattle.sbe_types.specs.declared.kind.Order.{Order}
@@ -20,63 +20,63 @@ use Rattle.sbe_wire.specs.declared.mode.Mode.{Mode}
 use Rattle.body_walk.specs.declared.found.Found.{Found}
 use Rattle.body_walk.specs.inner.Told.{fault_of}
 
--- the place behind what was read at a place, of so many bytes
+-- the offset after what was read at offset `at` of `len` bytes
 abbrev pub placed : {X : Type 0} → ℕ → ℕ → Result (X × List ℕ) Fault → Result ℕ Fault
 placed len at (Ok r) = Ok (len - length r.1)
 placed len at (Err f) = Err (shifted at f)
 
--- what a reader does at a place of the body
+-- the offset after what a reader reads at an offset of the body
 abbrev pub skim : {X : Type 0} → Reader X → List ℕ → ℕ → Result ℕ Fault
 skim p body at = placed (length body) at (p (drop at body))
 
--- ---- parts, one after another
+-- ---- parts in order
 
 -- the reader of a level's entries
 abbrev pub entries_read : Mode → Level → ℕ → Reader Block
 entries_read mode level k = entry_read (tail_read mode level) mode (out-Level level).fields k
 
--- what a level's block of k bytes does at a place of the body
+-- the offset after a level's block of k bytes
 abbrev pub block_told : Mode → Level → ℕ → List ℕ → ℕ → Result ℕ Fault
 block_told mode level k = skim (block_read mode (out-Level level).fields k)
 
--- what groups that are counted from i do at a place of the body
+-- the offset after groups, counted from i
 abbrev pub groups_told : Mode → ℕ → List Group → List ℕ → ℕ → Result ℕ Fault
 groups_told mode i [] body at = Ok at
 groups_told mode i (g ∷ gs) body at =
     inside (way.Part i) (skim (group_read mode g) body at) >>= (λ next. groups_told mode (i + 1) gs body next)
 
--- n steps, counted from i
+-- the offset after n steps, counted from i
 abbrev pub steps_told : (ℕ → Result ℕ Fault) → ℕ → ℕ → ℕ → Result ℕ Fault
 steps_told f i zero at = Ok at
 steps_told f i (suc n) at = inside (way.Entry i) (f at) >>= (λ next. steps_told f (i + 1) n next)
 
 -- ---- data
 
--- what the range of data says, whose length number is at a place
+-- the offset after data, by the range of its bytes; its length number is at offset `at`
 abbrev pub range_answer : ℕ → Result (ℕ × ℕ) DataErr → Result ℕ Fault
 range_answer at (Ok r) = Ok r.1
 range_answer at (Err (bad.Truncated needed)) = Err (fault_at code.Truncated at (pos needed))
 range_answer at (Err (bad.Length n)) = Err (fault_at code.Length at (pos n))
 
--- what a data part does at a place of the body, by its row
+-- the offset after a data part, by its row
 abbrev pub data_told : Mode → PartRow → List ℕ → ℕ → Result ℕ Fault
 data_told mode row body at = if is_alive mode.version row.since then range_answer at (data_range mode.order row.length body at) else Ok at
 
--- the same of data parts that are counted from i
+-- the same for data parts, counted from i
 abbrev pub parts_told : Mode → ℕ → List PartRow → List ℕ → ℕ → Result ℕ Fault
 parts_told mode i [] body at = Ok at
 parts_told mode i (r ∷ rs) body at = inside (way.Part i) (data_told mode r body at) >>= (λ next. parts_told mode (i + 1) rs body next)
 
 -- ---- dimensions
 
--- the dimension that begins at a place of the body, where the floor of its entries is `least`
+-- the dimension that begins at an offset of the body, where the floor of its entries is `least`
 abbrev pub dim_told : Order → List Member → ℕ → List ℕ → ℕ → Result (ℕ × ℕ) Fault
 dim_told order dim least body at =
     if nat_le (members_end 0 dim) (length body - at)
     then later at (dimension_of order dim least (take (members_end 0 dim) (drop at body)))
     else Err (fault_at code.Truncated at (pos (members_end 0 dim)))
 
--- what a dimension or none says
+-- the result that a dimension or None and the fault slot encode
 abbrev pub dim_went : Option Dim → Found → Result (ℕ × ℕ) Fault
 dim_went (Some d) found = Ok (d.block, d.count)
 dim_went None found = Err (fault_of found)

@@ -1,4 +1,4 @@
--- What a block's bytes at a place of the body show of its fields, by their rows.
+-- What the bytes of a block at an offset of the body show of its fields, by their rows.
 use Rattle.std.specs.Prelude.{◌≡◌, ◌≤◌, ℕ, ◌+◌, ◌-◌, not, ◌&&◌, false, true, if◌then◌else◌, Result, Ok, List, [], ◌∷◌, take, drop, ⊤}
 use Rattle.sbe_types.specs.declared.schema.Field.{Field}
 use Rattle.sbe_types.specs.Places.{width, is_const}
@@ -10,20 +10,20 @@ use Rattle.sbe_wire.specs.declared.mode.Mode.{Mode}
 use Rattle.body_walk.specs.inner.Told.{Piece, piece}
 use Rattle.body_walk.specs.inner.Kinds.{part_told, IsReady}
 
--- what a block shows of field i by its row; of a constant, or one that is not alive, nothing is asked
+-- whether a block shows a value of field i, by its row; a constant, or a field that isn't alive, isn't checked
 abbrev pub field_told : Mode → Piece → ℕ → Field → FieldRow → Result Unit Fault
 field_told mode b i f r =
     if is_alive mode.version r.since && not r.is_constant
     then part_told mode f.kind i (piece (b.at + r.place) (take (r.end - r.place) (drop r.place b.bytes)))
     else Ok tt
 
--- the same of fields that are counted from i, up to the first fault
+-- the same for fields, counted from i, up to the first fault
 abbrev pub fields_told : Mode → Piece → ℕ → List Field → List FieldRow → Result Unit Fault
 fields_told mode b i [] rows = Ok tt
 fields_told mode b i (f ∷ fs) [] = Ok tt
 fields_told mode b i (f ∷ fs) (r ∷ rs) = field_told mode b i f r >>= (λ _. fields_told mode b (i + 1) fs rs)
 
--- the row is the field's, and where the field is alive its bytes lie in a block of n bytes
+-- the row is the field's, and if the field is alive, its bytes are within a block of n bytes
 pub record IsFieldRow (version n : ℕ) (f : Field) (r : FieldRow) : Type 0 where
   pub ready : IsReady f.kind
   pub since : r.since ≡ f.since
@@ -31,7 +31,7 @@ pub record IsFieldRow (version n : ℕ) (f : Field) (r : FieldRow) : Type 0 wher
   pub wide : r.is_constant ≡ false → r.end ≡ r.place + width f.kind
   pub within : is_alive version r.since ≡ true → r.is_constant ≡ false → r.end ≤ n
 
--- each row is that of its field
+-- each row is that of its field, as above
 abbrev pub AreFieldRows : ℕ → ℕ → List Field → List FieldRow → Type 0
 AreFieldRows version n [] [] = ⊤
 AreFieldRows version n [] (r ∷ rs) = ⊥

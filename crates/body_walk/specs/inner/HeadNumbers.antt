@@ -14,11 +14,11 @@ pub record AreNumbersIn (schema : WireSchema) (head : List ℕ) (n : HeadNumbers
   pub schema_is : n.schema ≡ head_number schema (codes "schemaId") head
   pub version_is : n.version ≡ head_number schema (codes "version") head
 
--- the number that two bytes show
+-- the number that two bytes encode
 abbrev pub two_bytes : Order → ℕ → List ℕ → ℕ
 two_bytes order place head = natural (number_of order U16 (take 2 (drop place head)))
 
--- the numbers stand one behind another in two bytes each
+-- the numbers have two bytes each, one after another
 pub record AreTwoBytes (order : Order) (head : List ℕ) (n : HeadNumbers) : Type 0 where
   pub block_is : n.block ≡ two_bytes order 0 head
   pub template_is : n.template ≡ two_bytes order 2 head

@@ -1,4 +1,4 @@
--- What bytes at a place of the body show of a kind, as far as the walk tells it.
+-- What bytes at an offset of the body show of a kind, as far as the walk reports it.
 use Rattle.std.specs.Prelude.{◌≤◌, ◌<◌, ℕ, ◌+◌, ◌*◌, ◌^◌, Bool, true, false, Option, Some, None, Result, Ok, Err, List, [], ◌∷◌, length, take, drop, ℤ, ⊤}
 use Rattle.sbe_types.specs.declared.kind.Order.{Order}
 use Rattle.sbe_types.specs.declared.kind.LeafShape.{LeafShape}
@@ -19,14 +19,14 @@ use Rattle.schema_facts.specs.InOrder.{IsKindInOrder}
 use Rattle.sbe_wire.specs.declared.mode.Mode.{Mode}
 use Rattle.body_walk.specs.inner.Told.{Piece, piece, settled}
 
--- a number that shows a value, or the fault with this code
+-- the result for a number, by whether it shows a value; if not, the fault with this code
 abbrev pub answered : FCode → ℕ → ℤ → Bool → Result Unit Fault
 answered code at n true = Ok tt
 answered code at n false = Err (fault_at code at n)
 
 -- ---- leaves
 
--- the fault of a leaf whose bytes begin at a place of the body
+-- the fault of a leaf whose bytes begin at an offset of the body
 abbrev pub leaf_fault : LeafShape → LeafOf → ℕ → LeafFault → Fault
 leaf_fault Number leaf at f = fault_at code.Range at f.number
 leaf_fault RangedText leaf at f = fault_at code.TextByte (at + f.at) f.number
@@ -34,20 +34,20 @@ leaf_fault EncodedText leaf at f = fault_at code.TextByte (at + f.at) f.number
 leaf_fault Octets leaf at f = record { code = code.Range; path = way.Elem f.at ∷ []; offset = at + prim_width leaf.prim * f.at; detail = f.number }
 leaf_fault Numbers leaf at f = record { code = code.Range; path = way.Elem f.at ∷ []; offset = at + prim_width leaf.prim * f.at; detail = f.number }
 
--- what the first fault of a leaf of this shape says, if there is one
+-- the result of the first fault of a leaf of this shape, if there is one
 abbrev pub shape_answer : LeafShape → LeafOf → ℕ → Option LeafFault → Result Unit Fault
 shape_answer shape leaf at None = Ok tt
 shape_answer shape leaf at (Some f) = Err (leaf_fault shape leaf at f)
 
--- what the first fault of a leaf says, if there is one
+-- the result of the first fault of a leaf, if there is one
 abbrev pub leaf_answer : LeafOf → ℕ → Option LeafFault → Result Unit Fault
 leaf_answer leaf at o = shape_answer leaf.shape leaf at o
 
--- what a leaf's bytes show
+-- whether a leaf's bytes show a value, or the fault
 abbrev pub leaf_told : Order → LeafOf → Piece → Result Unit Fault
 leaf_told order leaf b = settled b.at (leaf_read order leaf.shape leaf b.bytes)
 
--- the fault lies in a leaf whose bytes begin at a place of the body
+-- the fault is one of a leaf whose bytes begin at an offset of the body
 pub record IsLeafFault (leaf : LeafOf) (at : ℕ) (f : LeafFault) : Type 0 where
   pub few : f.at < 2 ^ 32
   pub byte : at + f.at < 2 ^ 64
@@ -55,28 +55,28 @@ pub record IsLeafFault (leaf : LeafOf) (at : ℕ) (f : LeafFault) : Type 0 where
 
 -- ---- kinds
 
--- what the bytes of a kind show
+-- whether the bytes of a kind show a value, or the fault
 abbrev pub kind_told : Mode → Kind → Piece → Result Unit Fault
 kind_told mode kind b = settled b.at (value_read mode.order mode.known kind b.bytes)
 
--- what the bytes of part i of a block or composite show
+-- the same for the bytes of part i of a block or composite
 abbrev pub part_told : Mode → Kind → ℕ → Piece → Result Unit Fault
 part_told mode kind i b = settled b.at (inside (way.Part i) (value_read mode.order mode.known kind b.bytes))
 
--- what a composite's bytes show of member i behind members that end at e
+-- the same for member i of a composite, after members that end at e
 abbrev pub member_told : Mode → Piece → ℕ → ℕ → Member → Result Unit Fault
 member_told mode b e i m =
     part_told mode m.kind i (piece (b.at + begin_of e m.offset) (take (width m.kind) (drop (begin_of e m.offset) b.bytes)))
 
--- the same of members that are counted from i, up to the first fault
+-- the same for members, counted from i, up to the first fault
 abbrev pub members_told : Mode → Piece → ℕ → ℕ → List Member → Result Unit Fault
 members_told mode b e i [] = Ok tt
 members_told mode b e i (m ∷ ms) = member_told mode b e i m >>= (λ _. members_told mode b (end_past e m.offset m.kind) (i + 1) ms)
 
--- ---- what the walk asks of a kind
+-- ---- what the walk requires of a kind
 
 abbrev mutual
-  -- no composite has more members than the limit
+  -- each composite has at most as many members as the limit
   pub HasFewMembers : Kind → Type 0
   HasFewMembers (Leaf l) = ⊤
   HasFewMembers (Enum l names) = ⊤
@@ -84,12 +84,12 @@ abbrev mutual
   HasFewMembers (Const c) = ⊤
   HasFewMembers (Comp' n members) = (length (items-the_row-Member _ members) ≤ MEMBER_LIMIT) × HaveFewMembers members
 
-  -- the same of the kinds of members
+  -- the same for the kinds of members
   pub HaveFewMembers : {n : _} → Row_of-Member n → Type 0
   HaveFewMembers end_of-Member = ⊤
   HaveFewMembers (more_of-Member name offset kind rest) = HasFewMembers kind × HaveFewMembers rest
 
--- the kind is in order, and its composites have few members
+-- the kind is in order, and its composites have at most as many members as the limit
 pub record IsReady (kind : Kind) : Type 0 where
   pub order : IsKindInOrder kind
   pub few : HasFewMembers kind

@@ -8,15 +8,15 @@ use Rattle.flyweight_view.specs.declared.plan.Span.{Span}
 use Rattle.flyweight_view.specs.inner.Planned.{bytes_of, seen_at, IsSeen}
 use Rattle.flyweight_view.specs.Seen.{Seen}
 
--- what the bytes at its place show
+-- what the bytes at its offset show
 abbrev pub seen_of : Inside → Seen
 seen_of v = seen_at v.span v.plan
 
--- the block lies there
+-- the block is there
 abbrev pub IsShown : Inside → Type 0
 IsShown v = IsSeen v.span v.plan
 
--- a block is that of a span, all fields of the row stand in it, and its numbers have the lowest byte first
+-- a block is that of a span, all fields of the row exist in it, and it is little-endian
 pub record IsRowBlock (s : Span) (row : LevelRow) (b : TableBlock) : Type 0 where
   pub order : s.mode.order ≡ Little
   pub newest : row.newest ≤ s.mode.version

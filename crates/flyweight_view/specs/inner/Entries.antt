@@ -9,7 +9,7 @@ use Rattle.flyweight_view.specs.Seen.{Seen}
 abbrev pub entries_of : Inside → List Seen
 entries_of e = entries_seen e.layer e.left
 
--- they lie there
+-- the entries are at their offset of the body
 pub record AreEntries (e : Inside) : Type 0 where
   pub layer : IsLayer e.layer
   pub lie : LieThere e.layer e.left

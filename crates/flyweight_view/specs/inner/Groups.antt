@@ -9,7 +9,7 @@ use Rattle.sbe_wire.specs.Reading.{Reader, then_read, nothing, each_read, group_
 use Rattle.layout_tables.specs.Parts.{group_number}
 use Rattle.group_codec.specs.declared.dim.Dim.{Dim}
 use Rattle.flyweight_view.specs.declared.groups.GroupsView.TheInside.{Inside}
-use Rattle.flyweight_view.specs.declared.ends.Spot.{Spot}
+use Rattle.flyweight_view.specs.declared.ends.GroupCursor.{GroupCursor}
 use Rattle.body_walk.specs.declared.layer.Layer.{Layer}
 use Rattle.sbe_wire.specs.declared.mode.Mode.{Mode}
 use Rattle.body_walk.specs.inner.Layers.{IsLayer}
@@ -21,43 +21,43 @@ use Rattle.flyweight_view.specs.Seen.{groups_seen, Seen}
 abbrev pub groups_by : Mode → Group → Reader GroupVal
 groups_by mode = group_read mode
 
--- what is read of a group at a place of the body, by its dimension; without one it is absent
+-- what is read of a group at an offset of the body, by its dimension; without one it is absent
 abbrev pub group_entered : Layer → ℕ → Option Dim → Result (GroupVal × List ℕ) Fault
 group_entered l at None = Ok (groupval.Absent, drop at l.body.now)
 group_entered l at (Some d) = then_read (blocks_read l d) (λ es. nothing (groupval.Entries es)) (drop d.after l.body.now)
 
 -- the groups of a level from the next one on
-abbrev pub next_groups : Layer → Spot → List Group
+abbrev pub next_groups : Layer → GroupCursor → List Group
 next_groups l s = drop s.next (out-Level l.level.now).groups
 
--- their values, and the bytes behind them
-abbrev pub groups_at : Layer → Spot → Result (List GroupVal × List ℕ) Fault
+-- the values of these groups, and the bytes after them
+abbrev pub groups_at : Layer → GroupCursor → Result (List GroupVal × List ℕ) Fault
 groups_at l s = each_read (groups_by l.mode) 0 (next_groups l s) (drop s.at l.body.now)
 
--- what is seen of them
-abbrev pub groups_left : Layer → Spot → List (Option (List Seen))
+-- what these groups show
+abbrev pub groups_left : Layer → GroupCursor → List (Option (List Seen))
 groups_left l s = groups_seen (next_groups l s) (items_of (groups_at l s))
 
--- the groups from the next one on lie there one behind another
-pub record StandThere (l : Layer) (s : Spot) : Type 0 where
+-- the groups from the next one on are there, one after another
+pub record StandThere (l : Layer) (s : GroupCursor) : Type 0 where
   pub child : s.child ≡ group_number l.layout.now l.number s.next
   pub near : s.at ≤ length l.body.now
   pub reads : IsOk (groups_at l s)
 
 -- the groups that are left; a composite has none
-abbrev pub left_in : Option Layer → Spot → List (Option (List Seen))
+abbrev pub left_in : Option Layer → GroupCursor → List (Option (List Seen))
 left_in None s = []
 left_in (Some l) s = groups_left l s
 
--- they lie there
-abbrev pub AreLeft : Option Layer → Spot → Type 0
+-- the groups that are left are there
+abbrev pub AreLeft : Option Layer → GroupCursor → Type 0
 AreLeft None s = ⊤
 AreLeft (Some l) s = IsLayer l × StandThere l s
 
--- what a view shows
+-- the groups that a view shows
 abbrev pub groups_of_view : Inside → List (Option (List Seen))
-groups_of_view v = left_in v.layer v.spot
+groups_of_view v = left_in v.layer v.cursor
 
--- what a view relies on
+-- what a view of groups relies on
 abbrev pub AreGroups : Inside → Type 0
-AreGroups v = AreLeft v.layer v.spot
+AreGroups v = AreLeft v.layer v.cursor

@@ -11,19 +11,19 @@ use Rattle.body_walk.specs.inner.Cursor.{entries_read}
 use Rattle.flyweight_view.specs.inner.Lefts.{items_of}
 use Rattle.flyweight_view.specs.Seen.{Seen, seen_level}
 
--- the reader of so many entries
+-- the reader of as many entries as the dimension counts
 abbrev pub blocks_read : Layer → Dim → Reader (List Block)
 blocks_read l d = times_read (entries_read l.mode l.level.now d.block) 0 d.count
 
--- the blocks of the entries, and the bytes behind them
+-- the blocks of the entries, and the bytes after them
 abbrev pub blocks_at : Layer → Dim → Result (List Block × List ℕ) Fault
 blocks_at l d = blocks_read l d (drop d.after l.body.now)
 
--- what is seen of the entries
+-- what the entries show
 abbrev pub entries_seen : Layer → Dim → List Seen
 entries_seen l d = map (seen_level l.level.now) (items_of (blocks_at l d))
 
--- the entries lie there one behind another
+-- the entries are there, one after another
 pub record LieThere (l : Layer) (d : Dim) : Type 0 where
   pub reaches : 0 < d.count → floor l.mode.version (out-Level l.level.now).fields ≤ d.block
   pub near : d.after ≤ length l.body.now

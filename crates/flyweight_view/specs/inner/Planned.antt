@@ -1,4 +1,4 @@
--- How the values of a block are read at its place of the body, by what the schema says of the block.
+-- How the values of a block at an offset of the body are read, by what the schema states of the block.
 use Rattle.std.specs.Prelude.{◌≡◌, ◌≤◌, ℕ, ◌+◌, Result, Ok, Err, List, [], length, map, take, drop}
 use Rattle.sbe_types.specs.declared.kind.Kind.{Comp}
 use Rattle.sbe_types.specs.declared.schema.DataField.{DataField}
@@ -41,24 +41,24 @@ abbrev pub tail_of : Mode → Plan → Reader Tail
 tail_of mode (plan.Level layout number level) = tail_read mode level.now
 tail_of mode (plan.Members members) = nothing ([], [])
 
--- the block that is read, and the bytes behind it
+-- the block that is read, and the bytes after it
 abbrev pub block_told : Span → Plan → Result (Block × List ℕ) Fault
 block_told s p = entry_read (tail_of s.mode p) s.mode (fields_of p) s.size (drop s.at s.body.now)
 
--- a block that was read; one without anything where none was
+-- the block that was read; one without parts if none was
 abbrev pub block_of : Result (Block × List ℕ) Fault → Block
 block_of (Ok r) = r.0
 block_of (Err f) = record { fields = []; groups = []; parts = [] }
 
--- what is seen of a block of those parts
+-- what a block of these parts shows
 abbrev pub seen_by : Plan → Block → Seen
 seen_by p block = record { fields = fields_of p; groups = groups_of p; parts = parts_of p; block = block }
 
--- what is seen at a place of the body
+-- what is shown at an offset of the body
 abbrev pub seen_at : Span → Plan → Seen
 seen_at s p = seen_by p (block_of (block_told s p))
 
--- the values of the fields
+-- the values of the fields there
 abbrev pub values_at : Span → Plan → List Value
 values_at s p = (out-Block (block_of (block_told s p))).fields
 
@@ -66,17 +66,17 @@ values_at s p = (out-Block (block_of (block_told s p))).fields
 abbrev pub bytes_of : Span → List ℕ
 bytes_of s = take s.size (drop s.at s.body.now)
 
--- the members of a composite that is in order, which fill the block
+-- the members are those of a composite in order, which fills the block
 pub record IsMembersPlan (members : List Member) (size : ℕ) : Type 0 where
   pub order : IsKindInOrder (Comp members)
   pub wide : size ≡ width (Comp members)
 
--- what is known of a block by the schema
+-- what the schema states of a block
 abbrev pub IsPlan : Plan → ℕ → Type 0
 IsPlan (plan.Level layout number level) size = HasLevel layout.now number level.now
 IsPlan (plan.Members members) size = IsMembersPlan members.now size
 
--- the block lies at its place of the body
+-- the block is at its offset of the body
 pub record IsSeen (s : Span) (p : Plan) : Type 0 where
   pub plan_is : IsPlan p s.size
   pub placed : ArePlaced 0 (fields_of p)

@@ -3,10 +3,10 @@ use Rattle.body_walk.specs.Walked.{message_in, IsWalked}
 use Rattle.flyweight_view.specs.declared.view.MsgView.TheInside.{Inside}
 use Rattle.flyweight_view.specs.Seen.{SeenMessage}
 
--- the message that the body is, with the root of its template
+-- the message that the body is, and the root level of its template
 abbrev pub viewed : Inside → SeenMessage
 viewed v = record { level = v.walked.level.now; message = message_in v.layout.now v.body.now }
 
--- the body is such a message
+-- the body is that message
 abbrev pub IsViewed : Inside → Type 0
 IsViewed v = IsWalked v.layout.now v.body.now v.walked

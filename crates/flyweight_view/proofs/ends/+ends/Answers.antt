@@ -80,36 +80,36 @@ pub group_end-flat_end-requires-clause-flat : goal.group_end-flat_end-requires-c
 group_end-flat_end-requires-clause-flat t c = sym (c.if-is_flat.ensures)
 
 pub groups_end-returns-clause-rest : goal.groups_end-returns-clause-rest
-groups_end-returns-clause-rest t c = c.loop.invariant.rest ∙ none_left c.args.layer.now c.loop.spot (omega (arith, c.loop.invariant.next, c.loop-test.false, c.len-end.ensures))
+groups_end-returns-clause-rest t c = c.loop.invariant.rest ∙ none_left c.args.layer.now c.loop.cursor (omega (arith, c.loop.invariant.next, c.loop-test.false, c.len-end.ensures))
 
 pub step_group-dim_there-dim-requires-clause-layer : goal.step_group-dim_there-dim-requires-clause-layer
 step_group-dim_there-dim-requires-clause-layer t c =
-    let child = child_is c.args.layer.now c.args.spot c.at-group.result.now c.requires.layer c.requires.stand c.at-group.ensures in
+    let child = child_is c.args.layer.now c.args.cursor c.at-group.result.now c.requires.layer c.requires.stand c.at-group.ensures in
     record { ready = c.requires.layer.ready; level_is = child.level_is }
 
 pub step_group-dim_there-dim-requires-clause-dim : goal.step_group-dim_there-dim-requires-clause-dim
-step_group-dim_there-dim-requires-clause-dim t c = (child_is c.args.layer.now c.args.spot c.at-group.result.now c.requires.layer c.requires.stand c.at-group.ensures).dim_is
+step_group-dim_there-dim-requires-clause-dim t c = (child_is c.args.layer.now c.args.cursor c.at-group.result.now c.requires.layer c.requires.stand c.at-group.ensures).dim_is
 
 pub step_group-dim_there-dim-requires-clause-read : goal.step_group-dim_there-dim-requires-clause-read
-step_group-dim_there-dim-requires-clause-read t c = group_read_there c.args.layer.now c.args.spot c.at-group.result.now c.requires.layer c.requires.stand c.at-group.ensures
+step_group-dim_there-dim-requires-clause-read t c = group_read_there c.args.layer.now c.args.cursor c.at-group.result.now c.requires.layer c.requires.stand c.at-group.ensures
 
 pub step_group-group_end-at-requires : goal.step_group-group_end-at-requires
 step_group-group_end-at-requires t c =
     let l = c.args.layer.now in
-    let child = child_is l c.args.spot c.at-group.result.now c.requires.layer c.requires.stand c.at-group.ensures in
-    let from = from l c.args.spot c.at-group.result.now c.requires.layer c.requires.stand c.at-group.ensures in (
+    let child = child_is l c.args.cursor c.at-group.result.now c.requires.layer c.requires.stand c.at-group.ensures in
+    let from = from l c.args.cursor c.at-group.result.now c.requires.layer c.requires.stand c.at-group.ensures in (
       omega (arith, child.within, from.number, level_within l.layout.now l.number l.level.now c.requires.layer.level_is),
       (
         record { ready = c.requires.layer.ready; level_is = child.level_is },
         (
           c.dim_there-dim.ensures.lie,
-          (c.requires.stand.near, entered_there l c.args.spot c.at-group.result.now c.requires.layer c.requires.stand c.at-group.ensures c.dim_there-dim.result c.dim_there-dim.ensures.told),
+          (c.requires.stand.near, entered_there l c.args.cursor c.at-group.result.now c.requires.layer c.requires.stand c.at-group.ensures c.dim_there-dim.result c.dim_there-dim.ensures.told),
         ),
       ),
     )
 
 pub step_group-row-requires : goal.step_group-row-requires
-step_group-row-requires t c = (child_is c.args.layer.now c.args.spot c.at-group.result.now c.requires.layer c.requires.stand c.at-group.ensures).within
+step_group-row-requires t c = (child_is c.args.layer.now c.args.cursor c.at-group.result.now c.requires.layer c.requires.stand c.at-group.ensures).within
 
 pub step_group-overflow_add-result : goal.step_group-overflow_add-result
 step_group-overflow_add-result t c =
@@ -119,21 +119,21 @@ step_group-overflow_add-result t c =
 
 pub step_group-returns-clause-inner : goal.step_group-returns-clause-inner
 step_group-returns-clause-inner t c =
-    let child = child_is c.args.layer.now c.args.spot c.at-group.result.now c.requires.layer c.requires.stand c.at-group.ensures in
+    let child = child_is c.args.layer.now c.args.cursor c.at-group.result.now c.requires.layer c.requires.stand c.at-group.ensures in
     record { ready = c.requires.layer.ready; level_is = child.level_is }
 
 pub step_group-returns-clause-stand : goal.step_group-returns-clause-stand
 step_group-returns-clause-stand t c =
-    let at = next_child c.args.layer.now c.args.spot c.at-group.result.now c.requires.layer c.requires.stand c.at-group.ensures c.row.result.now c.row.ensures in
-    step_stands c.args.layer.now c.args.spot c.at-group.result.now c.requires.layer c.requires.stand c.at-group.ensures c.dim_there-dim.result c.dim_there-dim.ensures.told
+    let at = next_child c.args.layer.now c.args.cursor c.at-group.result.now c.requires.layer c.requires.stand c.at-group.ensures c.row.result.now c.row.ensures in
+    step_stands c.args.layer.now c.args.cursor c.at-group.result.now c.requires.layer c.requires.stand c.at-group.ensures c.dim_there-dim.result c.dim_there-dim.ensures.told
     c.row.result.now.end c.group_end-at.result c.group_end-at.ensures.rest c.group_end-at.ensures.within at
 
 pub step_group-returns-clause-seen : goal.step_group-returns-clause-seen
 step_group-returns-clause-seen t c =
-    step_seen c.args.layer.now c.args.spot c.at-group.result.now c.requires.layer c.requires.stand c.at-group.ensures c.dim_there-dim.result c.dim_there-dim.ensures.told
+    step_seen c.args.layer.now c.args.cursor c.at-group.result.now c.requires.layer c.requires.stand c.at-group.ensures c.dim_there-dim.result c.dim_there-dim.ensures.told
     c.row.result.now.end c.group_end-at.result c.group_end-at.ensures.rest
 
 pub step_group-returns-clause-rest : goal.step_group-returns-clause-rest
 step_group-returns-clause-rest t c =
-    step_rests c.args.layer.now c.args.spot c.at-group.result.now c.requires.layer c.requires.stand c.at-group.ensures c.dim_there-dim.result c.dim_there-dim.ensures.told
+    step_rests c.args.layer.now c.args.cursor c.at-group.result.now c.requires.layer c.requires.stand c.at-group.ensures c.dim_there-dim.result c.dim_there-dim.ensures.told
     c.row.result.now.end c.group_end-at.result c.group_end-at.ensures.rest

@@ -8,9 +8,9 @@ use Rattle.flyweight_view.proofs.ends.+ends.Given as goal
 abbrev pub invariant-groups_end-loop : goal.invariant-groups_end-loop
 invariant-groups_end-loop l =
     record {
-      next : l.spot.next ≡ l.counter;
-      stand : StandThere l.layer l.spot;
-      rest : rest_of (groups_at l.layer l.fn.spot) ≡ rest_of (groups_at l.layer l.spot);
+      next : l.cursor.next ≡ l.counter;
+      stand : StandThere l.layer l.cursor;
+      rest : rest_of (groups_at l.layer l.fn.cursor) ≡ rest_of (groups_at l.layer l.cursor);
     }
 
 abbrev pub invariant-entries_end-loop : goal.invariant-entries_end-loop

@@ -5,7 +5,7 @@ use Rattle.body_walk.proofs.Bodies.{root_level}
 use Rattle.body_walk.proofs.LevelsReady.{level_ready}
 use Rattle.body_walk.proofs.ReadyTold.{ready_schema}
 use Rattle.flyweight_view.specs.Seen.{seen_level}
-use Rattle.flyweight_view.proofs.Roots.{Spot, root_at, read_own}
+use Rattle.flyweight_view.proofs.Roots.{BlockPlace, root_at, read_own}
 use Rattle.flyweight_view.proofs.view.root_of.Goals as goal
 
 pub new-requires : goal.new-requires
@@ -16,7 +16,7 @@ new-requires c =
     let level = w.level.now in
     let is = c.requires in
     let size = is.block_is ∙ ap (λ n. head_number schema (codes "blockLength") (take n body)) (sym c.header_row.ensures.width) in
-    let spot : Spot = record { mode = w.mode; at = c.header_row.result.now.width; size = w.start.block } in
+    let spot : BlockPlace = record { mode = w.mode; at = c.header_row.result.now.width; size = w.start.block } in
     let ready = ready_schema schema c.schema-schema.ensures.order in
     let level_is = root_level schema w.template w.root level is.root_is is.read.level_is in
     let lies = root_at schema level body w.template w.start.version is.read spot is.mode_is c.header_row.ensures.width size in
@@ -37,6 +37,6 @@ returns c =
     let level = w.level.now in
     let is = c.requires in
     let size = is.block_is ∙ ap (λ n. head_number schema (codes "blockLength") (take n body)) (sym c.header_row.ensures.width) in
-    let spot : Spot = record { mode = w.mode; at = c.header_row.result.now.width; size = w.start.block } in
+    let spot : BlockPlace = record { mode = w.mode; at = c.header_row.result.now.width; size = w.start.block } in
     let lies = root_at schema level body w.template w.start.version is.read spot is.mode_is c.header_row.ensures.width size in
     c.new.ensures ∙ ap (seen_level level) (read_own _ _ lies.reads.0 lies.reads.1).1

@@ -1,5 +1,5 @@
 use Rattle.std.proofs.Common.{Some, ap, sym, ◌∙◌, arith}
-use Rattle.tree_codec.specs.declared.unfit.Unfit.{Unfit}
+use Rattle.tree_codec.specs.declared.first_misfit.FirstMisfit.{FirstMisfit}
 use Rattle.tree_codec.specs.Rooms.{went}
 use Rattle.tree_codec.specs.Shapes.{misfit_of}
 use Rattle.tree_codec.proofs.WholeMisfit.{unknown, of_other_version, of_other_shape, of_parts, root_few, root_shallow}
@@ -7,12 +7,12 @@ use Rattle.tree_codec.proofs.sizing.judge_message.Goals as goal
 
 pub returns-then-msg-templates-clause-told : goal.returns-then-msg-templates-clause-told
 returns-then-msg-templates-clause-told c =
-    unknown c.args.layout.now c.args.msg.now c.args.limit (omega (arith, c.if-msg-templates.true, c.templates.ensures)) ∙ sym (ap (λ (u : Unfit). Some (misfit_of u)) c.tell.ensures)
+    unknown c.args.layout.now c.args.msg.now c.args.limit (omega (arith, c.if-msg-templates.true, c.templates.ensures)) ∙ sym (ap (λ (u : FirstMisfit). Some (misfit_of u)) c.tell.ensures)
 
 pub returns-then-msg-version-clause-told : goal.returns-then-msg-version-clause-told
 returns-then-msg-version-clause-told c =
     of_other_version c.args.layout.now c.args.msg.now c.args.limit c.message-level.result.now c.message-level.ensures (λ h. c.if-msg-version.true (h ∙ sym c.version.ensures))
-    ∙ sym (ap (λ (u : Unfit). Some (misfit_of u)) c.tell-then-msg-version.ensures)
+    ∙ sym (ap (λ (u : FirstMisfit). Some (misfit_of u)) c.tell-then-msg-version.ensures)
 
 pub shape_block-requires-clause-few : goal.shape_block-requires-clause-few
 shape_block-requires-clause-few c = root_few c.args.layout.now c.args.msg.now.template c.message-level.result.now c.requires c.message-level.ensures

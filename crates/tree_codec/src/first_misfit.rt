@@ -6,31 +6,31 @@ ghost use Rattle.sbe_wire.specs.Misfit.{inside_step, is_full};
 ghost use Rattle.tree_codec.specs.Shapes.{misfit_of};
 
 use field_bytes::FieldCause;
-use kind_bytes::{Trail, Unfit as ValueUnfit};
+use kind_bytes::{Trail, ValueMisfit};
 use sbe_types::Step;
 use sbe_wire::NCode;
 
-/// The first misfit that was found, lent to the walk over a message so that nothing wide is handed back.
+/// The first misfit found, lent to the walk over a message so that nothing wide is returned.
 #[derive(Drop)]
-pub(crate) struct Unfit {
+pub(crate) struct FirstMisfit {
     pub(crate) code: NCode,
     pub(crate) path: Trail,
     pub(crate) detail: i128,
 }
 
-impl Unfit {
-    /// What stands before a misfit was found.
-    pub(crate) fn new() -> Unfit
+impl FirstMisfit {
+    /// The initial contents, before a misfit was found.
+    pub(crate) fn new() -> FirstMisfit
         ensures { length result.path ≡ 0 }
     {
-        Unfit {
+        FirstMisfit {
             code: NCode::Shape,
             path: Trail::new(),
             detail: 0,
         }
     }
 
-    /// Tells a misfit right here.
+    /// Records a misfit at the current place.
     #[cold]
     pub(crate) fn tell(&mut self, code: NCode, detail: i128)
         ensures { self.new ≡ record { code = code; path = []; detail = detail } }
@@ -40,13 +40,13 @@ impl Unfit {
         self.detail = detail;
     }
 
-    /// Tells the misfit of a value.
+    /// Records the misfit of a value.
     #[cold]
-    pub(crate) fn take(&mut self, value: ValueUnfit)
+    pub(crate) fn take(&mut self, value: ValueMisfit)
         ensures told { misfit_of self.new ≡ unfit_of value }
         ensures path { self.new.path ≡ value.path }
     {
-        let ValueUnfit {
+        let ValueMisfit {
             cause,
             path,
             detail,
@@ -56,7 +56,7 @@ impl Unfit {
         self.detail = detail;
     }
 
-    /// The misfit lies inside a step.
+    /// Records that the misfit is inside this step.
     #[cold]
     pub(crate) fn under(&mut self, step: Step)
         requires { length self.old.path < 20 }
@@ -65,7 +65,7 @@ impl Unfit {
         self.path.push_front(step);
     }
 
-    /// The misfit lies inside a step; want of room is the whole body's.
+    /// Records that the misfit is inside this step, unless it is lack of room, which concerns the whole body.
     #[cold]
     pub(crate) fn inside(&mut self, step: Step)
         requires { length self.old.path < 20 }
@@ -78,7 +78,7 @@ impl Unfit {
     }
 }
 
-/// Whether a code is that of want of room.
+/// Whether a code means lack of room.
 fn is_full(code: NCode) -> bool
     ensures { result ≡ is_full code }
 {
