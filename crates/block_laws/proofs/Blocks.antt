@@ -21,7 +21,7 @@ none_some h = cc
 some_is : {A : Type 0} {x y : A} → ◌≡◌ {A = Option A} (Some x) (Some y) → x ≡ y
 some_is h = cc
 
--- fields that can stand begin one behind another
+-- fields that can stand begin one after another
 pub ascend : (e : ℕ) (fs : List Field) → FieldsStand e fs → Ascend e fs
 ascend e [] h = tt
 ascend e (f ∷ fs) h = (h.0.begins, ascend (end_past e f.offset f.kind) fs h.1)

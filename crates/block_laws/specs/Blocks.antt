@@ -1,4 +1,4 @@
--- A block whose fields are set one after another. Own profile.
+-- A block whose fields are set one by one. Own profile.
 use Rattle.std.specs.Prelude.{◌≡◌, ℕ, ◌-◌, Some, List, ◌++◌, take, replicate}
 use Rattle.sbe_types.specs.declared.kind.Order.{Order}
 use Rattle.sbe_types.specs.declared.schema.Field.{Field}
@@ -6,15 +6,15 @@ use Rattle.sbe_types.specs.declared.message.Value.{Value}
 use Rattle.sbe_types.specs.Places.{fields_end}
 use Rattle.block_laws.specs.Pieces.{laid, AreWide, wires}
 
--- what a block is written of: the byte order, its declared length, its fields, and a value for each
+-- what a block is made of: the byte order, its declared length, its fields, and a value for each
 pub record Task : Type 0 where
   pub order : Order
   pub long : ℕ
   pub fields : List Field
   pub values : List Value
 
--- Behind the front lies a block, of which the first i fields hold the bytes of their values; the others hold something of
--- their width, and all else is 00.
+-- The front is followed by a block in which the first i fields have the bytes of their values, the others have some
+-- bytes of their width, and all other bytes are 00.
 pub record HoldsFirst (task : Task) (i : ℕ) (front bytes : List ℕ) : Type 0 where
   pub pieces : List (List ℕ)
   pub wide : AreWide task.fields pieces

@@ -1,4 +1,4 @@
--- A block as pieces, one at the place of each field. From SBE 1.0, Message structure; the zeros are own profile.
+-- A block as pieces, one at the offset of each field. From SBE 1.0, Message structure; the zeros are own profile.
 use Rattle.std.specs.Prelude.{◌≡◌, ℕ, ◌-◌, if◌then◌else◌, Option, Some, None, List, [], ◌∷◌, ◌++◌, length, replicate, ⊤}
 use Rattle.sbe_types.specs.declared.kind.Order.{Order}
 use Rattle.sbe_types.specs.declared.schema.Field.{Field}
@@ -7,11 +7,11 @@ use Rattle.sbe_types.specs.Places.{is_const, begin_of, end_past, width}
 use Rattle.sbe_types.specs.Wire.{wire_bytes}
 use Rattle.sbe_wire.specs.Placed.{BeginsBehind}
 
--- how many bytes stand before a field, behind fields that end at e
+-- how many bytes precede a field, after fields that end at e
 abbrev pub gap : ℕ → Field → ℕ
 gap e f = if is_const f.kind then 0 else begin_of e f.offset - e
 
--- a piece at the place of each field, behind fields that end at e, and 00 between them
+-- a piece at the offset of each field, after fields that end at e, with 00 in the gaps
 abbrev pub laid : ℕ → List Field → List (List ℕ) → List ℕ
 laid e [] ps = []
 laid e (f ∷ fs) [] = []
@@ -24,20 +24,20 @@ AreWide [] (p ∷ ps) = ⊥
 AreWide (f ∷ fs) [] = ⊥
 AreWide (f ∷ fs) (p ∷ ps) = (length p ≡ width f.kind) × AreWide fs ps
 
--- a piece and others behind it, where all are there
+-- a piece and others after it, if all are there
 abbrev pub joined : Option (List ℕ) → Option (List (List ℕ)) → Option (List (List ℕ))
 joined None ps = None
 joined (Some p) None = None
 joined (Some p) (Some ps) = Some (p ∷ ps)
 
--- the bytes of each field's value, where there are as many values
+-- the bytes of each field's value, if there are as many values as fields
 abbrev pub wires : Order → List Field → List Value → Option (List (List ℕ))
 wires order [] [] = Some []
 wires order [] (v ∷ vs) = None
 wires order (f ∷ fs) [] = None
 wires order (f ∷ fs) (v ∷ vs) = joined (wire_bytes order f.kind v) (wires order fs vs)
 
--- each field that takes bytes begins at the end of those before it, which is e, or behind
+-- each field that takes bytes begins at the end of those before it, which is e, or later
 abbrev pub Ascend : ℕ → List Field → Type 0
 Ascend e [] = ⊤
 Ascend e (f ∷ fs) = BeginsBehind e f.offset f.kind × Ascend (end_past e f.offset f.kind) fs

@@ -15,7 +15,7 @@ pub fn an_empty_block_holds_none()
         → behind front (empty_block task.order task.long task.fields) ≡ Some bytes → HoldsFirst task 0 front bytes }
 {}
 
-/// When the next field is set, the block holds one value more.
+/// When the next field is set, the block holds one more value.
 pub fn a_field_that_is_set_is_held()
     ensures { (task : Task) (front bytes new : List ℕ) (i place : ℕ) (f : Field) (v : Value) → Ascend 0 task.fields → HoldsFirst task i front bytes
         → slice_get task.fields i ≡ Some f → slice_get task.values i ≡ Some v → field_place 0 task.fields i ≡ Some place

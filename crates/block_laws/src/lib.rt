@@ -1,4 +1,4 @@
-//! Laws of the typed writer: a block whose fields were all set is the block of their values.
+//! Laws of the typed writer: a block in which every field was set is the block of their values.
 #![tactic(auto)]
 
 mod laws;

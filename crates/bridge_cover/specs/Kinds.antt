@@ -15,11 +15,11 @@ abbrev mutual
   pub HasKindsInOrder : Level → Type 0
   HasKindsInOrder (Level' name id semantic since block_length fields _ groups parts) = All HasKind fields × GroupsHaveKinds groups
 
-  -- the same of groups
+  -- the same for groups
   pub GroupsHaveKinds : {n : _} → Row_of-Group n → Type 0
   GroupsHaveKinds end_of-Group = ⊤
   GroupsHaveKinds (more_of-Group g rest) = GroupHasKinds g × GroupsHaveKinds rest
 
-  -- the same of a group
+  -- the same for a group
   pub GroupHasKinds : Group → Type 0
   GroupHasKinds (Group' dim level) = HasKindsInOrder level

@@ -1,4 +1,4 @@
--- A level whose parts are looked at one after another.
+-- A level whose parts are checked one by one.
 use Rattle.std.specs.Prelude.{◌≡◌, ℕ, Bool, true, ◌&&◌, List, [], ◌∷◌, ◌++◌, map, reverse, Option, option_map}
 use Rattle.sbe_types.specs.declared.schema.Field.{Field}
 use Rattle.sbe_types.specs.declared.schema.DataField.{DataField}
@@ -14,11 +14,11 @@ use Rattle.bridge_plan.specs.Covers.{is_free, is_delimiter, data_tags, or_path, 
 use Rattle.bridge_cover.specs.declared.level.LevelMap.{LevelMap}
 use Rattle.bridge_cover.specs.Tables.{AreTables}
 
--- the path of names that are listed from the innermost out
+-- a path whose names are listed from the innermost out, in the order from the outermost
 abbrev pub told : Option (List (List ℕ)) → Option (List (List ℕ))
 told path = option_map reverse path
 
--- it is of a structure of a mapping, and the parts of the level so far have these tags
+-- the record is that of a structure of a mapping, and the parts of the level so far have these tags
 pub record Sees (m : Mapping) (s : Structure) (before : List ℕ) (here : LevelMap) : Type 0 where
   pub tables : AreTables m here.tables.now
   pub places : HasPlaces s here.places
@@ -26,17 +26,17 @@ pub record Sees (m : Mapping) (s : Structure) (before : List ℕ) (here : LevelM
 
 -- ---- a group
 
--- the structure of the entries of a template's group; none where its tag is no group's
+-- the structure of the entries of a template's group; empty if its tag isn't a group's
 abbrev pub entries_of : Structure → Level → Structure
 entries_of s level = inner_or (inner_of (out-Level level).id s)
 
--- the group's own place is a group's, whose delimiter is a field of the template's group
+-- the group's tag is free, and its delimiter is a field of the template's group
 abbrev pub is_group : Mapping → Structure → List ℕ → Level → Bool
 is_group m s before level =
     is_free m (before ++ data_tags m.lists) (out-Level level).id && is_delimiter m (out-Level level).fields
     (delimiter_of (entries_of s level))
 
--- it is, and the rows are those of its entries
+-- the group is one, and the rows are those of its entries
 pub record IsEntered (m : Mapping) (s : Structure) (before : List ℕ) (level : Level) (rows : List PlaceRow) : Type 0 where
   pub test : is_group m s before level ≡ true
   pub own : rows ≡ rows_of (entries_of s level)
@@ -48,7 +48,7 @@ abbrev pub groups_left : Mapping → Structure → List ℕ → List Group → L
 groups_left m s before [] parts = data_uncovered m s before parts
 groups_left m s before (g ∷ gs) parts = or_path (group_uncovered m s before g) (groups_left m s (group_tag g ∷ before) gs parts)
 
--- The parts so far are covered: what is left tells what all tell.
+-- The parts so far are covered: the result for what is left is the result for all.
 pub record Passes (m : Mapping) (s : Structure) (here : LevelMap) (left : List ℕ → Option (List (List ℕ)))
     (all : Option (List (List ℕ))) : Type 0 where
   pub earlier : List ℕ
@@ -59,7 +59,7 @@ pub record Passes (m : Mapping) (s : Structure) (here : LevelMap) (left : List �
 abbrev pub ids_of : List Field → List ℕ
 ids_of fields = map (λ (f : Field). f.id) fields
 
--- The same of fields, whose tags those of the groups follow.
+-- The same for fields, whose tags precede those of the groups.
 pub record PassesFields (m : Mapping) (s : Structure) (here : LevelMap) (left all : List Field) : Type 0 where
   pub earlier : List ℕ
   pub sees : Sees m s earlier here

@@ -1,4 +1,4 @@
-//! Laws of coverage, as functions without a body.
+//! Laws of coverage, stated as functions without a body.
 
 ghost use Rattle.std.specs.Prelude.{◌≡◌, ℕ, Some, slice_get};
 ghost use Rattle.sbe_types.specs.declared.schema.Level.{Level};

@@ -21,8 +21,8 @@ use sbe_types::{DataField, Field, Level};
 use std::alloc::Global;
 use structure_rows::PlaceRow;
 
-/// What a mapping has of one level of a template: the places of the level's structure, and the tags of the level's parts
-/// so far.
+/// What a mapping says about one level of a template: the places of the level's structure, and the tags of the level's
+/// parts so far.
 #[derive(Drop)]
 pub struct LevelMap<'a> {
     pub tables: &'a Tables<'a>,
@@ -31,7 +31,7 @@ pub struct LevelMap<'a> {
 }
 
 impl<'a> LevelMap<'a> {
-    /// A level of the structure that these rows are, before its first part.
+    /// A level of the structure with these rows, before its first part.
     pub fn new(
         alloc: Global,
         tables: &'a Tables<'a>,
@@ -48,7 +48,7 @@ impl<'a> LevelMap<'a> {
         })
     }
 
-    /// Goes past a part with a tag.
+    /// Records that a part with this tag was passed.
     pub fn pass(&mut self, tag: u32) -> Result<(), NoMem>
         ensures { OnOk result ((m : Mapping) (s : Structure) (before : List ℕ) → Sees m s before self.old → Sees m s (tag ∷ before) self.new) }
     {
@@ -56,7 +56,7 @@ impl<'a> LevelMap<'a> {
         Ok(())
     }
 
-    /// Whether a field has a field's place of its own, and a rule by the field's datatype.
+    /// Whether a field has a place of its own, which is that of a field, and a rule for its datatype.
     pub fn covers_field(&self, alloc: Global, field: &Field) -> Result<bool, NoMem>
         requires order { HasKind field.now }
         ensures { IfOk result (λ yes. (m : Mapping) (s : Structure) (before : List ℕ) → Sees m s before self.now
@@ -70,7 +70,7 @@ impl<'a> LevelMap<'a> {
         Ok(rule.is_some())
     }
 
-    /// The same of data.
+    /// The same for data.
     pub fn covers_data(&self, part: &DataField) -> bool
         ensures { (m : Mapping) (s : Structure) (before : List ℕ) → Sees m s before self.now
             → result ≡ is_covered m s before part.now.id (data_rule part.now (datatype_of m part.now.id)) }
@@ -82,8 +82,8 @@ impl<'a> LevelMap<'a> {
         data_rule(part, meant).is_some()
     }
 
-    /// The rows of the entries of a template's group, if it has a group's place of its own, whose delimiter is one of the
-    /// group's fields.
+    /// The rows of the entries of a template's group, if the group has a place of its own, which is that of a group
+    /// whose delimiter is one of the template's fields.
     pub fn entries(&self, level: &Level) -> Option<&'a [PlaceRow]>
         ensures { (m : Mapping) (s : Structure) (before : List ℕ) → Sees m s before self.now
             → MatchOption result (is_group m s before level.now ≡ false) (λ rows. IsEntered m s before level.now rows.now) }
@@ -103,7 +103,7 @@ impl<'a> LevelMap<'a> {
         Some(rows)
     }
 
-    /// Whether a tag is a field's, and is free.
+    /// Whether a tag belongs to a field, and is free.
     fn has_place(&self, tag: u32) -> bool
         ensures { (m : Mapping) (s : Structure) (before : List ℕ) → Sees m s before self.now
             → result ≡ (is_plain tag s && is_free m before tag) }
@@ -114,7 +114,7 @@ impl<'a> LevelMap<'a> {
     }
 }
 
-/// Whether a tag is none of the header's or of length fields, and isn't taken.
+/// Whether a tag isn't in the header, isn't that of a length field, and isn't taken.
 fn is_free(tags: &TagTable, tag: u32, taken: bool) -> bool
     ensures { (m : Mapping) (before : List ℕ) → HaveSameTags tags.now m.lists → taken ≡ is_in tag before → result ≡ is_free m before tag }
 {
@@ -129,7 +129,7 @@ fn either(one: bool, other: bool) -> bool
     one || other
 }
 
-/// Whether the entries of these rows begin with one of these fields, which is no header, length or data field.
+/// Whether the entries of these rows begin with one of these fields, which isn't a header, length or data field.
 fn is_delimited(tags: &TagTable, rows: &[PlaceRow], fields: &[Field]) -> bool
     ensures { (m : Mapping) (s : Structure) → HaveSameTags tags.now m.lists → rows.now ≡ rows_of s
         → result ≡ is_delimiter m fields.now (delimiter_of s) }
@@ -144,7 +144,7 @@ fn is_delimited(tags: &TagTable, rows: &[PlaceRow], fields: &[Field]) -> bool
     }
 }
 
-/// The tag of the first row, if it is a field's.
+/// The tag of the first row, if it belongs to a field.
 fn first_field(rows: &[PlaceRow]) -> Option<u32>
     ensures { (s : Structure) → rows.now ≡ rows_of s → result ≡ delimiter_of s }
 {
@@ -157,7 +157,7 @@ fn first_field(rows: &[PlaceRow]) -> Option<u32>
     }
 }
 
-/// Whether one of the fields has a tag.
+/// Whether one of the fields has this tag.
 fn has_field(fields: &[Field], tag: u32) -> bool
     ensures { result ≡ list_any (λ f. f.id == tag) fields.now }
 {

@@ -1,4 +1,4 @@
-//! Which part of a template a mapping doesn't cover first: the walk over the parts of the template's levels.
+//! Finds the first part of a template that a mapping doesn't cover, by a walk over the parts of the template's levels.
 #![tactic(auto)]
 
 pub mod laws;

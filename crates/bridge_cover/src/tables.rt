@@ -10,7 +10,7 @@ use map_members::members_in;
 use map_types::{CodeSetEl, FieldEl, Repository};
 use std::alloc::Global;
 
-/// What the parts of a template are held against: the tags of a mapping's header and of its length fields, and the
+/// What the parts of a template are compared with: the tags of a mapping's header and of its length fields, and the
 /// datatypes of its fields.
 #[derive(Drop)]
 pub struct Tables<'a> {
@@ -19,11 +19,11 @@ pub struct Tables<'a> {
 }
 
 impl<'a> Tables<'a> {
-    /// The tables of a mapping.
+    /// Builds the tables of a mapping.
     ///
     /// # Errors
     ///
-    /// Out of memory.
+    /// If memory runs out.
     pub fn new(alloc: Global, repository: &'a Repository) -> Result<Tables<'a>, NoMem>
         requires { IsKept repository.now }
         ensures { IfOk result (AreTables (mapping_of (members_of repository.now))) }

@@ -16,12 +16,12 @@ use sbe_types::{DataField, Group, Level};
 use std::alloc::Global;
 use structure_rows::PlaceRow;
 
-/// The path of the first part of a template that a mapping doesn't cover, with the outermost name first. The rows are those
-/// of the structure of the template's message.
+/// The path of the first part of a template that a mapping doesn't cover, outermost name first. The rows are those of
+/// the structure of the template's message.
 ///
 /// # Errors
 ///
-/// Out of memory.
+/// If memory runs out.
 pub fn uncovered(
     alloc: Global,
     tables: &Tables,
@@ -38,7 +38,7 @@ pub fn uncovered(
     }
 }
 
-/// The names in the other order.
+/// The names in reverse order.
 fn reversed(alloc: Global, path: List<Text>) -> Result<List<Text>, NoMem>
     ensures { IfOk result (λ names. names ≡ reverse path) }
 {
@@ -50,7 +50,7 @@ fn reversed(alloc: Global, path: List<Text>) -> Result<List<Text>, NoMem>
     Ok(names)
 }
 
-/// The same with the innermost name first, so that each level around the part adds its own at the end.
+/// The same with the innermost name first, so that each level around the part appends its own.
 #[cycle(walk)]
 fn level_uncovered(
     alloc: Global,
@@ -145,7 +145,7 @@ fn data_uncovered(
     Ok(None)
 }
 
-/// The path to a part right here.
+/// The path to a part of this level.
 fn path_to(alloc: Global, name: &[u8]) -> Result<List<Text>, NoMem>
     ensures { IfOk result (λ path. path ≡ name.now ∷ []) }
 {

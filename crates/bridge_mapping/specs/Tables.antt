@@ -1,4 +1,4 @@
--- What the tables of a mapping hold.
+-- What the tables of a mapping contain.
 use Rattle.std.specs.Prelude.{◌≡◌, ℕ, ◌<◌, ◌≤◌, ◌-◌, suc, false, List, [], ◌∷◌, map, length, Option, Some, None, slice_get}
 use Rattle.reference_graph.specs.declared.graph.Node.{Node}
 use Rattle.reference_graph.specs.Graphs.{links_at, Ends}
@@ -20,7 +20,7 @@ use Rattle.bridge_mapping.specs.declared.datatypes.TypedField.{TypedField}
 
 -- ---- datatypes
 
--- a datatype that was looked for
+-- a datatype, if it was found, else an unbridged one
 abbrev pub type_or : Option FieldDatatype → Datatype
 type_or None = unbridged
 type_or (Some d) = datatype_seen d
@@ -41,32 +41,32 @@ pub record AreSets (sets : List CodeSetEl) (names : List (List ℕ)) (types : Li
 
 -- ---- tags
 
--- of the header both have the same tags, in any order, and the same length fields with their data fields
+-- both have the same header tags, in any order, and the same length fields with their data fields
 pub record HaveSameTags (one other : TagLists) : Type 0 where
   pub header : (tag : ℕ) → is_in tag one.header ≡ is_in tag other.header
   pub lengths : one.lengths ≡ other.lengths
 
 -- ---- structures
 
--- the structures of nodes from place i on, by the MsgTypes of their messages
+-- the structures of the nodes from index i on, by the MsgTypes of their messages
 abbrev pub structures_from : List Node → ℕ → List (List ℕ) → List (List ℕ × Structure)
 structures_from graph i [] = []
 structures_from graph i (kind ∷ kinds) = (kind, structure_of graph (links_at graph i)) ∷ structures_from graph (suc i) kinds
 
--- the structures of messages, by all nodes, of which theirs are the last, and their MsgTypes
+-- the structures of messages by their MsgTypes, given all nodes, of which those of the messages are the last
 abbrev pub structures_in : List Node × List (List ℕ) → List (List ℕ × Structure)
 structures_in table = structures_from table.0 (length table.0 - length table.1) table.1
 
--- the references of the node at a place end, and its structure is within the limits
+-- the references of the node with index i end, and its structure is within the limits
 pub record IsWhole (graph : List Node) (i : ℕ) : Type 0 where
   pub within : i < length graph
   pub ends : Ends graph (links_at graph i)
   pub short : (node : Node) → slice_get graph i ≡ Some node → is_over_limit graph node ≡ false
 
--- the same of each node from that place on
+-- the same for each node from index `first` on
 abbrev pub AreWhole : List Node → ℕ → Type 0
 AreWhole graph first = (i : ℕ) → first ≤ i → i < length graph → IsWhole graph i
 
--- the same of the messages among these members, whose nodes are the last
+-- the same for the messages among these members, whose nodes are the last
 abbrev pub HasWhole : List FieldEl → Linked → Type 0
 HasWhole fields m = AreWhole (graph_of fields m) (length (graph_of fields m) - length m.messages)

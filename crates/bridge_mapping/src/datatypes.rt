@@ -19,9 +19,9 @@ use std::marker::Model;
 /// The datatype of a field.
 #[derive(Drop)]
 enum FieldType<'a> {
-    /// That of the code set at a place.
+    /// That of the code set at this index.
     CodeSet(usize),
-    /// One of FIX.
+    /// A datatype of FIX.
     Standard(Datatype<'a>),
 }
 
@@ -32,12 +32,12 @@ struct TypedField<'a> {
     datatype: FieldType<'a>,
 }
 
-/// The datatypes of a mapping's fields, each found by its tag. Fields of one code set have one table of its codes.
+/// The datatypes of a mapping's fields, found by tag. Fields with the same code set share one table of its codes.
 #[derive(Drop)]
 pub struct DatatypeTable<'a> {
     tags: IdTable,
     fields: List<TypedField<'a>>,
-    /// Those of the code sets.
+    /// The datatypes of the code sets.
     types: List<Datatype<'a>>,
     unbridged: Datatype<'a>,
 }
@@ -57,11 +57,11 @@ impl<'a> Model for DatatypeTable<'a> {
 }
 
 impl<'a> DatatypeTable<'a> {
-    /// The table of these fields and code sets.
+    /// Creates the table of these fields and code sets.
     ///
     /// # Errors
     ///
-    /// Out of memory.
+    /// If memory runs out.
     pub fn new(
         alloc: Global,
         code_sets: &[&'a CodeSetEl],
@@ -81,7 +81,7 @@ impl<'a> DatatypeTable<'a> {
         })
     }
 
-    /// The datatype of the fields with a tag; a tag without a field is translated to nothing.
+    /// The datatype of the fields with this tag. A tag without a field isn't translated.
     pub fn datatype(&self, tag: u32) -> &Datatype<'a>
         ensures { datatype_seen result.now ≡ datatype_in tag self.now }
     {
@@ -96,7 +96,7 @@ impl<'a> DatatypeTable<'a> {
     }
 }
 
-/// The datatype of a field, by those of the code sets; `unbridged` where there is none at a place.
+/// The datatype of a field, given those of the code sets; `unbridged` if there is none at the index.
 fn meant<'t, 'a>(
     types: &'t [Datatype<'a>],
     unbridged: &'t Datatype<'a>,
@@ -111,7 +111,7 @@ fn meant<'t, 'a>(
     }
 }
 
-/// The datatype of the code set at a place; `unbridged` where there is none.
+/// The datatype of the code set at an index; `unbridged` if there is none.
 fn type_at<'t, 'a>(
     types: &'t [Datatype<'a>],
     unbridged: &'t Datatype<'a>,
@@ -157,7 +157,7 @@ fn set_type<'a>(alloc: Global, code_set: &'a CodeSetEl) -> Result<Datatype<'a>, 
     Ok(Datatype::CodeSet(table))
 }
 
-/// The tags of fields with their datatypes, by the names of the code sets.
+/// The tags of fields with their datatypes, given the names of the code sets.
 fn typed_fields<'a>(
     alloc: Global,
     names: &NameTable,
@@ -176,7 +176,7 @@ fn typed_fields<'a>(
     Ok(all)
 }
 
-/// The datatype of a field: that of the code set of its type's name, if there is one.
+/// The datatype of a field: that of the code set with the name of its type, if there is one.
 fn type_of<'a>(names: &NameTable, field: &FieldEl) -> FieldType<'a>
     ensures { (sets : List CodeSetEl) (types : List FieldDatatype) → AreSets sets names.now types
         → type_in types result ≡ field_type sets field.now }
@@ -190,7 +190,7 @@ fn type_of<'a>(names: &NameTable, field: &FieldEl) -> FieldType<'a>
     }
 }
 
-/// A datatype of FIX, by its name.
+/// A datatype of FIX, by name.
 fn standard_type<'a>(has_length: bool, name: &[u8]) -> Datatype<'a>
     ensures { datatype_seen result ≡ standard_type has_length name.now }
 {
@@ -227,7 +227,7 @@ fn standard_type<'a>(has_length: bool, name: &[u8]) -> Datatype<'a>
     Datatype::Unbridged
 }
 
-/// Data is translated where a length field precedes it.
+/// Data is translated if it has a length field.
 fn data_type<'a>(has_length: bool) -> Datatype<'a>
     ensures { datatype_seen result ≡ data_type has_length }
 {

@@ -1,5 +1,5 @@
-//! What the bridge takes of a mapping file, as tables: the datatypes of its fields by their tags, the tags of its header
-//! and of its length fields, and the structures of its messages by their MsgTypes.
+//! What the bridge uses of a mapping file, as tables: the datatypes of its fields by tag, the tags of its header and of
+//! its length fields, and the structures of its messages by MsgType.
 #![tactic(auto)]
 
 mod datatypes;

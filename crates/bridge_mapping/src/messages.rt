@@ -19,7 +19,7 @@ use std::alloc::Global;
 use std::marker::Model;
 use structure_rows::{PlaceRow, structure_rows};
 
-/// The structures of a mapping's messages, each found by its MsgType.
+/// The structures of a mapping's messages, found by MsgType.
 #[derive(Drop)]
 pub struct MessageTable {
     kinds: NameTable,
@@ -46,11 +46,11 @@ impl Model for MessageTable {
 }
 
 impl MessageTable {
-    /// The structures of the messages of a mapping.
+    /// Builds the structures of the messages of a mapping.
     ///
     /// # Errors
     ///
-    /// Out of memory.
+    /// If memory runs out.
     pub fn new(alloc: Global, repository: &Repository) -> Result<MessageTable, NoMem>
         requires { IsKept repository.now }
         ensures { IfOk result (λ table. structures_in table ≡ message_structures (members_of repository.now)) }
@@ -69,11 +69,11 @@ impl MessageTable {
         )
     }
 
-    /// The rows of the structure of the message with a MsgType, if there is one.
+    /// The rows of the structure of the message with this MsgType, if there is one.
     ///
     /// # Errors
     ///
-    /// Out of memory.
+    /// If memory runs out.
     pub fn rows(&self, alloc: Global, kind: &[u8]) -> Result<Option<List<PlaceRow>>, NoMem>
         ensures { IfOk result (λ rows. (m : Mapping) → m.messages ≡ structures_in self.now → rows ≡ option_map rows_of (structure_for m kind.now)) }
     {
@@ -87,7 +87,7 @@ impl MessageTable {
     }
 }
 
-/// The same, where all members are gathered.
+/// The same, when all members are gathered.
 fn table_of(
     alloc: Global,
     fields: &[&FieldEl],

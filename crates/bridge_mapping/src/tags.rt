@@ -44,11 +44,11 @@ impl Model for TagTable {
 }
 
 impl TagTable {
-    /// The tags of a mapping.
+    /// Builds the table of a mapping's tags.
     ///
     /// # Errors
     ///
-    /// Out of memory.
+    /// If memory runs out.
     pub fn new(alloc: Global, repository: &Repository) -> Result<TagTable, NoMem>
         requires { IsKept repository.now }
         ensures { IfOk result (λ table. HaveSameTags table (tag_lists_of (members_of repository.now))) }
@@ -97,7 +97,7 @@ impl TagTable {
     }
 }
 
-/// The pairs of length tag and data tag of a mapping.
+/// The pairs of a length tag and a data tag of a mapping.
 fn pairs_of(alloc: Global, repository: &Repository) -> Result<List<Pair>, NoMem>
     ensures { IfOk result (λ pairs. pairs ≡ pairs_of (members_of repository.now)) }
 {

@@ -1,5 +1,5 @@
--- Templates and mappings of larger worked examples, for which it is known from elsewhere which part is the first that isn't
--- covered. Own profile.
+-- Templates and mappings of larger worked examples. Which part is the first that isn't covered is known from elsewhere.
+-- Own profile.
 use Rattle.std.specs.Prelude.{ℕ, None, List, [], ◌∷◌, pos, negsuc, codes}
 use Rattle.sbe_types.specs.declared.kind.Primitive.TheVariants.{Char, I8, U32, U64}
 use Rattle.sbe_types.specs.declared.kind.Presence.TheVariants.{Required, Optional}
@@ -39,7 +39,7 @@ lacking = Level' (codes "Msg15") 1 (codes "D") 0 0 [] (tt ∷ [])
     (field (codes "f9") 101 0 (Leaf (int32 Required)) ∷ field (codes "f10") 102 0 letters ∷ field (codes "f11") 103 0 (Leaf uint8) ∷ []) [] end_of-Group
     (data_of (codes "d12") 104 0 ∷ data_of (codes "d13") 105 5 ∷ []))) end_of-Group) []
 
--- its mapping
+-- the mapping for that template
 abbrev pub lacking_map : Mapping
 lacking_map = record {
   lists = record { header = header; lengths = (5001, 105) ∷ [] };
@@ -61,7 +61,7 @@ bare_data = Level' (codes "Msg16") 255 (codes "U0") 0 16
     (field (codes "f13") 101 0 text4 ∷ field (codes "f14") 102 0 (Leaf (number U32 Optional (pos 4294967295) (pos 0) (pos 4294967294)))
     ∷ field (codes "f15") 103 0 (Leaf uint32) ∷ []) [] end_of-Group []
 
--- its mapping
+-- the mapping for that template
 abbrev pub bare_data_map : Mapping
 bare_data_map = record {
   lists = record { header = header; lengths = [] };
@@ -69,7 +69,7 @@ bare_data_map = record {
   messages = (codes "U0", headed (plain 5001 (plain 102 (plain 101 (plain 103 ended))))) ∷ [];
 }
 
--- ---- a set without a code, which is covered, and then a number of a datatype that isn't bridged
+-- ---- a set without a code, which is covered, and then a number with a datatype that isn't bridged
 
 abbrev one_choice : Kind
 one_choice = Set U32 (choice (codes "C18") 18 ∷ [])
@@ -88,7 +88,7 @@ zoned = Level' (codes "Msg17") 1 (codes "xx") 0 9
     ∷ field (codes "f14") 106 0 choices ∷ []) [] end_of-Group [])) end_of-Group)
     (data_of (codes "d16") 108 0 ∷ [])
 
--- its mapping
+-- the mapping for that template
 abbrev pub zoned_map : Mapping
 zoned_map = record {
   lists = record { header = header; lengths = (5002, 108) ∷ [] };

@@ -1,5 +1,5 @@
--- What the laws of messages ask of a level of a schema, a structure and a mapping: those of a checked schema and of a
--- judged mapping have it.
+-- What the laws of messages require of a level of a schema, a structure and a mapping: those of a checked schema and of
+-- a checked mapping have it.
 use Rattle.std.specs.Prelude.{◌≡◌, ℕ, None, List}
 use Rattle.std.specs.List.{AllByRecursion}
 use Rattle.sbe_types.specs.declared.schema.Field.{Field}
@@ -16,18 +16,18 @@ use Rattle.bridge_plan.specs.StructureFacts.{IsDistinct, EachGroup, HasCount}
 abbrev pub AreOrdered : List Field → Type 0
 AreOrdered fields = AllByRecursion (λ (f : Field). IsKindFrom 1 f.kind) fields
 
--- the same of the fields of a group
+-- the same for the fields of a group
 abbrev pub HasOrderedFields : Structure → Group → Type 0
 HasOrderedFields inner g = AreOrdered (out-Level (level_in g)).fields
 
--- a level of a checked schema, a structure and a mapping
+-- the level is one of a checked schema, and the structure and the mapping are in order
 pub record IsOrdered (m : Mapping) (s : Structure) (level : Level) : Type 0 where
   pub fields : AreOrdered (out-Level level).fields
   pub groups : EachGroup HasOrderedFields s level
   pub mapped : (tag : ℕ) → IsMapped (datatype_of m tag)
 
--- What the laws of messages stand on: a structure without a tag at two places, the root of a message of a checked schema,
--- and that the mapping covers it.
+-- What the laws of messages rely on: no tag occurs twice in the structure, the level is the root of a message of a
+-- checked schema, and the mapping covers it.
 pub record IsCovered (m : Mapping) (s : Structure) (level : Level) : Type 0 where
   pub distinct : IsDistinct s
   pub covered : uncovered m s level ≡ None

@@ -146,15 +146,15 @@ mapping = record {
 abbrev slot : ℕ → Place → Rule → Slot
 slot tag place rule = record { tag = tag; place = place; rule = rule }
 
--- the plans of these messages: of a price
+-- the plan of the message with a price
 abbrev pub px_plan : Plan
 px_plan = single (slot 44 (in_fields 0) (fixed_decimal (int64 Required) (negsuc 1))) done
 
--- of data
+-- the plan of the message with data
 abbrev pub rd_plan : Plan
 rd_plan = single (slot 96 (in_data 0) (raw_data uint16)) done
 
--- of a group
+-- the plan of the message with a group
 abbrev pub gr_plan : Plan
 gr_plan = group (record { tag = 146; level = lines; place = 0; delimiter = 55; count = uint16; owned = 55 ∷ [] })
     (single (slot 55 (in_fields 0) (char_array text8)) done) done
@@ -162,7 +162,7 @@ gr_plan = group (record { tag = 146; level = lines; place = 0; delimiter = 55; c
 abbrev one_or_two : List Code
 one_or_two = record { number = pos 49; text = codes "1" } ∷ record { number = pos 50; text = codes "2" } ∷ []
 
--- of an order
+-- the plan of the order
 abbrev pub order_plan : Plan
 order_plan =
     single (slot 11 (in_fields 0) (char_array text8))
@@ -174,21 +174,21 @@ order_plan =
     (single (slot 40 (in_fields 4) (enum_code char order_types one_or_two))
     (single (slot 44 (in_fields 5) (fixed_decimal (int64 Optional) (negsuc 1))) done))))))
 
--- of a moment and a day
+-- the plan of the message with a moment and a day
 abbrev pub tm_plan : Plan
 tm_plan = single (slot 60 (in_fields 0) (moment from_1970 uint64 (always 3))) (single (slot 75 (in_fields 1) (day_count uint16)) done)
 
 abbrev set_codes : List Code
 set_codes = record { number = pos 0; text = codes "5" } ∷ record { number = pos 3; text = codes "G" } ∷ []
 
--- of a set and a constant
+-- the plan of the message with a set and a constant
 abbrev pub st_plan : Plan
 st_plan = single (slot 18 (in_fields 0) (choice_set choices set_codes))
     (single (slot 77 (in_fields 1) (constant (integer (every_number I64)) (value.Num (pos 7)))) done)
 
 -- ---- messages and fields
 
--- a second and a half after the beginning of 2 January 1970
+-- the values of the moment a second and a half after the beginning of 2 January 1970, and of that day
 abbrev pub one_moment : Tree Value tm_plan
 one_moment = (two_members (value.Num (pos 86401500)) value.Const, (value.Num (pos 1), tt))
 
@@ -200,7 +200,7 @@ one_set n = (value.Set n, (value.Const, tt))
 abbrev pub price : ℤ → Tree Value px_plan
 price mantissa = (decimal_value (value.Num mantissa), tt)
 
--- the value of data with SOH in it
+-- the value of data that contains SOH
 abbrev pub raw_bytes : Tree Value rd_plan
 raw_bytes = (value.Text (97 ∷ 1 ∷ 98 ∷ []), tt)
 
@@ -262,11 +262,11 @@ text8_kind = Leaf text8
 abbrev pub byte_kind : Kind
 byte_kind = Leaf uint8
 
--- the same mapping, with datatypes for tags of the header, of lengths and of counts too
+-- the same mapping, with datatypes also for tags of the header, of lengths and of counts
 abbrev pub wide : Mapping
 wide = record mapping { datatypes = (49, text) ∷ (95, whole_number) ∷ (453, whole_number) ∷ (447, text) ∷ mapping.datatypes }
 
--- a template of fields alone, each with its name and tag
+-- a template with only fields, each with its name and tag, and data
 abbrev pub template : List (List ℕ × ℕ) → List DataField → Level
 template named parts = Level' (codes "T") 7 (codes "D") 0 8 (map (λ (part : List ℕ × ℕ). field part.0 part.1 0 text8_kind) named) [] end_of-Group parts
 
@@ -281,7 +281,7 @@ template_of_group tag named parts =
 abbrev pub x_at : ℕ → List (List ℕ × ℕ)
 x_at tag = (codes "x", tag) ∷ []
 
--- what isn't covered of a template, by a structure
+-- the part of a template that isn't covered, by a structure
 abbrev pub uncovered_in : Structure → Level → Option (List (List ℕ))
 uncovered_in s level = uncovered wide s level
 

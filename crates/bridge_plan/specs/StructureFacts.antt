@@ -1,5 +1,5 @@
--- Which structures and levels give a plan: no tag is twice in the structure, and what holds of each group that a level
--- has of it. Own profile.
+-- Which structures and levels give a plan: no tag occurs twice in the structure, and what holds of each group that a
+-- level has of it. Own profile.
 use Rattle.std.specs.Prelude.{◌≡◌, ℕ, ◌<◌, ◌^◌, true, false, ⊤, pos, Some}
 use Rattle.sbe_types.specs.declared.kind.Leaf.{Leaf as LeafOf}
 use Rattle.sbe_types.specs.declared.schema.Group.{Group}
@@ -10,7 +10,7 @@ use Rattle.bridge_terms.specs.Plans.{Slot, is_in}
 use Rattle.bridge_plan.specs.Mappings.{Mapping, delimiter_of}
 use Rattle.bridge_plan.specs.Covers.{slot_of, group_of, groups_in, level_in, count_leaf}
 
--- no tag is twice in a structure, counts included
+-- no tag occurs twice in a structure, counts included
 abbrev pub IsDistinct : Structure → Type 0
 IsDistinct ended = ⊤
 IsDistinct (plain tag rest) = (is_in tag (structure_tags rest) ≡ false) × IsDistinct rest
@@ -18,7 +18,7 @@ IsDistinct (counted tag inner rest) =
     (is_in tag (structure_tags inner) ≡ false) × (is_in tag (structure_tags rest) ≡ false)
     × ((other : ℕ) → is_in other (structure_tags rest) ≡ true → is_in other (structure_tags inner) ≡ false) × IsDistinct inner × IsDistinct rest
 
--- It holds of each group that the level has of a structure, with the structure of its entries, and so at each depth.
+-- P holds of each group that the level has of a structure, with the structure of its entries, at each depth.
 abbrev pub EachGroup : (Structure → Group → Type 0) → Structure → Level → Type 0
 EachGroup P ended level = ⊤
 EachGroup P (plain tag rest) level = EachGroup P rest level
@@ -30,11 +30,11 @@ EachGroup P (counted tag inner rest) level =
 abbrev pub HasDelimiter : Mapping → Structure → Group → Type 0
 HasDelimiter m inner g = (delimiter : ℕ) → delimiter_of inner ≡ Some delimiter → (slot : Slot) × (slot_of m delimiter (level_in g) ≡ Some slot)
 
--- the same of each group
+-- the same for each group
 abbrev pub IsDelimited : Mapping → Structure → Level → Type 0
 IsDelimited m s level = EachGroup (HasDelimiter m) s level
 
--- the dimension of the group has a count of this type, and no number that it admits has more than 64 digits
+-- the dimension of the group has a count of this type, and each number that it admits has at most 64 digits
 pub record HasCount (inner : Structure) (g : Group) : Type 0 where
   pub leaf : LeafOf
   pub counts : count_leaf g ≡ Some leaf

@@ -24,7 +24,7 @@ pub record Draft : Type 0 where
   pub head : List Field
   pub fields : List Field
 
--- its fields, with the length field of each data field
+-- the fields of a draft, with the length field of each data field
 abbrev pub whole_text : Mapping → Draft → List Field
 whole_text m draft = draft.head ++ with_lengths m.lists draft.fields
 
@@ -36,8 +36,8 @@ IsMessageOf m s level text block = IsBackBlock level (plan_of m s level) (applic
 abbrev pub IsHead : Mapping → List Field → Type 0
 IsHead m head = Each (λ f. is_in f.tag m.lists.header ≡ true) head
 
--- The premises of a translation to a text: the template is covered, the head is one, the values have these fields, the field
--- of each value has the value's item, and each number of entries is admitted.
+-- The premises of a translation to a text: the template is covered, the head consists of header fields, the values have
+-- these fields, the field of each value has the value's item, and each number of entries is admitted.
 pub record IsTranslated (m : Mapping) (s : Structure) (level : Level) (values : Values m s level) (draft : Draft) : Type 0 where
   pub covered : IsCovered m s level
   pub headed : IsHead m draft.head
@@ -45,14 +45,14 @@ pub record IsTranslated (m : Mapping) (s : Structure) (level : Level) (values : 
   pub shown : EachValue IsShown (plan_of m s level) values
   pub counted : AreCounted (plan_of m s level) values
 
--- The premises of the way there and back: besides, what was written of each value can be read, and no value without a field
--- is one that a message must have.
+-- The premises of the translation there and back: in addition, what is written of each value can be read, and no value
+-- without a field is one that a message must have.
 pub record ComesBack (m : Mapping) (s : Structure) (level : Level) (values : Values m s level) (draft : Draft) : Type 0 where
   pub there : IsTranslated m s level values draft
   pub readable : EachValue IsReadable (plan_of m s level) values
 
--- The premises of the same message back: each value fits and is the one of its item that is written, and the block has as many
--- values as its level has parts.
+-- The premises of getting the same message back: each value fits and is in the form that is written for its item, and
+-- the block has as many values as its level has parts.
 pub record IsCanonicalBlock (m : Mapping) (s : Structure) (level : Level) (block : Block) (draft : Draft) : Type 0 where
   pub covered : IsCovered m s level
   pub headed : IsHead m draft.head

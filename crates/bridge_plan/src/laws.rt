@@ -1,5 +1,5 @@
-//! Laws of the definitions, as functions without a body. Those of translations stand on `IsCovered`: a structure in which no
-//! tag is at two places covers the template of a checked schema.
+//! Laws of the definitions, stated as functions without a body. Those of translations depend on `IsCovered`: a
+//! structure in which no tag is at two places covers the template of a checked schema.
 
 ghost use Rattle.std.specs.Prelude.{◌≡◌, ℕ, false, List, None, Some, Ok, Err, ◌⊎◌, slice_get};
 ghost use Rattle.std.specs.List.{AllByRecursion};
@@ -37,14 +37,14 @@ pub fn unambiguous_structures_are_distinct()
         → IsDistinct (structure_of graph links) }
 {}
 
-/// The template of a checked schema that a structure covers has all that the laws of translations stand on.
+/// The template of a checked schema that a structure covers has all that the laws of translations depend on.
 pub fn covered_templates_of_checked_schemas()
     ensures { (schema : WireSchema) (m : Mapping) (s : Structure) (i : ℕ) (level : Level) → IsChecked schema
         → HasShortCodes m → IsDistinct s → slice_get schema.messages i ≡ Some level
         → uncovered m s level ≡ None → IsCovered m s level }
 {}
 
-/// The codes of a mapping are short where those of each of its datatypes are.
+/// The codes of a mapping are short if those of each of its datatypes are.
 pub fn codes_of_short_datatypes_are_short()
     ensures { (m : Mapping) → AllByRecursion (λ (d : ℕ × Datatype). IsMapped d.1) m.datatypes → HasShortCodes m }
 {}
@@ -69,7 +69,7 @@ pub fn at_most_one_message_of_a_text()
         → IsMessageOf m s level text b → IsMessageOf m s level text c → b ≡ c }
 {}
 
-/// A text is translated to a message exactly where it isn't refused.
+/// A text is translated to a message exactly if it isn't refused.
 pub fn a_text_is_translated_or_refused()
     ensures some { (m : Mapping) (s : Structure) (level : Level) (text : List Field) → IsCovered m s level
         → back_refused (plan_of m s level) (application_fields m.lists text) ≡ None
@@ -79,14 +79,14 @@ pub fn a_text_is_translated_or_refused()
         → back_refused (plan_of m s level) (application_fields m.lists text) ≡ None }
 {}
 
-/// A head of header tags and the length fields are passed over.
+/// A head of header tags and the length fields are skipped.
 pub fn heads_and_lengths_are_passed_over()
     ensures { (m : Mapping) (s : Structure) (level : Level) (draft : Draft) (values : Values m s level)
         → IsCovered m s level → IsHead m draft.head → fields_of (plan_of m s level) values ≡ Ok draft.fields
         → application_fields m.lists (whole_text m draft) ≡ draft.fields }
 {}
 
-/// The text of a message has the message's items, those that applications see among them.
+/// The text of a message has the message's items, including those that applications see.
 pub fn texts_have_the_items_of_their_messages()
     ensures application { (m : Mapping) (s : Structure) (level : Level) (values : Values m s level) (draft : Draft)
         → IsTranslated m s level values draft
@@ -111,7 +111,7 @@ pub fn a_message_comes_back_with_its_items()
         × (items_of (plan_of m s level) (values_of (plan_of m s level) b) ≡ items_of (plan_of m s level) values) }
 {}
 
-/// A block that fits its template comes back with its items, wherever it has fields.
+/// A block that fits its template comes back with its items, if it has fields.
 pub fn blocks_that_fit_come_back()
     ensures { (order : Order) (m : Mapping) (s : Structure) (level : Level) (block : Block) (draft : Draft)
         → IsCovered m s level → IsHead m draft.head → BlockFits order level block
@@ -125,8 +125,8 @@ pub fn a_canonical_message_comes_back()
         → IsCanonicalBlock m s level block draft → IsMessageOf m s level (whole_text m draft) block }
 {}
 
-/// The message of a text can be written again, unless a decimal's exponent is outside the range that is shown; its text then
-/// has the same items, and is translated to the same message.
+/// The message of a text can be written again, unless a decimal's exponent is outside the range that is written. Its
+/// text then has the same items, and is translated to the same message.
 pub fn a_text_written_again_has_its_items()
     ensures written { (m : Mapping) (s : Structure) (level : Level) (text : List Field) (b : Block) → IsCovered m s level
         → IsMessageOf m s level text b

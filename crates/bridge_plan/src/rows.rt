@@ -43,7 +43,7 @@ pub fn text_rows()
         ≡ Ok (record { tag = 44; text = codes "123.45"; run = [] } ∷ []) }
 {}
 
-/// A price there and back, and what is wrong with others.
+/// A price in both directions, and what is wrong with others.
 pub fn price_rows()
     ensures there { fields_of px_plan (price (pos 12345)) ≡ Ok (tagged 44 (codes "123.45") ∷ []) }
     ensures back { values_of_fields px_plan (tagged 44 (codes "123.450") ∷ []) ≡ Some (price (pos 12345)) }
@@ -66,20 +66,20 @@ pub fn data_rows()
         ≡ Some raw_bytes }
 {}
 
-/// A group with fewer entries than its count says.
+/// A group with fewer entries than its count states.
 pub fn group_rows()
     ensures { back_refused gr_plan
         (tagged 146 (codes "3") ∷ tagged 55 (codes "A") ∷ tagged 55 (codes "B") ∷ [])
         ≡ Some (misgrouped 146) }
 {}
 
-/// An order with a group there.
+/// An order with a group, written.
 pub fn order_rows()
     ensures there { fields_of order_plan (one_order 49) ≡ Ok order_fields }
     ensures strange { fields_of order_plan (one_order 57) ≡ Err (no_text_at 54 UnknownCode) }
 {}
 
-/// And back.
+/// The same order, read.
 pub fn order_back_rows()
     ensures back { values_of_fields order_plan order_fields ≡ Some (one_order 49) }
     ensures fine { back_refused order_plan order_fields ≡ None }
@@ -100,7 +100,7 @@ pub fn level_rows()
     ensures { IsPlanOf px px_plan }
 {}
 
-/// A moment in milliseconds and a day, there and back, and what is wrong with others.
+/// A moment in milliseconds and a day, in both directions, and what is wrong with others.
 pub fn moment_rows()
     ensures cover { cover_of mapping tm ≡ covered_by tm_plan }
     ensures there { fields_of tm_plan one_moment
@@ -116,7 +116,7 @@ pub fn moment_rows()
         ≡ Some (unreadable 75 Range) }
 {}
 
-/// A set and a constant, there and back, and what is wrong with others.
+/// A set and a constant, in both directions, and what is wrong with others.
 pub fn set_rows()
     ensures cover { cover_of mapping st ≡ covered_by st_plan }
     ensures there { fields_of st_plan (one_set 9)
@@ -169,7 +169,8 @@ pub fn covered_group_rows()
         (template_of_group 453 ((codes "y", 448) ∷ (codes "x", 49) ∷ []) []) ≡ Some (codes "G" ∷ codes "x" ∷ []) }
 {}
 
-/// Delimiters of groups: the first place of the group is a field of the template's group, and no header, length or data field.
+/// Delimiters of groups: the first place of the group is a field of the template's group, and isn't a header, length or
+/// data field.
 pub fn delimiter_rows()
     ensures missing { uncovered_in (counted 453 (plain 448 (plain 55 ended)) ended) (template_of_group 453 (x_at 55) []) ≡ Some (codes "G" ∷ []) }
     ensures header { uncovered_in (counted 453 (plain 49 (plain 448 ended)) ended) (template_of_group 453 ((codes "x", 49) ∷ (codes "y", 448) ∷ []) [])
@@ -184,7 +185,7 @@ pub fn delimiter_rows()
     ensures empty_component { structure_of empty_component_first (To 0 ∷ Field 448 ∷ Field 55 ∷ []) ≡ plain 448 (plain 55 ended) }
 {}
 
-/// Messages of no template and templates of no message.
+/// Messages without a template and templates without a message.
 pub fn message_rows()
     ensures no_type { cover_of mapping lines ≡ no_message }
     ensures no_message { structure_for mapping (codes "ZZ") ≡ None }
@@ -197,8 +198,8 @@ pub fn message_rows()
     ensures unmapped { template_for mapping [] (px ∷ lines ∷ []) ≡ None }
 {}
 
-/// The first part that isn't covered, of larger examples: a field that the mapped group lacks, a number
-/// whose field is data, and a number of a datatype that isn't bridged.
+/// The first part that isn't covered, in larger examples: a field that the mapped group lacks, a number whose field is
+/// data, and a number of a datatype that isn't bridged.
 pub fn larger_cover_rows()
     ensures lacking { cover_of lacking_map lacking ≡ unmapped (codes "g14" ∷ codes "f9" ∷ []) }
     ensures data { cover_of bare_data_map bare_data ≡ unmapped (codes "f14" ∷ []) }
@@ -206,7 +207,7 @@ pub fn larger_cover_rows()
     ensures other { cover_of bare_data_map zoned ≡ no_message }
 {}
 
-/// Groups on the way back, and what is wrong with others.
+/// Groups that are read, and what is wrong with others.
 pub fn group_back_rows()
     ensures fine { back_refused gr_plan (tagged 146 (codes "2") ∷ tagged 55 (codes "A") ∷ tagged 55 (codes "B") ∷ []) ≡ None }
     ensures none { back_refused gr_plan (tagged 146 (codes "0") ∷ []) ≡ None }
@@ -229,14 +230,14 @@ pub fn group_back_rows()
     ensures entry_missing { back_refused party_plan (tagged 453 (codes "1") ∷ tagged 448 (codes "A") ∷ []) ≡ Some (missing 55) }
 {}
 
-/// Header and length fields in a text are passed over, inside a group too.
+/// Header and length fields in a text are skipped, also inside a group.
 pub fn passed_rows()
     ensures header { application_fields lists (tagged 34 (codes "7") ∷ tagged 146 (codes "1") ∷ tagged 52 (codes "x") ∷ tagged 55 (codes "A") ∷ [])
         ≡ tagged 146 (codes "1") ∷ tagged 55 (codes "A") ∷ [] }
     ensures length { application_fields lists (tagged 95 (codes "3") ∷ tagged 96 (codes "a=b") ∷ []) ≡ tagged 96 (codes "a=b") ∷ [] }
 {}
 
-/// The first refused place of a message, with the places before it.
+/// The first refused place of a message, and the places before it.
 pub fn place_rows()
     ensures all { (places_of order_plan (one_order 49)).refused ≡ None }
     ensures side { (places_of order_plan (one_order 57)).refused ≡ Some (record { way = to_part 54 ∷ []; why = no_text UnknownCode }) }

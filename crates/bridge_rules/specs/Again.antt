@@ -16,16 +16,16 @@ use Rattle.bridge_rules.specs.Values.{value_by, missing_by}
 abbrev pub IsOfText : Rule → Value → Type 0
 IsOfText rule v = ((t : List ℕ) × (value_by rule t ≡ Ok v)) ⊎ (missing_by rule ≡ Some v)
 
--- the exponent is outside the range that is shown
+-- the exponent is outside the range in which decimals are shown
 abbrev pub is_far : ℤ → Bool
 is_far e = not (int_le (neg_ℤ MOST_EXPONENT) e && int_le e MOST_EXPONENT)
 
--- the same of an exponent that may be null, which isn't
+-- the same for an exponent that may be null; a null isn't outside
 abbrev pub is_far_or_none : Option ℤ → Bool
 is_far_or_none None = false
 is_far_or_none (Some e) = is_far e
 
--- the value is a decimal whose exponent is outside the range that is shown
+-- the value is a decimal whose exponent is outside the range in which decimals are shown
 abbrev pub has_far_exponent : Rule → Value → Bool
 has_far_exponent (fixed_decimal leaf exponent) v = is_far exponent
 has_far_exponent (floating_decimal leaf exponent) v = is_far_or_none (second_number (members_in v))
@@ -45,15 +45,15 @@ has_far_exponent (month_year leaves) v = false
 has_far_exponent any_text v = false
 has_far_exponent (constant rule own) v = has_far_exponent rule own
 
--- the value has a text or gives no field, unless it is refused for its exponent
+-- the value has a text or gives no field, unless it is refused because of its exponent
 abbrev pub IsAgain : Rule → Value → Type 0
 IsAgain rule v = ((o : Option (List ℕ)) × (text_by rule v ≡ Ok o)) ⊎ (IsTrue (has_far_exponent rule v) × (text_by rule v ≡ Err why.Range))
 
--- the same of each value that a text is read as, or that a part has without a field
+-- the same for each value that a text is read as, or that a part has without a field
 abbrev pub HasText : Rule → Type 0
 HasText rule = (v : Value) → IsOfText rule v → IsAgain rule v
 
--- each number of the type has 64 bits
+-- each number of the type fits 64 bits
 abbrev pub IsWord : LeafOf → Type 0
 IsWord leaf = (n : ℤ) → is_value leaf n ≡ true → FitsSigned w128 n × (unsigned_abs n < 2 ^ 64)
 
@@ -62,7 +62,7 @@ abbrev pub HasUnit : UnitBy → Type 0
 HasUnit (always u) = is_unit u ≡ true
 HasUnit (on_wire leaf) = ⊤
 
--- what a rule needs besides, so that texts are written again: mantissas of 64 bits, and a unit that texts have
+-- what else is required of a rule, so that texts are written again: mantissas of 64 bits, and a unit that texts have
 abbrev pub CanRepeat : Rule → Type 0
 CanRepeat (fixed_decimal leaf exponent) = IsWord leaf
 CanRepeat (floating_decimal leaf exponent) = IsWord leaf

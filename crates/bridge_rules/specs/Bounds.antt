@@ -1,5 +1,5 @@
--- What a rule's types and codes must keep so that the laws hold of it, and what kinds and datatypes give it: those of a checked
--- schema and of a mapping in order. Own profile.
+-- What is required of a rule's types and codes so that the laws hold of it, and which kinds and datatypes have it:
+-- those of a checked schema and of a mapping in order. Own profile.
 use Rattle.std.specs.Prelude.{◌≡◌, ℕ, ◌<◌, ◌^◌, true, ⊤, List, ℤ, pos, unsigned_abs, Some, Ok, FitsSigned, Bool, ◌&&◌, nat_lt, nat_le, length}
 use Rattle.std.specs.List.{list_all}
 use Rattle.std.specs.Int.{w128}
@@ -18,7 +18,7 @@ use Rattle.bridge_rules.specs.Datatypes.{NamedCode, Datatype, code_set}
 use Rattle.bridge_rules.specs.Sound.{IsShown, AreCodes}
 use Rattle.bridge_rules.specs.Again.{CanRepeat}
 
--- no number of the type has more than 39 digits
+-- each number of the type has at most 39 digits
 abbrev pub IsNarrow : LeafOf → Type 0
 IsNarrow leaf = (n : ℤ) → is_value leaf n ≡ true → unsigned_abs n < 10 ^ 39
 
@@ -37,7 +37,7 @@ pub record IsOwnValue (rule : Rule) (own : Value) : Type 0 where
   pub has : item_by rule own ≡ Some item
   pub same : same_value own own ≡ true
 
--- the types of a rule are narrow enough, and its codes short enough, for its laws to hold
+-- the types of a rule are narrow enough, and its codes short enough, that its laws hold
 abbrev pub IsBounded : Rule → Type 0
 IsBounded (integer leaf) = ⊤
 IsBounded (integer_decimal leaf) = IsNarrow leaf
@@ -57,11 +57,11 @@ IsBounded (month_year leaves) = ⊤
 IsBounded any_text = ⊤
 IsBounded (constant rule own) = IsBounded rule × IsOwnValue rule own
 
--- each number of the type is one of an i128, and of at most 38 digits
+-- each number of the type fits an i128, and has at most 38 digits
 abbrev pub IsShort : LeafOf → Type 0
 IsShort leaf = (n : ℤ) → is_value leaf n ≡ true → FitsSigned w128 n × (unsigned_abs n < 10 ^ 38)
 
--- what a rule needs besides, so that the texts it writes of good values have their items
+-- what else is required of a rule, so that the texts it writes of good values have their items
 abbrev pub CanShow : Rule → Type 0
 CanShow (integer leaf) = IsShort leaf
 CanShow (integer_decimal leaf) = IsShort leaf
@@ -81,15 +81,15 @@ CanShow (month_year leaves) = ⊤
 CanShow any_text = ⊤
 CanShow (constant rule own) = IsShown rule own
 
--- a code's text has 1 to 64 bytes
+-- the text of a code has 1 to 64 bytes
 abbrev pub is_short : List ℕ → Bool
 is_short t = nat_lt 0 (length t) && nat_le (length t) MOST_BYTES
 
--- what a mapping keeps of a datatype
+-- what holds of a datatype of a mapping
 abbrev pub IsMapped : Datatype → Type 0
 IsMapped (code_set cs) = list_all (λ (c : NamedCode). is_short c.text) cs ≡ true
 IsMapped d = ⊤
 
--- what the laws of messages ask of a rule
+-- what the laws of messages require of a rule
 abbrev pub IsFit : Rule → Type 0
 IsFit rule = IsBounded rule × CanShow rule × CanRepeat rule

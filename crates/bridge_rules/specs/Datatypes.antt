@@ -1,5 +1,5 @@
--- How the fields of a mapping's datatype are spelled. From FIX Orchestra, datatypes and code sets, and the FIX tag-value
--- encoding, datatypes. Own profile: which datatypes are bridged.
+-- How the fields of a mapping's datatype are spelled. From FIX Orchestra, datatypes and code sets, and the FIX
+-- tag-value encoding, datatypes. Own profile: which datatypes are bridged.
 use Rattle.std.specs.Prelude.{ℕ, List}
 
 -- a code and its name

@@ -1,5 +1,5 @@
--- The values that fit their part and are in the one form of their item: each value that is read of a text is one. They are
--- those of FitsKind that are in this form, by a law. Own profile.
+-- The values that fit their part and are in the one form of their item: each value that is read of a text is one. By a
+-- law, they are those of FitsKind that are in this form.
 use Rattle.std.specs.Prelude.{◌≡◌, ◌⊎◌, ℕ, ◌^◌, Bool, true, false, not, ◌&&◌, ◌==◌, nat_lt, List, length, IsTrue, pos, Result, Ok, Err, ⊤}
 use Rattle.sbe_types.specs.declared.kind.Leaf.{Leaf as LeafOf}
 use Rattle.sbe_types.specs.declared.kind.Named.{Named}
@@ -18,24 +18,24 @@ use Rattle.bridge_rules.specs.Rules.{UnitBy, always, on_wire, Rule, integer, int
 use Rattle.bridge_rules.specs.Members.{decimal_value, two_members, month_value}
 use Rattle.bridge_rules.specs.Values.{TimeCount, floating_value, moment_value, is_month_of, least_or_null, unit_of_null, null_month}
 
--- a value made of what passes the test, or null where the leaf is optional
+-- a value made of something for which the test holds, or null if the leaf is optional
 abbrev pub IsMadeOrNull : {X : Type 0} → LeafOf → (X → Value) → Value → (X → Bool) → Value → Type 0
 IsMadeOrNull {X} leaf make null test v = ((x : X) × (v ≡ make x) × IsTrue (test x)) ⊎ ((v ≡ null) × IsTrue (is_optional leaf.presence))
 
--- nothing is refused
+-- the answer isn't a refusal
 abbrev pub is_ok : Result Unit V → Bool
 is_ok (Ok u) = true
 is_ok (Err v) = false
 
--- the text may be that of the array; an empty one is the null of an optional array
+-- the text may be that of the array; an empty one would be the null of an optional array
 abbrev pub is_text_of : LeafOf → List ℕ → Bool
 is_text_of leaf t = is_ok (text_read leaf t) && not (is_optional leaf.presence && is_empty t)
 
--- a number of 64 bits, each of which is a choice
+-- the number has 64 bits, and each bit that is set is a choice
 abbrev pub is_set_of : List Named → ℕ → Bool
 is_set_of names n = nat_lt n (2 ^ 64) && has_listed_bits names 64 n
 
--- a decimal of the types, in the form whose mantissa isn't a multiple of ten
+-- a decimal of these types, whose mantissa isn't a multiple of ten
 pub record IsFloating (mantissa exponent : LeafOf) (v : Value) : Type 0 where
   pub number : Dec
   pub is : v ≡ floating_value number
@@ -68,8 +68,8 @@ Good (month_year leaves) v = IsMadeOrNull leaves.year month_value (null_month le
 Good any_text v = (t : List ℕ) × (v ≡ value.Text t)
 Good (constant rule own) v = v ≡ value.Const
 
--- the value of a decimal or a moment with its exponent or unit on the wire, or of a month, is in the one form of its item: a
--- mantissa isn't a multiple of ten, a unit is one that texts have, and null has the least members after it
+-- the value of a decimal or a moment with its exponent or unit on the wire, or of a month, is in the one form of its
+-- item: a mantissa isn't a multiple of ten, a unit is one that texts have, and a null is followed by the least members
 abbrev pub IsItemForm : Rule → Value → Type 0
 IsItemForm (floating_decimal leaf exponent) v = (v ≡ two_members value.Null (least_or_null exponent)) ⊎ ((d : Dec) × (v ≡ floating_value d) × IsReduced d)
 IsItemForm (moment from leaf (on_wire unit)) v =

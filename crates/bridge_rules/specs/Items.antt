@@ -15,20 +15,20 @@ use Rattle.bridge_rules.specs.Rules.{UnitBy, always, on_wire, Rule, integer, int
 use Rattle.bridge_rules.specs.Members.{number_in, text_in, mantissa_in, second_number, members_in, bits_in, is_const, month_in, unless_empty, and_then, not_zero, unit_in}
 use Rattle.bridge_rules.specs.Values.{instant_read, is_given}
 
--- What two applications compare, with two things that only a value and its text share: how the number of an enum is spelled, and
--- the unit of a moment that has it on the wire. `application_item` leaves these two out.
+-- What two applications compare, with two things that only a value and its text share: how the number of an enum is
+-- spelled, and the unit of a moment that has it on the wire. `application_item` leaves these two out.
 pub data Item : Type 0 where
   -- a number, in the form whose mantissa isn't a multiple of ten
   number : Dec → Item
   bytes : List ℕ → Item
-  -- an enum's number that has no text is the item of no field
+  -- the number of an enum value without a text; no field has this item
   without_text : ℤ → Item
-  -- an enum's number, with its spelling
+  -- the number of an enum value, and its spelling
   written_number : Dec → List ℕ → Item
-  -- the codes of a set, and the number of the bits that have none
+  -- the codes of a set, and the number of the bits without a code
   choices : (ℕ → Bool) → ℤ → Item
   on_day : ℤ → Item
-  -- nanoseconds, with the unit that is on the wire
+  -- nanoseconds, and the unit, if it is on the wire
   instant : ℤ → Option ℕ → Item
   in_month : MonthYear → Item
 
@@ -43,20 +43,21 @@ application_item (choices codes bits) = choices codes bits
 application_item (on_day n) = on_day n
 application_item (in_month m) = in_month m
 
--- one zero more
+-- one more zero
 abbrev pub with_zero : ℕ × ℕ → ℕ × ℕ
 with_zero r = (r.0, suc r.1)
 
--- a number without the zeros that end it, at most k of them, and how many these are
+-- a number without its trailing zeros, at most k of them, and how many these were
 abbrev pub without_zeros : ℕ → ℕ → ℕ × ℕ
 without_zeros zero n = (n, 0)
 without_zeros (suc k) n = if n % 10 == 0 then with_zero (without_zeros k (n / 10)) else (n, 0)
 
--- a decimal of this sign, size and exponent
+-- a decimal with this sign, size and exponent
 abbrev pub of_size : Bool → ℕ × ℕ → ℤ → Dec
 of_size negative r exponent = dec (signed negative r.0) (exponent +ℤ pos r.1)
 
--- the form of a decimal whose mantissa isn't a multiple of ten; zero has the exponent 0. No mantissa has more than 39 digits
+-- the reduced form of a decimal: its mantissa isn't a multiple of ten, and zero has the exponent 0. A mantissa has at
+-- most 39 digits
 abbrev pub reduced_form : Dec → Dec
 reduced_form d =
     if unsigned_abs d.mantissa == 0 then dec (pos 0) (pos 0) else of_size (is_below_zero d.mantissa) (without_zeros 39 (unsigned_abs d.mantissa)) d.exponent
@@ -74,36 +75,36 @@ code_item n (Err v) = Some (without_text n)
 abbrev pub digit_or_number : Primitive → ℤ → ℤ
 digit_or_number prim n = if is_char prim then n -ℤ pos 48 else n
 
--- the item of an enum's number, with its spelling where it has one
+-- the item of an enum's number, with its spelling if it has one
 abbrev pub written_number_item : ℤ → Result (List ℕ) V → Option Item
 written_number_item n (Ok t) = Some (written_number (reduced_form (dec n (pos 0))) t)
 written_number_item n (Err v) = number_item n (pos 0)
 
--- the item of a decimal with its exponent on the wire; none is a number without one
+-- the item of a decimal with its exponent on the wire; one without an exponent has no text
 abbrev pub floating_item : Option ℤ → ℤ → Option Item
 floating_item None m = Some (without_text m)
 floating_item (Some e) m = number_item m e
 
--- the codes of a set's bits, and the bits without a code
+-- the item of a set: the codes of its bits, and the bits without a code
 abbrev pub set_item : List Code → ℕ → Option Item
 set_item codes n = Some (choices (has_code (codes_in codes n)) (pos n -ℤ pos (bits_of (codes_in codes n))))
 
--- the unit that is on the wire
+-- the unit, if it is on the wire
 abbrev pub unit_on_wire : UnitBy → ℕ → Option ℕ
 unit_on_wire (always u) unit = None
 unit_on_wire (on_wire leaf) unit = Some unit
 
--- the nanoseconds of a time in a unit
+-- the item of a time in a unit: its nanoseconds
 abbrev pub instant_item : UnitBy → Option ℕ → ℤ → Option Item
 instant_item unit None n = Some (without_text n)
 instant_item unit (Some u) n = Some (instant (widened n (9 - u)) (unit_on_wire unit u))
 
--- the item of a month that is there
+-- the item of a month, if it is there
 abbrev pub month_item : ℤ → Option MonthYear → Option Item
 month_item year None = Some (without_text year)
 month_item year (Some m) = Some (in_month m)
 
--- the item of a value, or none where it has none
+-- the item of a value, if it has one
 abbrev pub item_by : Rule → Value → Option Item
 item_by (integer leaf) v = and_then (number_in v) (λ n. number_item n (pos 0))
 item_by (integer_decimal leaf) v = and_then (number_in v) (λ n. number_item n (pos 0))
@@ -141,7 +142,8 @@ abbrev pub item_of_read : {X : Type 0} → (X → Item) → Result X V → Optio
 item_of_read item (Ok x) = Some (item x)
 item_of_read item (Err v) = None
 
--- the item of an instant that a text is read as; a part with its unit on the wire has the unit of the text's digits
+-- the item of the instant that a text is read as; if the part has its unit on the wire, it is the unit of the text's
+-- digits
 abbrev pub instant_item_of : UnitBy → Instant → Item
 instant_item_of unit i = instant i.nanos (unit_on_wire unit (least_unit i.digits))
 
@@ -165,16 +167,16 @@ item_of_text (month_year leaves) t = item_of_read in_month (month_read t)
 item_of_text any_text t = Some (bytes t)
 item_of_text (constant rule own) t = item_of_text rule t
 
--- the item that a field's text spells, or none where it spells none
+-- the item that a field's text spells, if it spells one
 abbrev pub item_in : Rule → List ℕ → Option Item
 item_in rule t = if is_given rule t then item_of_text rule t else None
 
 -- ---- as applications see them
 
--- the item of a value that applications compare, or none where it has none
+-- the item of a value that applications compare, if it has one
 abbrev pub value_item : Rule → Value → Option Item
 value_item rule v = and_then (item_by rule v) (λ item. Some (application_item item))
 
--- the same of a field's text
+-- the same for a field's text
 abbrev pub text_item : Rule → List ℕ → Option Item
 text_item rule t = and_then (item_in rule t) (λ item. Some (application_item item))

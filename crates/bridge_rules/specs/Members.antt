@@ -1,5 +1,5 @@
--- What a value holds, for the rules of the bridge: its number, its text, the numbers of a composite's members, its bits; and
--- the composites that are made of numbers. From SBE 1.0, Field encoding.
+-- What a value contains, for the rules of the bridge: its number, its text, the numbers of a composite's members, its
+-- bits; and the composites that are made of numbers. From SBE 1.0, Field encoding.
 use Rattle.std.specs.Prelude.{ℕ, zero, suc, Bool, true, false, bytes_eq, List, [], ◌∷◌, ℤ, Option, Some, None}
 use Rattle.std.specs.Ordering.{int_eq}
 use Rattle.sbe_types.specs.declared.message.Value.{Value, items-the_row-Value}
@@ -8,7 +8,7 @@ use Rattle.sbe_types.specs.Numbers.{natural}
 use Rattle.fix_dates.specs.declared.month.MonthYear.{MonthYear}
 use Rattle.bridge_rules.specs.Rules.{UnitBy, always, on_wire}
 
--- the number of a value that is one
+-- the number of a value, if it is one
 abbrev pub number_in : Value → Option ℤ
 number_in (value.Num n) = Some n
 number_in (value.Enum n) = Some n
@@ -20,7 +20,7 @@ number_in value.Null = None
 number_in value.Const = None
 number_in value.Absent = None
 
--- the text of a value that is one
+-- the text of a value, if it is one
 abbrev pub text_in : Value → Option (List ℕ)
 text_in (value.Text t) = Some t
 text_in (value.Num n) = None
@@ -66,7 +66,7 @@ members_in value.Null = []
 members_in value.Const = []
 members_in value.Absent = []
 
--- the bits of a set
+-- the bits of a set, if the value is one
 abbrev pub bits_in : Value → Option ℕ
 bits_in (value.Set n) = Some n
 bits_in (value.Text t) = None
@@ -155,7 +155,7 @@ number_or_null (Some n) = value.Num n
 abbrev pub month_value : MonthYear → Value
 month_value m = value.Comp (value.Num m.year ∷ value.Num m.month ∷ number_or_null m.day ∷ number_or_null m.week ∷ [])
 
--- the month of a year and a month that are there
+-- the month, if its year and month are there
 abbrev pub month_of : Option ℤ → Option ℤ → Option ℤ → Option ℤ → Option MonthYear
 month_of None month day week = None
 month_of (Some year) None day week = None
@@ -169,17 +169,17 @@ month_in (y ∷ m ∷ []) = None
 month_in (y ∷ m ∷ d ∷ []) = None
 month_in (y ∷ m ∷ d ∷ w ∷ more) = month_of (number_in y) (number_in m) (number_in d) (number_in w)
 
--- bytes that aren't empty
+-- the bytes, if there are any
 abbrev pub unless_empty : List ℕ → Option (List ℕ)
 unless_empty [] = None
 unless_empty (b ∷ bs) = Some (b ∷ bs)
 
--- what is made of what is there
+-- the result for a value that is there
 abbrev pub and_then : {X Y : Type 0} → Option X → (X → Option Y) → Option Y
 and_then None f = None
 and_then (Some x) f = f x
 
--- the text of a set that isn't empty
+-- the bits of a set that isn't empty
 abbrev pub not_zero : ℕ → Option ℕ
 not_zero zero = None
 not_zero (suc n) = Some (suc n)

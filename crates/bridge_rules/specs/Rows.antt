@@ -27,7 +27,7 @@ use Rattle.bridge_rules.specs.Table.{rule_of}
 abbrev pub is_covered : Kind → Datatype → Bool
 is_covered k d = is_some (rule_of k d)
 
--- what is made of the rule, if there is one
+-- the result for the rule, if there is one
 abbrev pub by_rule : {X : Type 0} → Option Rule → (Rule → X) → Option X
 by_rule None f = None
 by_rule (Some rule) f = Some (f rule)
@@ -133,7 +133,7 @@ code name t = record { name = name; text = t }
 abbrev pub side : Kind
 side = Enum (one_char Required) (named (codes "Buy") 49 ∷ named (codes "Sell") 50 ∷ [])
 
--- the same and Short A
+-- Buy 1 and Short A, as characters
 abbrev pub lettered : Kind
 lettered = Enum (one_char Required) (named (codes "Buy") 49 ∷ named (codes "Short") 65 ∷ [])
 
@@ -141,11 +141,11 @@ lettered = Enum (one_char Required) (named (codes "Buy") 49 ∷ named (codes "Sh
 abbrev pub counted : Kind
 counted = Enum (uint8 Required) (named (codes "Five") 5 ∷ named (codes "Ten") 10 ∷ [])
 
--- yes as 1 and as Y
+-- true as 1 and as Y
 abbrev pub twice_true : Kind
 twice_true = Enum (uint8 Required) (named (codes "One") 1 ∷ named (codes "Yes") 89 ∷ [])
 
--- yes and no as 1 and 0
+-- true and false as 1 and 0
 abbrev pub truth : Kind
 truth = Enum (uint8 Optional) (named (codes "Yes") 1 ∷ named (codes "No") 0 ∷ [])
 

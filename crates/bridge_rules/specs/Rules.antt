@@ -1,5 +1,6 @@
--- The rules by which one part of an SBE message and one tag-value field stand for each other: a row of the table of kinds and
--- datatypes each. From SBE 1.0, Field encoding, and the FIX tag-value encoding, datatypes. Own profile: which go together.
+-- The rules by which one part of an SBE message and one tag-value field stand for each other, each a row of the table
+-- of kinds and datatypes. From SBE 1.0, Field encoding, and the FIX tag-value encoding, datatypes. Own profile: which
+-- go together.
 use Rattle.std.specs.Prelude.{ℕ, Bool, true, false, List, ℤ}
 use Rattle.sbe_types.specs.declared.kind.Leaf.{Leaf as LeafOf}
 use Rattle.sbe_types.specs.declared.message.Value.{Value}
@@ -25,39 +26,39 @@ pub record MonthLeaves : Type 0 where
   pub day : LeafOf
   pub week : LeafOf
 
--- the row of the table of kinds and datatypes that a part goes by
+-- the row of the table of kinds and datatypes that a part follows
 pub data Rule : Type 0 where
-  -- an integer among whole numbers
+  -- an integer as a whole number
   integer : LeafOf → Rule
-  -- an integer among decimals
+  -- an integer as a decimal
   integer_decimal : LeafOf → Rule
   -- a decimal whose exponent is a constant: its mantissa's type, and the exponent
   fixed_decimal : LeafOf → ℤ → Rule
   -- a decimal whose exponent is on the wire: the types of both
   floating_decimal : LeafOf → LeafOf → Rule
-  -- a char among chars and texts
+  -- a char as a char or a text
   single_char : LeafOf → Rule
-  -- a char array among texts
+  -- a char array as a text
   char_array : LeafOf → Rule
-  -- an enum of a code set, or among chars and texts: its valid values, and their codes
+  -- an enum as a code of a code set, or as a char or a text: its valid values, and their codes
   enum_code : LeafOf → List Named → List Code → Rule
-  -- an enum among whole numbers: its valid values, and the digits of each
+  -- an enum as a whole number: its valid values, and the digits of each
   enum_number : LeafOf → List Named → List Code → Rule
-  -- an enum among Booleans
+  -- an enum as a Boolean
   enum_boolean : LeafOf → List Named → Rule
   -- a set: its choices, and their codes
   choice_set : List Named → List Code → Rule
-  -- data, by the type of its length; here its value is the text of its bytes
+  -- data, by the type of its length; its value here is the text of its bytes
   raw_data : LeafOf → Rule
-  -- data among texts
+  -- data as a text
   text_data : LeafOf → Rule
-  -- an integer among days
+  -- an integer as a day
   day_count : LeafOf → Rule
-  -- a time and its unit among moments
+  -- a time and its unit as a moment
   moment : From → LeafOf → UnitBy → Rule
   -- a year, a month, and a day or a week of it
   month_year : MonthLeaves → Rule
-  -- any text at all
+  -- any text
   any_text : Rule
   -- a constant, by the rule of the kind of its value, and that value
   constant : Rule → Value → Rule

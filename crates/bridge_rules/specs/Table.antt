@@ -25,12 +25,12 @@ use Rattle.bridge_rules.specs.Rules.{From, from_1970, from_midnight, always, on_
 use Rattle.bridge_rules.specs.Members.{and_then}
 use Rattle.bridge_rules.specs.Datatypes.{NamedCode, Datatype, whole_number, decimal_number, character, text, boolean, timestamp, time_of_day, calendar_day, month_of_year, raw, code_set, character_set}
 
--- a rule under a condition
+-- the rule, if the condition holds
 abbrev pub rule_if : Bool → Rule → Option Rule
 rule_if true rule = Some rule
 rule_if false rule = None
 
--- one number, and no text or array
+-- the shape is one number, not a text or array
 abbrev pub is_number : LeafShape → Bool
 is_number Number = true
 is_number RangedText = false
@@ -54,7 +54,7 @@ is_integer leaf = is_number leaf.shape && not (is_char leaf.prim)
 abbrev pub is_char_leaf : LeafOf → Bool
 is_char_leaf leaf = is_number leaf.shape && is_char leaf.prim
 
--- a character or an array of them, among texts
+-- the rule of a character or an array of them, as a text
 abbrev pub text_rule : LeafOf → Option Rule
 text_rule leaf = if is_char_leaf leaf then Some (single_char leaf) else rule_if (is_array leaf.shape) (char_array leaf)
 
@@ -71,7 +71,7 @@ leaf_rule leaf other = None
 abbrev pub number_text : Primitive → ℤ → List ℕ
 number_text prim n = if is_char prim then natural n ∷ [] else signed_decimal n
 
--- the text of the code of this name
+-- the text of the code with this name
 abbrev pub named_text : List NamedCode → List ℕ → Option (List ℕ)
 named_text [] name = None
 named_text (c ∷ cs) name = if bytes_eq c.name name then Some c.text else named_text cs name
@@ -80,7 +80,7 @@ named_text (c ∷ cs) name = if bytes_eq c.name name then Some c.text else named
 abbrev pub code_with : Named → List ℕ → Code
 code_with name t = record { number = name.number; text = t }
 
--- the code of a valid value: the one of its name, or else the one that its number spells
+-- the code of a valid value: the one with its name, or else the one whose text is that of its number
 abbrev pub code_of : Primitive → List NamedCode → Named → Option (List ℕ) → List Code
 code_of prim codes name (Some t) = code_with name t ∷ []
 code_of prim codes name None =
@@ -91,11 +91,11 @@ abbrev pub codes_of : Primitive → List NamedCode → List Named → List Code
 codes_of prim codes [] = []
 codes_of prim codes (name ∷ names) = code_of prim codes name (named_text codes name.name) ++ codes_of prim codes names
 
--- each valid value by its number's text
+-- each valid value with the text of its number
 abbrev pub number_codes : Primitive → List Named → List Code
 number_codes prim names = map (λ name. code_with name (number_text prim name.number)) names
 
--- the code of a set's choice, which goes by its name alone
+-- the code of a set's choice, which is found only by its name
 abbrev pub choice_code : Named → Option (List ℕ) → List Code
 choice_code name None = []
 choice_code name (Some t) = code_with name t ∷ []
@@ -109,11 +109,11 @@ choice_codes codes (name ∷ names) = choice_code name (named_text codes name.na
 abbrev pub is_digit : Named → Bool
 is_digit name = int_le (pos 48) name.number && int_le name.number (pos 57)
 
--- an enum by the codes of its valid values, where no two have one text
+-- the rule of an enum by the codes of its valid values, if no two have the same text
 abbrev pub by_codes : (LeafOf → List Named → List Code → Rule) → LeafOf → List Named → List Code → Option Rule
 by_codes rule leaf names codes = rule_if (is_apart same_text codes) (rule leaf names codes)
 
--- the rule of an enum: by the codes of a code set, by the values themselves, or as yes and no
+-- the rule of an enum: by the codes of a code set, by the values themselves, or as a Boolean
 abbrev pub enum_rule : LeafOf → List Named → Datatype → Option Rule
 enum_rule leaf names (code_set codes) = by_codes enum_code leaf names (codes_of leaf.prim codes names)
 enum_rule leaf names character = by_codes enum_code leaf names (number_codes leaf.prim names)
@@ -122,26 +122,26 @@ enum_rule leaf names whole_number = if not (is_char leaf.prim) || list_all is_di
 enum_rule leaf names boolean = rule_if (is_apart same_truth names) (enum_boolean leaf names)
 enum_rule leaf names other = None
 
--- the rule of a set: each code is one character, and no two choices have one
+-- the rule of a set: each code is one character, and no two choices have the same one
 abbrev pub set_rule : List Named → Datatype → Option Rule
 set_rule names (character_set codes) =
     rule_if (list_all (λ (c : NamedCode). length c.text == 1) codes && is_apart same_text (choice_codes codes names)) (choice_set names (choice_codes codes names))
 set_rule names other = None
 
--- the composite has these members and no others
+-- the composite has exactly these members
 abbrev pub are_named : List (List ℕ) → List Member → Bool
 are_named [] [] = true
 are_named [] (m ∷ ms) = false
 are_named (name ∷ names) [] = false
 are_named (name ∷ names) (m ∷ ms) = bytes_eq m.name name && are_named names ms
 
--- the number of a constant that has one
+-- the number of a constant, if it has one
 abbrev pub const_number : ConstValue → Option ℤ
 const_number (const.Num n) = Some n
 const_number (const.Text t) = None
 const_number (const.Code prim name) = Some name.number
 
--- a mantissa and an exponent
+-- the rule of a mantissa and an exponent
 abbrev pub decimal_by : List Kind → Option Rule
 decimal_by (Leaf m ∷ Const (const.Num e) ∷ []) = rule_if (is_integer m) (fixed_decimal m e)
 decimal_by (Leaf m ∷ Leaf e ∷ []) = rule_if (is_integer m && is_integer e) (floating_decimal m e)
@@ -163,12 +163,12 @@ is_byte_type U64 = false
 abbrev pub is_single_byte : LeafOf → Bool
 is_single_byte leaf = is_number leaf.shape && is_byte_type leaf.prim
 
--- a time in a constant unit
+-- the rule of a time in a constant unit
 abbrev pub constant_unit : From → LeafOf → Option ℤ → Option Rule
 constant_unit from time None = None
 constant_unit from time (Some u) = rule_if (is_integer time && (int_le (pos 0) u && is_unit (natural u))) (moment from time (always (natural u)))
 
--- a time and a unit
+-- the rule of a time and its unit
 abbrev pub moment_by : From → List Kind → Option Rule
 moment_by from (Leaf time ∷ Const c ∷ []) = constant_unit from time (const_number c)
 moment_by from (Leaf time ∷ Leaf unit ∷ []) = rule_if (is_integer time && (is_single_byte unit && not (is_optional unit.presence))) (moment from time (on_wire unit))
@@ -178,7 +178,7 @@ moment_by from kinds = None
 abbrev pub is_optional_byte : LeafOf → Bool
 is_optional_byte leaf = is_single_byte leaf && is_optional leaf.presence
 
--- a year, a month, a day and a week
+-- the rule of a year, a month, a day and a week
 abbrev pub month_by : List Kind → Option Rule
 month_by (Leaf y ∷ Leaf m ∷ Leaf d ∷ Leaf w ∷ []) =
     rule_if (is_integer y && (is_integer m && (is_optional_byte d && is_optional_byte w))) (month_year (record { year = y; month = m; day = d; week = w }))
@@ -188,7 +188,7 @@ month_by kinds = None
 abbrev pub kinds_of : List Member → List Kind
 kinds_of ms = map (λ (m : Member). m.kind) ms
 
--- the rule of a composite: a decimal, a moment, a time of day or a month, by its members' names
+-- the rule of a composite: a decimal, a moment, a time of day or a month, by the names of its members
 abbrev pub composite_rule : List Member → Datatype → Option Rule
 composite_rule ms decimal_number = if are_named (codes "mantissa" ∷ codes "exponent" ∷ []) ms then decimal_by (kinds_of ms) else None
 composite_rule ms timestamp = if are_named (codes "time" ∷ codes "unit" ∷ []) ms then moment_by from_1970 (kinds_of ms) else None
@@ -200,7 +200,7 @@ composite_rule ms other = None
 abbrev pub every_number : Primitive → LeafOf
 every_number prim = record { prim = prim; length = 1; shape = Number; presence = Required; null = pos 0; low = negsuc 170141183460469231731687303715884105727; high = pos 170141183460469231731687303715884105727 }
 
--- a type that admits every byte, and this one
+-- a type that admits every byte, and the byte b
 abbrev pub every_byte : ℕ → LeafOf
 every_byte b = record { prim = Char; length = 1; shape = Number; presence = Required; null = pos 0; low = pos 0; high = pos (255 + b) }
 

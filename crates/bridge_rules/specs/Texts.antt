@@ -1,5 +1,5 @@
--- The text of the field that a value gives, or why it has none. From the FIX tag-value encoding, datatypes. Own profile:
--- nothing is rounded, and what couldn't be read back isn't written.
+-- The text of the field that a value gives, or why it doesn't have one. From the FIX tag-value encoding, datatypes. Own
+-- profile: nothing is rounded, and what can't be read back isn't written.
 use Rattle.std.specs.Prelude.{ℕ, ◌&&◌, if◌then◌else◌, List, ℤ, Option, Some, None, Result, Ok, Err}
 use Rattle.sbe_types.specs.declared.kind.Leaf.{Leaf as LeafOf}
 use Rattle.sbe_types.specs.declared.message.Value.{Value}
@@ -17,53 +17,53 @@ use Rattle.date_answers.specs.Answers.{day_shown, time_shown, stamp_shown, month
 use Rattle.bridge_rules.specs.Rules.{From, from_1970, from_midnight, Rule, integer, integer_decimal, fixed_decimal, floating_decimal, single_char, char_array, enum_code, enum_number, enum_boolean, choice_set, raw_data, text_data, day_count, moment, month_year, any_text, constant}
 use Rattle.bridge_rules.specs.Members.{number_in, text_in, mantissa_in, second_number, members_in, bits_in, is_const, month_in, unless_empty, and_then, not_zero, unit_in}
 
--- the text of a field
+-- an answer with a text as one with the text of a field
 abbrev pub field_text : Result (List ℕ) V → Result (Option (List ℕ)) V
 field_text (Ok t) = Ok (Some t)
 field_text (Err v) = Err v
 
--- what is shown of a value that gives a field
+-- the text of a value, if it gives a field
 abbrev pub text_if_any : {X : Type 0} → Option X → (X → Result (List ℕ) V) → Result (Option (List ℕ)) V
 text_if_any None text = Ok None
 text_if_any (Some x) text = field_text (text x)
 
--- a text, where it may be written
+-- a text, if it may be written
 abbrev pub judged_text : List ℕ → Result Unit V → Result (List ℕ) V
 judged_text t (Ok u) = Ok t
 judged_text t (Err v) = Err v
 
--- a text that reads as it should
+-- a text, if it can be read
 abbrev pub if_read : {X : Type 0} → List ℕ → Result X V → Result (List ℕ) V
 if_read t (Ok x) = Ok t
 if_read t (Err v) = Err why.Range
 
--- a text that was shown, where it can be read back
+-- a text that was shown, if it can be read back
 abbrev pub if_back : {X : Type 0} → (List ℕ → Result X V) → Result (List ℕ) V → Result (List ℕ) V
 if_back back (Ok t) = if_read t (back t)
 if_back back (Err v) = Err v
 
--- the numbers of a decimal, where each is one of its type
+-- the numbers of a decimal, if each is one of its type
 abbrev pub decimal_in_types : LeafOf → LeafOf → Result Dec V → Result Dec V
 decimal_in_types mantissa exponent (Ok d) = if is_value mantissa d.mantissa && is_value exponent d.exponent then Ok d else Err why.Range
 decimal_in_types mantissa exponent (Err v) = Err v
 
--- the text of a decimal with its exponent on the wire, where that is there and the text can be read back
+-- the text of a decimal with its exponent on the wire, if the exponent is there and the text can be read back
 abbrev pub floating_text : LeafOf → LeafOf → Option ℤ → ℤ → Result (List ℕ) V
 floating_text mantissa exponent None m = Err why.Range
 floating_text mantissa exponent (Some e) m = if_back (λ t. decimal_in_types mantissa exponent (decimal_of t)) (decimal_text (dec m e))
 
--- the text of a time in a unit that is there
+-- the text of a time, if its unit is there
 abbrev pub moment_text : From → Option ℕ → ℤ → Result (List ℕ) V
 moment_text from None n = Err why.Range
 moment_text from_1970 (Some u) n = stamp_shown u n
 moment_text from_midnight (Some u) n = time_shown u n
 
--- the text of a month that is there
+-- the text of a month, if it is there
 abbrev pub month_text : Option MonthYear → Result (List ℕ) V
 month_text None = Err why.Range
 month_text (Some m) = month_shown m
 
--- the text of a value, or none where it gives no field, or why it has no text
+-- the text of a value, or that it gives no field, or why it doesn't have a text
 abbrev pub text_by : Rule → Value → Result (Option (List ℕ)) V
 text_by (integer leaf) v = text_if_any (number_in v) (λ n. text_of spelling.Int n)
 text_by (integer_decimal leaf) v = text_if_any (number_in v) (λ n. text_of spelling.Decimal n)

@@ -1,5 +1,5 @@
--- The value of a field's text, or why it is refused, and the value of a part without a field. From SBE 1.0, Field encoding, and
--- the FIX tag-value encoding, datatypes. Own profile: nothing is rounded.
+-- The value of a field's text, or why it is refused, and the value of a part without a field. From SBE 1.0, Field
+-- encoding, and the FIX tag-value encoding, datatypes. Own profile: nothing is rounded.
 use Rattle.std.specs.Prelude.{ℕ, Bool, true, false, not, ◌&&◌, ◌||◌, if◌then◌else◌, List, [], ◌∷◌, length, ℤ, pos, Option, Some, None, Result, Ok, Err}
 use Rattle.sbe_types.specs.declared.kind.Leaf.{Leaf as LeafOf}
 use Rattle.sbe_types.specs.declared.message.Value.{Value}
@@ -26,17 +26,17 @@ pub data Misread : Type 0 where
   not_read : V → Misread
   not_the_constant : Misread
 
--- the value that is made of what was read
+-- the value made from what was read
 abbrev pub value_from : {X : Type 0} → (X → Value) → Result X V → Result Value Misread
 value_from make (Ok x) = Ok (make x)
 value_from make (Err v) = Err (not_read v)
 
--- a decimal under a constant exponent
+-- the mantissa of a decimal with a constant exponent
 abbrev pub mantissa_of : LeafOf → ℤ → Result Dec V → Result ℤ V
 mantissa_of leaf exponent (Ok d) = fitted d leaf exponent
 mantissa_of leaf exponent (Err v) = Err v
 
--- bytes of a length that is admitted
+-- bytes, if their length is admitted
 abbrev pub bytes_admitted : LeafOf → List ℕ → Result (List ℕ) V
 bytes_admitted leaf t = if admits leaf (pos (length t)) then Ok t else Err why.Range
 
@@ -54,17 +54,17 @@ pub record TimeCount : Type 0 where
   pub count : ℤ
   pub unit : ℕ
 
--- so many of a unit, where they were read
+-- a count of a unit, if it was read
 abbrev pub time_count : ℕ → Result ℤ V → Result TimeCount V
 time_count unit (Ok n) = Ok (record { count = n; unit = unit })
 time_count unit (Err v) = Err v
 
--- a unit on the wire, where its type admits it
+-- a time whose unit is on the wire, if the unit's type admits it
 abbrev pub unit_admitted : LeafOf → Result TimeCount V → Result TimeCount V
 unit_admitted leaf (Ok x) = if is_value leaf (pos x.unit) then Ok x else Err why.Range
 unit_admitted leaf (Err v) = Err v
 
--- an instant in the unit of the part: the constant one, or the least that has a place for each digit
+-- an instant in the unit of the part: the constant one, or the coarsest one with a place for each digit
 abbrev pub in_unit_of : LeafOf → UnitBy → Result Instant V → Result TimeCount V
 in_unit_of leaf unit (Err v) = Err v
 in_unit_of leaf (always u) (Ok i) = time_count u (judged leaf (in_unit i.nanos u))
@@ -75,7 +75,7 @@ abbrev pub moment_value : UnitBy → TimeCount → Value
 moment_value (always u) x = two_members (value.Num x.count) value.Const
 moment_value (on_wire leaf) x = two_members (value.Num x.count) (value.Num (pos x.unit))
 
--- a number that is one of the type's, or none where the type is optional
+-- a number is one of the type's, or there is none and the type is optional
 abbrev pub is_value_or_none : LeafOf → Option ℤ → Bool
 is_value_or_none leaf None = is_optional leaf.presence
 is_value_or_none leaf (Some n) = is_value leaf n
@@ -84,12 +84,12 @@ is_value_or_none leaf (Some n) = is_value leaf n
 abbrev pub is_month_of : MonthLeaves → MonthYear → Bool
 is_month_of leaves m = is_value leaves.year m.year && (is_value leaves.month m.month && (is_value_or_none leaves.day m.day && is_value_or_none leaves.week m.week))
 
--- a month, where the types of its parts admit it
+-- a month, if the types of its parts admit it
 abbrev pub month_admitted : MonthLeaves → Result MonthYear V → Result MonthYear V
 month_admitted leaves (Ok m) = if is_month_of leaves m then Ok m else Err why.Range
 month_admitted leaves (Err v) = Err v
 
--- a constant, where what was read is its value
+-- a constant, if what was read is its value
 abbrev pub if_constant : Value → Result Value Misread → Result Value Misread
 if_constant own (Ok v) = if same_value own v then Ok value.Const else Err not_the_constant
 if_constant own (Err why) = Err why
@@ -134,7 +134,7 @@ has_any_byte (month_year leaves) = false
 has_any_byte any_text = false
 has_any_byte (constant rule own) = has_any_byte rule
 
--- a text that a field may have: a tag-value text has no others
+-- a text that a field can have: never empty, and without SOH unless the rule allows any byte
 abbrev pub is_given : Rule → List ℕ → Bool
 is_given rule [] = false
 is_given rule (b ∷ bs) = has_any_byte rule || not (has_soh (b ∷ bs))
@@ -143,11 +143,11 @@ is_given rule (b ∷ bs) = has_any_byte rule || not (has_soh (b ∷ bs))
 abbrev pub value_by : Rule → List ℕ → Result Value Misread
 value_by rule t = if is_given rule t then value_in rule t else Err (not_read why.Spelling)
 
--- a value, where the leaf is optional
+-- a value, if the leaf is optional
 abbrev pub if_optional : LeafOf → Value → Option Value
 if_optional leaf v = if is_optional leaf.presence then Some v else None
 
--- what a member is after a null one: null, or 0, or its least number
+-- the value of a member after a null one: null, or 0, or its least number
 abbrev pub least_or_null : LeafOf → Value
 least_or_null leaf = if is_optional leaf.presence then value.Null else value.Num (if admits leaf (pos 0) then pos 0 else leaf.low)
 
@@ -160,11 +160,11 @@ unit_of_null (on_wire leaf) = least_or_null leaf
 abbrev pub null_month : MonthLeaves → Value
 null_month leaves = value.Comp (value.Null ∷ least_or_null leaves.month ∷ least_or_null leaves.day ∷ least_or_null leaves.week ∷ [])
 
--- empty data, where it may be
+-- empty data, if the length 0 is admitted
 abbrev pub empty_if_admitted : LeafOf → Option Value
 empty_if_admitted leaf = if admits leaf (pos 0) then Some (value.Text []) else None
 
--- the value of a part without a field, where there is one
+-- the value of a part without a field, if there is one
 abbrev pub missing_by : Rule → Option Value
 missing_by (integer leaf) = if_optional leaf value.Null
 missing_by (integer_decimal leaf) = if_optional leaf value.Null

@@ -1,4 +1,4 @@
-//! Laws of the rules of values, as functions without a body.
+//! Laws of the rules of values, stated as functions without a body.
 
 ghost use Rattle.std.specs.Prelude.{◌≡◌, ◌↔◌, ℕ, List, Some, None, Ok};
 ghost use Rattle.sbe_types.specs.declared.kind.Order.{Order};
@@ -19,33 +19,32 @@ ghost use Rattle.bridge_rules.specs.Sound.{IsSound, IsShown, IsReadable, ShowsGo
 ghost use Rattle.bridge_rules.specs.Bounds.{IsBounded, CanShow, IsMapped};
 ghost use Rattle.bridge_rules.specs.Again.{HasText, CanRepeat};
 
-/// Each rule of the table keeps what the laws of messages ask, where its types and codes are as
-/// those of a checked schema.
+/// Each rule of the table meets what the laws of messages require, if its types and codes are like those of a checked
+/// schema.
 pub fn rules_are_sound()
     ensures { (rule : Rule) → IsBounded rule → IsSound rule }
 {}
 
-/// What a rule writes of a good value is told by it, where its types and codes are as those of a
-/// checked schema.
+/// What a rule writes for a good value has the value's item, if the rule's types and codes are like those of a checked
+/// schema.
 pub fn good_values_are_shown()
     ensures { (rule : Rule) → IsBounded rule → CanShow rule → ShowsGood rule }
 {}
 
-/// The rules of the kinds of a checked schema have the bounds that the laws ask.
+/// The rules of the kinds of a checked schema have the bounds that the laws require.
 pub fn rules_of_checked_kinds_are_bounded()
     ensures { (k : Kind) (d : Datatype) (rule : Rule) → IsKindFrom 1 k → IsMapped d
         → rule_of k d ≡ Some rule → IsBounded rule × CanShow rule }
 {}
 
-/// A value is good by the rule of its kind exactly where it fits the kind and is in the one form of
-/// its item.
+/// A value is good by the rule of its kind exactly if it fits the kind and has the one form of its item.
 pub fn good_values_are_those_that_fit()
     ensures { (order : Order) (k : Kind) (d : Datatype) (rule : Rule) (v : Value) → IsKindFrom 1 k → IsPlacedKind k
         → IsWritableKind k → rule_of k d ≡ Some rule → Good rule v ↔ (FitsKind order k v × IsItemForm rule v) }
 {}
 
-/// What is written of a value that fits its kind has the value's item and can be read, and where
-/// nothing is written of it the part may have no field.
+/// What is written for a value that fits its kind has the value's item and can be read; if nothing is written for it,
+/// the part may be without a field.
 pub fn fitting_values_are_shown_and_read()
     ensures shown { (order : Order) (k : Kind) (d : Datatype) (rule : Rule) (v : Value) → IsKindFrom 1 k → IsMapped d
         → rule_of k d ≡ Some rule → FitsKind order k v → IsShown rule v }
@@ -53,8 +52,8 @@ pub fn fitting_values_are_shown_and_read()
         → rule_of k d ≡ Some rule → FitsKind order k v → IsReadable rule v }
 {}
 
-/// A value and its text have one item for the applications that compare them, and a value without a
-/// field has none.
+/// A value and its text have the same item for the applications that compare them, and a value without a field has
+/// none.
 pub fn values_and_texts_have_one_item()
     ensures read { (rule : Rule) (t : List ℕ) (v : Value) → IsBounded rule → value_by rule t ≡ Ok v
         → text_item rule t ≡ value_item rule v }
@@ -66,13 +65,13 @@ pub fn values_and_texts_have_one_item()
         → text_by rule v ≡ Ok None → value_item rule v ≡ None }
 {}
 
-/// The rules of the kinds of a checked schema have what is asked so that texts are written again.
+/// The rules of the kinds of a checked schema meet what is required so that texts can be written again.
 pub fn rules_of_checked_kinds_repeat()
     ensures { (k : Kind) (d : Datatype) (rule : Rule) → IsKindFrom 1 k → rule_of k d ≡ Some rule → CanRepeat rule }
 {}
 
-/// A value that a text is read as has a text again, unless it is a decimal whose exponent is outside
-/// the range that is shown.
+/// A value that was read from a text has a text again, unless it is a decimal whose exponent is outside the range that
+/// is written.
 pub fn values_of_texts_are_written_again()
     ensures { (rule : Rule) → IsBounded rule → CanRepeat rule → HasText rule }
 {}

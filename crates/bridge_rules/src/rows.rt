@@ -1,5 +1,5 @@
-//! The table and the rules, computed on worked rows: for each row of the table a pair that is covered
-//! and one that isn't, texts there and back, and what is refused.
+//! The table and the rules, computed on worked rows: for each row of the table a pair that is covered and one that
+//! isn't, texts in both directions, and what is refused.
 
 ghost use Rattle.std.specs.Prelude.{◌≡◌, ◌∷◌, [], true, false, pos, negsuc, codes, None, Some, Ok, Err};
 ghost use Rattle.fix_values.specs.declared.rule.V.TheVariants.{Spelling, Range, Inexact, Soh, Empty, UnknownCode};
@@ -45,7 +45,7 @@ pub fn counted_rows()
     ensures no_day { reads (Leaf uint16) calendar_day (codes "19700230") ≡ Some (Err (not_read Range)) }
 {}
 
-/// A decimal under a constant exponent.
+/// A decimal with a constant exponent.
 pub fn fixed_decimal_rows()
     ensures covered { is_covered (decimal (Leaf (int32 Required)) (constant_number (negsuc 1))) decimal_number ≡ true }
     ensures uncovered { is_covered (decimal (constant_number (pos 1)) (constant_number (negsuc 1))) decimal_number ≡ false }
@@ -95,7 +95,7 @@ pub fn text_rows()
     ensures bad { reads (Leaf (text4 Required)) text (65 ∷ 200 ∷ []) ≡ Some (Err (not_read Spelling)) }
 {}
 
-/// An enum of a code set: a code by the name of its value, or else by the number's own text.
+/// An enum of a code set: a code by the name of its value, otherwise by the text of the number.
 pub fn enum_code_rows()
     ensures covered { is_covered side (code_set (code (codes "Buy") (codes "B") ∷ [])) ≡ true }
     ensures decimal { is_covered side decimal_number ≡ false }
@@ -107,7 +107,7 @@ pub fn enum_code_rows()
     ensures strange { reads side (code_set (code (codes "Buy") (codes "B") ∷ [])) (codes "1") ≡ Some (Err (not_read UnknownCode)) }
 {}
 
-/// An enum among chars, whole numbers and Booleans.
+/// An enum among chars, integers and Booleans.
 pub fn enum_rows()
     ensures char { shows side character (value.Enum (pos 50)) ≡ Some (Ok (Some (codes "2"))) }
     ensures number { is_covered counted whole_number ≡ true }
@@ -137,7 +137,7 @@ pub fn set_rows()
     ensures missing { lacks flags (character_set (code (codes "AllOrNone") (codes "G") ∷ [])) ≡ Some (Some (value.Set 0)) }
 {}
 
-/// A moment: its unit is a constant, or in the message.
+/// A moment whose unit is a constant, or is in the message.
 pub fn moment_rows()
     ensures covered { is_covered (time (Leaf uint64) (constant_number (pos 3))) timestamp ≡ true }
     ensures named { is_covered (time (Leaf uint64) (constant_code U8 (codes "Milli") 3)) time_of_day ≡ true }
@@ -153,7 +153,7 @@ pub fn moment_rows()
     ensures leap { reads (time (Leaf uint64) (constant_number (pos 3))) timestamp (codes "19700102-23:59:60") ≡ Some (Err (not_read Range)) }
 {}
 
-/// Two texts of one moment give two values where the unit is in the message, and have one item.
+/// Two texts of one moment give two values if the unit is in the message, and have the same item.
 pub fn one_item_rows()
     ensures seconds { reads (time (Leaf uint64) (Leaf (uint8 Required))) time_of_day (codes "00:00:01")
         ≡ Some (Ok (two_members (value.Num (pos 1)) (value.Num (pos 0)))) }

@@ -1,4 +1,4 @@
--- The codes and datatypes of a mapping, as the code looks at them.
+-- The codes and datatypes of a mapping, as the code represents them.
 use Rattle.std.specs.Prelude.{◌≡◌, ◌<◌, true, List, [], ◌∷◌, map, Option, Some, None}
 use Rattle.sbe_types.specs.declared.kind.Named.{Named}
 use Rattle.sbe_types.specs.declared.kind.Primitive.{Primitive}
@@ -17,7 +17,7 @@ named_code c = record { name = c.name; text = c.value }
 abbrev pub named_codes : List CodeEl → List NamedCode
 named_codes codes = map named_code codes
 
--- the datatype that is looked at
+-- the datatype that a value of the code represents
 abbrev pub datatype_seen : FieldDatatype → Datatype
 datatype_seen given.WholeNumber = whole_number
 datatype_seen given.DecimalNumber = decimal_number
@@ -33,11 +33,11 @@ datatype_seen (given.CodeSet table) = code_set (named_codes table)
 datatype_seen (given.CharacterSet table) = character_set (named_codes table)
 datatype_seen given.Unbridged = unbridged
 
--- a list of one thing, or of none
+-- a list of one item, or of none
 abbrev pub option_list : {X : Type 0} → Option X → List X
 option_list None = []
 option_list (Some x) = x ∷ []
 
--- the number of a valid value is a byte, where it is a character
+-- if the valid value is a character, its number is a byte
 abbrev pub IsByteOf : Primitive → Named → Type 0
 IsByteOf prim name = is_char prim ≡ true → natural name.number < 256

@@ -1,5 +1,5 @@
--- The rule that a row of the table has. A row holds the codes of valid values and not their names, which
--- neither a text nor the wire needs.
+-- The rule of a row of the table. A row has the codes of valid values and not their names, which neither a text nor the
+-- wire needs.
 use Rattle.std.specs.Prelude.{ℕ, List, [], ◌∷◌, pos}
 use Rattle.sbe_types.specs.declared.kind.Named.{Named}
 use Rattle.sbe_types.specs.declared.kind.Kind.{Kind, Leaf, Enum, Set, Const, Comp'}

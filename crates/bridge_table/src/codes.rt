@@ -42,7 +42,7 @@ fn push_code(codes: &mut CodeList, code: Option<Code>) -> Result<(), NoMem>
     }
 }
 
-/// The code of a valid value: the one of its name, or else the one that its number spells.
+/// The code of a valid value: the one with its name, otherwise the one with the text of its number.
 fn code_of(
     alloc: Global,
     prim: Prim,
@@ -116,7 +116,7 @@ pub fn is_char(prim: Prim) -> bool
     }
 }
 
-/// Each valid value by its number's text.
+/// Each valid value with the text of its number as code.
 pub fn number_codes(alloc: Global, prim: Prim, names: &[Named]) -> Result<CodeList, NoMem>
     requires bytes { All (IsByteOf prim) names.now }
     ensures { IfOk result (λ codes. codes ≡ number_codes prim names.now) }
@@ -131,7 +131,7 @@ pub fn number_codes(alloc: Global, prim: Prim, names: &[Named]) -> Result<CodeLi
     Ok(codes)
 }
 
-/// The codes of a set's choices, which go by their names alone.
+/// The codes of a set's choices, which are found only by name.
 pub fn choice_codes(alloc: Global, table: &CodeTable, names: &[Named]) -> Result<CodeList, NoMem>
     ensures { IfOk result (λ codes. codes ≡ choice_codes (named_codes table.now) names.now) }
 {
@@ -174,7 +174,7 @@ pub fn are_digits(names: &[Named]) -> bool
         .all(|name| 48 <= name.number && name.number <= 57)
 }
 
-/// Whether no two codes have one text.
+/// Whether no two codes have the same text.
 pub fn are_texts_apart(list: &[Code]) -> bool
     ensures { result ≡ is_apart same_text list.now }
 {
@@ -193,7 +193,7 @@ fn has_text(list: &[Code], other: &Code) -> bool
         .any(|code| other.text.as_slice() == code.text.as_slice())
 }
 
-/// Whether no two valid values are spelled as one truth value.
+/// Whether no two valid values are written as the same Boolean.
 pub fn are_truths_apart(list: &[Named]) -> bool
     ensures { result ≡ is_apart same_truth list.now }
 {

@@ -11,7 +11,7 @@ use crate::leaves::{is_integer, is_optional, is_optional_byte, is_single_byte};
 use crate::rule::{Epoch, FieldRule, MonthLeaves, Unit};
 use sbe_types::{ConstValue, Kind, Leaf, Member};
 
-/// The rule of a composite among the fields of a datatype, if the table has one.
+/// The rule for a composite and the fields of a datatype, if the table has one.
 pub fn composite_rule(members: &[Member], datatype: &Datatype) -> Option<FieldRule>
     ensures { option_map (rule_with []) result ≡ composite_rule members.now (datatype_seen datatype.now) }
 {
@@ -24,7 +24,7 @@ pub fn composite_rule(members: &[Member], datatype: &Datatype) -> Option<FieldRu
     }
 }
 
-/// A mantissa and an exponent, by these names.
+/// A mantissa and an exponent, with these names.
 fn decimal_rule(members: &[Member]) -> Option<FieldRule>
     ensures { option_map (rule_with []) result ≡ composite_rule members.now decimal_number }
 {
@@ -44,7 +44,7 @@ fn is_named(member: &Member, name: &str) -> bool
     member.name.as_slice() == name.as_bytes()
 }
 
-/// A decimal by the kinds of its members.
+/// A decimal, given the kinds of its members.
 fn decimal_by(mantissa: &Kind, exponent: &Kind) -> Option<FieldRule>
     ensures { option_map (rule_with []) result ≡ decimal_by (mantissa.now ∷ exponent.now ∷ []) }
 {
@@ -62,7 +62,7 @@ fn decimal_by(mantissa: &Kind, exponent: &Kind) -> Option<FieldRule>
     }
 }
 
-/// A time and a unit, by these names.
+/// A time and a unit, with these names.
 fn moment_rule(epoch: Epoch, members: &[Member]) -> Option<FieldRule>
     ensures { option_map (rule_with []) result
         ≡ (if are_named (codes "time" ∷ codes "unit" ∷ []) members.now then moment_by (epoch_of epoch) (kinds_of members.now) else None) }
@@ -76,7 +76,7 @@ fn moment_rule(epoch: Epoch, members: &[Member]) -> Option<FieldRule>
     moment_by(epoch, &time.kind, &unit.kind)
 }
 
-/// A moment by the kinds of its members.
+/// A moment, given the kinds of its members.
 fn moment_by(epoch: Epoch, time: &Kind, unit: &Kind) -> Option<FieldRule>
     ensures { option_map (rule_with []) result ≡ moment_by (epoch_of epoch) (time.now ∷ unit.now ∷ []) }
 {
@@ -90,7 +90,7 @@ fn moment_by(epoch: Epoch, time: &Kind, unit: &Kind) -> Option<FieldRule>
     }
 }
 
-/// A time in a constant unit.
+/// A time with a constant unit.
 fn constant_unit(epoch: Epoch, time: &Leaf, value: &ConstValue) -> Option<FieldRule>
     ensures { option_map (rule_with []) result ≡ constant_unit (epoch_of epoch) time.now (const_number value.now) }
 {
@@ -109,7 +109,7 @@ fn constant_unit(epoch: Epoch, time: &Leaf, value: &ConstValue) -> Option<FieldR
     Some(FieldRule::Moment(epoch, *time, Unit::Always(unit)))
 }
 
-/// Seconds, milliseconds, microseconds or nanoseconds, by the places of a second.
+/// Whether the unit is seconds, milliseconds, microseconds or nanoseconds, given as decimal places of a second.
 fn is_unit(places: u8) -> bool
     ensures { result ≡ is_unit places }
 {
@@ -126,7 +126,7 @@ fn wire_unit(epoch: Epoch, time: &Leaf, unit: &Leaf) -> Option<FieldRule>
     Some(FieldRule::Moment(epoch, *time, Unit::OnWire(*unit)))
 }
 
-/// A year, a month, a day and a week, by these names.
+/// A year, a month, a day and a week, with these names.
 fn month_rule(members: &[Member]) -> Option<FieldRule>
     ensures { option_map (rule_with []) result ≡ composite_rule members.now month_of_year }
 {
@@ -160,7 +160,7 @@ fn month_rule(members: &[Member]) -> Option<FieldRule>
     })
 }
 
-/// A month by the types of its members.
+/// A month, given the types of its members.
 fn month_by(leaves: MonthLeaves) -> Option<FieldRule>
     ensures { option_map (rule_with []) result
         ≡ month_by (kinds.Leaf leaves.year ∷ kinds.Leaf leaves.month ∷ kinds.Leaf leaves.day ∷ kinds.Leaf leaves.week ∷ []) }

@@ -13,7 +13,7 @@ use lists::{List, NoMem};
 use sbe_types::{ConstValue, Leaf, LeafShape, Named, NamedList, Presence, Prim};
 use std::alloc::Global;
 
-/// The rule of a constant, which counts as the kind of its value, among the fields of a datatype, if the table has one.
+/// The rule for a constant, which counts as the kind of its value, and the fields of a datatype, if the table has one.
 pub fn const_rule(
     alloc: Global,
     value: &ConstValue,
@@ -40,7 +40,7 @@ fn number_constant(number: &i128, datatype: &Datatype) -> Option<FieldRule>
     }
 }
 
-/// A text among texts, and among chars too where it has one byte.
+/// A text among texts, and also among chars if it has one byte.
 fn text_constant(
     alloc: Global,
     text: &[u8],
@@ -91,7 +91,7 @@ fn one_name(alloc: Global, name: &Named) -> Result<NamedList, NoMem>
     Ok(names)
 }
 
-/// A type that admits every number of an i128.
+/// A type whose range contains every number of an i128.
 fn every_number(prim: Prim) -> Leaf
     ensures { result ≡ every_number prim }
 {

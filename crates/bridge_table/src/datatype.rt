@@ -9,7 +9,7 @@ use map_types::CodeEl;
 use std::alloc::Global;
 use std::marker::Model;
 
-/// The codes of a code set, each found by its name or by its text.
+/// The codes of a code set, found by name or by text.
 #[derive(Drop)]
 pub struct CodeTable<'a> {
     elements: &'a [CodeEl],
@@ -34,7 +34,7 @@ impl<'a> Model for CodeTable<'a> {
 }
 
 impl<'a> CodeTable<'a> {
-    /// The table of these codes.
+    /// Creates the table of these codes.
     pub fn new(alloc: Global, codes: &'a [CodeEl]) -> Result<CodeTable<'a>, NoMem>
         ensures { IfOk result (λ table. table ≡ codes.now) }
     {
@@ -54,7 +54,7 @@ impl<'a> CodeTable<'a> {
         self.elements
     }
 
-    /// The text of the code of a name.
+    /// The text of the code with this name.
     pub fn text_named(&self, name: &[u8]) -> Option<&[u8]>
         ensures { MatchOption result (named_text (named_codes self.now) name.now ≡ None)
             (λ text. named_text (named_codes self.now) name.now ≡ Some text.now) }
@@ -93,7 +93,7 @@ fn texts_of(alloc: Global, codes: &[CodeEl]) -> Result<List<Text>, NoMem>
     Ok(texts)
 }
 
-/// How the fields of a mapping's datatype are spelled.
+/// How the fields of a mapping's datatype are written.
 #[derive(Drop)]
 pub enum Datatype<'a> {
     WholeNumber,
@@ -110,6 +110,6 @@ pub enum Datatype<'a> {
     CodeSet(CodeTable<'a>),
     /// A code set of type MultipleCharValue.
     CharacterSet(CodeTable<'a>),
-    /// A datatype that is translated to nothing.
+    /// A datatype that isn't translated.
     Unbridged,
 }

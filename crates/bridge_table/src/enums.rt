@@ -18,7 +18,7 @@ use lists::{List, NoMem};
 use sbe_types::{Leaf, Named, NamedList};
 use std::alloc::Global;
 
-/// The rule of an enum among the fields of a datatype, if the table has one.
+/// The rule for an enum and the fields of a datatype, if the table has one.
 pub fn enum_rule(
     alloc: Global,
     leaf: &Leaf,
@@ -44,7 +44,7 @@ pub fn enum_rule(
     }
 }
 
-/// An enum by the codes of its valid values, where no two have one text.
+/// An enum with the codes of its valid values, if no two have the same text.
 fn by_codes(leaf: &Leaf, codes: CodeList) -> Option<EnumRule>
     ensures { (names : List Named) → option_map (enum_with names) result ≡ by_codes enum_code leaf.now names codes }
 {
@@ -54,7 +54,7 @@ fn by_codes(leaf: &Leaf, codes: CodeList) -> Option<EnumRule>
     Some(EnumRule::Code(*leaf, codes))
 }
 
-/// An enum among whole numbers: its encoding is a number, or each valid value a digit.
+/// An enum among integers: its encoding is a number, or each valid value is a digit.
 fn number_rule(alloc: Global, leaf: &Leaf, names: &[Named]) -> Result<Option<EnumRule>, NoMem>
     requires bytes { All (IsByteOf leaf.now.prim) names.now }
     ensures { IfOk result (λ rule. option_map (enum_with names.now) rule
@@ -70,7 +70,7 @@ fn number_rule(alloc: Global, leaf: &Leaf, names: &[Named]) -> Result<Option<Enu
     Ok(Some(EnumRule::Number(*leaf, codes)))
 }
 
-/// An enum among Booleans, where no two valid values are spelled as one truth value.
+/// An enum among Booleans, if no two valid values are written as the same Boolean.
 fn truth_rule(alloc: Global, leaf: &Leaf, names: &[Named]) -> Result<Option<EnumRule>, NoMem>
     ensures { IfOk result (λ rule. option_map (enum_with names.now) rule
         ≡ enum_rule leaf.now names.now (datatype_seen Datatype.Boolean)) }
@@ -91,7 +91,7 @@ fn copied(alloc: Global, names: &[Named]) -> Result<NamedList, NoMem>
     Ok(out)
 }
 
-/// The rule of a set among the fields of a datatype, if the table has one.
+/// The rule for a set and the fields of a datatype, if the table has one.
 pub fn set_rule(
     alloc: Global,
     names: &[Named],
@@ -105,7 +105,7 @@ pub fn set_rule(
     }
 }
 
-/// A set of characters, where no two choices have one.
+/// A set of characters, if no two choices have the same one.
 fn choice_rule(
     alloc: Global,
     names: &[Named],

@@ -9,7 +9,7 @@ use crate::datatype::Datatype;
 use crate::rule::FieldRule;
 use sbe_types::{Leaf, LeafShape, Presence, Prim};
 
-/// The rule of a leaf among the fields of a datatype, if the table has one.
+/// The rule for a leaf and the fields of a datatype, if the table has one.
 pub fn leaf_rule(leaf: &Leaf, datatype: &Datatype) -> Option<FieldRule>
     ensures { option_map (rule_with []) result ≡ leaf_rule leaf.now (datatype_seen datatype.now) }
 {
@@ -98,7 +98,7 @@ pub fn is_optional_byte(leaf: &Leaf) -> bool
     is_single_byte(leaf) && is_optional(leaf.presence)
 }
 
-/// Whether a value of this presence may be null.
+/// Whether a value with this presence may be null.
 pub fn is_optional(presence: Presence) -> bool
     ensures { result ≡ is_optional presence }
 {

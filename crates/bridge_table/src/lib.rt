@@ -1,5 +1,5 @@
-//! The table of kinds and datatypes: by which rule a part of a template and the fields of a datatype stand for each
-//! other, with what texts and the wire need ready.
+//! The table of kinds and datatypes: the rule by which a part of a template and the fields of a datatype are translated
+//! to each other, with everything that their texts and bytes need.
 #![tactic(auto)]
 
 mod codes;

@@ -2,10 +2,10 @@ use fix_values::CodeList;
 use lists::Bytes;
 use sbe_types::{Leaf, NamedList};
 
-/// The row of the table of kinds and datatypes that a part goes by, with what its texts and its bytes need.
+/// The row of the table of kinds and datatypes that applies to a part, with what its texts and its bytes need.
 #[derive(Drop)]
 pub enum FieldRule {
-    /// An integer among whole numbers.
+    /// An integer among integers.
     Integer(Leaf),
     /// An integer among decimals.
     IntegerDecimal(Leaf),
@@ -40,7 +40,7 @@ pub enum FieldRule {
 pub enum EnumRule {
     /// Of a code set, or among chars and texts: the codes of its valid values.
     Code(Leaf, CodeList),
-    /// Among whole numbers: the digits of each valid value.
+    /// Among integers: the digits of each valid value.
     Number(Leaf, CodeList),
     /// Among Booleans: its valid values.
     Boolean(Leaf, NamedList),
@@ -53,7 +53,7 @@ pub enum ConstRule {
     Text(Bytes),
     /// A text of one byte among chars.
     Character(u8),
-    /// An integer among whole numbers.
+    /// An integer among integers.
     Integer(i128),
     /// An integer among decimals.
     Decimal(i128),
@@ -63,7 +63,7 @@ pub enum ConstRule {
     Enum(EnumRule, i128),
 }
 
-/// Where a time is counted from.
+/// The origin of a time.
 #[derive(Clone, Copy)]
 pub enum Epoch {
     /// The beginning of 1970.

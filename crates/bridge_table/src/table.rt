@@ -15,11 +15,12 @@ use lists::NoMem;
 use sbe_types::{DataField, Kind, Leaf, Named};
 use std::alloc::Global;
 
-/// The rule by which a part of this kind and the fields of a datatype stand for each other, if the table has one.
+/// The rule by which a part of this kind and the fields of a datatype are translated to each other, if the table has
+/// one.
 ///
 /// # Errors
 ///
-/// Out of memory.
+/// If memory runs out.
 pub fn field_rule(
     alloc: Global,
     kind: &Kind,
@@ -37,7 +38,7 @@ pub fn field_rule(
     }
 }
 
-/// The same of data.
+/// The same for data.
 pub fn data_rule(part: &DataField, datatype: &Datatype) -> Option<FieldRule>
     ensures { option_map (rule_with []) result ≡ data_rule part.now (datatype_seen datatype.now) }
 {
@@ -48,7 +49,7 @@ pub fn data_rule(part: &DataField, datatype: &Datatype) -> Option<FieldRule>
     }
 }
 
-/// The rule of an enum of a schema in order.
+/// The rule for an enum of a checked schema.
 fn listed_rule(
     alloc: Global,
     leaf: &Leaf,

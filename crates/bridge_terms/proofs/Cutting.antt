@@ -1,4 +1,4 @@
--- Fields that were put one behind another are cut into the parts and pieces that they were.
+-- Fields that were put one after another are cut into the parts and pieces that they were.
 use Rattle.std.proofs.Common.{◌≡◌, ℕ, Bool, true, false, List, [], ◌∷◌, ◌++◌, refl, ap, ◌∙◌}
 use Rattle.std.specs.Prelude.{⊤, ◌==◌}
 use Rattle.std.proofs.lemmas.List.{append-nil}
@@ -11,7 +11,7 @@ use Rattle.bridge_rules.proofs.BoolLemmas.{if_true, if_false}
 abbrev pub Owned : (ℕ → ℕ → Bool) → ℕ → List Field → Type 0
 Owned owned owner fs = Each (λ f. owned owner f.tag ≡ true) fs
 
--- parts behind one with that tag: no part is owned by the one before it, and each has its run
+-- parts after one with that tag: no part is owned by the one before it, and each has its run
 abbrev pub Behind : (ℕ → ℕ → Bool) → ℕ → List Part → Type 0
 Behind owned owner [] = ⊤
 Behind owned owner (x ∷ xs) = (owned owner x.tag ≡ false) × Owned owned x.tag x.run × Behind owned x.tag xs

@@ -39,7 +39,7 @@ held_number none n ns a all i here = nth_numbered none n 0 i a (each_in (λ i. i
     from_none : (k : ℕ) → 0 + k ≡ k
     from_none k = omega arith
 
--- a number that stands behind another is another one
+-- a number that stands after another is another one
 pub at_behind : {X : Type 0} (none : X) (j : ℕ) (x : X) (ns : List ℕ) (a : List (ℕ × X)) → is_in j ns ≡ false → (i : ℕ) → is_in i ns ≡ true → at_number none i ((j, x) ∷ a) ≡ at_number none i a
 at_behind none j x ns a new i here = if_false (j == i) x (at_number none i a) (elim (either (j == i)) [
   | inl t ↦ true_false (ap (λ k. is_in k ns) (eqb-true j i t) ∙ here) new

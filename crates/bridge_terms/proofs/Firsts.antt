@@ -11,7 +11,7 @@ use Rattle.bridge_rules.proofs.BoolLemmas.{true_false, either, or_false, none_of
 tags_of : List Part → List ℕ
 tags_of parts = map (λ x. x.tag) parts
 
--- the same behind parts whose tags were seen
+-- the same after parts whose tags were seen
 record First (wrong : Part → Option Refusal) (seen : List ℕ) (parts : List Part) (refusal : Refusal) : Type 0 where
   before : List Part
   part : Part

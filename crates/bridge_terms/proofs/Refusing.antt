@@ -250,7 +250,7 @@ level_fine p read turn fields t h =
     let here = turn parts t is.1 in
     (in_order_so (wrong_at p) [] parts distinct (λ n seen. true_false seen refl) (each_at (λ x. wrong_at p x ≡ None) (tags p) parts known distinct here.0), here.1)
 
--- a place behind another: what is wrong there
+-- a place after another: what is wrong there
 later_fine : (n : ℕ) (ns : List ℕ) (parts : List Part) (tag : ℕ) (x : Part) (here later : Option Refusal) → is_in n ns ≡ false → is_in tag ns ≡ true → part_at tag parts ≡ Some x →
     cond (n == x.tag) here later ≡ None → later ≡ None
 later_fine n ns parts tag x here later new known found h = elim (either (n == x.tag)) [
@@ -267,7 +267,7 @@ later_fine n ns parts tag x here later new known found h = elim (either (n == x.
 here_fine : (n : ℕ) (parts : List Part) (x : Part) (here later : Option Refusal) → part_at n parts ≡ Some x → cond (n == x.tag) here later ≡ None → here ≡ None
 here_fine n parts x here later found h = sym (if_true (n == x.tag) here later (eq-eqb n x.tag (sym (at_is n parts x found)))) ∙ h
 
--- what is wrong at a place or behind it
+-- what is wrong at a place or after it
 place_fine : (n : ℕ) (ns : List ℕ) (parts : List Part) (here later : Part → Option Refusal) →
     ((x : Part) → part_at n parts ≡ Some x → here x ≡ None) →
     ((tag : ℕ) (x : Part) → is_in tag ns ≡ true → part_at tag parts ≡ Some x → later x ≡ None) →

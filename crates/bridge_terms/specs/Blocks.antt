@@ -16,7 +16,7 @@ use Rattle.bridge_terms.specs.Plans.{Plan, Place, Tree, Each, is_in, done, singl
 
 -- ---- from a block
 
--- the item at a place, or another where there is none
+-- the item with an index, or another if there is none
 abbrev pub nth_or : {X : Type 0} → X → ℕ → List X → X
 nth_or none n [] = none
 nth_or none zero (x ∷ xs) = x
@@ -32,7 +32,7 @@ abbrev pub entries_of : GroupVal → List Block
 entries_of groupval.Absent = []
 entries_of (groupval.Entries' n row) = items-the_row-Block _ row
 
--- what is at a place
+-- the value at a place
 abbrev pub value_at : Place → Block → Value
 value_at (in_fields i) block = nth_or value.Absent i (out-Block block).fields
 value_at (in_data i) block = data_value (nth_or dataval.Absent i (out-Block block).parts)
@@ -52,31 +52,31 @@ pub record PlacedValues : Type 0 where
   pub groups : List (ℕ × GroupVal)
   pub parts : List (ℕ × DataVal)
 
--- the bytes of data
+-- the data with these bytes; absent without bytes
 abbrev pub data_of : Option (List ℕ) → DataVal
 data_of None = dataval.Absent
 data_of (Some bytes) = dataval.Bytes bytes
 
--- the same with a field or data at its place
+-- the placed values, with a field or data part at its place
 abbrev pub with_slot : Place → Value → PlacedValues → PlacedValues
 with_slot (in_fields i) v filled = record filled { fields = (i, v) ∷ filled.fields }
 with_slot (in_data i) v filled = record filled { parts = (i, data_of (text_in v)) ∷ filled.parts }
 
--- the same with a group at its place
+-- the placed values, with a group at its place
 abbrev pub with_group : ℕ → GroupVal → PlacedValues → PlacedValues
 with_group i v filled = record filled { groups = (i, v) ∷ filled.groups }
 
--- what is at a number
+-- what is placed at a number
 abbrev pub at_number : {X : Type 0} → X → ℕ → List (ℕ × X) → X
 at_number none i [] = none
 at_number none i (x ∷ xs) = if x.0 == i then x.1 else at_number none i xs
 
--- what is at so many numbers from i on
+-- what is placed at n numbers from i on
 abbrev pub in_numbers : {X : Type 0} → X → ℕ → ℕ → List (ℕ × X) → List X
 in_numbers none zero i xs = []
 in_numbers none (suc n) i xs = at_number none i xs ∷ in_numbers none n (suc i) xs
 
--- the block of a level with what is placed
+-- the block of a level with the placed values
 abbrev pub block_with : Level → PlacedValues → Block
 block_with level filled = record {
   fields = in_numbers value.Absent (length (out-Level level).fields) 0 filled.fields;
@@ -95,7 +95,7 @@ placed_values (group g inner rest) t =
 abbrev pub block_of : Level → (p : Plan) → Tree Value p → Block
 block_of level p t = block_with level (placed_values p t)
 
--- ---- blocks and plans that go together
+-- ---- blocks and plans that match
 
 -- the number of a field, if it is one
 abbrev pub field_number : Place → List ℕ
@@ -125,7 +125,7 @@ group_places done = []
 group_places (single s rest) = group_places rest
 group_places (group g inner rest) = g.place ∷ group_places rest
 
--- each of so many parts has a place
+-- each of n parts has a place
 abbrev pub HasAll : ℕ → List ℕ → Type 0
 HasAll n places = (i : ℕ) → i < n → is_in i places ≡ true
 
@@ -135,7 +135,7 @@ pub record IsComplete (level : Level) (p : Plan) : Type 0 where
   pub groups : HasAll (length (out-Level level).groups) (group_places p)
   pub parts : HasAll (length (out-Level level).parts) (data_places p)
 
--- the same of the levels of its groups
+-- the same for the levels of its groups
 abbrev pub AreComplete : Plan → Type 0
 AreComplete done = ⊤
 AreComplete (single s rest) = AreComplete rest
@@ -156,35 +156,35 @@ HasEntries (group g inner rest) block =
     × Each (λ e. HasLengths g.level e × HasEntries inner e) entries)
     × HasEntries rest block
 
--- no number is twice among them
+-- no number occurs twice
 abbrev pub AreApart : List ℕ → Type 0
 AreApart [] = ⊤
 AreApart (n ∷ ns) = (is_in n ns ≡ false) × AreApart ns
 
--- each place of the plan is that of another part of the level
+-- the places of the plan are those of different parts of the level
 pub record IsSeparate (level : Level) (p : Plan) : Type 0 where
   pub fields : AreApart (field_places p) × Each (λ i. i < length (out-Level level).fields) (field_places p)
   pub groups : AreApart (group_places p) × Each (λ i. i < length (out-Level level).groups) (group_places p)
   pub parts : AreApart (data_places p) × Each (λ i. i < length (out-Level level).parts) (data_places p)
 
--- the same of the levels of its groups
+-- the same for the levels of its groups
 abbrev pub AreSeparate : Plan → Type 0
 AreSeparate done = ⊤
 AreSeparate (single s rest) = AreSeparate rest
 AreSeparate (group g inner rest) = IsSeparate g.level inner × AreSeparate inner × AreSeparate rest
 
--- data is the text of its bytes
+-- the value of data is the text of its bytes
 abbrev pub IsHeld : Place → Value → Type 0
 IsHeld (in_fields i) v = ⊤
 IsHeld (in_data i) v = (bytes : List ℕ) × (v ≡ value.Text bytes)
 
--- the same of all values of a plan
+-- the same for all values of a plan
 abbrev pub AreHeld : (p : Plan) → Tree Value p → Type 0
 AreHeld done t = ⊤
 AreHeld (single s rest) t = IsHeld s.place t.0 × AreHeld rest t.1
 AreHeld (group g inner rest) t = Each (λ e. AreHeld inner e) t.0 × AreHeld rest t.1
 
--- values that are good at data are the texts of their bytes
+-- each good value at data is the text of its bytes
 abbrev pub HoldsData : Plan → Type 0
 HoldsData done = ⊤
 HoldsData (single s rest) = ((v : Value) → Good s.rule v → IsHeld s.place v) × HoldsData rest
@@ -198,7 +198,8 @@ pub record IsPlanOf (level : Level) (p : Plan) : Type 0 where
   pub all_separate : AreSeparate p
   pub holds : HoldsData p
 
--- the block of the message that fields are translated to: it fits, has the fields' items, and is in the one form of them
+-- the block of the message that fields are translated to: it fits, has the fields' items, and is in the one form of
+-- these
 pub record IsBackBlock (level : Level) (p : Plan) (fields : List Field) (block : Block) : Type 0 where
   pub lengths : HasLengths level block
   pub entries : HasEntries p block

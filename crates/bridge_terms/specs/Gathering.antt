@@ -1,5 +1,5 @@
--- What is gathered of fields by the structure: at each part, what its one field says; in a group, what each entry's piece
--- of the run says. Application items and values are both gathered in this way. Own profile.
+-- What is collected from fields by the structure: at each part, what its one field gives; in a group, what each entry's
+-- piece of the run gives. Application items and values are both collected like this. Own profile.
 use Rattle.std.specs.Prelude.{ℕ, Bool, true, false, ◌&&◌, if◌then◌else◌, nat_eq, List, [], ◌∷◌, length, ℤ, pos, negsuc, Option, Some, None, Result, Ok, Err}
 use Rattle.sbe_types.specs.declared.kind.Leaf.{Leaf as LeafOf}
 use Rattle.sbe_types.specs.declared.message.Value.{Value}
@@ -13,25 +13,25 @@ use Rattle.bridge_terms.specs.Plans.{Plan, Tree, done, single, group, tags, owns
 use Rattle.tagvalue_codec.specs.Fields.{Field}
 use Rattle.bridge_terms.specs.Parts.{Part, Pieces, parts_of, pieces_of, part_at, are_known, are_distinct}
 
--- how one looks at a field: what a part says by its rule and by the text of its field, if it has one; and how many entries
--- a count field says
+-- how fields are read: what a part gives by its rule and the text of its field, if it has one; and how many entries a
+-- count field gives
 pub record Look (X : Type 0) : Type 0 where
   pub at : Rule → Option (List ℕ) → Option X
   pub count : LeafOf → Option (List ℕ) → Option ℕ
 
--- two answers
+-- two results as a pair, if both are there
 abbrev pub both : {X Y : Type 0} → Option X → Option Y → Option (X × Y)
 both None y = None
 both (Some x) None = None
 both (Some x) (Some y) = Some (x, y)
 
--- one answer in front of others
+-- one result before others, if all are there
 abbrev pub in_front : {X : Type 0} → Option X → Option (List X) → Option (List X)
 in_front None xs = None
 in_front (Some x) None = None
 in_front (Some x) (Some xs) = Some (x ∷ xs)
 
--- an answer for each item, or none
+-- a result for each item, or none at all
 abbrev pub each : {X Y : Type 0} → (X → Option Y) → List X → Option (List Y)
 each f [] = Some []
 each f (x ∷ xs) = in_front (f x) (each f xs)
@@ -40,7 +40,7 @@ each f (x ∷ xs) = in_front (f x) (each f xs)
 abbrev pub text_at : ℕ → List Part → Option (List ℕ)
 text_at tag parts = and_then (part_at tag parts) (λ x. Some x.text)
 
--- the answer about fields whose tags are all known, and of which none comes twice
+-- the result for fields whose tags are all known and all different
 abbrev pub in_level : {X : Type 0} → Plan → (List Part → Option X) → List Field → Option X
 in_level p answer fields =
     let parts = parts_of (owns p) fields in
@@ -51,27 +51,27 @@ abbrev pub is_none : List Field → Bool
 is_none [] = true
 is_none (f ∷ fs) = false
 
--- the pieces begin the run, and are as many as the count says
+-- the pieces begin the run, and are as many as the count gives
 abbrev pub is_run : ℕ → Pieces → Bool
 is_run n cut = is_none cut.front && nat_eq (length cut.pieces) n
 
--- what the pieces of a run say
+-- what the pieces of a run give
 abbrev pub entries_in : {X : Type 0} → (List Field → Option X) → ℕ → Pieces → Option (List X)
 entries_in entry n cut = if is_run n cut then each entry cut.pieces else None
 
--- what a group's count field says, and the run after it; without a field there are no entries
+-- what a group's count field and the run after it give; without a field there are no entries
 abbrev pub group_in : {X : Type 0} → (Option (List ℕ) → Option ℕ) → ℕ → (List Field → Option X) → Option Part → Option (List X)
 group_in count delimiter entry None = and_then (count None) (λ n. Some [])
 group_in count delimiter entry (Some x) = and_then (count (Some x.text)) (λ n. entries_in entry n (pieces_of delimiter x.run))
 
--- what the parts say
+-- what the parts give
 abbrev pub gather : {X : Type 0} → Look X → (p : Plan) → List Part → Option (Tree X p)
 gather look done parts = Some tt
 gather look (single s rest) parts = both (look.at s.rule (text_at s.tag parts)) (gather look rest parts)
 gather look (group g inner rest) parts =
     both (group_in (look.count g.count) g.delimiter (in_level inner (λ piece. gather look inner piece)) (part_at g.tag parts)) (gather look rest parts)
 
--- what fields say
+-- what fields give
 abbrev pub gather_fields : {X : Type 0} → Look X → (p : Plan) → List Field → Option (Tree X p)
 gather_fields look p = in_level p (λ parts. gather look p parts)
 
@@ -93,11 +93,11 @@ abbrev pub count_found : LeafOf → Option (List ℕ) → Option ℕ
 count_found leaf None = Some 0
 count_found leaf (Some t) = spelled_count (integer_of t)
 
--- fields looked at for their items
+-- how fields are read for their items
 abbrev pub item_look : Look (Option Item)
 item_look = record { at = item_found; count = count_found }
 
--- the items of fields, if they have any
+-- the items of fields, if all can be read
 abbrev pub items_of_fields : (p : Plan) → List Field → Option (Tree (Option Item) p)
 items_of_fields = gather_fields item_look
 
@@ -115,34 +115,34 @@ application_view p t = map_tree (λ rule item. and_then item (λ i. Some (applic
 abbrev pub message_application_items : (p : Plan) → Tree Value p → Tree (Option Item) p
 message_application_items p t = application_view p (items_of p t)
 
--- the items that applications see in fields, if they have any
+-- the items that applications see in fields, if all can be read
 abbrev pub field_application_items : (p : Plan) → List Field → Option (Tree (Option Item) p)
 field_application_items p fields = and_then (items_of_fields p fields) (λ t. Some (application_view p t))
 
 -- ---- values
 
--- the value of an answer
+-- the value, if it was read
 abbrev pub value_read : Result Value Misread → Option Value
 value_read (Ok v) = Some v
 value_read (Err w) = None
 
--- the value of a text by a rule, or the one of a missing field
+-- the value of a text by a rule, or the value for a missing field
 abbrev pub value_found : Rule → Option (List ℕ) → Option Value
 value_found rule None = missing_by rule
 value_found rule (Some t) = value_read (value_by rule t)
 
--- a number of entries that the count's type admits
+-- a number of entries, if the count's type admits it
 abbrev pub if_admitted : LeafOf → ℕ → Option ℕ
 if_admitted leaf n = if admits leaf (pos n) then Some n else None
 
--- the number of entries that a count's text spells, where it is admitted
+-- the number of entries that a count's text spells, if it is admitted
 abbrev pub count_admitted : LeafOf → Option (List ℕ) → Option ℕ
 count_admitted leaf t = and_then (count_found leaf t) (if_admitted leaf)
 
--- fields looked at for their values
+-- how fields are read for their values
 abbrev pub value_look : Look Value
 value_look = record { at = value_found; count = count_admitted }
 
--- the values of fields, where each can be read and none that must be there is missing
+-- the values of fields, if each can be read and no required one is missing
 abbrev pub values_of_fields : (p : Plan) → List Field → Option (Tree Value p)
 values_of_fields = gather_fields value_look

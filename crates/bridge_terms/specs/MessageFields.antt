@@ -8,18 +8,18 @@ use Rattle.bridge_terms.specs.Plans.{Plan, Tree, done, single, group}
 use Rattle.tagvalue_codec.specs.Fields.{Field}
 use Rattle.bridge_terms.specs.Parts.{Part, TagLists, fields_in}
 
--- why a message has no fields: a value has no text, or an entry doesn't begin with its delimiter
+-- why a message has no fields: a value doesn't have a text, or an entry doesn't begin with its delimiter
 pub data Unwritable : Type 0 where
   no_text_at : ℕ → V → Unwritable
   no_delimiter_at : ℕ → Unwritable
 
--- one answer before others
+-- the items of one answer before those of another; a refusal stays
 abbrev pub join_answers : {X : Type 0} → Result (List X) Unwritable → Result (List X) Unwritable → Result (List X) Unwritable
 join_answers (Err u) ys = Err u
 join_answers (Ok xs) (Err u) = Err u
 join_answers (Ok xs) (Ok ys) = Ok (xs ++ ys)
 
--- the part of a field or data, if the value gives one
+-- the part of a field or data part, if its value gives a field
 abbrev pub slot_part : ℕ → Result (Option (List ℕ)) V → Result (List Part) Unwritable
 slot_part tag (Err v) = Err (no_text_at tag v)
 slot_part tag (Ok None) = Ok []
@@ -37,7 +37,7 @@ begins done e = false
 begins (single s rest) e = gives_field (text_by s.rule e.0)
 begins (group g inner rest) e = false
 
--- each entry's fields, one after the other
+-- the fields of the entries, in order
 abbrev pub entry_fields : {X : Type 0} → (X → Result (List Field) Unwritable) → List X → Result (List Field) Unwritable
 entry_fields entry [] = Ok []
 entry_fields entry (e ∷ es) = join_answers (entry e) (entry_fields entry es)
@@ -57,7 +57,7 @@ abbrev pub answer_fields : Result (List Part) Unwritable → Result (List Field)
 answer_fields (Err u) = Err u
 answer_fields (Ok parts) = Ok (fields_in parts)
 
--- an entry's fields, where it begins with its delimiter
+-- an entry's fields, if it begins with its delimiter
 abbrev pub if_begun : ℕ → Bool → Result (List Field) Unwritable → Result (List Field) Unwritable
 if_begun tag begun fields = if begun then fields else Err (no_delimiter_at tag)
 
@@ -68,7 +68,7 @@ message_parts (single s rest) t = join_answers (slot_part s.tag (text_by s.rule 
 message_parts (group g inner rest) t =
     join_answers (group_part g.tag (λ e. if_begun g.tag (begins inner e) (answer_fields (message_parts inner e))) t.0) (message_parts rest t.1)
 
--- the fields of a message, length fields aside
+-- the fields of a message, without length fields
 abbrev pub fields_of : (p : Plan) → Tree Value p → Result (List Field) Unwritable
 fields_of p t = answer_fields (message_parts p t)
 
@@ -79,7 +79,7 @@ abbrev pub length_in : ℕ → List (ℕ × ℕ) → Option ℕ
 length_in tag [] = None
 length_in tag (pair ∷ pairs) = if pair.1 == tag then Some pair.0 else length_in tag pairs
 
--- a data field has its length field directly before it
+-- a data field with its length field, if it has one, directly before it
 abbrev pub after_length : Option ℕ → Field → List Field
 after_length None f = f ∷ []
 after_length (Some tag) f = record { tag = tag; value = decimal (length f.value) } ∷ f ∷ []

@@ -1,5 +1,5 @@
--- What is written of a message up to the first place that is refused, place by place, with the way to each; and the first
--- place with which the text is over a limit. Own profile.
+-- What is written of a message up to the first place that is refused, place by place, with the path to each; and the
+-- first place at which the text exceeds a limit. Own profile.
 use Rattle.std.specs.Prelude.{ℕ, ◌≤◌, suc, Bool, true, false, nat_lt, if◌then◌else◌, List, [], ◌∷◌, ◌++◌, map, flat_map, length, Option, Some, None, Result, Ok, Err}
 use Rattle.std.specs.Fmt.{decimal}
 use Rattle.sbe_types.specs.declared.message.Value.{Value}
@@ -14,7 +14,7 @@ pub data Way : Type 0 where
   to_part : ℕ → Way
   to_entry : ℕ → Way
 
--- why a place isn't written: its value has no text, or its entry doesn't begin with the delimiter
+-- why a place isn't written: its value doesn't have a text, or its entry doesn't begin with the delimiter
 pub data Why : Type 0 where
   no_text : V → Why
   no_delimiter : Why
@@ -24,24 +24,24 @@ pub record Refused : Type 0 where
   pub way : List Way
   pub why : Why
 
--- a place that is written: the way to it, and its fields
+-- a place that is written: the path to it, and its fields
 pub record Written : Type 0 where
   pub way : List Way
   pub fields : List Field
 
--- the places that are written, and the one that ends them, if any does
+-- the places that are written, and the refused one after them, if there is one
 pub record Places : Type 0 where
   pub places : List Written
   pub refused : Option Refused
 
 -- ---- places of parts
 
--- places, and then others unless the first were ended
+-- places, and then others unless the first ones end with a refusal
 abbrev pub places_then : List Written → Option Refused → Places → Places
 places_then places (Some u) later = record { places = places; refused = Some u }
 places_then places None later = record { places = places ++ later.places; refused = later.refused }
 
--- the places of two parts one after another
+-- the places of two parts in order
 abbrev pub then_places : Places → Places → Places
 then_places first later = places_then first.places first.refused later
 
@@ -54,7 +54,7 @@ refusal_in step (Some u) = Some (record { way = step ∷ u.way; why = u.why })
 abbrev pub place_in : Way → Written → Written
 place_in step x = record { way = step ∷ x.way; fields = x.fields }
 
--- the same inside a part or an entry
+-- the places inside a part or an entry
 abbrev pub places_in : Way → Places → Places
 places_in step inner = record { places = map (place_in step) inner.places; refused = refusal_in step inner.refused }
 
@@ -70,27 +70,27 @@ place_of tag text = record { places = record { way = []; fields = record { tag =
 abbrev pub refused_by : Why → Places
 refused_by why = record { places = []; refused = Some (record { way = []; why = why }) }
 
--- the place of a text, if there is one
+-- the place of a text, if it has one, or the refusal
 abbrev pub text_places : ℕ → Result (Option (List ℕ)) V → Places
 text_places tag (Err v) = refused_by (no_text v)
 text_places tag (Ok None) = no_places
 text_places tag (Ok (Some t)) = place_of tag t
 
--- the place of a field or data
+-- the place of a field or data part
 abbrev pub slot_places : ℕ → Result (Option (List ℕ)) V → Places
 slot_places tag text = places_in (to_part tag) (text_places tag text)
 
--- entries one after another, of which the first has number i
+-- the places of entries in order, of which the first has number i
 abbrev pub entries_places : {X : Type 0} → (X → Places) → ℕ → List X → Places
 entries_places entry i [] = no_places
 entries_places entry i (e ∷ es) = then_places (places_in (to_entry i) (entry e)) (entries_places entry (suc i) es)
 
--- a group's count and its entries, if it has any
+-- the places of a group's count and its entries, if it has any
 abbrev pub run_places : {X : Type 0} → ℕ → (X → Places) → List X → Places
 run_places tag entry [] = no_places
 run_places tag entry (e ∷ es) = places_in (to_part tag) (then_places (place_of tag (decimal (length (e ∷ es)))) (entries_places entry 0 (e ∷ es)))
 
--- an entry must begin with its delimiter
+-- the places of an entry, which must begin with its delimiter
 abbrev pub begun_places : Bool → Places → Places
 begun_places true inner = inner
 begun_places false inner = refused_by no_delimiter
@@ -107,13 +107,13 @@ place_fields places = flat_map (λ x. x.fields) places
 
 -- ---- a limit
 
--- the way to a place, and how many bytes its text would have up to there
+-- the path to a place, and how many bytes the text would have up to there
 pub record Over : Type 0 where
   pub way : List Way
   pub size : ℕ
 
--- The first place with which the text has more bytes than the limit: `size` says how many bytes the text of fields has, and
--- `before` are the fields before the first place.
+-- The first place with which the text has more bytes than the limit. `size` gives the length of the text of some
+-- fields, and `before` are the fields before the first place.
 abbrev pub first_over : (List Field → ℕ) → ℕ → List Field → List Written → Option Over
 first_over size limit before [] = None
 first_over size limit before (x ∷ xs) =
@@ -121,21 +121,21 @@ first_over size limit before (x ∷ xs) =
     then Some (record { way = x.way; size = size (before ++ x.fields) })
     else first_over size limit (before ++ x.fields) xs
 
--- more fields take no fewer bytes
+-- more fields never take fewer bytes
 abbrev pub Grows : (List Field → ℕ) → Type 0
 Grows size = (xs ys : List Field) → size xs ≤ size (xs ++ ys)
 
--- why a message isn't written whole
+-- why a message isn't written completely
 pub data Unsent : Type 0 where
   over_limit : Over → Unsent
   unwritten : Refused → Unsent
 
--- a place over the limit, or else the one that isn't written
+-- a place over the limit, or else the one that is refused
 abbrev pub or_refused : Option Over → Option Refused → Option Unsent
 or_refused (Some o) u = Some (over_limit o)
 or_refused None None = None
 or_refused None (Some u) = Some (unwritten u)
 
--- The first refusal of a message: a place over the limit, or else the place that isn't written, which comes after all others.
+-- The first refusal of a message: a place over the limit, or else the place that is refused, which is after all others.
 abbrev pub first_unsent : (List Field → ℕ) → ℕ → List Field → Places → Option Unsent
 first_unsent size limit before all = or_refused (first_over size limit before all.places) all.refused

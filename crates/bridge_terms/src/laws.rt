@@ -1,4 +1,4 @@
-//! Laws of the definitions, as functions without a body.
+//! Laws of the definitions, stated as functions without a body.
 
 ghost use Rattle.std.specs.Prelude.{◌≡◌, ◌≤◌, ◌++◌, ◌∷◌, ℕ, Bool, true, false, List, [], Option, Some, None, Ok, Err};
 ghost use Rattle.std.specs.Prelude.{◌⊎◌};
@@ -20,8 +20,7 @@ ghost use Rattle.bridge_terms.specs.WayBack.{IsBack, IsFirstWrong, Refusal, back
 ghost use Rattle.bridge_terms.specs.Blocks.{values_of, block_of, IsComplete, AreComplete, HasLengths, HasEntries};
 ghost use Rattle.bridge_terms.specs.Blocks.{IsSeparate, AreSeparate, AreHeld, IsPlanOf, IsBackBlock};
 
-/// What is gathered of fields by the structure is the message that they are translated to, and no
-/// other is.
+/// The message gathered from fields by the structure is the one that they are translated to, and the only one.
 pub fn gathered_values_are_the_message()
     ensures read { (p : Plan) (fields : List Field) (t : Tree Value p) → EachRule IsSound p
         → values_of_fields p fields ≡ Some t → IsBack p fields t }
@@ -35,7 +34,7 @@ pub fn at_most_one_message_back()
         → IsBack p fields t → IsBack p fields u → t ≡ u }
 {}
 
-/// Fields are translated to a message exactly where they aren't refused.
+/// Fields are translated to a message exactly if they aren't refused.
 pub fn a_message_or_a_refusal()
     ensures read { (p : Plan) (fields : List Field) → IsPlaced p → EachRule IsSound p
         → back_refused p fields ≡ None → (t : Tree Value p) × IsBack p fields t }
@@ -65,13 +64,13 @@ pub fn a_block_is_known_by_its_values()
         → values_of p b ≡ values_of p c → b ≡ c }
 {}
 
-/// The block that is made of values has these values.
+/// The block that is built from values has these values.
 pub fn a_block_has_its_values()
     ensures { (level : Level) (p : Plan) (t : Tree Value p) → IsSeparate level p → AreSeparate p → AreHeld p t
         → values_of p (block_of level p t) ≡ t }
 {}
 
-/// What is found of parts in the order of the text is what is wrong at the first place.
+/// The refusal found by checking parts in the order of the text is that of the first part at fault.
 pub fn the_first_wrong_part_is_told()
     ensures told { (wrong : Part → Option Refusal) (parts : List Part) (refusal : Refusal)
         → wrong_in_order wrong [] parts ≡ Some refusal → IsFirstWrong wrong parts refusal }
@@ -79,7 +78,7 @@ pub fn the_first_wrong_part_is_told()
         → IsFirstWrong wrong parts refusal → wrong_in_order wrong [] parts ≡ Some refusal }
 {}
 
-/// Fields are translated to one block, and exactly where they aren't refused.
+/// Fields are translated to one block, exactly if they aren't refused.
 pub fn a_block_or_a_refusal()
     ensures some { (level : Level) (p : Plan) (fields : List Field) → IsPlanOf level p → IsPlaced p → EachRule IsSound p
         → back_refused p fields ≡ None → (b : Block) × IsBackBlock level p fields b }
@@ -89,7 +88,7 @@ pub fn a_block_or_a_refusal()
         → IsBackBlock level p fields b → back_refused p fields ≡ None }
 {}
 
-/// Length fields and those of the head are passed over.
+/// Length fields and header fields are skipped.
 pub fn lengths_and_heads_are_passed_over()
     ensures lengths { (lists : TagLists) (fields : List Field)
         → Each (λ f. is_application lists f ≡ true) fields → application_fields lists (with_lengths lists fields) ≡ fields }
@@ -104,16 +103,14 @@ pub fn a_good_message_comes_back()
         → fields_of p t ≡ Ok fields → values_of_fields p fields ≡ Some t }
 {}
 
-/// The first part of fields is the first field with the run after it, and the others are those of
-/// what is after the run.
+/// The first part of fields is the first field with the run after it, and the others are those of what follows the run.
 pub fn parts_come_one_after_another()
     ensures { (owned : ℕ → ℕ → Bool) → ((tag : ℕ) → owned 0 tag ≡ false) → (f : Field) (fs : List Field)
         → parts_of owned (f ∷ fs) ≡ record { tag = f.tag; text = f.value; run = run_of owned f.tag fs }
         ∷ parts_of owned (rest_of owned f.tag fs) }
 {}
 
-/// No place of a message is refused exactly where the message has fields, and these are those of its
-/// places.
+/// No place of a message is refused exactly if the message has fields, and these are those of its places.
 pub fn places_are_the_fields()
     ensures told { (p : Plan) (t : Tree Value p) → (places_of p t).refused ≡ None
         → fields_of p t ≡ Ok (place_fields (places_of p t).places) }
@@ -121,7 +118,7 @@ pub fn places_are_the_fields()
         → (places_of p t).refused ≡ None }
 {}
 
-/// No place is over a limit exactly where the text of all places isn't.
+/// No place exceeds a limit exactly if the text of all places doesn't.
 pub fn no_place_is_over_the_limit()
     ensures fits { (size : List Field → ℕ) (limit : ℕ) (before : List Field) (places : List Written)
         → size before ≤ limit → first_over size limit before places ≡ None
@@ -131,8 +128,8 @@ pub fn no_place_is_over_the_limit()
         → first_over size limit before places ≡ None }
 {}
 
-/// The message that fields are translated to has fields again, unless a decimal's exponent is outside
-/// the range that is shown.
+/// The message that fields are translated to can be written as fields again, unless a decimal's exponent is outside the
+/// range that is written.
 pub fn a_message_of_fields_is_written_again()
     ensures { (p : Plan) (fields : List Field) (t : Tree Value p) → IsRoot p → EachRule IsSound p → EachRule ShowsGood p
         → EachRule HasText p → IsBack p fields t → ((again : List Field) × (fields_of p t ≡ Ok again))

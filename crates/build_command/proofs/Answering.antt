@@ -34,7 +34,7 @@ use Rattle.misfit_laws.proofs.Wanted.{full_detail}
 
 -- ---- a frame
 
--- the head of a frame, and its body behind it
+-- the head of a frame, and its body after it
 pub head_is : (encoding : ℕ) (body head : List ℕ) → head ≡ digits_high_first 4 (length body + HEAD_BYTES) ++ digits_high_first 2 encoding → head ++ body ≡ frame encoding body
 head_is encoding body head h = ap (λ x. x ++ body) h ∙ append_assoc (digits_high_first 4 (length body + HEAD_BYTES)) (digits_high_first 2 encoding) body
 

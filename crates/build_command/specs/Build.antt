@@ -1,4 +1,4 @@
--- What `build` answers to one line. Own profile.
+-- What `build` answers for one line. Own profile.
 use Rattle.std.specs.Prelude.{◌≡◌, ◌≢◌, ◌<◌, ℕ, ◌-◌, ◌^◌, ⊤, ℤ, pos, ◌+ℤ◌, Option, Some, None, Result, Ok, Err, List, [], ◌∷◌, ◌++◌, codes, unwrap_or}
 use Rattle.std.specs.Fmt.{signed_decimal}
 use Rattle.sbe_types.specs.declared.schema.WireSchema.{WireSchema}
@@ -21,16 +21,16 @@ use Rattle.refused_items.specs.Refused.{Refused as RefusedItem, refused_line, fr
 use Rattle.replies.specs.Reply.{Reply}
 use Rattle.replies.specs.declared.verdict.Verdict.TheVariants.{Answered, Refused}
 
--- ---- a line that is no message
+-- ---- a line that isn't a message
 
--- the code of why a line is no message
+-- the code of why a line isn't a message
 abbrev pub line_code : JCode → List ℕ
 line_code unread.NotJson = codes "J01"
 line_code unread.Shape = codes "J02"
 line_code unread.UnknownName = codes "J03"
 line_code unread.Kind = codes "J04"
 
--- the line of an item whose line is no message; its place may be a key of the line, and is shown as a text is
+-- the line of an item whose line isn't a message; its place may be a key of the line, and is printed as a text
 abbrev pub unread_line : ℕ → Refusal → List ℕ
 unread_line item why = front_text item (line_code why.code) None ++ (plain_text (text_data why.place) ++ codes ",\"detail\":\"\"}\n")
 
@@ -48,7 +48,7 @@ misfit_code unfit.Length = codes "N07"
 misfit_code unfit.Full = codes "N08"
 misfit_code unfit.Shape = codes "N09"
 
--- its number, if it has one; the bytes that are wanted count the head of the frame too
+-- the detail of a misfit: its number, if it has one; the number of bytes needed counts the head of the frame too
 abbrev pub misfit_detail : NCode → ℤ → List ℕ
 misfit_detail unfit.Range n = signed_decimal n
 misfit_detail unfit.EnumUnknown n = signed_decimal n
@@ -60,7 +60,7 @@ misfit_detail unfit.Length n = signed_decimal n
 misfit_detail unfit.Full n = signed_decimal (n +ℤ pos HEAD_BYTES)
 misfit_detail unfit.Shape n = []
 
--- bytes that are wanted are so few that those of the head can be added to their number
+-- the number of bytes needed is small enough that the bytes of the head can be added
 abbrev pub LeavesRoom : NCode → ℤ → Type 0
 LeavesRoom unfit.Range n = ⊤
 LeavesRoom unfit.EnumUnknown n = ⊤
@@ -79,23 +79,24 @@ of_misfit schema template why =
 
 -- ---- the answer
 
--- nothing is written
+-- the reply that writes nothing
 abbrev pub no_reply : Reply
 no_reply = record { output = []; notes = []; verdict = Answered }
 
--- a refused item is noted
+-- the reply that notes a refused item
 abbrev pub refused_reply : List ℕ → Reply
 refused_reply line = record { output = []; notes = line; verdict = Refused }
 
--- a frame is written
+-- the reply with a frame
 abbrev pub frame_reply : WireSchema → List ℕ → Reply
 frame_reply schema body = record { output = frame (encoding_of schema.order) body; notes = []; verdict = Answered }
 
--- the most bytes of a body in frames of at most so many bytes
+-- the most bytes of a body in frames of at most `limit` bytes
 abbrev pub body_limit : ℕ → ℕ
 body_limit limit = limit - HEAD_BYTES
 
--- A line without bytes has no answer. A line that is no message is refused, and so is a message that can't be written in a frame of at most `limit` bytes. Else the answer is the frame of the canonical body.
+-- A line without bytes is not answered. A line that isn't a message is refused, and so is a message that can't be
+-- written in a frame of at most `limit` bytes. Else the answer is the frame of the canonical body.
 pub data IsBuilt (schema : WireSchema) (limit item : ℕ) (line : List ℕ) (reply : Reply) : Type 0 where
   no_bytes : line ≡ [] → reply ≡ no_reply → IsBuilt schema limit item line reply
   no_message : line ≢ [] → (why : Refusal) → tree_of schema line ≡ Err why → reply ≡ refused_reply (unread_line item why) → IsBuilt schema limit item line reply
@@ -111,7 +112,7 @@ abbrev pub message_reply : WireSchema → ℕ → Msg → Option Misfit → Repl
 message_reply schema item m None = frame_reply schema (unwrap_or (canonical schema m) [])
 message_reply schema item m (Some why) = refused_reply (refused_line item (of_misfit schema m.template why))
 
--- the answer to a line that is read so
+-- the answer to a line by what is read of it
 abbrev pub read_reply : WireSchema → ℕ → ℕ → Result Msg Refusal → Reply
 read_reply schema limit item (Ok m) = message_reply schema item m (misfit schema m (body_limit limit))
 read_reply schema limit item (Err why) = refused_reply (unread_line item why)

@@ -1,4 +1,4 @@
--- The command `build`: what its file is judged as, and its reply to a line.
+-- The command `build`: what its file contains or why it is refused, and its reply to a line.
 use Rattle.std.specs.Prelude.{◌≡◌, ℕ, List, Option, Result, Ok, Err}
 use Rattle.sbe_types.specs.declared.schema.WireSchema.{WireSchema}
 use Rattle.replies.specs.Reply.{Reply}
@@ -20,15 +20,15 @@ pub record Building : Type 0 where
 abbrev pub IsBuildReply : Building → Kept → List ℕ → Reply → Type 0
 IsBuildReply building kept line reply = IsBuilt building.schema building.frame kept.items line reply
 
--- the same file, for frames of so many bytes
+-- the same file, for frames of at most `frame` bytes
 abbrev pub built_for : ℕ → Result WireSchema RefusedFile → Result Building RefusedFile
 built_for frame (Ok schema) = Ok (record { schema = schema; frame = frame })
 built_for frame (Err file) = Err file
 
--- the file of that name is judged so
+-- the file with this name contains this, or is refused
 abbrev pub JudgesBuild : List ℕ → ℕ → (List ℕ → Option (List ℕ)) → Result Building RefusedFile → Type 0
 JudgesBuild name frame contents judged = judged ≡ built_for frame (judged_in role.Schema (file_schema (contents name)))
 
--- The files of `build`: the schema alone, for frames of so many bytes.
+-- The files of `build`: only the schema, for frames of at most `frame` bytes.
 abbrev pub build_files : List ℕ → ℕ → FilesOf Building
 build_files name frame = record { AreJudged = JudgesBuild name frame; IsRole = IsWithin 0; AreGood = λ building. IsChecked building.schema }

@@ -43,7 +43,7 @@ impl Model for Builder {
     ghost invariant = { λ build. IsChecked build.target × (build.frame ≤ 16_777_216) × (build.space.buffer.limit ≡ body_limit build.frame) };
 }
 
-/// Loads and judges the schema of a build.
+/// Loads and checks the schema of a build.
 pub fn load_build<F: Files>(
     alloc: Global,
     name: &str,

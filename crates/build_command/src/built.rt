@@ -28,12 +28,12 @@ use std::alloc::Global;
 use tree_codec::encode;
 use typed_writer::FrameBuf;
 
-/// Writes the answer to a line: the frame of its message to the output, or the line of a refused item to the notes. A line in
-/// the form in which messages are printed goes a short way to its body, which takes no memory.
+/// Writes the answer to a line: the frame of its message to the output, or the line of a refused item to the notes. A
+/// line in the form in which messages are printed takes a short path to its body, which allocates nothing.
 ///
 /// # Errors
 ///
-/// `WriteFault` where a write fails; `NoMemory` for want of memory, and then nothing is written.
+/// `WriteFault` if a write fails; `NoMemory` if memory runs out, and then nothing is written.
 pub fn answer_built<O: Sink, N: Sink>(
     alloc: Global,
     target: &Target,
@@ -74,7 +74,7 @@ pub fn answer_built<O: Sink, N: Sink>(
     }
 }
 
-/// Writes the answer to a message of one of the schema's templates. It takes no memory.
+/// Writes the answer to a message of one of the schema's templates. Allocates nothing.
 ///
 /// # Errors
 ///
@@ -105,7 +105,7 @@ pub fn answer_message<O: Sink, N: Sink>(
     }
 }
 
-/// Writes the answer that is the frame of a body. It takes no memory.
+/// Writes the answer that is the frame of a body. Allocates nothing.
 fn answer_body<O: Sink>(layout: &Layout, body: &[u8], output: &mut O) -> Result<Verdict, Status>
     requires { length body.now < 2 ^ 24 }
     ensures { (notes : Object (List ℕ)) → DeliversDraft (frame_reply layout.now body.now)

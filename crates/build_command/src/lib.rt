@@ -1,4 +1,5 @@
-//! The command `build`: the schema of its file, and for each line the frame of its message, or a note of why there is none.
+//! The command `build`: the schema of its file, and for each line the frame of its message, or a note of why there is
+//! none.
 #![tactic(auto)]
 
 mod build;

@@ -1,4 +1,4 @@
-//! The words of `build`, and its answers, computed on small lines.
+//! The arguments of `build`, and its answers, computed on small lines.
 
 ghost use Rattle.std.specs.Prelude.{◌≡◌, ◌∷◌, [], pos, codes};
 ghost use Rattle.command_words.specs.Words.{rows_of};

@@ -6,19 +6,19 @@ use lists::NoMem;
 use std::alloc::Global;
 use typed_writer::FrameBuf;
 
-/// What the answers of lines are put together in. It is lent from line to line.
+/// The memory in which answers to lines are built. It is lent from line to line.
 #[derive(Drop)]
 pub struct LineSpace {
     /// The body that a line seems to hold.
     pub draft: BodyDraft,
     /// The body of a message.
     pub buffer: FrameBuf,
-    /// What the reading of JSON needs.
+    /// What reading JSON needs.
     pub json: JsonSpace,
 }
 
 impl LineSpace {
-    /// Takes the memory for bodies of at most `limit` bytes.
+    /// Allocates memory for bodies of at most `limit` bytes.
     pub fn new(alloc: Global, limit: usize) -> Result<LineSpace, NoMem>
         ensures limit { IfOk result (λ space. space.buffer.limit ≡ limit) }
     {

@@ -32,7 +32,7 @@ impl Model for Target {
 }
 
 impl Target {
-    /// A target for the messages of a schema.
+    /// Creates a target for the messages of a schema.
     pub fn new(alloc: Global, checked: Checked) -> Result<Target, NoMem>
         ensures { IfOk result (λ target. target ≡ checked) }
     {

@@ -20,11 +20,11 @@ use sbe_base::{Sink, WriteFault};
 use sbe_wire::NCode;
 use tree_codec::EncodeErr;
 
-/// Writes the line of an item whose line is no message. It takes no memory.
+/// Writes the line of an item whose line isn't a message. Allocates nothing.
 ///
 /// # Errors
 ///
-/// Where a write fails; the sink then holds a front of the line.
+/// [`WriteFault`] if a write fails. The sink then holds a prefix of the line.
 pub fn put_unread<O: Sink>(
     sink: &mut O,
     item: u64,
@@ -39,7 +39,7 @@ pub fn put_unread<O: Sink>(
     printer.finish()
 }
 
-/// Prints the line of an item whose line is no message.
+/// Prints the line of an item whose line isn't a message.
 fn put_unread_line<O: Sink>(printer: &mut Printer<'_, O>, item: u64, code: JCode, place: &[u8])
     ensures { Prints O.state printer.old printer.new (unread_line item (refusal code place.now)) }
 {
@@ -48,12 +48,12 @@ fn put_unread_line<O: Sink>(printer: &mut Printer<'_, O>, item: u64, code: JCode
     printer.put(b",\"detail\":\"\"}\n");
 }
 
-/// Writes the line of an item whose message can't be written. It needs a path of the message's template. It takes
-/// no memory.
+/// Writes the line of an item whose message can't be written. Requires a path of the message's template. Allocates
+/// nothing.
 ///
 /// # Errors
 ///
-/// Where a write fails; the sink then holds a front of the line.
+/// [`WriteFault`] if a write fails. The sink then holds a prefix of the line.
 pub fn put_misfit<O: Sink>(
     sink: &mut O,
     layout: &Layout,
@@ -71,7 +71,7 @@ pub fn put_misfit<O: Sink>(
     printer.finish()
 }
 
-/// Prints the line of an item whose message can't be written. It needs a path of the message's template.
+/// Prints the line of an item whose message can't be written. Requires a path of the message's template.
 fn put_misfit_line<O: Sink>(
     printer: &mut Printer<'_, O>,
     layout: &Layout,
@@ -89,7 +89,7 @@ fn put_misfit_line<O: Sink>(
     put_back(printer, why.code, &why.detail);
 }
 
-/// Prints what follows the path: the number of a misfit, where it has one.
+/// Prints what follows the path: the number of a misfit, if it has one.
 fn put_back<O: Sink>(printer: &mut Printer<'_, O>, code: NCode, detail: &i128)
     requires { LeavesRoom code detail.now }
     ensures { Prints O.state printer.old printer.new (back_text (misfit_detail code detail.now)) }
@@ -107,7 +107,7 @@ fn put_back<O: Sink>(printer: &mut Printer<'_, O>, code: NCode, detail: &i128)
     }
 }
 
-/// The code of why a line is no message.
+/// The code of why a line isn't a message.
 fn line_code(code: JCode) -> &'static str
     ensures { result.now ≡ line_code code }
 {

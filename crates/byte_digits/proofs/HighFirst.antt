@@ -58,7 +58,7 @@ digits-number k bytes len h =
     let fits : number_high_first bytes < 256 ^ k = rw (← len) (number-lt bytes h) in
     same_bytes (digits_high_first k (number_high_first bytes)) bytes (length-digits k (number_high_first bytes) ∙ sym len) (IsBytes-digits k (number_high_first bytes)) h (number-digits-fit k (number_high_first bytes) fits)
 
--- bytes behind bytes: those in front count so many digits higher
+-- bytes after bytes: those in front count so many digits higher
 pub number-joined : (xs ys : List ℕ) → number_high_first (xs ++ ys) ≡ number_high_first xs * 256 ^ length ys + number_high_first ys
 number-joined [] ys = omega arith
 number-joined (x ∷ xs) ys =

@@ -47,7 +47,7 @@ digits-number (suc k) (b ∷ bytes) len h =
     let above : (b + 256 * number_low_first bytes) / 256 ≡ number_low_first bytes = ap (λ s. s / 256) sum ∙ div-mul-add (number_low_first bytes) 256 b (h 0) in
     rw (low, above, digits-number k bytes (omega arith) (IsBytes-tail b bytes h)) refl
 
--- bytes behind bytes: those behind count so many digits higher
+-- bytes after bytes: those after count so many digits higher
 pub number-joined : (xs ys : List ℕ) → number_low_first (xs ++ ys) ≡ number_low_first xs + 256 ^ length xs * number_low_first ys
 number-joined [] ys = omega arith
 number-joined (x ∷ xs) ys =

@@ -1,6 +1,6 @@
-//! Numbers in bytes: the digits of a number to the base 256, with the highest or the lowest first.
+//! Numbers as bytes: the base-256 digits of a number, most or least significant first.
 //!
-//! The definitions stand in `specs/`, and `laws` says what holds of them.
+//! The definitions are in `specs/`; `laws` lists what holds of them.
 #![tactic(auto)]
 
 pub mod laws;

@@ -1,10 +1,10 @@
-// A few bytes are two copies of one size, which may overlap.
+// A short run of bytes is copied by two copies of one size, which may overlap.
 ghost use Rattle.std.specs.Prelude.{◌≡◌, ◌+◌, ◌≤◌, length, take};
 ghost use Rattle.byte_places.specs.Places.{IsPlaced};
 
 use std::simd::Simd;
 
-/// Copies bytes to a place, and tells the place after them.
+/// Copies `bytes` into `room` at offset `at`. Returns the offset after them.
 #[inline(always)]
 pub fn place(room: &mut [u8], at: usize, bytes: &[u8]) -> usize
     requires { at + length bytes.now ≤ length room.old }
@@ -24,7 +24,8 @@ pub fn place(room: &mut [u8], at: usize, bytes: &[u8]) -> usize
     }
 }
 
-/// Copies the first `N` bytes to a place, and tells the place after them. The copy has no branch on a length.
+/// Copies the first `N` bytes into `room` at offset `at`. Returns the offset after them. The copy doesn't branch on a
+/// length.
 #[inline(always)]
 pub fn place_front<const N: usize>(room: &mut [u8], at: usize, bytes: &[u8]) -> usize
     requires enough { N ≤ length bytes.now }
@@ -35,7 +36,7 @@ pub fn place_front<const N: usize>(room: &mut [u8], at: usize, bytes: &[u8]) -> 
     at + N
 }
 
-/// Copies eight bytes or more to a place.
+/// Copies eight or more bytes to an offset.
 #[inline(always)]
 fn place_long(room: &mut [u8], at: usize, bytes: &[u8]) -> usize
     requires enough { 8 ≤ length bytes.now }
@@ -52,7 +53,7 @@ fn place_long(room: &mut [u8], at: usize, bytes: &[u8]) -> usize
     }
 }
 
-/// Copies the first bytes and the last to a place.
+/// Copies the first `N` and the last `N` bytes, which may overlap, to an offset.
 #[inline(always)]
 fn place_ends<const N: usize>(room: &mut [u8], at: usize, bytes: &[u8]) -> usize
     requires enough { N ≤ length bytes.now }
@@ -65,7 +66,7 @@ fn place_ends<const N: usize>(room: &mut [u8], at: usize, bytes: &[u8]) -> usize
     place_front::<N>(room, at + last, &bytes[last..])
 }
 
-/// Copies any number of bytes to a place.
+/// Copies any number of bytes to an offset.
 #[inline(always)]
 fn place_many(room: &mut [u8], at: usize, bytes: &[u8]) -> usize
     requires { at + length bytes.now ≤ length room.old }

@@ -1,4 +1,4 @@
-//! Bytes copied to a place of a room that holds them.
+//! Copies bytes to an offset of a buffer that has room for them.
 #![tactic(auto)]
 
 mod copies;

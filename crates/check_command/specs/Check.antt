@@ -13,6 +13,6 @@ use Rattle.replies.specs.declared.verdict.Verdict.TheVariants.{Answered}
 abbrev pub IsCheckReply : WireSchema → Reply → Type 0
 IsCheckReply schema reply = (reply.output ≡ message_lines schema.messages) × (reply.notes ≡ []) × (reply.verdict ≡ Answered)
 
--- The files of `check`: the schema alone.
+-- The files of `check`: only the schema.
 abbrev pub check_files : List ℕ → FilesOf WireSchema
 check_files name = record { AreJudged = JudgesFile role.Schema name; IsRole = IsWithin 0; AreGood = λ schema. ⊤ }

@@ -34,7 +34,7 @@ impl Model for Checker {
     ghost view = { λ check. check.schema };
 }
 
-/// Loads and judges the schema of a check.
+/// Loads and checks the schema of a check.
 pub fn load_check<F: Files>(alloc: Global, name: &str, files: &mut F) -> Result<Checker, JobStop>
     ensures kept { (F.state files.new).told ≡ (F.state files.old).told }
     ensures loads { LoadsFiles (check_files name.now) (F.state files.old).told result }
@@ -55,7 +55,7 @@ impl WholeCommand for Checker {
     }
 }
 
-/// Puts the lines of a schema that is in order.
+/// Appends the lines of a checked schema.
 fn put_checked(schema: &Checked, output: &mut Vec<u8>) -> Result<Verdict, NoMem>
     ensures lines { OnOk result (output.new.items ≡ output.old.items ++ message_lines schema.now.messages) }
     ensures verdict { IfOk result (λ verdict. verdict ≡ Answered) }

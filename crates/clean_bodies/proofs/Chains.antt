@@ -1,4 +1,4 @@
--- Parts of a body that stand one behind another.
+-- Parts of a body that stand one after another.
 use Rattle.std.proofs.Common.{◌≡◌, ℕ, zero, suc, ◌+◌, ◌-◌, ◌≤◌, ◌<◌, List, [], ◌∷◌, ◌++◌, length, drop, get_or, Option, Some, refl, sym, ap, ◌∙◌, subst, arith, append_assoc, length-append}
 use Rattle.std.proofs.lemmas.List.{drop-drop, drop_more, drop_all, drop_at}
 use Rattle.sbe_types.specs.Wire.{both}
@@ -17,11 +17,11 @@ whole_of X lies own body at next each = record {
   is = λ x front rest there h. (each x front rest there h).1;
 }
 
--- what stands behind the first of two pieces
+-- what follows the first of two pieces
 pub behind : (body : List ℕ) (at : ℕ) (f r : List ℕ) → drop at body ≡ f ++ r → drop (at + length f) body ≡ r
 behind body at f r there = sym (drop-drop (length f) at body) ∙ ap (drop (length f)) there ∙ drop_at f r (length f) refl
 
--- two pieces, one behind the other
+-- two pieces, one after the other
 pub two_pieces : (body : List ℕ) (at mid next : ℕ) (front f b rest : List ℕ) (first second : Option (List ℕ))
     → drop at body ≡ front ++ rest → front ≡ f ++ b → ((r : List ℕ) → drop at body ≡ f ++ r → Ends at mid f first)
     → (drop mid body ≡ b ++ rest → Ends mid next b second) → Ends at next front (both first second)
@@ -67,7 +67,7 @@ times_done S count i at begin leads past =
     let none : count - i ≡ 0 = omega (arith, past) in
     leads at (subst (λ n. Times S n at at) (sym none) refl)
 
--- items that lie one behind another, each of which is whole
+-- items that lie one after another, each of which is whole
 pub times_whole : (X : Type 0) (R : X → List ℕ → Type 0) (own : X → Option (List ℕ)) (body : List ℕ) (xs : List X) (n at next : ℕ)
     → length xs ≡ n → Times (λ a m. IsWhole X R own body a m) n at next → (front rest : List ℕ)
     → drop at body ≡ front ++ rest → Joined R xs front → Ends at next front (all_bytes own xs)

@@ -25,7 +25,7 @@ use Rattle.clean_bodies.proofs.Zeros.{joined, gap_zeros, between_none, whole_bet
 
 -- ---- a text
 
--- what stands behind a clean text is what pads it
+-- what follows a clean text is what pads it
 pads : (n : ℕ) (text after : List ℕ) → length text + length after ≡ n → EndsText after → IsCleanText (text ++ after)
     → after ≡ replicate (n - length text) 0
 pads n text [] long ends clean = let none : 0 ≡ n - length text = omega (arith, long) in ap (λ k. replicate k 0) none
@@ -56,7 +56,7 @@ module _ (order : Order) (leaf : LeafOf) where
   leaf_clean Octets is writable v b long good h clean = array_back order leaf v b long good h
   leaf_clean Numbers is writable v b long good h clean = array_back order leaf v b long good h
 
--- ---- one part behind another
+-- ---- one part after another
 
 -- the zeros before a part and its bytes are the bytes up to its end
 pub part_is : (e : ℕ) (offset : _) (kind : Kind) (t : Bool) → is_const kind ≡ t → BeginsBehind e offset kind
@@ -73,7 +73,7 @@ part_is e offset kind false c behind b within gap =
     ∙ ap (λ n. between e begin b ++ take n (drop begin b)) size
     ∙ joined e begin (begin + width kind) b begins (omega arith)
 
--- where the part ends, at e or behind
+-- where the part ends, at e or after
 pub part_grows : (e : ℕ) (offset : _) (kind : Kind) (t : Bool) → is_const kind ≡ t → BeginsBehind e offset kind
     → e ≤ cond t e (begin_of e offset + width kind)
 part_grows e offset kind true c behind = omega arith

@@ -58,7 +58,7 @@ module _ (place : Place) where
     part_whole at many known good says =
         whole_of DataVal (DataLays order version p) (part_bytes order p) body at (at + w + many) (part_ends at many known good says)
 
-  -- parts one behind another
+  -- parts one after another
   pub parts_end : (ps : List DataField) (at next : ℕ) → Chain DataField (PartStep place) ps at next
       → (vs : List DataVal) (front rest : List ℕ) → drop at body ≡ front ++ rest
       → JoinedBoth (DataLays order version) ps vs front → Ends at next front (parts_bytes order ps vs)

@@ -6,11 +6,11 @@ use Rattle.sbe_types.specs.declared.message.Msg.{Msg}
 use Rattle.sbe_wire.specs.Canonical.{canonical}
 use Rattle.sbe_wire.specs.Lays.{Lays}
 
--- whatever message with this root lies in the body, its canonical body is this one
+-- this body is the canonical one of every message with this root that lies in it
 abbrev pub IsCanonicalRoot : WireSchema → Level → List ℕ → Type 0
 IsCanonicalRoot schema level body =
     (m : Msg) → m.version ≡ schema.version → slice_get schema.messages m.template ≡ Some level → Lays schema m body → canonical schema m ≡ Some body
 
--- the same of the messages of a template
+-- the same for the messages of a template
 abbrev pub IsCanonicalOf : WireSchema → ℕ → List ℕ → Type 0
 IsCanonicalOf schema template body = (m : Msg) → m.template ≡ template → m.version ≡ schema.version → Lays schema m body → canonical schema m ≡ Some body

@@ -1,4 +1,4 @@
--- Bytes in which 00 stands wherever no value does: between parts, and behind texts. Own profile.
+-- Bytes that are 00 wherever there is no value: between parts, and after texts. Own profile.
 use Rattle.std.specs.Prelude.{◌≡◌, ℕ, ◌+◌, ◌-◌, false, if◌then◌else◌, Option, List, [], ◌∷◌, ◌++◌, length, take, drop, replicate, ⊤}
 use Rattle.sbe_types.specs.declared.kind.LeafShape.{LeafShape}
 use Rattle.sbe_types.specs.declared.kind.LeafShape.TheVariants.{Number, RangedText, EncodedText, Octets, Numbers}
@@ -6,19 +6,19 @@ use Rattle.sbe_types.specs.declared.kind.Kind.{Kind, Leaf, Enum, Set, Const, Com
 use Rattle.sbe_types.specs.declared.schema.Field.{Field}
 use Rattle.sbe_types.specs.Places.{width, is_const, begin_of, end_past, fields_end}
 
--- the bytes are so many zeros
+-- the bytes are all zeros
 abbrev pub AreZeros : List ℕ → Type 0
 AreZeros b = b ≡ replicate (length b) 0
 
--- the bytes from one place up to another
+-- the bytes from one offset up to another
 abbrev pub between : ℕ → ℕ → List ℕ → List ℕ
 between from to b = take (to - from) (drop from b)
 
--- zeros alone stand behind the first 00 of a text
+-- only zeros follow the first 00 of a text
 abbrev pub IsCleanText : List ℕ → Type 0
 IsCleanText b = (text after : List ℕ) → b ≡ text ++ 0 ∷ after → AreZeros after
 
--- texts are clean, and all else is
+-- a text is clean; any other leaf always is
 abbrev pub IsCleanLeaf : LeafShape → List ℕ → Type 0
 IsCleanLeaf Number b = ⊤
 IsCleanLeaf RangedText b = IsCleanText b
@@ -26,7 +26,7 @@ IsCleanLeaf EncodedText b = IsCleanText b
 IsCleanLeaf Octets b = ⊤
 IsCleanLeaf Numbers b = ⊤
 
--- zeros stand before a part that takes bytes, up to the end e of the parts before it
+-- only zeros are before a part that takes bytes, from the end e of the parts before it
 abbrev pub HasCleanGap : ℕ → Option ℕ → Kind → List ℕ → Type 0
 HasCleanGap e offset kind b = is_const kind ≡ false → AreZeros (between e (begin_of e offset) b)
 
@@ -43,20 +43,20 @@ abbrev mutual
   IsCleanKind (Const c) b = ⊤
   IsCleanKind (Comp' n members) b = AreCleanMembers 0 members b
 
-  -- the same of members behind members that end at e
+  -- the same for members after members that end at e
   pub AreCleanMembers : ℕ → {n : _} → Row_of-Member n → List ℕ → Type 0
   AreCleanMembers e end_of-Member b = ⊤
   AreCleanMembers e (more_of-Member name offset kind rest) b =
       HasCleanGap e offset kind b × IsCleanKind kind (part_in e offset kind b)
       × AreCleanMembers (if is_const kind then e else begin_of e offset + width kind) rest b
 
--- the same of fields
+-- the same for fields
 abbrev pub AreCleanFields : ℕ → List Field → List ℕ → Type 0
 AreCleanFields e [] b = ⊤
 AreCleanFields e (f ∷ fs) b =
     HasCleanGap e f.offset f.kind b × IsCleanKind f.kind (part_in e f.offset f.kind b) × AreCleanFields (end_past e f.offset f.kind) fs b
 
--- A block whose fields are clean, and behind which there are zeros alone.
+-- A block whose fields are clean, and are followed only by zeros.
 pub record IsCleanBlock (fields : List Field) (b : List ℕ) : Type 0 where
   pub fields_clean : AreCleanFields 0 fields b
   pub rest_clean : AreZeros (drop (fields_end 0 fields) b)

@@ -1,4 +1,4 @@
--- What the laws ask of a level: its parts are placed, and can be written at the version.
+-- What the laws require of a level: its parts are placed, and can be written at the version.
 use Rattle.std.specs.Prelude.{ℕ}
 use Rattle.sbe_types.specs.declared.schema.Group.{Group}
 use Rattle.sbe_types.specs.declared.schema.Level.{Level}

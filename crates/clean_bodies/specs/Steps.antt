@@ -13,7 +13,7 @@ use Rattle.sbe_wire.specs.Canonical.{part_bytes, block_bytes, tail_bytes, group_
 use Rattle.sbe_wire.specs.Lays.{DataLays, EntryLays, TailLays, GroupLays}
 use Rattle.clean_bodies.specs.Whole.{IsWhole}
 
--- Where the parts stand: the byte order, the schema's version, and the body.
+-- Where the parts are: the byte order, the schema's version, and the body.
 pub record Place : Type 0 where
   pub order : Order
   pub version : ℕ
@@ -27,11 +27,11 @@ PartStep p part at next = IsWhole DataVal (DataLays p.order p.version part) (par
 abbrev pub TailStep : Place → Level → ℕ → ℕ → Type 0
 TailStep p level at next = IsWhole Block (λ entry b. TailLays (own_mode p.order p.version) level entry b) (tail_bytes p.order level) p.body at next
 
--- the canonical bytes of a block of the declared length, and of the groups and data behind it
+-- the canonical bytes of a block of the declared length, and of the groups and data after it
 abbrev pub entry_bytes : Order → Level → Block → Option (List ℕ)
 entry_bytes order level entry = both (block_bytes order (out-Level level).block_length (out-Level level).fields (out-Block entry).fields) (tail_bytes order level entry)
 
--- an entry is lying there, with a block of the declared length
+-- an entry lies there, with a block of the declared length
 abbrev pub EntryIs : Order → ℕ → Level → Block → List ℕ → Type 0
 EntryIs order version level entry b =
     let mode = own_mode order version in

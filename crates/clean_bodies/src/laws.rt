@@ -1,4 +1,4 @@
-//! Laws of the definitions, as functions without a body.
+//! Laws of the definitions, stated as functions without a body.
 
 ghost use Rattle.std.specs.Prelude.{◌≡◌, ◌≤◌, ℕ, List, Some, length, codes, take};
 ghost use Rattle.byte_digits.specs.Digits.{IsBytes};
@@ -29,14 +29,14 @@ pub fn clean_blocks_are_canonical()
         → block_bytes order (length b) fields values ≡ Some b }
 {}
 
-/// The groups and the data of a level are whole where each of them is.
+/// The groups and the data of a level are whole if each of them is.
 pub fn a_tail_is_whole_where_its_parts_are()
     ensures { (place : Place) (level : Level) (at mid next : ℕ) → Chain Group (GroupStep place) (out-Level level).groups at mid
         → Chain DataField (PartStep place) (out-Level level).parts mid next → TailStep place level at next }
 {}
 
-/// A body is the canonical one of the message that lies in it, where its header says the numbers that are written, and what
-/// stands behind the header is whole.
+/// A body is the canonical one of the message that lies in it, if its header has the numbers that are written, and what
+/// follows the header is whole.
 pub fn a_whole_body_is_canonical()
     ensures { (schema : WireSchema) (level : Level) (body : List ℕ) (next : ℕ) → IsGoodLevel schema.version level
         → HasNamed schema.header.members (codes "blockLength") → IsBytes body

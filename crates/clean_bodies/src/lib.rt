@@ -1,5 +1,5 @@
-//! Bodies whose bytes are all those of their message: where no value stands there are zeros. No code runs here: the laws are
-//! functions without a body.
+//! Bodies all of whose bytes come from their message: where there is no value there are zeros. No code runs here: the
+//! laws are functions without a body.
 #![tactic(auto)]
 
 pub mod laws;

@@ -1,4 +1,4 @@
--- Zeros, and what stands behind the first.
+-- Zeros, and what follows the first.
 use Rattle.std.proofs.Common.{◌≡◌, ℕ, suc, ◌+◌, Bool, true, false, cond, List, [], ◌∷◌, ◌++◌, length, take, drop, refl, ap, ◌∙◌, subst, arith}
 use Rattle.std.specs.Prelude.{◌==◌, not}
 use Rattle.std.specs.List.{list_all, prefix_len}
@@ -29,13 +29,13 @@ by_zero false x n text after go k =
     let more : 1 + n ≡ suc n = omega arith in
     go (subst (λ j. AreZeros (drop (length (take j (x ∷ (text ++ 0 ∷ after)))) (x ∷ (text ++ 0 ∷ after)))) more k)
 
--- what stands behind some 00 of a text, where zeros alone stand from its first on
+-- what follows some 00 of a text, where zeros alone stand from its first on
 behind_zero : (text after : List ℕ) → AreZeros (drop (length (before_zero (text ++ 0 ∷ after))) (text ++ 0 ∷ after))
     → AreZeros after
 behind_zero [] after h = tail_zeros 0 after h
 behind_zero (x ∷ text) after h = by_zero (x == 0) x (prefix_len (λ b. not (b == 0)) (text ++ 0 ∷ after)) text after (λ k. behind_zero text after k) h
 
--- the text of a field, with what stands behind its first 00
+-- the text of a field, with what follows its first 00
 pub text_clean : (bytes text : List ℕ) → text ≡ before_zero bytes → AreZeros (drop (length text) bytes) → IsCleanText bytes
 text_clean bytes text is zeros front after whole =
     behind_zero front after (subst (λ b. AreZeros (drop (length (before_zero b)) b)) whole (subst (λ t. AreZeros (drop (length t) bytes)) is zeros))

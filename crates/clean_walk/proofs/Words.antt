@@ -38,7 +38,7 @@ same_words xs ys m n a b bx by p q = same_from_decides (nat_eq m n) (bytes_eq (t
 
 -- ---- names of one word or two
 
--- what stands behind the first word is a part of the last one
+-- what follows the first word is a part of the last one
 behind_word : (n : ℕ) (xs : List ℕ) → 8 ≤ n → n ≤ 8 + 8 → n ≡ length xs → drop 8 xs ≡ drop (8 - (n - 8)) (take 8 (drop (n - 8) xs))
 behind_word n xs least most is =
     let long : length (drop (n - 8) xs) ≤ 8 = omega (arith, length-drop (n - 8) xs, is, least) in

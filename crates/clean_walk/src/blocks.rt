@@ -1,4 +1,4 @@
-// Blocks that are clean, by the values of their table in wire order.
+// Blocks that are clean, checked by the values of their table in wire order.
 ghost use Rattle.std.specs.Prelude.{◌≡◌, ◌≤◌, true, length, IfSome};
 ghost use Rattle.flat_rows.specs.Tables.{stands_for, IsRow, IsTable};
 ghost use Rattle.clean_bodies.specs.Clean.{IsCleanKind, IsCleanLeaf};
@@ -23,7 +23,8 @@ pub(crate) fn is_clean_block(table: &FlatRows, block: &[u8]) -> bool
     is_zero(&block[end..])
 }
 
-/// Where the value of a row ends, if it lies within the block, zeros lie between `end` and it, and its bytes are clean.
+/// The end of a row's value, if the value is within the block, there are zeros between `end` and the value, and its
+/// bytes are clean.
 #[inline(always)]
 fn past_value(row: &FlatRow, end: usize, block: &[u8]) -> Option<usize>
     requires row { IsRow row.now }
@@ -55,7 +56,7 @@ fn is_clean_kind(kind: &Kind, bytes: &[u8]) -> bool
     }
 }
 
-/// The same of a single number, a text or an array.
+/// The same for a single number, a text or an array.
 #[inline(always)]
 fn is_clean_leaf(shape: LeafShape, bytes: &[u8]) -> bool
     ensures { result ≡ true → IsCleanLeaf shape bytes.now }

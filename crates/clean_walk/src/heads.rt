@@ -25,7 +25,7 @@ pub(crate) enum Numbers {
 }
 
 impl Numbers {
-    /// The number of that name.
+    /// The number with this name.
     fn of_name(self, name: &[u8]) -> u32
         ensures { result ≡ number_of_name self name.now }
     {
@@ -57,7 +57,7 @@ impl Numbers {
     }
 }
 
-/// Where members end that are each the number of its name, with zeros between them.
+/// The end of the members, if each has the number of its name, and there are zeros between them.
 pub(crate) fn end_said(
     order: Order,
     members: &[Member],
@@ -79,7 +79,7 @@ pub(crate) fn end_said(
     Some(end)
 }
 
-/// Where a member ends behind members that end at `end`, if it is that number and zeros stand before it.
+/// The end of a member after members that end at `end`, if it has this number and is preceded by zeros.
 #[tactic(auto, using(crate::proofs::Saying::past_leaf))]
 fn past_number(
     order: Order,
@@ -108,7 +108,7 @@ fn past_number(
     Some(next)
 }
 
-/// The number of a member that begins behind `end`, and where it ends; none where it is no number of 32 bits.
+/// The number of a member that begins after `end`, and where it ends, or `None` if it isn't a number of 32 bits.
 fn number_in(order: Order, end: usize, member: &Member, bytes: &[u8]) -> Option<(u32, usize)> {
     let Kind::Leaf(leaf) = &member.kind else {
         return None;
@@ -122,8 +122,8 @@ fn number_in(order: Order, end: usize, member: &Member, bytes: &[u8]) -> Option<
     Some((number, next))
 }
 
-/// The number of the first member that isn't the block length. Nothing is said of it: whoever takes it asks whether the
-/// members say it.
+/// The number of the first member that isn't the block length. Nothing is promised of it: a caller has to check that
+/// the members state it.
 pub(crate) fn count_in(order: Order, members: &[Member], bytes: &[u8]) -> Option<u32> {
     let mut end = 0usize;
     for member in members {

@@ -1,4 +1,4 @@
-//! Whether the bytes of a body are the canonical ones of the message that lies in it: one walk by the layout's rows.
+//! Whether the bytes of a body are the canonical ones of the message that lies in it, in one walk by the layout's rows.
 #![tactic(auto)]
 
 mod blocks;

@@ -8,7 +8,7 @@ use byteorder::{ByteOrder, LittleEndian};
 /// How many bytes are compared at once.
 const WORD: usize = 8;
 
-/// Whether two names are the same. Those of one or two words are compared by their first word and by their last.
+/// Whether two names are the same. Names of one or two words are compared by their first word and their last.
 #[inline(always)]
 pub(crate) fn is_same(name: &[u8], other: &[u8]) -> bool
     ensures { result ≡ bytes_eq name.now other.now }

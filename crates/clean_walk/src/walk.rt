@@ -22,8 +22,8 @@ use body_walk::first_child;
 use layout_tables::Layout;
 use sbe_types::{DataField, Group, Level, Order};
 
-/// Whether a body's bytes are the canonical ones of the message of this template and of the schema's own version that lies in
-/// it, if one does. `false` is inconclusive.
+/// Whether a body is the canonical one of the message that lies in it, if that has this template and the schema's own
+/// version. Doesn't check that a message lies there. `false` is inconclusive.
 pub fn is_clean_body(layout: &Layout, template: usize, body: &[u8]) -> bool
     ensures { result ≡ true → IsCanonicalOf layout.now template body.now }
 {
@@ -36,7 +36,7 @@ pub fn is_clean_body(layout: &Layout, template: usize, body: &[u8]) -> bool
     is_clean_root(layout, layout.root(template), &levels[template], body)
 }
 
-/// The same of the root of a message, which is the level of that number.
+/// The same for the root of a message, which is the level with this number.
 fn is_clean_root(layout: &Layout, n: usize, level: &Level, body: &[u8]) -> bool
     requires level { level_at layout.now n ≡ Some level.now }
     requires good { IsGoodLevel layout.now.version level.now }
@@ -60,7 +60,7 @@ fn is_clean_root(layout: &Layout, n: usize, level: &Level, body: &[u8]) -> bool
     }
 }
 
-/// Where an entry ends that begins at a place of the body, if its bytes are clean.
+/// The end of an entry that begins at an offset of the body, if its bytes are clean.
 #[cycle(walk)]
 fn entry_end(layout: &Layout, n: usize, level: &Level, body: &[u8], at: usize) -> Option<usize>
     requires level { level_at layout.now n ≡ Some level.now }
@@ -83,7 +83,7 @@ fn entry_end(layout: &Layout, n: usize, level: &Level, body: &[u8], at: usize) -
     parts_end(layout, level.parts.as_slice(), body, next)
 }
 
-/// Where the groups of a level end.
+/// The end of the groups of a level.
 #[cycle(walk)]
 fn groups_end(layout: &Layout, n: usize, level: &Level, body: &[u8], at: usize) -> Option<usize>
     requires level { level_at layout.now n ≡ Some level.now }
@@ -106,7 +106,7 @@ fn groups_end(layout: &Layout, n: usize, level: &Level, body: &[u8], at: usize) 
     Some(next)
 }
 
-/// Where a group ends, whose entries' level has that number.
+/// The end of a group, whose entries' level has this number.
 #[cycle(walk)]
 fn group_end(layout: &Layout, n: usize, group: &Group, body: &[u8], at: usize) -> Option<usize>
     requires level { level_at layout.now n ≡ Some (out-Group group.now).level }
@@ -120,7 +120,7 @@ fn group_end(layout: &Layout, n: usize, group: &Group, body: &[u8], at: usize) -
     entries_end(layout, n, &group.level, count, body, behind)
 }
 
-/// Where so many entries end.
+/// The end of `count` entries.
 #[cycle(walk)]
 fn entries_end(
     layout: &Layout,
@@ -147,7 +147,7 @@ fn entries_end(
     Some(next)
 }
 
-/// How many entries a dimension counts and where it ends, if it is the one that is written for so many.
+/// The count in a dimension and the dimension's end, if it is the one that would be written for that count.
 fn dim_end(order: Order, group: &Group, body: &[u8], at: usize) -> Option<(u32, usize)>
     requires { at ≤ length body.now }
     ensures says { IfSome result (λ d. GroupSays order body.now group.now d.0 at) }
@@ -165,7 +165,7 @@ fn dim_end(order: Order, group: &Group, body: &[u8], at: usize) -> Option<(u32, 
     Some((count, at + size))
 }
 
-/// Where data parts end.
+/// The end of data parts.
 fn parts_end(layout: &Layout, parts: &[DataField], body: &[u8], at: usize) -> Option<usize>
     requires good { All (IsWritablePart layout.now.version) parts.now }
     requires bytes { IsBytes body.now }
@@ -183,7 +183,7 @@ fn parts_end(layout: &Layout, parts: &[DataField], body: &[u8], at: usize) -> Op
     Some(next)
 }
 
-/// Where a data part ends.
+/// The end of a data part.
 fn part_end(layout: &Layout, part: &DataField, body: &[u8], at: usize) -> Option<usize>
     requires good { IsWritablePart layout.now.version part.now }
     requires bytes { IsBytes body.now }

@@ -6,7 +6,7 @@ ghost use Rattle.clean_bodies.specs.Clean.{AreZeros, IsCleanText};
 
 use field_values::before_zero;
 
-/// What a slice holds are bytes.
+/// The items of a byte slice are bytes.
 pub(crate) fn are_bytes(bytes: &[u8])
     ensures { IsBytes bytes.now }
 {}
@@ -18,7 +18,7 @@ fn all_zero(bytes: &[u8]) -> bool
     bytes.iter().all(|byte| *byte == 0)
 }
 
-/// Whether there are zeros alone.
+/// Whether all bytes are zeros.
 #[inline(always)]
 #[tactic(auto, using(crate::proofs::AllZeros::zeros_are))]
 pub(crate) fn is_zero(bytes: &[u8]) -> bool
@@ -27,7 +27,7 @@ pub(crate) fn is_zero(bytes: &[u8]) -> bool
     all_zero(bytes)
 }
 
-/// Whether zeros alone stand behind the first 00.
+/// Whether all bytes after the first 00 are zeros.
 #[tactic(auto, using(crate::proofs::AllZeros::text_clean))]
 pub(crate) fn is_clean_text(bytes: &[u8]) -> bool
     ensures { result ≡ true → IsCleanText bytes.now }

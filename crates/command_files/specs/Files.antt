@@ -1,4 +1,4 @@
--- The files of a command: what they are judged as, and what loading them gives.
+-- The files of a command: what they contain or why they are refused, and what loading them gives.
 use Rattle.std.specs.Prelude.{◌≡◌, ℕ, List, Option, Some, Result, Ok, Err, IfOk, ⊤}
 use Rattle.sbe_types.specs.declared.schema.WireSchema.{WireSchema}
 use Rattle.schema_files.specs.Judged.{file_schema, refused_as}
@@ -8,13 +8,14 @@ use Rattle.schema_files.specs.declared.files.RefusedFile.{RefusedFile}
 use Rattle.schema_files.specs.declared.files.JobStop.{JobStop}
 use Rattle.schema_files.specs.declared.files.JobStop.TheVariants as stop
 
--- The files of a command: what they are judged as, which roles they have, and what holds of those that are accepted.
+-- The files of a command: what they contain or why they are refused, which roles they have, and what holds of those
+-- that are accepted.
 pub record FilesOf (X : Type 0) : Type 1 where
   pub AreJudged : (List ℕ → Option (List ℕ)) → Result X RefusedFile → Type 0
   pub IsRole : FileRole → Type 0
   pub AreGood : X → Type 0
 
--- what files are judged as, unless they failed or it ran out of memory
+-- the answer is what the files contain or the refusal, unless the files failed or it is out of memory
 abbrev pub JudgedSo : {X : Type 0} → (Result X RefusedFile → Type 0) → Result X JobStop → Type 0
 JudgedSo AreJudged (Ok files) = AreJudged (Ok files)
 JudgedSo AreJudged (Err (stop.Refused file)) = AreJudged (Err file)
@@ -28,7 +29,8 @@ FailsIn IsRole (Err (stop.Refused file)) = ⊤
 FailsIn IsRole (Err (stop.Fault role)) = IsRole role
 FailsIn IsRole (Err stop.NoMemory) = ⊤
 
--- The files were loaded: what is there is what they are judged as, where they tell what they hold; a file that failed is one of them.
+-- The files were loaded: the answer is right for the contents, if these are modelled, and a file that failed is one of
+-- them.
 pub record LoadsFiles {X : Type 0} (files : FilesOf X) (told : Option (List ℕ → Option (List ℕ))) (result : Result X JobStop) : Type 0 where
   pub judges : (contents : List ℕ → Option (List ℕ)) → told ≡ Some contents → JudgedSo (files.AreJudged contents) result
   pub fails : FailsIn files.IsRole result
@@ -36,11 +38,11 @@ pub record LoadsFiles {X : Type 0} (files : FilesOf X) (told : Option (List ℕ 
 
 -- ---- one file
 
--- what the file in that role holds, or its refusal
+-- what the file in this role contains, or its refusal
 abbrev pub judged_in : {X : Type 0} → FileRole → Result X FileRefusal → Result X RefusedFile
 judged_in at (Ok held) = Ok held
 judged_in at (Err why) = Err (refused_as at why)
 
--- the file of that name, in that role, is judged so
+-- the file with this name, in this role, contains this, or is refused
 abbrev pub JudgesFile : FileRole → List ℕ → (List ℕ → Option (List ℕ)) → Result WireSchema RefusedFile → Type 0
 JudgesFile at name contents judged = judged ≡ judged_in at (file_schema (contents name))

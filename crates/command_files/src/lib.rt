@@ -1,2 +1,2 @@
-//! What the files of a command are, and what loading them gives.
+//! The files of a command, and the result of loading them.
 #![tactic(auto)]

@@ -71,7 +71,7 @@ delivered reply old new verdict parts wrote = subst (HasParts 0) (sym wrote.1) p
 -- ---- the causes
 
 module _ (before after : Streams) where
-  -- a write failed, or memory was wanting
+  -- a write failed, or memory ran out
   pub write_causes : (code : Status) → code ≡ status.WriteFault → Failed before.sinks.output after.sinks.output ⊎ Failed before.sinks.notes after.sinks.notes → Causes before after code
   write_causes code is fault = subst (λ (s : Status). Causes before after s) (sym is) (record { calm = λ r. absurd r; read = λ e. cc; write = λ e. fault; late = tt })
 
@@ -94,7 +94,7 @@ module _ (before after : Streams) where
     | failed c p f ↦ write_causes code c (inr f)
   ]
 
-  -- what is told is never want of memory
+  -- what is told is never out of memory
   pub told_apart : (code last : Status) (line : List ℕ) (old new : Object (List ℕ)) → Told line last old new code → (last ≡ status.NoMemory → ⊥) → code ≡ status.NoMemory → ⊥
   told_apart code last line old new told never is = elim told [
     | noted c a k ↦ never (sym c ∙ is)

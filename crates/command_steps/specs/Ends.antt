@@ -19,12 +19,12 @@ use Rattle.command_steps.specs.declared.end.Stop.TheVariants.{ReadFault, EndInsi
 abbrev pub at_line : List ℕ → ℕ → List ℕ
 at_line front at = front ++ (decimal at ++ codes "}\n")
 
--- The line of a fault of the framing: its name, its place and its number.
+-- The line of a framing fault: its name, its offset and its number.
 abbrev pub fault_line : List ℕ → ℕ → ℕ → List ℕ
 fault_line name at number =
     codes "{\"framing\":\"" ++ (name ++ (codes "\",\"at\":" ++ (decimal at ++ (codes ",\"number\":" ++ (decimal number ++ codes "}\n")))))
 
--- the line of a head at fault; a stream of frames never ends at a head that is short
+-- the line of a faulty head; a stream of frames never ends at a short head
 abbrev pub head_line : HeadErr → ℕ → List ℕ
 head_line HeadShort at = fault_line (codes "HeadShort") at 0
 head_line (LengthShort n) at = fault_line (codes "LengthShort") at n
@@ -49,11 +49,11 @@ stop_status (InputLimit limit) = status.InputLimit
 
 -- ---- where the pieces end
 
--- The status where all was answered and so many items were refused.
+-- The status after all was answered and this many items were refused.
 abbrev pub done_status : ℕ → Status
 done_status refused = if nat_lt 0 refused then status.SomeRefused else status.Done
 
--- what a command notes at the end of the pieces, by what it has done
+-- what a command notes at the end of the pieces, by what was done
 abbrev pub end_notes : Answering → PieceEnd → Kept → List ℕ
 end_notes on ends.End kept = on.last kept
 end_notes on (ends.EndInside n) kept = fault_line (codes "EndInside") kept.bytes n
@@ -61,7 +61,7 @@ end_notes on (ends.HeadFault fault) kept = head_line fault kept.bytes
 end_notes on ends.LineOver kept = fault_line (codes "LineOver") kept.bytes (longest_line + 1)
 end_notes on ends.InputLimit kept = at_line (codes "{\"limit\":\"Input\",\"at\":") (most_taken on.reading)
 
--- the status at the end, where so many pieces were refused
+-- the status at the end, if this many pieces were refused
 abbrev pub end_status : PieceEnd → ℕ → Status
 end_status ends.End refused = done_status refused
 end_status (ends.EndInside n) refused = status.FramingRefused
@@ -83,7 +83,7 @@ closed on end written kept = record {
   status = end_status end kept.refused;
 }
 
--- The pieces of the input are answered in order, and then comes their end.
+-- The pieces of the input are answered in order, and then its end is reported.
 abbrev pub PiecesReport : Answering → List ℕ → Outcome → Type 0
 PiecesReport on input outcome =
     (pieces : List Piece) × (end : PieceEnd) × (written : Written) × (kept : Kept) × Splits on.reading input pieces end

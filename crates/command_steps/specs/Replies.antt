@@ -1,4 +1,4 @@
--- What a command takes of its input and answers to each piece, and what it has done so far.
+-- What a command takes from its input and answers for each piece, and what it has done so far.
 use Rattle.std.specs.Prelude.{◌≡◌, ◌≤◌, ℕ, ◌+◌, ◌*◌, Bool, false, List, [], ◌∷◌, length, Result, Ok, Err, ⊤}
 use Rattle.sbe_base.specs.declared.status.Limits.{Limits}
 use Rattle.sbe_base.specs.declared.status.Status.{Status}
@@ -16,8 +16,8 @@ use Rattle.command_steps.specs.declared.kept.Kept.{Kept}
 
 -- ---- what a command answers
 
--- What a command takes of its input, what a reply to each piece is, whether it takes no memory for one, and the last line of its notes, by the
--- numbers of a run that answered all of its input.
+-- How a command reads its input, which replies a piece may have, whether it takes no memory for one, and the last line
+-- of its notes, by the numbers of a run that answered all of its input.
 pub record Answering : Type 1 where
   pub reading : Reading
   pub IsReply : Kept → Piece → Reply → Type 0
@@ -31,25 +31,25 @@ FrameReply IsAnswer kept (Line line has_end) reply = ⊥
 FrameReply IsAnswer kept Whole reply = ⊥
 FrameReply IsAnswer kept (Other bytes kind) reply = ⊥
 
--- a reply to a line, whether its end is there or not
+-- a reply to a line, whether or not its end is there, and to nothing else
 abbrev pub LineReply : (Kept → List ℕ → Reply → Type 0) → Kept → Piece → Reply → Type 0
 LineReply IsAnswer kept (Frame item) reply = ⊥
 LineReply IsAnswer kept (Line line has_end) reply = IsAnswer kept line reply
 LineReply IsAnswer kept Whole reply = ⊥
 LineReply IsAnswer kept (Other bytes kind) reply = ⊥
 
--- a reply to a whole job
+-- a reply to a whole job, and to nothing else
 abbrev pub WholeReply : (Reply → Type 0) → Kept → Piece → Reply → Type 0
 WholeReply IsAnswer kept (Frame item) reply = ⊥
 WholeReply IsAnswer kept (Line line has_end) reply = ⊥
 WholeReply IsAnswer kept Whole reply = IsAnswer reply
 WholeReply IsAnswer kept (Other bytes kind) reply = ⊥
 
--- A command that answers each frame so, and ends its notes with that line.
+-- A command that answers each frame, and ends its notes with this line.
 abbrev pub by_frames : Limits → Bool → (Kept → List ℕ) → (Kept → Item → Reply → Type 0) → Answering
 by_frames limits spares last IsAnswer = record { reading = Frames limits; IsReply = FrameReply IsAnswer; spares = spares; last = last }
 
--- A command that answers each line so, and ends its notes with that line.
+-- A command that answers each line, and ends its notes with this line.
 abbrev pub by_lines : ℕ → (Kept → List ℕ) → (Kept → List ℕ → Reply → Type 0) → Answering
 by_lines input last IsAnswer = record { reading = Lines input; IsReply = LineReply IsAnswer; spares = false; last = last }
 
@@ -57,7 +57,7 @@ by_lines input last IsAnswer = record { reading = Lines input; IsReply = LineRep
 abbrev pub no_line : Kept → List ℕ
 no_line kept = []
 
--- A command that takes nothing of its input, and answers so in all.
+-- A command that takes nothing from its input, and answers once.
 abbrev pub by_whole : (Reply → Type 0) → Answering
 by_whole IsAnswer = record { reading = Once; IsReply = WholeReply IsAnswer; spares = false; last = no_line }
 
@@ -77,51 +77,52 @@ translations Refused = 0
 translations Translated = 1
 translations (Regraded dropped filled) = 0
 
--- How many parts a verdict counts as left out.
+-- How many dropped parts a verdict counts.
 abbrev pub parts_dropped : Verdict → ℕ
 parts_dropped Answered = 0
 parts_dropped Refused = 0
 parts_dropped Translated = 0
 parts_dropped (Regraded dropped filled) = dropped
 
--- How many parts a verdict counts as filled in.
+-- How many filled parts a verdict counts.
 abbrev pub parts_filled : Verdict → ℕ
 parts_filled Answered = 0
 parts_filled Refused = 0
 parts_filled Translated = 0
 parts_filled (Regraded dropped filled) = filled
 
--- the most parts that so many bytes may be counted with, so that 64 bits have room for those of all the input
+-- the most parts that may be counted for this many bytes, so that those of the whole input fit 64 bits
 abbrev pub most_parts : ℕ → ℕ
 most_parts bytes = bytes * 1_048_576
 
--- a verdict on so many bytes counts no more parts of either sort
+-- a verdict on this many bytes counts at most as many parts of either sort
 pub record HasParts (bytes : ℕ) (verdict : Verdict) : Type 0 where
   pub dropped : parts_dropped verdict ≤ most_parts bytes
   pub filled : parts_filled verdict ≤ most_parts bytes
 
 -- ---- what a call of a command answers
 
--- One of these replies to so many bytes is written; or in part, and a call failed; or it ran out of memory, and nothing is written.
+-- One of these replies for this many bytes is written; or a part of it, and a call failed; or it is out of memory, and
+-- nothing is written.
 abbrev pub Replied : ℕ → (Reply → Type 0) → Sinks → Sinks → Result Verdict Status → Type 0
 Replied bytes IsAnswer old new result = (reply : Reply) × IsAnswer reply × HasParts bytes reply.verdict × DeliversDraft reply old new result
 
--- One of these replies is drafted, unless it ran out of memory. It counts no parts.
+-- One of these replies is drafted, unless it is out of memory. The reply counts no parts.
 abbrev pub Drafted : (Reply → Type 0) → Draft → Result Verdict NoMem → Type 0
 Drafted IsAnswer draft result = (reply : Reply) × IsAnswer reply × HasParts 0 reply.verdict × Drafts reply draft result
 
--- a command that spares memory never runs out of it
+-- a command that takes no memory is never out of it
 abbrev pub Wants : Bool → Result Verdict Status → Type 0
 Wants spares (Ok verdict) = ⊤
 Wants spares (Err code) = code ≡ status.NoMemory → spares ≡ false
 
 -- ---- what was done so far
 
--- The numbers before the first item.
+-- The numbers before the first piece.
 abbrev pub none_kept : Kept
 none_kept = record { items = 0; refused = 0; translated = 0; dropped = 0; filled = 0; bytes = 0 }
 
--- the numbers after one more piece of so many bytes
+-- the numbers after one more piece with this many bytes
 abbrev pub counted_by : Kept → ℕ → Verdict → Kept
 counted_by kept bytes verdict = record {
   items = kept.items + 1;
@@ -136,7 +137,7 @@ counted_by kept bytes verdict = record {
 abbrev pub counted : Kept → Piece → Verdict → Kept
 counted kept piece verdict = counted_by kept (length (piece_bytes piece)) verdict
 
--- The answers to pieces one after another, and the numbers after them.
+-- The replies to pieces in order, and the numbers after them.
 abbrev pub Replies : Answering → Kept → List Piece → Written → Kept → Type 0
 Replies on kept [] written after = (written ≡ none_written) × (after ≡ kept)
 Replies on kept (piece ∷ pieces) written after =

@@ -1,4 +1,4 @@
--- What a command takes from its input, one piece after another.
+-- What a command takes from its input, piece by piece.
 use Rattle.command_steps.specs.Ahead.{Ahead, none_ahead}
 use Rattle.std.specs.Prelude.{◌≡◌, ◌≤◌, ◌⊎◌, ℕ, ◌+◌, ◌-◌, nat_lt, Bool, true, false, List, [], ◌∷◌, ◌++◌, length, map, ⊤}
 use Rattle.std.specs.List.{AllByRecursion}
@@ -11,15 +11,15 @@ use Rattle.open_framing.specs.Frames as frames
 use Rattle.open_framing.specs.Lines.{IsLine, LineEnd}
 use Rattle.open_framing.specs.Lines as lines
 
--- one thing to answer: a frame's item, a line without its end and whether that end is there, the one job of a command that reads nothing, or other
--- bytes and of which kind they are
+-- one piece to answer: a frame's item, a line without its end and whether that end is there, the one job of a command
+-- that reads nothing, or other bytes and a number for their kind
 pub data Piece : Type 0 where
   Frame : Item → Piece
   Line : List ℕ → Bool → Piece
   Whole : Piece
   Other : List ℕ → ℕ → Piece
 
--- a line's bytes in the input: with its end, which the last line may lack
+-- a line's bytes in the input, with its end, which the last line may lack
 abbrev pub line_bytes : List ℕ → Bool → List ℕ
 line_bytes line true = lines.ended line
 line_bytes line false = line
@@ -31,7 +31,8 @@ piece_bytes (Line line has_end) = line_bytes line has_end
 piece_bytes Whole = []
 piece_bytes (Other bytes kind) = bytes
 
--- how the pieces end: with nothing left, inside a frame of which so many bytes are there, at a head or a line that is at fault, or at the limit
+-- how the pieces end: with nothing left, inside a frame of which this many bytes are there, at a faulty head or line,
+-- or at the limit
 pub data PieceEnd : Type 0 where
   End : PieceEnd
   EndInside : ℕ → PieceEnd
@@ -54,15 +55,16 @@ lines_end lines.InputLimit = InputLimit
 
 -- ---- how an input is read
 
--- What else an input may be split into, within so many bytes of it: all its pieces and their end; pieces at its front, as what was taken of it shows, and
--- the rest; the pieces that are whole in bytes, whatever follows them, of which no further one is; which pieces there may be.
+-- Another way to split an input, within its first n bytes: all its pieces and their end; pieces at its front, as what
+-- was taken shows, and the rest; the pieces that are whole in bytes, whatever follows, after which no further one is
+-- whole; which pieces there may be.
 pub record OtherReading : Type 1 where
   pub Splits : ℕ → List ℕ → List Piece → PieceEnd → Type 0
   pub Begins : ℕ → Ahead → List ℕ → List Piece → List ℕ → Type 0
   pub Holds : List ℕ → List Piece → Type 0
   pub Suits : Piece → Type 0
 
--- how many bytes pieces take up
+-- how many bytes pieces have
 abbrev pub taken_by : List Piece → ℕ
 taken_by pieces = length (joined piece_bytes pieces)
 
@@ -70,8 +72,9 @@ taken_by pieces = length (joined piece_bytes pieces)
 abbrev pub Front : List ℕ → List ℕ → Type 0
 Front seen bytes = (more : List ℕ) × (bytes ≡ seen ++ more)
 
--- What holds of every reading: an input is split in one way, pieces at its front are the first of all, and go on piece by piece. What was taken of the
--- input after pieces is taken after more of them too, and where it was all, it stays all.
+-- What holds of every such reading: an input is split in exactly one way, and pieces at its front are the first of all,
+-- and continue piece by piece. What was taken of the input after pieces is also taken after more of them, and if it was
+-- all, it stays all.
 pub record IsReading (reading : OtherReading) : Type 0 where
   pub once : (n : ℕ) (stream : List ℕ) (xs ys : List Piece) (a b : PieceEnd)
       → reading.Splits n stream xs a → reading.Splits n stream ys b → (xs ≡ ys) × (a ≡ b)
@@ -92,8 +95,8 @@ pub record IsReading (reading : OtherReading) : Type 0 where
       → reading.Holds (joined piece_bytes xs ++ held) xs × (stream ≡ (joined piece_bytes xs ++ held) ++ left)
   pub ended : (n : ℕ) (end : PieceEnd) → reading.Splits n [] [] end → end ≡ End
 
--- how an input is read: frames within limits, lines of so many bytes in all at most, not at all, with one job to do or none, or in another way, with
--- so many bytes in all at most
+-- how an input is read: frames within limits, lines with a limit for all bytes, not at all with one job to do, not at
+-- all with none, or in another way with a limit for all bytes
 pub data Reading : Type 1 where
   Frames : Limits → Reading
   Lines : ℕ → Reading
@@ -109,7 +112,7 @@ most_taken Once = 0
 most_taken Nothing = 0
 most_taken (Others reading laws input) = input
 
--- the pieces are taken of the input
+-- the pieces are taken from the input
 abbrev pub is_read : Reading → Bool
 is_read (Frames limits) = true
 is_read (Lines input) = true
@@ -117,7 +120,7 @@ is_read Once = false
 is_read Nothing = false
 is_read (Others reading laws input) = true
 
--- no more pieces than this are there: each has a byte, or there is one in all
+-- the most pieces that there can be: each has a byte, or there is one in all
 abbrev pub most_pieces : Reading → ℕ
 most_pieces (Frames limits) = limits.input
 most_pieces (Lines input) = input
@@ -137,12 +140,12 @@ is_framed (Others reading laws input) = false
 abbrev pub ended_piece : List ℕ → Piece
 ended_piece line = Line line true
 
--- the lines at the front of so many bytes as pieces: a line has its end where one more byte is there
+-- the lines at the front of `count` bytes as pieces: a line has its end if one more byte is there
 abbrev pub line_pieces : ℕ → List (List ℕ) → List Piece
 line_pieces count [] = []
 line_pieces count (line ∷ all) = Line line (nat_lt (length line) count) ∷ line_pieces (count - (length line + 1)) all
 
--- The input is these pieces, as many as there are, and ends so.
+-- The input is these pieces, as many as there are, and has this end.
 abbrev pub Splits : Reading → List ℕ → List Piece → PieceEnd → Type 0
 Splits (Frames limits) stream pieces end =
     (items : List Item) × (cut : CutEnd) × Cut stream limits.frame limits.input items cut × (pieces ≡ map Frame items) × (end ≡ frames_end cut)
@@ -152,13 +155,13 @@ Splits Once stream pieces end = (pieces ≡ Whole ∷ []) × (end ≡ End)
 Splits Nothing stream pieces end = (pieces ≡ []) × (end ≡ End)
 Splits (Others reading laws input) stream pieces end = reading.Splits input stream pieces end
 
--- the bytes are these items' and then the rest
+-- the bytes are those of these items and then the rest
 pub record Leads {X : Type 0} (IsItem : X → Type 0) (bytes_of : X → List ℕ) (bytes : List ℕ) (items : List X) (rest : List ℕ) : Type 0 where
   pub whole : bytes ≡ joined bytes_of items ++ rest
   pub each : AllByRecursion IsItem items
 
--- The input begins with these pieces, which are within the limits, and the rest follows them. Frames and lines are whole by their own bytes; of another
--- reading what was taken ahead shows its pieces.
+-- The input begins with these pieces, which are within the limits, and the rest follows them. Frames and lines are
+-- determined by their own bytes; with another reading, what was taken ahead shows its pieces.
 abbrev pub Begins : Reading → Ahead → List ℕ → List Piece → List ℕ → Type 0
 Begins (Frames limits) ahead stream pieces rest =
     (items : List Item) × Leads (IsFrame limits.frame) frame_of stream items rest
@@ -169,7 +172,7 @@ Begins Once ahead stream pieces rest = ((pieces ≡ []) ⊎ (pieces ≡ Whole �
 Begins Nothing ahead stream pieces rest = (pieces ≡ []) × (rest ≡ stream)
 Begins (Others reading laws input) ahead stream pieces rest = reading.Begins input ahead stream pieces rest
 
--- What was taken of the input is in these bytes. Frames and lines need nothing of it.
+-- The bytes begin with what was taken of the input. Frames and lines don't require it.
 abbrev pub Keeps : Reading → List ℕ → List ℕ → Type 0
 Keeps (Frames limits) seen bytes = ⊤
 Keeps (Lines input) seen bytes = ⊤

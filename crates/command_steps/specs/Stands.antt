@@ -11,7 +11,7 @@ use Rattle.command_steps.specs.Replies.{parts_dropped, parts_filled, most_parts}
 use Rattle.command_steps.specs.declared.kept.Kept.{Kept}
 use Rattle.command_steps.specs.declared.step.Tally.{Tally}
 
--- the bounds that buffers and numbers need
+-- the bounds that buffers and numbers require
 pub record IsBounded (limits : Limits) : Type 0 where
   pub low : 64 ≤ limits.frame
   pub high : limits.frame ≤ 16_777_216
@@ -22,11 +22,11 @@ abbrev pub is_at_end : Option LineEnded → Bool
 is_at_end None = false
 is_at_end (Some end) = true
 
--- what a stream of lines knows after the last one
+-- what a stream of lines knows of its input after the last one
 abbrev pub lines_ahead : LineState → Ahead
 lines_ahead stream = record { held = stream.held; met_end = is_at_end stream.ended; is_all = false }
 
--- Before its end a stream holds nothing, what was taken of it is counted, and no number is above it.
+-- Before its end a stream holds nothing, what was taken from it is counted, and the counts are within their bounds.
 pub record Stands (limits : Limits) (stream : StreamState) (kept : Kept) : Type 0 where
   pub runs : stream.ended ≡ None
   pub held : stream.held ≡ []
@@ -39,7 +39,7 @@ pub record Stands (limits : Limits) (stream : StreamState) (kept : Kept) : Type 
   pub dropped : kept.dropped ≤ most_parts kept.bytes
   pub filled : kept.filled ≤ most_parts kept.bytes
 
--- The same of a stream of lines, which may hold bytes that were read ahead, and may have met the end.
+-- The same for a stream of lines, which may hold bytes that were read ahead, and may have met the end.
 pub record StandsLines (limits : Limits) (stream : LineState) (kept : Kept) : Type 0 where
   pub runs : (stream.ended ≡ None) ⊎ (stream.ended ≡ Some line_ended.End)
   pub within : stream.taken ≤ stream.input
@@ -59,7 +59,7 @@ pub record HasTaken (limits : Limits) (stream : LineState) (kept : Kept) : Type 
   pub room : kept.bytes + (line_bytes stream + line_room stream) ≡ limits.input
   pub line : length stream.line ≤ longest_line
 
--- One job is done, or none yet, and it took nothing of the input.
+-- At most one job is done, and it took nothing from the input.
 pub record StandsOnce (kept : Kept) : Type 0 where
   pub items : kept.items ≤ 1
   pub refused : kept.refused ≤ kept.items
@@ -68,7 +68,7 @@ pub record StandsOnce (kept : Kept) : Type 0 where
   pub filled : kept.filled ≤ most_parts kept.bytes
   pub bytes : kept.bytes ≡ 0
 
--- the numbers have room for one more item
+-- the numbers can count one more item
 pub record CanCount (kept : Kept) (tally : Tally) : Type 0 where
   pub items : kept.items < 2 ^ 64 - 1
   pub refused : kept.refused < 2 ^ 64 - 1

@@ -1,4 +1,4 @@
--- What each step of a command does with its input, and how the steps end.
+-- What each step of a command does to its input, and how the steps end.
 use Rattle.std.specs.Prelude.{◌≡◌, ◌≤◌, ◌<◌, ◌⊎◌, ◌==◌, ℕ, ◌+◌, ◌-◌, Bool, true, false, Option, Some, None, Result, Ok, Err, List, [], ◌∷◌, ◌++◌, length, ⊤}
 use Rattle.sbe_base.specs.declared.status.Status.{Status}
 use Rattle.sbe_base.specs.declared.status.Status.TheVariants as status
@@ -16,7 +16,7 @@ use Rattle.command_steps.specs.declared.step.Step.TheVariants.{Went, Ended}
 use Rattle.command_steps.specs.declared.step.Tally.{Tally}
 use Rattle.command_steps.specs.declared.end.Stop.TheVariants as stop
 
--- what a command has done, what it knows of the input after that, and its last answer
+-- what was done so far, what is known of the input after that, and the status if the end was reached
 pub record Moment : Type 0 where
   pub kept : Kept
   pub ahead : Ahead
@@ -32,7 +32,7 @@ opened = running none_kept none_ahead
 
 -- ---- a step
 
--- the one job is still to do, or it is done
+-- one job to do, or none
 abbrev pub once_if : Bool → Reading
 once_if true = Once
 once_if false = Nothing
@@ -45,42 +45,43 @@ reading_after Once kept = once_if (kept.items == 0)
 reading_after Nothing kept = Nothing
 reading_after (Others reading laws input) kept = Others reading laws (input - kept.bytes)
 
--- how a pump reads on
+-- how a pump continues to read
 abbrev pub reading_on : Answering → Moment → Reading
 reading_on on pump = reading_after on.reading pump.kept
 
--- The next piece of what follows was taken, and its answer was written; the numbers count it.
+-- The next piece was taken, and its reply was written; the numbers count it.
 pub record TakesPiece (on : Answering) (old new : Moment) (before after : Streams) (input : List ℕ) : Type 0 where
   pub piece : Piece
   pub reply : Reply
   pub left : List ℕ
   pub source : Follows new.ahead after.input.told left
   pub taken : Reaches new.ahead (reading_on on old) input (piece ∷ []) left
-  -- what was held is held, or in the piece
+  -- what was held is still held, or is in the piece
   pub keeps : Keeps on.reading old.ahead.held (piece_bytes piece ++ new.ahead.held)
   pub stays : old.ahead.is_all ≡ true → new.ahead.is_all ≡ true
   pub replied : on.IsReply old.kept piece reply
   pub wrote : Wrote before.sinks after.sinks (written_of reply)
   pub kept : new.kept ≡ counted old.kept piece reply.verdict
 
--- A step that answers a piece. Nothing was taken after a frame.
+-- A step that answers a piece. Nothing was taken beyond a frame.
 pub record Goes (on : Answering) (old new : Moment) (before after : Streams) : Type 0 where
   pub answers : (input : List ℕ) → Follows old.ahead before.input.told input → TakesPiece on old new before after input
   pub unmet : old.ahead.met_end ≡ false
   pub ahead : IsAhead on.reading new.ahead
   pub calm : Calm before after
   pub runs : new.ended ≡ None
-  -- the items grow to their most, and the bytes of an input to its limit
+  -- the items grow up to their most, and the bytes of the input up to the limit
   pub more : old.kept.items < new.kept.items
   pub within : new.kept.items ≤ most_pieces on.reading
   pub bytes_more : is_read on.reading ≡ true → old.kept.bytes < new.kept.bytes
   pub bytes_within : new.kept.bytes ≤ most_taken on.reading
-  -- a job that takes nothing of the input leaves it as it was
+  -- a job that takes nothing from the input leaves it as it was
   pub unread : is_read on.reading ≡ false → after.input ≡ before.input
 
 -- ---- the end of the steps
 
--- The pieces end here: all that was taken after the last one is told, or nothing is left of an input that is read.
+-- The pieces end here: everything that was taken after the last one is reported, or nothing is left of an input that is
+-- read.
 pub record Ends (on : Answering) (pump : Moment) (before after : Streams) (input : List ℕ) (code : Status) : Type 0 where
   pub end : PieceEnd
   pub split : Splits (reading_on on pump) input [] end
@@ -88,7 +89,7 @@ pub record Ends (on : Answering) (pump : Moment) (before after : Streams) (input
   pub output : after.sinks.output ≡ before.sinks.output
   pub noted : Told (end_notes on end pump.kept) (end_status end pump.kept.refused) before.sinks.notes after.sinks.notes code
 
--- A read failed. What was taken before is no whole piece.
+-- A read failed. What was taken before doesn't contain a whole piece.
 pub record Stalls (on : Answering) (pump : Moment) (before after : Streams) (input : List ℕ) (code : Status) : Type 0 where
   pub unmet : pump.ahead.met_end ≡ false
   pub held : List ℕ
@@ -102,7 +103,7 @@ pub record Stalls (on : Answering) (pump : Moment) (before after : Streams) (inp
   pub output : after.sinks.output ≡ before.sinks.output
   pub noted : Told (stop_line (stop.ReadFault (pump.kept.bytes + length held))) status.ReadFault before.sinks.notes after.sinks.notes code
 
--- A write of the next piece's answer failed, or it ran out of memory. Nothing was taken after a frame.
+-- A write of the next piece's reply failed, or it is out of memory. Nothing was taken beyond a frame.
 pub record Fails (on : Answering) (pump : Moment) (after : Streams) (input : List ℕ) (IsWritten : Reply → Type 0) : Type 0 where
   pub piece : Piece
   pub reply : Reply
@@ -125,7 +126,7 @@ pub data Halts (on : Answering) (pump : Moment) (before after : Streams) (input 
       → Halts on pump before after input code
   wanting_at : Fails on pump after input (λ reply. after.sinks ≡ before.sinks) → code ≡ status.NoMemory → Halts on pump before after input code
 
--- the status of a run that nothing outside cut short
+-- the status is that of a run that nothing outside cut short
 abbrev pub IsReported : Status → Type 0
 IsReported status.Done = ⊤
 IsReported status.SomeRefused = ⊤
@@ -140,7 +141,7 @@ IsReported status.ReadFault = ⊥
 IsReported status.WriteFault = ⊥
 IsReported status.NoMemory = ⊥
 
--- the status that a step may end with
+-- the status is one that a step may end with
 abbrev pub IsStepStatus : Status → Type 0
 IsStepStatus status.Done = ⊤
 IsStepStatus status.SomeRefused = ⊤
@@ -155,7 +156,7 @@ IsStepStatus status.MapRefused = ⊥
 IsStepStatus status.FileFault = ⊥
 IsStepStatus status.NoFile = ⊥
 
--- a fault of a stream is answered only where its count rose, and no count changed where a report is answered
+-- a stream's fault is answered only if its count rose, and no count changed if a report is answered
 pub record Causes (before after : Streams) (code : Status) : Type 0 where
   pub calm : IsReported code → Calm before after
   pub read : code ≡ status.ReadFault → Failed before.input after.input
@@ -167,20 +168,20 @@ pub record Closes (on : Answering) (old new : Moment) (before after : Streams) (
   pub halts : (input : List ℕ) → Follows old.ahead before.input.told input → Halts on old before after input code
   pub causes : Causes before after code
   pub kept : new ≡ record { kept = old.kept; ahead = new.ahead; ended = Some code }
-  -- a command that spares memory never runs out of it
+  -- a command that takes no memory is never out of it
   pub memory : code ≡ status.NoMemory → on.spares ≡ false
   pub unread : is_read on.reading ≡ false → after.input ≡ before.input
 
--- The streams before a step and after it.
+-- The streams before and after a step.
 pub record Passage : Type 0 where
   pub before : Streams
   pub after : Streams
 
--- The streams before and after, as one.
+-- The streams before and after, as one record.
 abbrev pub passage : Streams → Streams → Passage
 passage before after = record { before = before; after = after }
 
--- A piece is answered, or the pump ends; a pump that has ended answers the same again, and leaves all as it was.
+-- A piece is answered, or the pump ends; a pump that has ended gives the same answer again, and changes nothing.
 abbrev pub Steps : Answering → Moment → Moment → Passage → Step → Type 0
 Steps on old new streams Went = (old.ended ≡ None) × Goes on old new streams.before streams.after
 Steps on old new streams (Ended code) =
@@ -199,7 +200,7 @@ pub record Progress (on : Answering) (pump : Moment) (old now : Streams) (input 
   pub replies : Replies on none_kept pieces written pump.kept
   pub wrote : Wrote old.sinks now.sinks written
 
--- how far a job has come, and how it then ends
+-- how far a job has got, and how it then ends
 pub record Course (on : Answering) (old new : Streams) (input : List ℕ) (code : Status) : Type 0 where
   pub kept : Kept
   pub ahead : Ahead
@@ -208,14 +209,15 @@ pub record Course (on : Answering) (old new : Streams) (input : List ℕ) (code 
   pub calm : Calm old mid
   pub halts : Halts on (running kept ahead) mid new progress.left code
 
--- a job that is carried out to its end
+-- a job that is done to its end
 pub record Drains (on : Answering) (old new : Streams) (code : Status) : Type 0 where
   pub course : (input : List ℕ) → old.input.told ≡ Some input → Course on old new input code
   pub causes : Causes old new code
   pub memory : code ≡ status.NoMemory → on.spares ≡ false
   pub unread : is_read on.reading ≡ false → new.input ≡ old.input
 
--- a piece was answered, of which this is counted, or the steps end with this status; then this is known of the input
+-- a piece was answered, with these numbers for it, or the steps end with this status; `ahead` is known of the input
+-- after that
 abbrev pub Answers : Answering → Moment → Ahead → Streams → Streams → Result Tally Status → Type 0
 Answers on pump ahead before after (Ok tally) = Goes on pump (running (counted_by pump.kept tally.bytes tally.verdict) ahead) before after
 Answers on pump ahead before after (Err code) = Closes on pump (record { kept = pump.kept; ahead = ahead; ended = Some code }) before after code

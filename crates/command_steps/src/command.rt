@@ -13,20 +13,20 @@ use sbe_base::{Sink, Status};
 
 /// A command that answers each frame of its input.
 pub trait FrameCommand: Drop {
-    /// What a reply to a frame is, by what was done before.
+    /// The reply to a frame, given what was done before.
     ghost is_reply: { Self → Numbers → Item → Reply → Type 0 };
 
-    /// The last line of its notes, by the numbers of a run that answered all of its input.
+    /// The last line of its notes, given the numbers of a run that answered all of its input.
     ghost last: { Numbers → List ℕ };
 
-    /// Whether it never wants memory for one.
+    /// Whether replying never runs out of memory.
     ghost spares: { Bool };
 
     /// Writes the reply to a frame.
     ///
     /// # Errors
     ///
-    /// `WriteFault` where a write fails; `NoMemory` when out of memory, and then nothing is written.
+    /// `WriteFault` if a write fails; `NoMemory` if memory runs out, and then nothing is written.
     fn answer<O: Sink, N: Sink>(
         &mut self,
         kept: &Kept,
@@ -42,7 +42,7 @@ pub trait FrameCommand: Drop {
             result }
         ensures wants { Wants spares result };
 
-    /// Notes the last line of a run that answered all of its input, and answers the status of the run.
+    /// Notes the last line of a run that answered all of its input, and returns the status of the run.
     fn end<N: Sink>(&mut self, kept: &Kept, notes: &mut N) -> Status
         ensures same { self.new ≡ self.old }
         ensures told { Told (last kept.now) (done_status kept.now.refused) (N.state notes.old) (N.state notes.new) result };
@@ -50,17 +50,17 @@ pub trait FrameCommand: Drop {
 
 /// A command that answers each line of its input.
 pub trait LineCommand: Drop {
-    /// What a reply to a line is, by what was done before.
+    /// The reply to a line, given what was done before.
     ghost is_reply: { Self → Numbers → List ℕ → Reply → Type 0 };
 
-    /// The last line of its notes, by the numbers of a run that answered all of its input.
+    /// The last line of its notes, given the numbers of a run that answered all of its input.
     ghost last: { Numbers → List ℕ };
 
     /// Writes the reply to a line.
     ///
     /// # Errors
     ///
-    /// `WriteFault` where a write fails; `NoMemory` when out of memory, and then nothing is written.
+    /// `WriteFault` if a write fails; `NoMemory` if memory runs out, and then nothing is written.
     fn answer<O: Sink, N: Sink>(
         &mut self,
         kept: &Kept,
@@ -74,15 +74,15 @@ pub trait LineCommand: Drop {
             (sinks_of (O.state output.new) (N.state notes.new))
             result };
 
-    /// Notes the last line of a run that answered all of its input, and answers the status of the run.
+    /// Notes the last line of a run that answered all of its input, and returns the status of the run.
     fn end<N: Sink>(&mut self, kept: &Kept, notes: &mut N) -> Status
         ensures same { self.new ≡ self.old }
         ensures told { Told (last kept.now) (done_status kept.now.refused) (N.state notes.old) (N.state notes.new) result };
 }
 
-/// A command that does one job over its files, and takes nothing of its input.
+/// A command that does one job over its files, and reads nothing of its input.
 pub trait WholeCommand: Drop {
-    /// What it replies in all.
+    /// Its whole reply.
     ghost is_reply: { Self → Reply → Type 0 };
 
     /// Puts its reply into an empty draft.

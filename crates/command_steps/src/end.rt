@@ -10,23 +10,23 @@ use open_framing::{HeadErr, LONGEST_LINE};
 use printers::{Chunk, Printer};
 use sbe_base::{Sink, Status, WriteFault};
 
-/// What is noted where a run stops before its end.
+/// What is noted if a run stops before its end.
 #[derive(Clone, Copy, Debug, PartialEq, Eq)]
 pub enum Stop {
-    /// The input failed after so many bytes.
+    /// The input failed after this many bytes.
     ReadFault(u64),
-    /// So many bytes of a frame are there, which begins at the second number.
+    /// The input ends this many bytes into a frame, which begins at the second number.
     EndInside(u64, u64),
-    /// The head at this byte of the input is at fault.
+    /// The head at this byte of the input is faulty.
     Head(HeadErr, u64),
-    /// The line at this byte of the input is over the limit of a line.
+    /// The line at this byte of the input is longer than a line may be.
     LineOver(u64),
     /// The input has more bytes than this limit.
     InputLimit(u64),
 }
 
 impl Stop {
-    /// The status that it ends the run with.
+    /// The status with which it ends the run.
     pub fn status(&self) -> Status
         ensures { result ≡ stop_status self.now }
     {
@@ -40,7 +40,7 @@ impl Stop {
     }
 }
 
-/// Notes why the run stops, and answers its status. It takes no memory.
+/// Notes why the run stops, and returns its status. Allocates nothing.
 #[inline(never)]
 pub fn tell<N: Sink>(stop: &Stop, notes: &mut N) -> Status
     ensures { Told (stop_line stop.now) (stop_status stop.now) (N.state notes.old) (N.state notes.new) result }
@@ -51,7 +51,7 @@ pub fn tell<N: Sink>(stop: &Stop, notes: &mut N) -> Status
     }
 }
 
-/// Writes the line that a stop is noted by.
+/// Writes the line that notes a stop.
 fn note<N: Sink>(stop: &Stop, notes: &mut N) -> Result<(), WriteFault>
     ensures { Writes (N.state notes.old) (N.state notes.new) (stop_line stop.now) result }
 {
@@ -61,7 +61,7 @@ fn note<N: Sink>(stop: &Stop, notes: &mut N) -> Result<(), WriteFault>
     printer.finish()
 }
 
-/// Prints the line that a stop is noted by.
+/// Prints the line that notes a stop.
 fn put_stop<N: Sink>(printer: &mut Printer<'_, N>, stop: &Stop)
     ensures { Prints N.state printer.old printer.new (stop_line stop.now) }
 {

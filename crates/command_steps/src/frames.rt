@@ -40,7 +40,7 @@ impl<C: FrameCommand> FrameWork<C> {
         })
     }
 
-    /// Takes the next frame, and writes its answer; or notes what ends the frames, and answers the status of the run.
+    /// Takes the next frame and writes its answer; or notes what ends the frames, and returns the status of the run.
     #[inline(always)]
     pub fn answer_next<I: Source, O: Sink, N: Sink>(
         &mut self,

@@ -7,10 +7,10 @@ pub struct Kept {
     pub refused: u64,
     /// How many of them were translated.
     pub translated: u64,
-    /// How many parts were left out of those that were written anew in another version.
+    /// How many parts were dropped from messages that were rewritten in another version.
     pub dropped: u64,
     /// How many parts were filled in there.
     pub filled: u64,
-    /// The bytes of the items in the input.
+    /// The size of the items in the input, in bytes.
     pub bytes: u64,
 }

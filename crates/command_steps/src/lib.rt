@@ -1,4 +1,5 @@
-//! What a command does with its input, whatever it answers: one step after another over frames, over lines, or one job in all.
+//! What a command does with its input, whatever it answers: one step after another over frames, over lines, or a single
+//! job.
 #![tactic(auto)]
 
 mod command;

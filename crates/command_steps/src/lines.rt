@@ -39,7 +39,7 @@ impl<C: LineCommand> LineWork<C> {
         })
     }
 
-    /// Takes the next line, and writes its answer; or notes what ends the lines, and answers the status of the run.
+    /// Takes the next line and writes its answer; or notes what ends the lines, and returns the status of the run.
     #[inline(always)]
     pub fn answer_next<I: Source, O: Sink, N: Sink>(
         &mut self,
@@ -77,7 +77,7 @@ impl<C: LineCommand> LineWork<C> {
         }
     }
 
-    /// The bytes in the input of the line that was taken: with its end, which the last line may lack.
+    /// How many bytes of the input the line that was taken has: those of its end too, which the last line may lack.
     fn bytes_taken(&self, kept: &Kept) -> u64
         requires { HasTaken self.now.limits self.now.stream kept.now }
         ensures { result ≡ line_bytes self.now.stream }

@@ -8,7 +8,7 @@ use crate::kept::Kept;
 use replies::Verdict;
 use sbe_base::{Sink, Status};
 
-/// What is counted of an item that was answered.
+/// What is counted for an item that was answered.
 #[derive(Clone, Copy, Debug, PartialEq, Eq)]
 pub struct Tally {
     /// Its bytes in the input.
@@ -43,7 +43,7 @@ pub fn count(kept: &mut Kept, tally: Tally)
     }
 }
 
-/// Ends a run that answered all items, and notes no line.
+/// Ends a run that answered all items, without noting a line.
 pub fn end_without_line<N: Sink>(kept: &Kept, _notes: &mut N) -> Status
     ensures { Told [] (done_status kept.now.refused) (N.state _notes.old) (N.state _notes.new) result }
 {

@@ -13,7 +13,7 @@ use Rattle.command_words.specs.Words.{FormRow, are_options, command_from, draws_
 abbrev pub texts : List (String Global) → List (List ℕ)
 texts words = map (λ word. string_bytes word) words
 
--- the words behind the first two
+-- the words after the first two
 abbrev pub behind_two : List (String Global) → List (String Global)
 behind_two words = take (length words - 2) (drop 2 words)
 
@@ -50,11 +50,11 @@ none_left shown [] all few is_all = is_all
 none_left shown (word ∷ []) all few is_all = is_all
 none_left shown (word ∷ value ∷ more) all few is_all = absurd (omega arith)
 
--- the words behind the first
+-- the words after the first
 abbrev pub behind_one : List (String Global) → List (String Global)
 behind_one words = take (length words - 1) (drop 1 words)
 
--- the words behind the first and so many more
+-- the words after the first and so many more
 abbrev pub behind_files : ℕ → List (String Global) → List (String Global)
 behind_files files words = take (length (behind_one words) - files) (drop files (behind_one words))
 

@@ -16,21 +16,21 @@ use Rattle.command_words.specs.declared.options.TheConstants.{ALSO, MOST_ALSO, M
 
 -- ---- one word
 
--- A file's name isn't empty and doesn't begin with `--`.
+-- The word is a file's name: it isn't empty and doesn't begin with `--`.
 abbrev pub is_file_name : List ℕ → Bool
 is_file_name word = nat_lt 0 (length word) && not (bytes_eq (take 2 word) (codes "--"))
 
--- it isn't empty, and has no leading zero in front of more
+-- the word isn't empty, and has no leading zero before other characters
 abbrev pub begins_a_number : List ℕ → Bool
 begins_a_number [] = false
 begins_a_number (digit ∷ []) = true
 begins_a_number (digit ∷ next ∷ more) = not (digit == 48)
 
--- A number is decimal digits without a sign, and without a leading zero except `0` itself.
+-- The word is a number: decimal digits without a sign, and without a leading zero except `0` itself.
 abbrev pub is_number : List ℕ → Bool
 is_number word = begins_a_number word && all_ascii_digits word
 
--- the number that a word writes, where it is at least the one and at most the other
+-- the number of a word, if it is from `least` to `most`
 abbrev pub number_within : ℕ → ℕ → List ℕ → Option ℕ
 number_within least most word =
     if is_number word && nat_le least (digits_value 10 word) && nat_le (digits_value 10 word) most
@@ -39,13 +39,13 @@ number_within least most word =
 
 -- ---- numbers: the words of a seed and a count
 
--- a seed and a count, where both are there
+-- a seed and a count, if both are there
 abbrev pub draws_from : Option ℕ → Option ℕ → Option Draws
 draws_from (Some seed) (Some count) = Some (record { seed = seed; count = count })
 draws_from (Some seed) None = None
 draws_from None count = None
 
--- The messages that words say: a seed and a count, each in its range; none are drawn where there are no words.
+-- The messages that words ask for: a seed and a count, each in its range; the defaults without words.
 abbrev pub draws_of : List (List ℕ) → Option Draws
 draws_of [] = Some (record { seed = SEED_RANGE.default; count = COUNT_RANGE.default })
 draws_of (seed ∷ []) = None
@@ -54,13 +54,13 @@ draws_of (seed ∷ count ∷ word ∷ more) = None
 
 -- ---- options: words in pairs, the option's word and its value
 
--- all words are pairs, and each begins with one of these options
+-- all words are pairs, and each pair begins with one of these options
 abbrev pub are_options : List (List ℕ) → List (List ℕ) → Bool
 are_options options [] = true
 are_options options (word ∷ []) = false
 are_options options (word ∷ value ∷ more) = list_any (λ option. bytes_eq option word) options && are_options options more
 
--- all values that pairs give an option
+-- all values that pairs give for an option
 abbrev pub values_of : List ℕ → List (List ℕ) → List (List ℕ)
 values_of option [] = []
 values_of option (word ∷ []) = []
@@ -72,31 +72,32 @@ number_by range [] = Some range.default
 number_by range (value ∷ []) = number_within range.least range.most value
 number_by range (value ∷ again ∷ more) = None
 
--- the number that pairs give this option
+-- the number that pairs give for this option
 abbrev pub number_given : List ℕ → NumberRange → List (List ℕ) → Option ℕ
 number_given option range pairs = number_by range (values_of option pairs)
 
--- limits of both numbers, where both are there
+-- limits with both numbers, if both are there
 abbrev pub limits_from : Option ℕ → Option ℕ → Option Limits
 limits_from (Some frame) (Some input) = Some (record { frame = frame; input = input })
 limits_from (Some frame) None = None
 limits_from None input = None
 
--- the limits that pairs give a run
+-- the limits that pairs give
 abbrev pub limits_of : List (List ℕ) → Option Limits
 limits_of pairs = limits_from (number_given MAX_FRAME.now FRAME_RANGE pairs) (number_given MAX_INPUT.now INPUT_RANGE pairs)
 
--- these values, where they are so many at most and each is a file's name
+-- these values, if there are at most `most` and each is a file's name
 abbrev pub names_by : ℕ → List (List ℕ) → Option (List (List ℕ))
 names_by most values = if nat_le (length values) most && list_all is_file_name values then Some values else None
 
--- the names of files that pairs give this option, which may be given so often
+-- the names of files that pairs give for this option, which may be given up to `most` times
 abbrev pub names_given : List ℕ → ℕ → List (List ℕ) → Option (List (List ℕ))
 names_given option most pairs = names_by most (values_of option pairs)
 
 -- ---- forms: a command's word, names of files, numbers, and options
 
--- A row of the table of forms: what words of the form begin with, how many names of files and numbers follow, and which options.
+-- A row of the table of forms: the first word of the form, how many names of files and numbers follow, and which
+-- options.
 pub record FormRow : Type 0 where
   pub form : Form
   pub word : List ℕ
@@ -112,11 +113,11 @@ rows = map (λ row. record { form = row.0; word = row.1.now; files = row.2; numb
 abbrev pub rows_of : List ℕ → List FormRow
 rows_of word = filter (λ row. bytes_eq word row.word) rows
 
--- the words are as many numbers as this row has, whatever they are, and then its options
+-- the words are at least as many as the row's numbers, and the rest are pairs of its options
 abbrev pub fits_values : FormRow → List (List ℕ) → Bool
 fits_values row values = nat_le row.numbers (length values) && are_options row.options (drop row.numbers values)
 
--- the words have the form of this row, whatever its numbers and the values of its options are
+-- the words have the form of this row, whatever its numbers and the values of its options
 abbrev pub fits : FormRow → List (List ℕ) → Bool
 fits row [] = false
 fits row (word ∷ rest) =
@@ -130,35 +131,36 @@ command_with form files (Some draws) None also = None
 command_with form files (Some draws) (Some limits) None = None
 command_with form files (Some draws) (Some limits) (Some also) = Some (record { form = form; files = files; draws = draws; also = also; limits = limits })
 
--- a command of this form over these files, with the numbers that the first words say, and the options that the others give
+-- a command of this form over these files, with the numbers that the first words give, and the options that the others
+-- give
 abbrev pub command_from : Form → List (List ℕ) → List (List ℕ) → List (List ℕ) → Option Command
 command_from form files numbers options = command_with form files (draws_of numbers) (limits_of options) (names_given ALSO.now MOST_ALSO options)
 
--- what words after these files say: the numbers, and then the values of the options
+-- the command by the words after its files: the numbers, and then the options
 abbrev pub said_after : FormRow → List (List ℕ) → List (List ℕ) → Option Command
 said_after row files values =
     if nat_le row.numbers (length values) then command_from row.form files (take row.numbers values) (drop row.numbers values) else None
 
--- what words of this row say: the files after its word, and the values after these
+-- the command by the words of this row: the files after its word, and then the rest
 abbrev pub said_by : FormRow → List (List ℕ) → Option Command
 said_by row [] = None
 said_by row (word ∷ rest) = if nat_le row.files (length rest) then said_after row (take row.files rest) (drop row.files rest) else None
 
--- The command that words say: that of the first form that they have, with each option at most once and a right value.
+-- The command that words mean: that of the first form that they have, with each option at most once and a right value.
 abbrev pub command_of : List (List ℕ) → Option Command
 command_of words = option_and_then (λ row. said_by row words) (find (λ row. fits row words) rows)
 
--- what was answered is what the words say, or that they say nothing, unless memory ran out
+-- the answer is what the words mean, or that they mean nothing, unless it is out of memory
 abbrev pub Says : {T : Type 0} → Result T WordsErr → Option T → Type 0
 Says (Ok x) said = said ≡ Some x
 Says (Err Usage) said = said ≡ None
 Says (Err Memory) said = ⊤
 
--- the name of the file at this place of a command's words
+-- the name of the file with this index among a command's files
 abbrev pub file_at : Command → ℕ → List ℕ
 file_at command place = get_or command.files place []
 
--- 64 to 16,777,216 bytes a frame, and 1 to 1,099,511,627,776 bytes in all
+-- from 64 to 16,777,216 bytes for a frame, and from 1 to 1,099,511,627,776 bytes in all
 abbrev pub AreInRange : Limits → Type 0
 AreInRange limits = (64 ≤ limits.frame) × (limits.frame ≤ 16_777_216) × (1 ≤ limits.input) × (limits.input ≤ 2 ^ 40)
 

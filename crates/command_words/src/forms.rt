@@ -6,7 +6,7 @@ ghost use Rattle.command_words.specs.Words.{fits, fits_values, are_options, is_f
 use crate::options::{ALSO, MAX_FRAME, MAX_INPUT};
 use std::marker::Model;
 
-/// A form that words may have. A command with two forms is two of these.
+/// A form of the arguments. A command with two forms is two of these.
 #[derive(Clone, Copy, Debug, PartialEq, Eq)]
 pub enum Form {
     /// `check S`
@@ -27,7 +27,7 @@ pub enum Form {
     RawFrame,
 }
 
-/// What words of a form are: a command's word, names of files, numbers, and options in pairs.
+/// The arguments of a form: a command's word, names of files, numbers, and options in pairs.
 #[derive(Drop)]
 pub struct Row {
     pub form: Form,
@@ -35,9 +35,9 @@ pub struct Row {
     pub word: &'static str,
     /// How many names of files follow it.
     pub files: usize,
-    /// How many numbers follow these: none, or a seed and a count.
+    /// How many numbers follow those: none, or a seed and a count.
     pub numbers: usize,
-    /// The words of the options that may come last.
+    /// The options that may come last.
     pub options: &'static [&'static str],
 }
 
@@ -56,8 +56,8 @@ impl Model for Row {
     } };
 }
 
-/// All forms, in the order in which they are tried: the form, its word, how many files it names, how many numbers follow these, and
-/// its options.
+/// All forms, in the order in which they are tried: the form, its word, how many files it names, how many numbers
+/// follow them, and its options.
 pub const FORMS: [(Form, &str, usize, usize, &[&str]); 8] = [
     (Form::Check, "check", 1, 0, &[]),
     (Form::Compat, "compat", 2, 0, &[]),
@@ -70,7 +70,7 @@ pub const FORMS: [(Form, &str, usize, usize, &[&str]); 8] = [
 ];
 
 impl Row {
-    /// Whether words have this form, whatever its numbers and the values of its options are.
+    /// Whether arguments have this form, whatever the numbers and the values of options are.
     pub fn fits(&self, words: &[String]) -> bool
         ensures { result ≡ fits self.now (map (λ word. string_bytes word) words.now) }
     {
@@ -86,7 +86,7 @@ impl Row {
         self.fits_values(&rest[self.files..])
     }
 
-    /// Whether these words are as many numbers as it has, whatever they are, and then its options.
+    /// Whether these arguments are as many numbers as the form has, of any value, and then its options.
     fn fits_values(&self, values: &[String]) -> bool
         ensures { result ≡ fits_values self.now (map (λ word. string_bytes word) values.now) }
     {
@@ -96,7 +96,7 @@ impl Row {
         self.takes_all(&values[self.numbers..])
     }
 
-    /// Whether these words are its options, each with a value.
+    /// Whether these arguments are options of the form, each with a value.
     fn takes_all(&self, options: &[String]) -> bool
         ensures { result ≡ are_options self.now.options (map (λ word. string_bytes word) options.now) }
     {
@@ -123,7 +123,7 @@ fn are_file_names(words: &[String]) -> bool
     words.iter().all(|word| names_file(word.as_str()))
 }
 
-/// Whether a word may name a file.
+/// Whether an argument can be the name of a file.
 pub fn names_file(word: &str) -> bool
     ensures { result ≡ is_file_name word.now }
 {

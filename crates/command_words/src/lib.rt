@@ -1,4 +1,4 @@
-//! The words of the command line, and the command that they say.
+//! The arguments of the command line, and the command that they give.
 #![tactic(auto)]
 
 mod forms;

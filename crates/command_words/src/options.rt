@@ -1,7 +1,7 @@
 ghost use Rattle.std.specs.Prelude.{◌≡◌, ◌↔◌, IsTrue, map, string_bytes, slice_index_or};
 ghost use Rattle.command_words.specs.Words.{begins_a_number, draws_of, number_given, number_within};
 
-/// The option for the most bytes of a frame, its head included.
+/// The option for the most bytes of a frame, including its head.
 pub const MAX_FRAME: &str = "--max-frame";
 
 /// The option for the most bytes of the input.
@@ -10,43 +10,43 @@ pub const MAX_INPUT: &str = "--max-input";
 /// The option for a further schema.
 pub const ALSO: &str = "--also";
 
-/// How often `--also` may be given.
+/// How many times `--also` may be given.
 pub const MOST_ALSO: usize = 15;
 
-/// The most messages that words may ask for.
+/// The most messages that the arguments may ask for.
 pub const MOST_MESSAGES: u64 = 10_000;
 
-/// Which numbers an option or a word takes.
+/// The numbers that an option or an argument accepts.
 #[derive(Drop)]
 pub struct NumberRange {
     pub least: u64,
     pub most: u64,
-    /// Its number where the words don't give one.
+    /// The number that applies if the arguments give none.
     pub default: u64,
 }
 
-/// How many bytes the longest frame may have.
+/// The sizes that the longest frame may have, in bytes.
 pub const FRAME_RANGE: NumberRange = NumberRange {
     least: 64,
     most: 16_777_216,
     default: 65_536,
 };
 
-/// How many bytes the input may have.
+/// The sizes that the input may have, in bytes.
 pub const INPUT_RANGE: NumberRange = NumberRange {
     least: 1,
     most: 1_099_511_627_776,
     default: 4_294_967_296,
 };
 
-/// Which seeds messages may be drawn from.
+/// The seeds that messages may be drawn from.
 pub const SEED_RANGE: NumberRange = NumberRange {
     least: 0,
     most: u64::MAX,
     default: 0,
 };
 
-/// How many messages may be drawn.
+/// The numbers of messages that may be drawn.
 pub const COUNT_RANGE: NumberRange = NumberRange {
     least: 1,
     most: MOST_MESSAGES,
@@ -58,12 +58,12 @@ pub const COUNT_RANGE: NumberRange = NumberRange {
 pub struct Draws {
     /// The seed that they are drawn from.
     pub seed: u64,
-    /// How many they are.
+    /// The number of messages.
     pub count: u64,
 }
 
-/// The seed and the count that words write, or none of either without words. None where a word is no number of its range, or the words
-/// are other than two.
+/// The seed and the count in the arguments, or no draws if there are no arguments. `None` if one of them isn't a number
+/// of its range, or if their number isn't two.
 pub fn draws_of(words: &[String]) -> Option<Draws>
     ensures { result ≡ draws_of (map (λ word. string_bytes word) words.now) }
 {
@@ -82,8 +82,8 @@ pub fn draws_of(words: &[String]) -> Option<Draws>
     })
 }
 
-/// The number that options give one of them, or its default. None where they have that option twice, or its value is no number of
-/// the range.
+/// The number that options give for this one, or its default. `None` if they give that option twice, or if its value
+/// isn't a number of the range.
 pub fn number_given(option: &str, range: &NumberRange, options: &[String]) -> Option<u64>
     ensures { result ≡ number_given option.now range.now (map (λ word. string_bytes word) options.now) }
 {
@@ -101,7 +101,7 @@ pub fn number_given(option: &str, range: &NumberRange, options: &[String]) -> Op
     Some(given.unwrap_or(range.default))
 }
 
-/// The number that a word writes, where it is one of the range.
+/// The number in an argument, if it is within the range.
 fn number_within(range: &NumberRange, word: &str) -> Option<u64>
     ensures { result ≡ number_within range.now.least range.now.most word.now }
 {
@@ -119,7 +119,7 @@ fn number_within(range: &NumberRange, word: &str) -> Option<u64>
     Some(number)
 }
 
-/// Whether a word isn't empty, and has no zero in front of more.
+/// Whether an argument isn't empty, and doesn't begin with a zero followed by more.
 fn begins_a_number(word: &[u8]) -> bool
     ensures { result ≡ begins_a_number word.now }
 {
@@ -129,7 +129,7 @@ fn begins_a_number(word: &[u8]) -> bool
     }
 }
 
-/// Whether a word begins with the sign that `parse` would take.
+/// Whether an argument begins with the sign that `parse` would accept.
 fn begins_with_a_sign(word: &[u8]) -> bool
     ensures { IsTrue result ↔ (slice_index_or word.now 0 0 ≡ 43) }
 {

@@ -14,7 +14,7 @@ use std::alloc::Global;
 use std::marker::Model;
 use thiserror::Error;
 
-/// The name of a file: a word that isn't empty and doesn't begin with `--`.
+/// The name of a file: an argument that isn't empty and doesn't begin with `--`.
 #[derive(Drop)]
 pub struct Name {
     text: String,
@@ -28,11 +28,11 @@ impl Model for Name {
     ghost view = { λ name. string_bytes name.text };
 }
 
-/// Names of files, in the order of the words.
+/// Names of files, in the order of the arguments.
 pub type NameList = List<Name>;
 
 impl Name {
-    /// The name that is this text.
+    /// The name with this text.
     fn new(alloc: Global, text: &str) -> Result<Name, NoMem>
         ensures { IfOk result (λ name. name ≡ text.now) }
     {
@@ -48,13 +48,13 @@ impl Name {
     }
 }
 
-/// What a run is to do: the form that its words have, and what they give it.
+/// What a run has to do: the form of its arguments, and their values.
 #[derive(Drop)]
 pub struct Command {
     pub form: Form,
-    /// The files that the form names, in the order of the words.
+    /// The files that the form names, in the order of the arguments.
     pub files: NameList,
-    /// The messages that the form draws. It draws none where it has no numbers.
+    /// The messages that the form draws. None if it has no numbers.
     pub draws: Draws,
     /// Further schemas.
     pub also: NameList,
@@ -63,7 +63,7 @@ pub struct Command {
 }
 
 impl Command {
-    /// The name of the file at this place of the words, or an empty name where the form has fewer files.
+    /// The name of the file at this index, or an empty name if the form has fewer files.
     pub fn file(&self, place: usize) -> &str
         ensures { result.now ≡ file_at self.now place }
     {
@@ -74,7 +74,7 @@ impl Command {
     }
 }
 
-/// Why words are no command.
+/// Why arguments aren't a command.
 #[derive(Clone, Copy, Debug, PartialEq, Eq, Drop, Error)]
 pub enum WordsErr {
     /// They have none of the forms.
@@ -84,11 +84,11 @@ pub enum WordsErr {
     Memory,
 }
 
-/// The command that the words after the program's name say.
+/// The command given by the arguments after the program's name.
 ///
 /// # Errors
 ///
-/// `Usage` exactly where they have none of the forms; `Memory` when out of memory.
+/// `Usage` exactly if they have none of the forms; `Memory` if memory runs out.
 pub fn read_words(alloc: Global, words: &[String]) -> Result<Command, WordsErr>
     ensures says { Says result (command_of (map (λ word. string_bytes word) words.now)) }
     ensures ranges { IfOk result (λ command. HasLimits command) }
@@ -117,7 +117,7 @@ fn row_at(place: usize) -> Row
     }
 }
 
-/// The command that words of this form say.
+/// The command given by arguments of this form.
 fn read_row(alloc: Global, row: &Row, words: &[String]) -> Result<Command, WordsErr>
     ensures says { Says result (said_by row.now (map (λ word. string_bytes word) words.now)) }
     ensures ranges { IfOk result (λ command. HasLimits command) }
@@ -131,7 +131,7 @@ fn read_row(alloc: Global, row: &Row, words: &[String]) -> Result<Command, Words
     read_values(alloc, row, &rest[..row.files], &rest[row.files..])
 }
 
-/// The command of a form over these files, with the numbers and options that follow.
+/// The command of a form with these files, and with the numbers and options that follow.
 fn read_values(
     alloc: Global,
     row: &Row,
@@ -153,7 +153,7 @@ fn read_values(
     )
 }
 
-/// The command of a form over these files, with these numbers and options.
+/// The command of a form with these files, numbers and options.
 fn read_command(
     alloc: Global,
     form: Form,
@@ -187,7 +187,7 @@ fn read_command(
     }
 }
 
-/// The names that words are.
+/// The arguments as names.
 fn names_of(alloc: Global, words: &[String]) -> Result<NameList, NoMem>
     ensures { IfOk result (λ names. names ≡ map (λ word. string_bytes word) words.now) }
 {
@@ -210,7 +210,7 @@ fn read_limits(options: &[String]) -> Option<Limits>
     })
 }
 
-/// The names of files that options give one of them, which may be given so often.
+/// The names of files that options give for one of them, which may be given at most `most` times.
 fn names_given(
     alloc: Global,
     option: &str,
@@ -229,14 +229,14 @@ fn names_given(
     }
 }
 
-/// Whether each of these may name a file.
+/// Whether each of these can be the name of a file.
 fn are_file_names(names: &[Name]) -> bool
     ensures { result ≡ list_all is_file_name names.now }
 {
     names.iter().all(|name| names_file(name.as_str()))
 }
 
-/// All values that options give one of them.
+/// All values that options give for one of them.
 fn values_of(alloc: Global, option: &str, options: &[String]) -> Result<NameList, NoMem>
     ensures { IfOk result (λ names. names ≡ values_of option.now (map (λ word. string_bytes word) options.now)) }
 {

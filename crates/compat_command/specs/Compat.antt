@@ -1,4 +1,4 @@
--- What `compat` answers to two schemas. Own profile.
+-- What `compat` answers for two schemas. Own profile.
 use Rattle.std.specs.Prelude.{◌≡◌, ℕ, Option, Result, Ok, Err, List, [], ◌++◌, codes, ⊤}
 use Rattle.sbe_types.specs.declared.schema.WireSchema.{WireSchema}
 use Rattle.version_laws.specs.Answer.{compat}
@@ -35,7 +35,8 @@ compared_line (OneWay path) = codes "{\"compat\":\"OneWay\",\"path\":" ++ (json_
 compared_line (No path reason) =
     codes "{\"compat\":\"No\",\"path\":" ++ (json_text path ++ (codes ",\"reason\":\"" ++ (reason_name reason ++ codes "\"}\n")))
 
--- The pair of schemas is the one item of the run. It is refused where the answer is No, so that the run ends with status 1; the other answers end it with 0.
+-- The pair of schemas is the one item of the run. It is refused if the answer is No, so that the run ends with status
+-- 1; with any other answer the run ends with 0.
 abbrev pub compared_verdict : Compat → Verdict
 compared_verdict TwoWay = Answered
 compared_verdict (OneWay path) = Answered
@@ -43,7 +44,7 @@ compared_verdict (No path reason) = Refused
 
 -- ---- the command
 
--- two schemas, of which the second is to extend the first
+-- two schemas; the second should extend the first
 pub record Pair : Type 0 where
   pub older : WireSchema
   pub newer : WireSchema
@@ -53,13 +54,13 @@ abbrev pub IsCompatReply : Pair → Reply → Type 0
 IsCompatReply pair reply =
     (reply.output ≡ compared_line (compat pair.older pair.newer)) × (reply.notes ≡ []) × (reply.verdict ≡ compared_verdict (compat pair.older pair.newer))
 
--- The comparison of an older schema with a newer one. The older file is judged whole before the newer: its refusal comes first.
+-- The pair of an older and a newer schema, or the first refusal; the older file is checked completely before the newer.
 abbrev pub two_judged : Result WireSchema FileRefusal → Result WireSchema FileRefusal → Result Pair RefusedFile
 two_judged (Err why) newer = Err (refused_as role.Old why)
 two_judged (Ok older) (Err why) = Err (refused_as role.New why)
 two_judged (Ok older) (Ok newer) = Ok (record { older = older; newer = newer })
 
--- the files of these names are judged so
+-- the files with these names contain this, or are refused
 abbrev pub JudgesTwo : List ℕ → List ℕ → (List ℕ → Option (List ℕ)) → Result Pair RefusedFile → Type 0
 JudgesTwo older newer contents judged = judged ≡ two_judged (file_schema (contents older)) (file_schema (contents newer))
 

@@ -18,7 +18,7 @@ use std::marker::Model;
 use version_laws::{Compat as Answer, Reason};
 use version_project::extends;
 
-/// Prints how two schemas go together.
+/// Prints whether two schemas are compatible.
 #[derive(Drop)]
 pub struct Comparer {
     older: Checked,
@@ -38,7 +38,7 @@ impl Model for Comparer {
     ghost view = { λ pair. record { older = pair.older; newer = pair.newer } };
 }
 
-/// Loads and judges two schemas: the older one whole, and then the newer one.
+/// Loads and checks two schemas: first the older one as a whole, and then the newer one.
 pub fn load_compat<F: Files>(
     alloc: Global,
     older: &str,
@@ -68,7 +68,7 @@ impl WholeCommand for Comparer {
     }
 }
 
-/// Puts the line that says how two schemas go together.
+/// Appends the line that states whether two schemas are compatible.
 fn put_compared(older: &Checked, newer: &Checked, output: &mut Vec<u8>) -> Result<Verdict, NoMem>
     ensures line { OnOk result (output.new.items ≡ output.old.items ++ compared_line (compat older.now newer.now)) }
     ensures verdict { IfOk result (λ verdict. verdict ≡ compared_verdict (compat older.now newer.now)) }
@@ -79,7 +79,7 @@ fn put_compared(older: &Checked, newer: &Checked, output: &mut Vec<u8>) -> Resul
     Ok(verdict_of(&answer))
 }
 
-/// What becomes of the pair: it is refused where the newer schema doesn't extend the older one.
+/// What becomes of the pair: it is refused if the newer schema doesn't extend the older one.
 fn verdict_of(answer: &Answer) -> Verdict
     ensures { result ≡ compared_verdict answer.now }
 {

@@ -1,4 +1,4 @@
-//! The command `compat`: the schemas of two files, and the line that tells how they go together.
+//! The command `compat`: the schemas of two files, and the line that states whether they are compatible.
 #![tactic(auto)]
 
 mod compat;

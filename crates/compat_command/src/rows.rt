@@ -1,4 +1,4 @@
-//! The words of `compat`, computed.
+//! The arguments of `compat`, computed.
 
 ghost use Rattle.std.specs.Prelude.{◌≡◌, ◌∷◌, [], codes};
 ghost use Rattle.command_words.specs.Words.{rows_of};

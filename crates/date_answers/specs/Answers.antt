@@ -1,6 +1,6 @@
--- What the texts of days, times of day, moments and months are read as, and the texts of their numbers, as functions: each
--- gives the one answer that the relations of fix_dates leave. From the FIX tag-value encoding, datatypes UTCDateOnly,
--- LocalMktDate, UTCTimeOnly, UTCTimestamp and MonthYear; own profile as there.
+-- What the texts of days, times of day, moments and months are read as, and the texts of their numbers, as functions:
+-- each gives the one answer that the relations of fix_dates allow. From the FIX tag-value encoding, datatypes
+-- UTCDateOnly, LocalMktDate, UTCTimeOnly, UTCTimestamp and MonthYear; own profile as there.
 use Rattle.std.specs.Prelude.{ℕ, zero, suc, ◌-◌, ◌*◌, ◌/◌, ◌%◌, ◌^◌, min, Bool, true, ◌&&◌, ◌||◌, ◌==◌, nat_lt, nat_le, if◌then◌else◌, List, [], ◌∷◌, length, take, drop, get_or, ℤ, pos, negsuc, ◌+ℤ◌, ◌*ℤ◌, Option, Some, None, Result, Ok, Err}
 use native.Mathlib.Omega.{arith}
 use Rattle.fix_values.specs.declared.rule.V.{V}
@@ -24,27 +24,27 @@ use Rattle.fix_dates.specs.Months.{month_text, value_of}
 
 -- ---- reading
 
--- the answer about parts, if there are any: first whether they are in their ranges is asked
+-- the answer for parts, if there are any; whether they are in their ranges is checked first
 abbrev pub if_in_range : {P X : Type 0} → (P → Bool) → (P → Result X V) → Option P → Result X V
 if_in_range real value None = Err Spelling
 if_in_range real value (Some p) = if real p then value p else Err Range
 
--- two answers together
+-- two results combined, if both are there
 abbrev pub both_some_of : {X Y Z : Type 0} → (X → Y → Z) → Option X → Option Y → Option Z
 both_some_of f None y = None
 both_some_of f (Some x) None = None
 both_some_of f (Some x) (Some y) = Some (f x y)
 
--- one answer turned into another
+-- a result converted, if it is there
 abbrev pub on_some : {X Y : Type 0} → (X → Y) → Option X → Option Y
 on_some f None = None
 on_some f (Some x) = Some (f x)
 
--- the day of a month, as parts
+-- a year, and a month and day, as a day
 abbrev pub as_day : ℕ → ℕ × ℕ → Day
 as_day year rest = record { year = year; month = rest.0; day = rest.1 }
 
--- two numbers together
+-- two numbers as a pair
 abbrev pub pair : ℕ → ℕ → ℕ × ℕ
 pair a b = (a, b)
 
@@ -63,7 +63,7 @@ is_day day = nat_le 1 day.month && (nat_le day.month 12 && (nat_le 1 day.day && 
 abbrev pub day_read : List ℕ → Result ℤ V
 day_read text = if_in_range is_day (λ day. Ok (number_of day)) (day_parts text)
 
--- the digits of a fraction, as a number, and how many they are
+-- the digits of a fraction as a number, and how many there are
 abbrev pub fraction_parts : List ℕ → Option (ℕ × ℕ)
 fraction_parts [] = Some (0, 0)
 fraction_parts (b ∷ ds) = if (b == 46) && (nat_lt 0 (length ds) && nat_le (length ds) 12) then both_some_of pair (number_in ds) (Some (length ds)) else None
@@ -72,11 +72,11 @@ fraction_parts (b ∷ ds) = if (b == 46) && (nat_lt 0 (length ds) && nat_le (len
 abbrev pub as_clock : ℕ × ℕ → ℕ × (ℕ × ℕ) → Clock
 as_clock front back = record { hour = front.0; minute = front.1; second = back.0; fraction = back.1.0; places = back.1.1 }
 
--- a second, with its fraction and places
+-- a second, and a fraction and its places
 abbrev pub with_fraction : ℕ → ℕ × ℕ → ℕ × (ℕ × ℕ)
 with_fraction a b = (a, b)
 
--- the parts that a time of day spells
+-- the parts that the text of a time of day spells
 abbrev pub clock_parts : List ℕ → Option Clock
 clock_parts text =
     if nat_le 8 (length text) && ((get_or text 2 0 == 58) && (get_or text 5 0 == 58))
@@ -89,37 +89,37 @@ clock_parts text =
 abbrev pub is_time : Clock → Bool
 is_time clock = nat_le clock.hour 23 && (nat_le clock.minute 59 && nat_le clock.second 59)
 
--- the nanoseconds from a beginning, and how many digits the fraction of a second has, of which nine are the most
+-- the nanoseconds since a start, and how many digits the fraction of a second has, at most nine
 pub record Instant : Type 0 where
   pub nanos : ℤ
   pub digits : ℕ
 
--- the instant that is so many nanoseconds after a beginning, told with this many places of a second
+-- the instant `nanos` nanoseconds after a start, with this many decimal places of a second
 abbrev pub instant_at : ℤ → ℕ → ℤ → Instant
 instant_at start places nanos = record { nanos = start +ℤ nanos; digits = min 9 places }
 
--- the same, where there are nanoseconds
+-- the same, if there are nanoseconds
 abbrev pub instant_from : ℤ → ℕ → Result ℤ V → Result Instant V
 instant_from start places (Ok nanos) = Ok (instant_at start places nanos)
 instant_from start places (Err v) = Err v
 
--- the instant of a time of day that is so many nanoseconds after a beginning, where its nanoseconds are whole
+-- the instant of a time of day after a start, if its nanoseconds are whole
 abbrev pub clock_instant : ℤ → Clock → Result Instant V
 clock_instant start clock = instant_from start clock.places (narrowed (pos (count_of clock * 10 ^ 9)) clock.places)
 
--- the instant that a time of day spells
+-- the instant that the text of a time of day spells
 abbrev pub time_read : List ℕ → Result Instant V
 time_read text = if_in_range is_time (clock_instant (pos 0)) (clock_parts text)
 
--- a day and a time of it
+-- a day and a time of day
 abbrev pub as_stamp : Day → Clock → Stamp
 as_stamp day clock = record { day = day; clock = clock }
 
--- the same as what fix_dates reads
+-- the instant as a moment of fix_dates
 abbrev pub as_moment : Instant → Moment
 as_moment i = record { nanos = i.nanos; digits = min 9 i.digits; few = omega arith }
 
--- an answer with an instant, as fix_dates gives it
+-- an answer with an instant as one with a moment of fix_dates
 abbrev pub moment_answer : Result Instant V → Result Moment V
 moment_answer (Ok i) = Ok (as_moment i)
 moment_answer (Err v) = Err v
@@ -133,7 +133,7 @@ stamp_parts text =
 abbrev pub is_stamp : Stamp → Bool
 is_stamp stamp = is_day stamp.day && is_time stamp.clock
 
--- the nanoseconds of so many days
+-- the nanoseconds of a number of days
 abbrev pub days_long : ℤ → ℤ
 days_long days = days *ℤ pos (SECONDS_OF_A_DAY * 10 ^ 9)
 
@@ -141,7 +141,7 @@ days_long days = days *ℤ pos (SECONDS_OF_A_DAY * 10 ^ 9)
 abbrev pub stamp_read : List ℕ → Result Instant V
 stamp_read text = if_in_range is_stamp (λ stamp. clock_instant (days_long (number_of stamp.day)) stamp.clock) (stamp_parts text)
 
--- so many units of ten to the minus `unit` seconds, where an instant is whole in them
+-- the count of units of 10^-unit seconds, if the instant is whole in them
 abbrev pub in_unit : ℤ → ℕ → Result ℤ V
 in_unit nanos unit = narrowed nanos (9 - unit)
 
@@ -152,11 +152,11 @@ part_parts (b ∷ []) = None
 part_parts (b ∷ c ∷ []) = if b == 119 then on_some (λ week. part.Week week) (number_in (c ∷ [])) else on_some (λ day. part.Day day) (number_in (b ∷ c ∷ []))
 part_parts (b ∷ c ∷ d ∷ more) = None
 
--- a year, and then a month with a part of it
+-- a year, and a month and its part
 abbrev pub as_month : ℕ → ℕ × Part → Month
 as_month year rest = record { year = year; month = rest.0; part = rest.1 }
 
--- a month with a part of it
+-- a month and its part
 abbrev pub with_part : ℕ → Part → ℕ × Part
 with_part month part = (month, part)
 
@@ -188,32 +188,33 @@ abbrev pub text_if_in_range : {P : Type 0} → (P → Bool) → (P → List ℕ)
 text_if_in_range real text None = Err Range
 text_if_in_range real text (Some p) = if real p then Ok (text p) else Err Range
 
--- the year in which so many days after the first of this year fall, and how many are left; at most so many years on
+-- the year of the day that is `days` days after the first of this year, and the days left in it; at most the given
+-- number of years on
 unfoldable pub year_in : ℕ → ℕ → ℕ → ℕ × ℕ
 year_in zero year days = (year, days)
 year_in (suc more) year days = if nat_lt days (year_days year) then (year, days) else year_in more (suc year) (days - year_days year)
 
--- the same of a year's months
+-- the same for the months of a year
 unfoldable pub month_in : ℕ → ℕ → ℕ → ℕ → ℕ × ℕ
 month_in zero year month days = (month, days)
 month_in (suc more) year month days = if nat_lt days (month_days year month) then (month, days) else month_in more year (suc month) (days - month_days year month)
 
--- the day of a year that is so many days after its first
+-- the day that is this many days after the first of its year
 abbrev pub day_in_year : ℕ × ℕ → Day
 day_in_year found =
     let month = month_in 11 found.0 1 found.1 in
     record { year = found.0; month = month.0; day = suc month.1 }
 
--- so many days from 1 January of the year 0 to 1 January 1970
+-- the number of days from 1 January of the year 0 to 1 January 1970
 abbrev pub days_to_epoch : ℕ
 days_to_epoch = 719_528
 
--- a day among the years 0 to 9999
+-- the day this many days after the first of the year 0, if it is in the years 0 to 9999
 abbrev pub day_from : ℤ → Option Day
 day_from (pos days) = if nat_lt days 3_652_425 then Some (day_in_year (year_in 9999 0 days)) else None
 day_from (negsuc n) = None
 
--- the day of the years 0 to 9999 that has this number
+-- the day with this number, if it is in the years 0 to 9999
 abbrev pub day_numbered : ℤ → Option Day
 day_numbered n = day_from (n +ℤ pos days_to_epoch)
 
@@ -221,7 +222,7 @@ day_numbered n = day_from (n +ℤ pos days_to_epoch)
 abbrev pub day_shown : ℤ → Result (List ℕ) V
 day_shown n = text_if_in_range is_day day_text (day_numbered n)
 
--- a unit of ten to the minus 0, 3, 6 or 9 seconds
+-- a unit of 10^-unit seconds: unit is 0, 3, 6 or 9
 abbrev pub is_unit : ℕ → Bool
 is_unit unit = (unit == 0) || ((unit == 3) || ((unit == 6) || (unit == 9)))
 
@@ -229,36 +230,36 @@ is_unit unit = (unit == 0) || ((unit == 3) || ((unit == 6) || (unit == 9)))
 abbrev pub units_of_a_day : ℕ → ℕ
 units_of_a_day unit = SECONDS_OF_A_DAY * 10 ^ unit
 
--- the time of day at which so many of a unit have passed since midnight
+-- the time of day at which `count` units have passed since midnight
 abbrev pub clock_at : ℕ → ℕ → Clock
 clock_at unit count =
     let seconds = count / 10 ^ unit in
     record { hour = seconds / 3600; minute = seconds / 60 % 60; second = seconds % 60; fraction = count % 10 ^ unit; places = unit }
 
--- a number that isn't negative, and is below the end
+-- a number from 0 on that is below `end`
 abbrev pub number_below : ℤ → ℕ → Option ℕ
 number_below (pos n) end = if nat_lt n end then Some n else None
 number_below (negsuc n) end = None
 
--- the time of day at which so many of a unit have passed since midnight, where there is a count
+-- the time of day at which `count` units have passed since midnight, if there is a count
 abbrev pub clock_counted : ℕ → Option ℕ → Option Clock
 clock_counted unit count = on_some (clock_at unit) count
 
--- the text of the time of day at which so many of a unit have passed since midnight
+-- the text of the time of day at which n units have passed since midnight
 abbrev pub time_shown : ℕ → ℤ → Result (List ℕ) V
 time_shown unit n = if is_unit unit then text_if_in_range is_time clock_text (clock_counted unit (number_below n (units_of_a_day unit))) else Err Range
 
--- the days that are whole in a count, of which a day has so many, downwards before the beginning; and what is left
+-- the whole days of a count, of which a day has `units`; rounded down for a negative count
 abbrev pub days_in : ℤ → ℕ → ℤ
 days_in (pos n) units = pos (n / units)
 days_in (negsuc n) units = negsuc (n / units)
 
--- what is left of a count beside its whole days, of which each has so many
+-- the rest of a count after its whole days, each of which has `units`
 abbrev pub left_in : ℤ → ℕ → ℕ
 left_in (pos n) units = n % units
 left_in (negsuc n) units = units - suc (n % units)
 
--- the text of the moment at which so many of a unit have passed since 1 January 1970
+-- the text of the moment n units after 1 January 1970
 abbrev pub stamp_shown : ℕ → ℤ → Result (List ℕ) V
 stamp_shown unit n =
     let units = units_of_a_day unit in
@@ -266,7 +267,7 @@ stamp_shown unit n =
     then text_if_in_range is_stamp stamp_text (both_some_of as_stamp (day_numbered (days_in n units)) (Some (clock_at unit (left_in n units))))
     else Err Range
 
--- a day or a week of a month or neither, where it fits its digits; not both
+-- the part of a month: a day or a week or neither, if it fits its digits; not both
 abbrev pub part_of : Option ℤ → Option ℤ → Option Part
 part_of None None = Some part.Whole
 part_of (Some day) None = on_some (λ d. part.Day d) (number_below day 100)
@@ -279,6 +280,6 @@ month_shown m = text_if_in_range is_month month_text (both_some_of as_month (num
 
 -- ---- units on the wire
 
--- the least unit that has a place for each of so many digits
+-- the coarsest unit with a place for each of these digits
 abbrev pub least_unit : ℕ → ℕ
 least_unit digits = if nat_le digits 0 then 0 else (if nat_le digits 3 then 3 else (if nat_le digits 6 then 6 else 9))

@@ -1,4 +1,4 @@
--- What `dump` answers to one frame.
+-- What `dump` answers for one frame.
 use Rattle.std.specs.Prelude.{◌≡◌, ℕ, Bool, true, false, List, Result, Ok, Err, [], length}
 use Rattle.sbe_base.specs.declared.stream.WriteFault.{WriteFault}
 use Rattle.sbe_base.specs.declared.status.Status.{Status}
@@ -13,7 +13,7 @@ use Rattle.command_steps.specs.declared.kept.Kept.{Kept}
 use Rattle.replies.specs.declared.verdict.Verdict.{Verdict}
 use Rattle.replies.specs.declared.verdict.Verdict.TheVariants.{Answered, Refused}
 
--- An item that isn't answered by its message is refused.
+-- An item is refused unless it is answered by its message.
 abbrev pub verdict_of : Bool → Verdict
 verdict_of true = Answered
 verdict_of false = Refused
@@ -22,7 +22,7 @@ verdict_of false = Refused
 abbrev pub IsDumpedLine : Schemas → ℕ → Item → List ℕ → Verdict → Type 0
 IsDumpedLine schemas number item line verdict = (is_message : Bool) × IsDumped schemas number item line is_message × (verdict ≡ verdict_of is_message)
 
--- what becomes of an item whose line is written so
+-- the verdict on an item whose line was written, or the status of a failed write
 abbrev pub put_so : Result Bool WriteFault → Result Verdict Status
 put_so (Ok is_message) = Ok (verdict_of is_message)
 put_so (Err e) = Err status.WriteFault

@@ -40,7 +40,7 @@ impl Model for Dumper {
     ghost invariant = { λ dump. AreInOrder dump.schemas };
 }
 
-/// Loads and judges the schemas of a dump.
+/// Loads and checks the schemas of a dump.
 pub fn load_dump<F: Files>(
     alloc: Global,
     name: &str,
@@ -95,7 +95,7 @@ impl FrameCommand for Dumper {
     }
 }
 
-/// What becomes of an item that is answered so.
+/// What becomes of an item after its answer was written.
 fn verdict_of(put: Result<bool, WriteFault>) -> Result<Verdict, Status>
     ensures { result ≡ put_so put }
 {

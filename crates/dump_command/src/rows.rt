@@ -1,4 +1,4 @@
-//! The words of `dump`, computed.
+//! The arguments of `dump`, computed.
 
 ghost use Rattle.std.specs.Prelude.{◌≡◌, ◌∷◌, [], codes};
 ghost use Rattle.command_words.specs.Words.{rows_of};

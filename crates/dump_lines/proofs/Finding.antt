@@ -33,7 +33,7 @@ passed_at p xs i x within is missed so_far = sym (ap (find p) (drop_is xs i x wi
 pub none_at : {X : Type 0} (p : X → Bool) (xs : List X) (i : ℕ) → length xs ≤ i → find p (drop i xs) ≡ find p xs → find p xs ≡ None
 none_at p xs i past so_far = sym so_far ∙ ap (find p) (all_dropped xs i past)
 
--- ---- behind a first one
+-- ---- after a first one
 
 pub other_found : {X : Type 0} (p : X → Bool) (x y : X) (xs : List X) → p x ≡ false → find p xs ≡ Some y → y ≡ unwrap_or (find p (x ∷ xs)) x
 other_found p x y xs missed found = sym (ap (λ t. unwrap_or (cond t (Some x) (find p xs)) x) missed ∙ ap (λ o. unwrap_or o x) found)

@@ -70,7 +70,7 @@ element_leads l i first = refl
 
 -- ---- parts by their places
 
--- these parts stand behind i others
+-- these parts stand after i others
 abbrev Behind : List NamedPart → ℕ → List NamedPart → Type 0
 Behind all i parts = (j k : ℕ) (p : NamedPart) → j ≡ i + k → slice_get parts k ≡ Some p → slice_get all j ≡ Some p
 

@@ -9,10 +9,11 @@ use Rattle.dump_lines.specs.declared.schemas.Schemas.{Schemas}
 abbrev pub has_id : ℕ → WireSchema → Bool
 has_id id schema = schema.id == id
 
--- the first schema of that id, or the first of all where none has it
+-- the first schema with this id, or the first of all if none has it
 abbrev pub schema_with : Schemas → ℕ → WireSchema
 schema_with schemas id = unwrap_or (find (has_id id) (schemas.first ∷ schemas.also)) schemas.first
 
--- The schema whose id a body's header says. It is the first of all where the body is shorter than a header, or no schema has the id.
+-- The schema whose id a body's header has; the first of all if the body is shorter than a header or no schema has the
+-- id.
 abbrev pub schema_for : Schemas → List ℕ → WireSchema
 schema_for schemas body = option_map_or (schema_with schemas) (header_number schemas.first (codes "schemaId") body) schemas.first

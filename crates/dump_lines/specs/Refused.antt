@@ -1,4 +1,4 @@
--- How a body that is no message is refused. Own profile.
+-- How a body that isn't a message is refused. Own profile.
 use Rattle.std.specs.Prelude.{ℕ, Option, Some, None, List, [], codes}
 use Rattle.std.specs.Fmt.{signed_decimal}
 use Rattle.std.specs.Result.{result_ok}
@@ -26,11 +26,11 @@ fault_code Count = codes "F10"
 fault_code Length = codes "F11"
 fault_code Trailing = codes "F12"
 
--- the message that the header of a body names, if it names one of the schema
+-- the message that the header of a body names, if it names one of the schema's
 abbrev pub message_meant : WireSchema → List ℕ → Option ℕ
 message_meant schema body = result_ok (template_told schema body)
 
--- the text of a path of that message; without a message there is none
+-- the text of a path of that message; empty without a message
 abbrev pub way_text : WireSchema → Option ℕ → List Step → List ℕ
 way_text schema None steps = []
 way_text schema (Some template) steps = path_text schema template steps
@@ -40,11 +40,11 @@ abbrev pub IsWay : WireSchema → Option ℕ → List Step → Type 0
 IsWay schema None steps = Unit {0}
 IsWay schema (Some template) steps = IsPathOf schema template steps
 
--- a fault, where the header means that message
+-- the refusal of a fault, where the header names that message
 abbrev pub of_fault_in : WireSchema → Option ℕ → Fault → Refused
 of_fault_in schema meant fault =
     record { code = fault_code fault.code; offset = Some fault.offset; path = way_text schema meant fault.path; detail = signed_decimal fault.detail }
 
--- a fault of a body
+-- the refusal of a fault of a body
 abbrev pub of_fault : WireSchema → List ℕ → Fault → Refused
 of_fault schema body fault = of_fault_in schema (message_meant schema body) fault

@@ -26,7 +26,7 @@ pub fn fault_code(code: FCode) -> &'static str
     }
 }
 
-/// The encoding type of frames whose messages have that byte order.
+/// The encoding type of frames whose messages have this byte order.
 pub fn encoding_of(order: Order) -> u16
     ensures { result ≡ encoding_of order }
 {

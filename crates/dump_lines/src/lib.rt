@@ -1,4 +1,4 @@
-//! The lines that `dump` answers frames with, and the schemas of its run.
+//! The lines with which `dump` answers frames, and the schemas of its run.
 #![tactic(auto)]
 
 mod codes;

@@ -11,8 +11,8 @@ use printers::Printer;
 use refused_items::{put_refused_front, put_refused_number};
 use sbe_base::Sink;
 
-/// Prints the line of an item whose body is no message, by what was left of its refusal. It needs a path of the message
-/// that the refusal names.
+/// Prints the line of an item whose body isn't a message, by what was recorded of its refusal. Requires a path of the
+/// message that the refusal names.
 #[inline(never)]
 pub fn put_fault<O: Sink>(
     printer: &mut Printer<'_, O>,
@@ -26,7 +26,7 @@ pub fn put_fault<O: Sink>(
     put_refusal(printer, layout, item, &last.refusal());
 }
 
-/// Prints the line of a refusal. It needs a path of the message that it names.
+/// Prints the line of a refusal. Requires a path of the message that it names.
 pub fn put_refusal<O: Sink>(
     printer: &mut Printer<'_, O>,
     layout: &Layout,

@@ -7,7 +7,7 @@ use lists::{List, NoMem};
 use std::alloc::Global;
 use tree_json::LineLayout;
 
-/// The schemas of a run, in the order of its words.
+/// The schemas of a run, in the order of its arguments.
 #[derive(Drop)]
 pub struct Schemas {
     pub first: LineLayout,
@@ -15,7 +15,7 @@ pub struct Schemas {
 }
 
 impl Schemas {
-    /// One schema alone.
+    /// Creates it with one schema.
     pub fn new(alloc: Global, first: LineLayout) -> Schemas
         ensures schemas { result ≡ record { first = first; also = [] } }
         ensures order { AreInOrder result }
@@ -27,7 +27,7 @@ impl Schemas {
         }
     }
 
-    /// Adds one more; for want of memory all stays as it was.
+    /// Adds one more. If memory runs out, nothing changes.
     pub fn push(&mut self, layout: LineLayout) -> Result<(), NoMem>
         requires { AreInOrder self.old }
         ensures schemas { OnOk result (self.new ≡ record { first = self.old.first; also = self.old.also ++ layout ∷ [] }) }
@@ -51,7 +51,7 @@ impl Schemas {
         }
     }
 
-    /// The schema that a body is read by: the one whose id its header says, and the first where none has it.
+    /// The schema by which a body is read: the one whose id is in its header, or the first one if none has that id.
     pub fn schema_for(&self, body: &[u8]) -> &LineLayout
         ensures { result.now ≡ schema_for self.now body.now }
     {
@@ -64,7 +64,7 @@ impl Schemas {
         }
     }
 
-    /// The first schema of that id, and the first of all where none has it.
+    /// The first schema with this id, or the first of all if none has it.
     fn with_id(&self, id: u32) -> &LineLayout
         ensures { result.now ≡ schema_with self.now id }
     {
@@ -78,7 +78,7 @@ impl Schemas {
     }
 }
 
-/// The first of these schemas that has the id.
+/// The first of these schemas with this id.
 #[tactic(auto, using(crate::proofs::Finding::id_same, crate::proofs::Finding::id_differs, crate::proofs::Finding::found_at, crate::proofs::Finding::passed_at, crate::proofs::Finding::none_at))]
 fn find_id(layouts: &[LineLayout], id: u32) -> Option<&LineLayout>
     ensures some { IfSome result (λ layout. find (has_id id) layouts.now ≡ Some layout.now) }

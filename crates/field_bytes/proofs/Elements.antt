@@ -39,7 +39,7 @@ module _ (order : Order) (leaf : LeafOf) where
   wide (elem.Num n) piece h = (bytes_of-width order leaf.prim n piece h).0
   wide elem.Null piece h = (bytes_of-width order leaf.prim leaf.null piece h).0
 
-  -- one element more is written behind those before it
+  -- one element more is written after those before it
   pub one_more : (es : List Elem) (i : ℕ) (d : Elem) (out piece : List ℕ) (w k : ℕ) → w ≡ prim_width leaf.prim → i < length es → length out ≡ prim_width leaf.prim * length es →
       elements_bytes order leaf (take i es) ≡ Some (take (prim_width leaf.prim * i) out) → element_bytes order leaf (get_or es i d) ≡ Some piece →
       elements_bytes order leaf (take (i + 1) es) ≡ Some (take (prim_width leaf.prim * (i + 1)) (put_mid (w * i) k out piece))

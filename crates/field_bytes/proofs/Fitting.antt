@@ -55,7 +55,7 @@ both_none (Some m) n h = absurd (no_misfit h)
     no_misfit : {m : Misfit} → ◌≡◌ {A = Option Misfit} (Some m) None → ⊥
     no_misfit k = cc
 
--- behind an element of an array without a misfit there is none
+-- after an element of an array without a misfit there is none
 pub rest_fits : (leaf : LeafOf) (es : List Elem) (at : ℕ) (d : Elem) → at < length es → elements_misfit leaf at (drop at es) ≡ None → elements_misfit leaf (at + 1) (drop (at + 1) es) ≡ None
 rest_fits leaf es at d lt h =
     (both_none (misfit_in (way.Elem at) (element_misfit leaf (get_or es at d))) (elements_misfit leaf (at + 1) (drop (at + 1) es)) (sym (elements_next leaf es at d lt) ∙ h)).1

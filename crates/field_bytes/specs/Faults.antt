@@ -1,4 +1,4 @@
--- What a refusal of a value says, as a misfit of the message it would stand in. Own profile.
+-- What a refusal of a value means, as a misfit of a message with it. Own profile.
 use Rattle.std.specs.Prelude.{ℕ, Bool, true, false, Option, Some, None, List, [], ◌∷◌}
 use Rattle.sbe_types.specs.declared.kind.Kind.{Kind, Leaf, Enum, Set, Const, Comp'}
 use Rattle.sbe_types.specs.declared.path.Step.{Step}
@@ -10,7 +10,7 @@ use Rattle.field_bytes.specs.declared.fault.FieldCause.{FieldCause}
 use Rattle.field_bytes.specs.declared.fault.FieldCause.TheVariants as cause
 use Rattle.field_bytes.specs.declared.fault.ValueFault.{ValueFault}
 
--- the code of a cause
+-- the misfit code of a cause
 abbrev pub code_of : FieldCause → NCode
 code_of cause.Range = code.Range
 code_of cause.EnumUnknown = code.EnumUnknown
@@ -18,21 +18,21 @@ code_of cause.SetUnknown = code.SetUnknown
 code_of cause.TextByte = code.TextByte
 code_of cause.Kind = code.Kind
 
--- the way to an element, or to the value itself
+-- the path to an element, or to the value itself
 abbrev pub way_to : Option ℕ → List Step
 way_to None = []
 way_to (Some i) = way.Elem i ∷ []
 
--- the misfit that a fault tells of
+-- the misfit that a fault reports
 abbrev pub as_misfit : ValueFault → Misfit
 as_misfit fault = record { code = code_of fault.cause; path = way_to fault.elem; detail = fault.detail }
 
--- what a yes or no tells, with the fault that was left
+-- the result that `true` or `false` and the fault slot encode
 abbrev pub told : Bool → ValueFault → Option Misfit
 told true fault = None
 told false fault = Some (as_misfit fault)
 
--- the kind is a leaf, an enum or a set: no composite, and no constant
+-- the kind is a leaf, an enum or a set, not a composite or a constant
 abbrev pub is_single : Kind → Bool
 is_single (Leaf l) = true
 is_single (Enum l names) = true

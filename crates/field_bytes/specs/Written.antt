@@ -5,7 +5,7 @@ use Rattle.sbe_types.specs.declared.kind.Primitive.{Primitive}
 use Rattle.sbe_types.specs.declared.kind.Primitive.TheVariants.{Char, I8, I16, I32, I64, U8, U16, U32, U64}
 use Rattle.sbe_types.specs.Numbers.{natural}
 
--- a number of a primitive, by a writing of unsigned numbers
+-- the bytes of a number of a primitive, by a writer of unsigned numbers
 abbrev pub written_as : (ℕ → ℕ → List ℕ) → Primitive → ℤ → List ℕ
 written_as bytes Char n = natural n ∷ []
 written_as bytes U8 n = natural n ∷ []

@@ -6,16 +6,16 @@ ghost use Rattle.field_bytes.specs.Faults.{code_of, told};
 /// Why a value doesn't fit its field.
 #[derive(Clone, Copy, Debug, PartialEq, Eq)]
 pub enum FieldCause {
-    /// A number isn't admitted or is the null of an optional field, or a text is too long, or empty where
-    /// it is optional.
+    /// A number is out of range or is the null of an optional field, or a text is too long, or is the empty text of an
+    /// optional field.
     Range,
     /// An enum's number isn't listed.
     EnumUnknown,
     /// A set has a bit that isn't listed.
     SetUnknown,
-    /// A byte may not stand in the text.
+    /// The text contains a byte that isn't allowed.
     TextByte,
-    /// The value is of another kind, or an array of another length.
+    /// The value has another kind, or is an array of another length.
     Kind,
 }
 
@@ -25,11 +25,11 @@ pub struct ValueFault {
     pub cause: FieldCause,
     /// The element of an array, counted from 0.
     pub elem: Option<usize>,
-    /// The number or the byte, or the length of a text; 0 where the value is of another kind.
+    /// The number or the byte, or the length of a text; 0 if the value has another kind.
     pub detail: i128,
 }
 
-/// Leaves why a value doesn't fit in `out`, and answers no.
+/// Writes to `out` why a value doesn't fit, and returns false.
 pub(crate) fn refuse(cause: FieldCause, detail: i128, out: &mut ValueFault) -> bool
     ensures { told result out.new ≡ misfit_here (code_of cause) detail }
 {
@@ -41,7 +41,7 @@ pub(crate) fn refuse(cause: FieldCause, detail: i128, out: &mut ValueFault) -> b
     false
 }
 
-/// The same of element `at`.
+/// The same for element `at`.
 pub(crate) fn refuse_element(
     at: usize,
     cause: FieldCause,

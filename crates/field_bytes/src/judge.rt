@@ -12,8 +12,7 @@ use crate::fault::{FieldCause, ValueFault, refuse, refuse_element};
 use named_numbers::{are_listed, is_listed};
 use sbe_types::{Elem, Kind, Leaf, LeafShape, NamedList, Presence, Value};
 
-/// Whether a value fits a leaf, an enum or a set; if not, the first element or byte that doesn't is left in
-/// `out`.
+/// Whether a value fits a leaf, an enum or a set. If not, `out` receives the first element or byte that doesn't.
 pub fn value_judge(kind: &Kind, v: &Value, out: &mut ValueFault) -> bool
     requires { is_single kind.now ≡ true }
     ensures { told result out.new ≡ value_misfit kind.now v.now }
@@ -37,14 +36,14 @@ fn leaf_judge(leaf: &Leaf, v: &Value, out: &mut ValueFault) -> bool
     }
 }
 
-/// A value of another kind than the field's.
+/// Refuses a value of another kind than the field's.
 fn other_kind(out: &mut ValueFault) -> bool
     ensures { told result out.new ≡ other_kind }
 {
     refuse(FieldCause::Kind, 0, out)
 }
 
-/// Null, which only an optional field has.
+/// Checks a null, which only an optional field may have.
 fn null_judge(leaf: &Leaf, out: &mut ValueFault) -> bool
     ensures { told result out.new ≡ number_misfit leaf.now Null }
 {
@@ -85,7 +84,7 @@ fn enum_judge(leaf: &Leaf, names: &NamedList, v: &Value, out: &mut ValueFault) -
     }
 }
 
-/// A listed number, which may still be the null.
+/// Checks a listed number, which may still be the null.
 fn listed_judge(leaf: &Leaf, names: &NamedList, n: i128, out: &mut ValueFault) -> bool
     ensures { told result out.new ≡ enum_misfit leaf.now names.now (Enum n) }
 {
@@ -130,7 +129,7 @@ fn text_judge(leaf: &Leaf, v: &Value, out: &mut ValueFault) -> bool
     }
 }
 
-/// A text: its length is judged before its bytes.
+/// Checks a text: first its length, then its bytes.
 fn bytes_judge(leaf: &Leaf, text: &[u8], out: &mut ValueFault) -> bool
     ensures { told result out.new ≡ text_misfit leaf.now (Text text.now) }
 {
@@ -143,7 +142,7 @@ fn bytes_judge(leaf: &Leaf, text: &[u8], out: &mut ValueFault) -> bool
     }
 }
 
-/// Whether a text has room, and is no empty one of an optional leaf.
+/// Whether a text fits the leaf, and isn't an empty text of an optional leaf.
 fn has_right_length(leaf: &Leaf, text: &[u8]) -> bool
     ensures { result ≡ (nat_le (length text.now) (width (LeafKind leaf.now)) && not (is_optional leaf.now.presence && is_empty text.now)) }
 {
@@ -151,7 +150,7 @@ fn has_right_length(leaf: &Leaf, text: &[u8]) -> bool
     text.len() <= wide && !(leaf.presence == Presence::Optional && text.is_empty())
 }
 
-/// The first byte that may not stand in a text.
+/// The first byte that isn't allowed in a text.
 #[tactic(auto, using(crate::proofs::Fitting::find_next, crate::proofs::Fitting::find_here))]
 fn bad_byte(leaf: &Leaf, text: &[u8]) -> Option<u8>
     ensures { result ≡ find (λ b. not (is_text_byte leaf.now b)) text.now }
@@ -164,7 +163,7 @@ fn bad_byte(leaf: &Leaf, text: &[u8]) -> Option<u8>
     None
 }
 
-/// Whether a byte may stand in a text: not 00, and in the range where there is no character encoding.
+/// Whether a byte is allowed in a text: it isn't 00, and is within the range if there is no character encoding.
 fn is_text_byte(leaf: &Leaf, byte: u8) -> bool
     ensures { result ≡ is_text_byte leaf.now byte }
 {
@@ -187,7 +186,7 @@ fn array_judge(leaf: &Leaf, v: &Value, out: &mut ValueFault) -> bool
     }
 }
 
-/// As many elements as the array is long, one after another.
+/// Checks that there are as many elements as the array is long, and each of them.
 fn elements_judge(leaf: &Leaf, elements: &[Elem], out: &mut ValueFault) -> bool
     ensures { told result out.new ≡ array_misfit leaf.now (Nums elements.now) }
 {
@@ -202,7 +201,7 @@ fn elements_judge(leaf: &Leaf, elements: &[Elem], out: &mut ValueFault) -> bool
     true
 }
 
-/// Element `at` of an array.
+/// Checks element `at` of an array.
 fn element_judge(leaf: &Leaf, at: usize, element: &Elem, out: &mut ValueFault) -> bool
     ensures { told result out.new ≡ misfit_in (ElemStep at) (element_misfit leaf.now element.now) }
 {

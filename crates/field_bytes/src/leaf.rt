@@ -12,12 +12,12 @@ use crate::judge::value_judge;
 use crate::puts::put_value;
 use sbe_types::{Kind, Order, Value};
 
-/// Writes a value of a leaf, an enum or a set (SBE 1.0, "Field encoding"), with zeros behind a text. It needs as many
+/// Writes a value of a leaf, an enum or a set (SBE 1.0, "Field encoding"), and zeros after a text. Requires as many
 /// bytes as the kind is wide.
 ///
 /// # Errors
 ///
-/// The first element or byte that doesn't fit the kind; `out` is as before.
+/// The first element or byte that doesn't fit the kind. `out` is then unchanged.
 pub fn leaf_writes(order: Order, kind: &Kind, v: &Value, out: &mut [u8]) -> Result<(), ValueFault>
     requires single { is_single kind.now ≡ true }
     requires ready { IsKindFrom 1 kind.now }

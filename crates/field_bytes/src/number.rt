@@ -7,7 +7,7 @@ ghost use Rattle.field_bytes.specs.Written.{written_as};
 use byteorder::{BigEndian, ByteOrder, LittleEndian};
 use sbe_types::{Order, Prim};
 
-/// Writes a number of a primitive in a byte order, integers as two's complement. It needs as many bytes as the
+/// Writes a number of a primitive in this byte order, integers in two's complement. Requires as many bytes as the
 /// primitive takes.
 pub fn put_num(order: Order, prim: Prim, n: i128, out: &mut [u8])
     requires wide { length out.old ≡ prim_width prim }
@@ -21,7 +21,7 @@ pub fn put_num(order: Order, prim: Prim, n: i128, out: &mut [u8])
     }
 }
 
-/// Puts a number of a primitive at a place of `out`. All other bytes are as before.
+/// Writes a number of a primitive at an offset of `out`. All other bytes are unchanged.
 pub fn put_num_at(order: Order, prim: Prim, n: i128, out: &mut [u8], at: usize)
     requires room { at + prim_width prim ≤ length out.old }
     requires number { is_number_of prim n ≡ true }

@@ -11,7 +11,7 @@ use crate::arrays::put_array;
 use crate::number::put_num;
 use sbe_types::{Kind, Leaf, LeafShape, NamedList, Order, Prim, Value};
 
-/// Writes a value that fits its kind: a leaf, an enum or a set. It needs as many bytes as the kind is wide.
+/// Writes a value that fits its kind: a leaf, an enum or a set. Requires as many bytes as the kind is wide.
 pub fn put_value(order: Order, kind: &Kind, v: &Value, out: &mut [u8])
     requires single { is_single kind.now ≡ true }
     requires ready { IsKindFrom 1 kind.now }
@@ -116,7 +116,7 @@ fn put_text(_leaf: &Leaf, v: &Value, out: &mut [u8])
     }
 }
 
-/// Writes a text, and zeros behind it.
+/// Writes a text, and zeros after it.
 fn put_padded(text: &[u8], out: &mut [u8])
     requires { length text.now ≤ length out.old }
     ensures { out.new ≡ padded (length out.old) text.now }

@@ -14,7 +14,7 @@ use Rattle.field_judge.specs.declared.level.BackLevel.{BackLevel}
 use Rattle.field_judge.specs.declared.level.BackPart.TheVariants as part
 use Rattle.field_judge.specs.declared.level.BackRow.{BackRow}
 
--- the row is that of a field or data
+-- the row is that of a field or data part
 pub record IsSlotRow (s : Slot) (r : BackRow) : Type 0 where
   pub tag : r.tag ≡ s.tag
   pub row : TextValue
@@ -42,14 +42,14 @@ pub record IsLevel (levels : List BackLevel) (p : Plan) (level : BackLevel) : Ty
   pub tags : level.tags ≡ tags p
   pub rows : AreRows levels p level.rows
 
--- no tag is twice at a level, and none is 0
+-- no tag occurs twice at a level, and none is 0
 pub record IsNumbered (p : Plan) : Type 0 where
   pub placed : IsPlaced p
   pub numbered : is_in 0 (all_tags p) ≡ false
 
--- ---- the row that has a tag
+-- ---- the row with a tag
 
--- a tag is among these, whatever owns it
+-- a tag is among these, whoever owns it
 abbrev pub owned_by : List ℕ → ℕ → ℕ → Bool
 owned_by owned owner tag = is_in tag owned
 
@@ -57,7 +57,7 @@ owned_by owned owner tag = is_in tag owned
 abbrev pub piece_wrong : Plan → List Field → Option Refusal
 piece_wrong p piece = wrong_in_order (wrong_at p) [] (parts_of (owns p) piece)
 
--- the row is that of the part with its tag
+-- the row is that of the part with the row's tag
 pub data IsRowOf (levels : List BackLevel) (p : Plan) (r : BackRow) : Type 0 where
   of_slot : (s : Slot) → IsSlotRow s r
       → ((x : Part) → x.tag ≡ r.tag → wrong_at p x ≡ text_wrong x.tag (value_by s.rule x.text))

@@ -1,4 +1,4 @@
--- The refusals that are told. Own profile.
+-- The refusals that are reported. Own profile.
 use Rattle.std.specs.Prelude.{ℕ, ℤ, pos, negsuc, Result, Ok, Err}
 use Rattle.fix_values.specs.declared.rule.V.{V}
 use Rattle.fix_values.specs.declared.rule.V.TheVariants as why
@@ -8,7 +8,7 @@ use Rattle.text_values.specs.declared.value.Misread.TheVariants as misread
 use Rattle.field_judge.specs.declared.refused.Refused.{Refused}
 use Rattle.field_judge.specs.declared.refused.Refused.TheVariants as refused
 
--- a refusal that is told
+-- the refusal that is reported
 abbrev pub refusal_of : Refused → Refusal
 refusal_of (refused.Unreadable tag v) = unreadable tag v
 refusal_of (refused.Unknown tag) = unknown tag
@@ -22,7 +22,7 @@ abbrev pub misread_at : ℕ → Misread → Refusal
 misread_at tag (misread.NotRead v) = unreadable tag v
 misread_at tag misread.NotTheConstant = unlike tag
 
--- a number that isn't negative
+-- a number, if it isn't negative
 abbrev pub size_of : ℤ → Result ℕ V
 size_of (pos n) = Ok n
 size_of (negsuc n) = Err why.Range

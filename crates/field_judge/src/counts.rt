@@ -8,7 +8,7 @@ ghost use Rattle.field_judge.specs.Refusals.{size_of};
 use fix_values::{NumRule, V, read_num};
 use sbe_types::{Leaf, Presence};
 
-/// The number of entries that a count field says.
+/// The number of entries in a count field.
 pub(crate) fn read_count(leaf: &Leaf, text: &[u8]) -> Result<u128, V>
     ensures { result ≡ count_read leaf.now (integer_of text.now) }
 {

@@ -1,4 +1,4 @@
-// Fields in the order of the text.
+// Checks fields in the order of the text.
 ghost use Rattle.std.specs.Prelude.{◌≡◌, ◌<◌, [], IfOk, false, get_or, length, replicate, slice_get, Some};
 ghost use Rattle.std.specs.Option.{option_map};
 ghost use Rattle.fix_values.specs.Numerals.{integer_of};
@@ -24,7 +24,7 @@ use std::alloc::Global;
 ///
 /// # Errors
 ///
-/// Out of memory.
+/// If memory runs out.
 #[cycle(judge)]
 pub fn judge_fields(
     alloc: Global,
@@ -75,7 +75,7 @@ fn judge_part(
     }
 }
 
-/// A count that can't be read, or a run that isn't so many pieces, or what is wrong in one.
+/// A count that can't be read, or a run that doesn't have that many pieces, or what is wrong in one of them.
 #[cycle(judge)]
 fn judge_group(
     alloc: Global,
@@ -134,7 +134,7 @@ fn is_marked(marks: &[bool], k: usize) -> bool
     marks[k]
 }
 
-/// So many marks, none of them set.
+/// `n` marks, none of them set.
 fn no_marks(alloc: Global, n: usize) -> Result<Vec<bool>, NoMem>
     ensures { IfOk result (λ marks. marks.items ≡ replicate n false) }
 {

@@ -14,7 +14,7 @@ pub struct BackGroup {
     pub delimiter: u32,
     /// The type of its count.
     pub count: Leaf,
-    /// All tags that it owns, those of nested groups included.
+    /// All tags that belong to it, including those of nested groups.
     pub owned: IdTable,
     /// The number of the level of its entries.
     pub level: usize,
@@ -43,7 +43,7 @@ pub struct BackLevel {
     pub rows: List<BackRow>,
 }
 
-/// The place of a tag among the rows of a level.
+/// The index of a tag among the rows of a level.
 pub(crate) fn place_in(level: &BackLevel, tag: u32) -> Option<usize>
     ensures within { IfSome result (λ k. k < length level.now.rows) }
     ensures place { length level.now.tags ≡ length level.now.rows → result ≡ place_of tag level.now.tags }

@@ -1,5 +1,5 @@
-//! The fields of a tag-value text judged by the structure of a message, groups of any depth included: the first refusal in the
-//! order of the text, and then in the order of the structure.
+//! Checks the fields of a tag-value text against the structure of a message, including groups of any depth: the first
+//! refusal in the order of the text, and then in the order of the structure.
 #![tactic(auto)]
 
 mod counts;

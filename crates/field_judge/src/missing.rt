@@ -1,4 +1,4 @@
-// Parts in the order of the structure.
+// Checks parts in the order of the structure.
 ghost use Rattle.std.specs.Prelude.{◌≡◌, ◌≤◌, ◌<◌, ◌==◌, ℕ, List, Option, None, IfOk, false, get_or, length, replicate, slice_get, Some};
 ghost use Rattle.std.specs.Option.{option_map};
 ghost use Rattle.bridge_terms.specs.Parts.{pieces_of};
@@ -23,12 +23,12 @@ use lists::NoMem;
 use std::alloc::Global;
 use text_values::TextValue;
 
-/// The first part, in the order of the structure, that must have a field and has none, by a level of the structure and those of
-/// its groups.
+/// The first part, in the order of the structure, that must have a field and has none, by a level of the structure and
+/// those of its groups.
 ///
 /// # Errors
 ///
-/// Out of memory.
+/// If memory runs out.
 #[cycle(missing)]
 pub fn missing_field(
     alloc: Global,
@@ -55,7 +55,7 @@ pub fn missing_field(
     Ok(None)
 }
 
-/// What a row lacks, whose first field is before a place, or nowhere where that is 0.
+/// What a row lacks. `place` is the position after its first field, or 0 if there is none.
 #[cycle(missing)]
 fn missing_row(
     alloc: Global,
@@ -131,7 +131,7 @@ fn missing_count(group: &BackGroup, tag: u32) -> Option<Refused>
     Some(Refused::Missing(tag))
 }
 
-/// For each row of a level one more than the number of the first field with its tag, or 0 where there is none.
+/// For each row of a level the number of the first field with its tag plus one, or 0 if there is none.
 fn part_places(
     alloc: Global,
     level: &BackLevel,
@@ -157,7 +157,7 @@ fn part_places(
     Ok(places)
 }
 
-/// Keeps the place of a part, or sets it where there is none.
+/// Keeps the place of a part, or sets it if there is none.
 fn place_first(places: &mut Vec<usize>, k: usize, place: usize)
     requires { k < length places.old.items }
     ensures own { get_or places.new.items k 0 ≡ placed (get_or places.old.items k 0) place }
@@ -177,7 +177,7 @@ fn place_at(places: &[usize], k: usize) -> usize
     places[k]
 }
 
-/// So many places, none of them set.
+/// `n` places, none of them set.
 fn no_places(alloc: Global, n: usize) -> Result<Vec<usize>, NoMem>
     ensures { IfOk result (λ places. places.items ≡ replicate n 0) }
 {

@@ -7,7 +7,7 @@ ghost use Rattle.field_judge.specs.declared.field.AppField.{AppField as AnyField
 
 use crate::field::AppField;
 
-/// Whether a run has so many pieces, and begins with the first of them.
+/// Whether a run has `n` pieces, and begins with the first one.
 pub(crate) fn is_run(delimiter: u32, n: u128, run: &[AppField<'_>]) -> bool
     ensures { result ≡ is_run n (pieces_of delimiter (fields_of run.now)) }
 {
@@ -26,7 +26,7 @@ fn count_pieces(delimiter: u32, run: &[AppField<'_>]) -> usize
     count
 }
 
-/// One more where field `i` begins a piece.
+/// The count, plus one if field `i` begins a piece.
 fn counted(delimiter: u32, run: &[AppField<'_>], i: usize, count: usize) -> usize
     requires within { i < length run.now }
     requires few { count ≤ i }
@@ -40,7 +40,7 @@ fn counted(delimiter: u32, run: &[AppField<'_>], i: usize, count: usize) -> usiz
     count
 }
 
-/// How many fields are before the first delimiter.
+/// How many fields precede the first delimiter.
 pub(crate) fn piece_len(delimiter: u32, run: &[AppField<'_>]) -> usize
     ensures within { result ≤ length run.now }
     ensures front { (pieces_of delimiter (fields_of run.now)).front ≡ fields_of (take result run.now) }

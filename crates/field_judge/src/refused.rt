@@ -10,7 +10,7 @@ ghost use Rattle.field_judge.specs.Refusals.{misread_at, refusal_of};
 use fix_values::V;
 use text_values::{Misread, TextValue};
 
-/// Why fields aren't translated, with the tag where that is seen.
+/// Why fields aren't translated, with the tag where this is found.
 #[derive(Clone, Copy, Debug, PartialEq, Eq, Drop)]
 pub enum Refused {
     /// The text of a field can't be read.
@@ -19,9 +19,9 @@ pub enum Refused {
     Unknown(u32),
     /// A second field has the tag.
     Repeated(u32),
-    /// The entries of a group are not as many as its count says, or don't begin with the delimiter.
+    /// A group has more or fewer entries than its count states, or they don't begin with the delimiter.
     Misgrouped(u32),
-    /// The text of a constant's field is another one.
+    /// The field of a constant has another text.
     Unlike(u32),
     /// A part must have a field, and has none.
     Missing(u32),
@@ -37,7 +37,7 @@ pub(crate) fn text_wrong(row: &TextValue, tag: u32, text: &[u8]) -> Option<Refus
     }
 }
 
-/// The refusal of a text under its tag.
+/// The refusal of a text, with its tag.
 fn misread(tag: u32, why: Misread) -> Refused
     ensures { refusal_of result ≡ misread_at tag why }
 {

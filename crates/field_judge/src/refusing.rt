@@ -15,11 +15,12 @@ use crate::refused::Refused;
 use lists::NoMem;
 use std::alloc::Global;
 
-/// The first refusal of fields: of the fields in the order of the text, and then of the parts in the order of the structure.
+/// The first refusal of fields: of the fields in the order of the text, and then of the parts in the order of the
+/// structure.
 ///
 /// # Errors
 ///
-/// Out of memory.
+/// If memory runs out.
 pub fn first_refusal(
     alloc: Global,
     levels: &[BackLevel],

@@ -12,7 +12,7 @@ use crate::level::{BackPart, BackRow};
 use crate::slices::field_at;
 use id_tables::IdTable;
 
-/// How many fields after that of a row are in its run.
+/// How many fields after that of a row belong to its run.
 pub(crate) fn run_len(row: &BackRow, fields: &[AppField<'_>]) -> usize
     ensures within { result ≤ length fields.now }
     ensures run { (levels : List AnyLevel) (p : Plan) → IsRowOf levels p row.now
@@ -26,7 +26,7 @@ pub(crate) fn run_len(row: &BackRow, fields: &[AppField<'_>]) -> usize
     }
 }
 
-/// How many fields at the front have tags among these.
+/// How many fields at the front have one of these tags.
 pub(crate) fn owned_len(owned: &IdTable, fields: &[AppField<'_>]) -> usize
     ensures within { result ≤ length fields.now }
     ensures run { fields_of (take result fields.now) ≡ run_of (owned_by owned.now) 0 (fields_of fields.now) }
@@ -40,7 +40,7 @@ pub(crate) fn owned_len(owned: &IdTable, fields: &[AppField<'_>]) -> usize
     fields.len()
 }
 
-/// Whether the tag of field `i` is among these.
+/// Whether the tag of field `i` is one of these.
 fn is_owned(owned: &IdTable, fields: &[AppField<'_>], i: usize) -> bool
     requires { i < length fields.now }
     ensures { (x : AnyField) → slice_get fields.now i ≡ Some x → result ≡ is_in x.tag owned.now }

@@ -5,7 +5,7 @@ ghost use Rattle.field_judge.specs.declared.level.BackLevel.{BackLevel as AnyLev
 use crate::field::AppField;
 use crate::level::BackLevel;
 
-/// The level of that number.
+/// The level with this number.
 pub(crate) fn level_at(levels: &[BackLevel], number: usize) -> Option<&BackLevel>
     ensures { (own : AnyLevel) → slice_get levels.now number ≡ Some own → MatchOption result ⊥ (λ level. level.now ≡ own) }
 {
@@ -23,7 +23,7 @@ pub(crate) fn first<'a>(fields: &[AppField<'a>]) -> AppField<'a>
     fields[0]
 }
 
-/// The fields from one on.
+/// The fields from field `n` on.
 #[tactic(auto, using(std::proofs::lemmas::List::take_rest))]
 pub(crate) fn rest_from<'b, 'a>(fields: &'b [AppField<'a>], n: usize) -> &'b [AppField<'a>]
     requires { n ≤ length fields.now }
@@ -32,7 +32,7 @@ pub(crate) fn rest_from<'b, 'a>(fields: &'b [AppField<'a>], n: usize) -> &'b [Ap
     &fields[n..]
 }
 
-/// The fields before one.
+/// The fields before field `n`.
 pub(crate) fn front<'b, 'a>(fields: &'b [AppField<'a>], n: usize) -> &'b [AppField<'a>]
     requires { n ≤ length fields.now }
     ensures { result.now ≡ take n fields.now }

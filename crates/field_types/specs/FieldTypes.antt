@@ -1,5 +1,5 @@
--- The datatype of a mapping's field: a code set hides the datatype of its name. From FIX Orchestra, fields, datatypes and code
--- sets. Own profile: which datatypes are bridged.
+-- The datatype of a mapping's field: a code set hides the datatype with its name. From FIX Orchestra, fields, datatypes
+-- and code sets. Own profile: which datatypes are bridged.
 use Rattle.std.specs.Prelude.{◌≡◌, ℕ, Bool, true, if◌then◌else◌, List, [], ◌∷◌, map, codes, Option, Some, None, is_some}
 use Rattle.std.specs.List.{list_all, AllByRecursion}
 use Rattle.std.specs.Str.{bytes_eq}
@@ -18,7 +18,7 @@ named_code c = record { name = c.name; text = c.value }
 abbrev pub set_type : CodeSetEl → Datatype
 set_type s = if bytes_eq s.type_name (codes "MultipleCharValue") then character_set (map named_code s.children) else code_set (map named_code s.children)
 
--- the code set of this name
+-- the code set with this name
 abbrev pub set_named : List ℕ → List CodeSetEl → Option CodeSetEl
 set_named name [] = None
 set_named name (s ∷ ss) = if bytes_eq s.name name then Some s else set_named name ss
@@ -31,7 +31,7 @@ is_plain_text = is_one_of (codes "String" ∷ (codes "Currency" ∷ (codes "Coun
 abbrev pub is_day_type : List ℕ → Bool
 is_day_type = is_one_of (codes "UTCDateOnly" ∷ (codes "LocalMktDate" ∷ []))
 
--- data is bridged where a length field precedes it
+-- data, which is bridged only if it has a length field
 abbrev pub data_type : Bool → Datatype
 data_type has_length = if has_length then raw else unbridged
 
@@ -50,7 +50,7 @@ standard_type has_length name =
     else if bytes_eq name (codes "data") then data_type has_length
     else unbridged
 
--- the datatype of a code set that was found, and else the one of FIX
+-- the datatype of a code set, if it was found, else the one of FIX
 abbrev pub type_by : Bool → List ℕ → Option CodeSetEl → Datatype
 type_by has_length name (Some s) = set_type s
 type_by has_length name None = standard_type has_length name
@@ -63,10 +63,10 @@ field_type sets f = type_by (is_some f.length_id) f.type_name (set_named f.type_
 abbrev pub HasShortCodes : CodeSetEl → Type 0
 HasShortCodes s = list_all (λ (c : CodeEl). is_short c.value) s.children ≡ true
 
--- the same of each code set
+-- the same for each code set
 abbrev pub AreShort : List CodeSetEl → Type 0
 AreShort sets = AllByRecursion HasShortCodes sets
 
--- the datatypes of fields, by their tags
+-- the datatypes of fields, by tag
 abbrev pub datatypes_of : List CodeSetEl → List FieldEl → List (ℕ × Datatype)
 datatypes_of sets fields = map (λ (f : FieldEl). (f.id, field_type sets f)) fields

@@ -1,4 +1,4 @@
-//! Laws of the definitions, as functions without a body.
+//! Laws of the definitions, stated as functions without a body.
 
 ghost use Rattle.std.specs.Prelude.{◌≡◌, ℕ, List, Ok};
 ghost use Rattle.std.specs.List.{AllByRecursion};
@@ -11,8 +11,8 @@ ghost use Rattle.bridge_rules.specs.Bounds.{IsMapped};
 ghost use Rattle.bridge_rules.specs.Datatypes.{Datatype};
 ghost use Rattle.field_types.specs.FieldTypes.{field_type, datatypes_of, AreShort};
 
-/// The datatype of a field keeps what the rules of values ask, where each code has 1 to 64 bytes; and
-/// each code of a mapping file that is read has.
+/// The datatype of a field meets what the rules of values require, if each code has 1 to 64 bytes; and each code of a
+/// mapping file that was read has.
 pub fn datatypes_of_fields_are_mapped()
     ensures field { (sets : List CodeSetEl) (f : FieldEl) → AreShort sets → IsMapped (field_type sets f) }
     ensures table { (sets : List CodeSetEl) (fields : List FieldEl) → AreShort sets

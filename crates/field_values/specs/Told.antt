@@ -1,4 +1,4 @@
--- What is told of the value of a field. From SBE 1.0, Field encoding; that no value of a set is null is own profile.
+-- What is reported of the value of a field. From SBE 1.0, Field encoding; that a set is never null is own profile.
 use Rattle.std.specs.Prelude.{◌<◌, ℕ, Bool, not, ◌&&◌, ◌==◌, if◌then◌else◌, Option, Some, None, List, [], length, take_while, ℤ, pos}
 use Rattle.std.specs.Option.{IsSome}
 use Rattle.sbe_types.specs.declared.kind.Kind.{Kind, Leaf as LeafKind, Enum, Set, Const, Comp'}
@@ -64,7 +64,7 @@ elements_in value.Const = []
 elements_in value.Null = []
 elements_in (value.Comp' n values) = []
 
--- the elements of an array, where there is a value
+-- the elements of an array; none if there is no value
 abbrev pub all_elements : Option Value → List Elem
 all_elements (Some v) = elements_in v
 all_elements None = []
@@ -74,7 +74,7 @@ abbrev pub element_of : Option ℤ → Elem
 element_of (Some n) = elem.Num n
 element_of None = elem.Null
 
--- ---- fields of which something is told
+-- ---- fields of which something is reported
 
 -- the primitive of a kind that may be one number
 abbrev pub prim_in : Kind → Option Primitive
@@ -84,7 +84,7 @@ prim_in (Set p names) = Some p
 prim_in (Const c) = None
 prim_in (Comp' n members) = None
 
--- the leaf that a kind is
+-- the leaf of a kind, if it is one
 abbrev pub leaf_in : Kind → Option Leaf
 leaf_in (LeafKind l) = Some l
 leaf_in (Enum l names) = None
@@ -100,9 +100,9 @@ HasNumber order kind bytes = (known : Bool) × (v : Value) × Shows order known 
 abbrev pub HasElement : Order → Kind → List ℕ → ℕ → Type 0
 HasElement order kind bytes j = (known : Bool) × (v : Value) × Shows order known kind v bytes × (j < length (elements_in v))
 
--- ---- what bytes tell
+-- ---- what bytes give
 
--- null, or a value
+-- null or here, by the number
 abbrev pub number_state : Leaf → ℤ → FieldState
 number_state leaf n = if is_null leaf n then state.Null else state.Here
 
@@ -110,10 +110,10 @@ number_state leaf n = if is_null leaf n then state.Null else state.Here
 abbrev pub before_zero : List ℕ → List ℕ
 before_zero bytes = take_while (λ b. not (b == 0)) bytes
 
--- an empty text of an optional leaf is null
+-- null or here: an empty text of an optional leaf is null
 abbrev pub text_state : Leaf → List ℕ → FieldState
 text_state leaf bytes = if is_optional leaf.presence && is_empty (before_zero bytes) then state.Null else state.Here
 
--- a number of an array, or none where it is null
+-- a number of an array; None if it is null
 abbrev pub seen_element : Leaf → ℤ → Option ℤ
 seen_element leaf n = if is_null leaf n then None else Some n

@@ -7,7 +7,7 @@ ghost use Rattle.field_values.specs.Told.{element_of, elements_in, leaf_in, HasE
 
 use sbe_types::{Kind, Leaf, Order, get_num};
 
-/// Element `j` of an array, or none where it is null. It needs a field that is an array with such an element.
+/// Element `j` of an array, or `None` if it is null. Requires a field that is an array with such an element.
 pub fn element_in(order: Order, kind: &Kind, bytes: &[u8], j: usize) -> Option<i128>
     requires { HasElement order kind.now bytes.now j }
     ensures { (known : Bool) (v : Value) → Shows order known kind.now v bytes.now → j < length (elements_in v) → slice_get (elements_in v) j ≡ Some (element_of result) }
@@ -15,7 +15,7 @@ pub fn element_in(order: Order, kind: &Kind, bytes: &[u8], j: usize) -> Option<i
     element_at(order, leaf_of(kind), bytes, j)
 }
 
-/// The leaf that a kind is.
+/// The leaf of a kind.
 fn leaf_of(kind: &Kind) -> &Leaf
     requires { IsSome (leaf_in kind.now) }
     ensures { leaf_in kind.now ≡ Some result.now }
@@ -39,7 +39,7 @@ fn element_at(order: Order, leaf: &Leaf, bytes: &[u8], j: usize) -> Option<i128>
     element_shown(order, leaf, &bytes[start..start + wide])
 }
 
-/// The element that the bytes of one primitive show.
+/// The element that the bytes of one primitive encode.
 fn element_shown(order: Order, leaf: &Leaf, bytes: &[u8]) -> Option<i128>
     requires { length bytes.now ≡ prim_width leaf.now.prim }
     ensures { result ≡ seen_element leaf.now (number_of order leaf.now.prim bytes.now) }

@@ -1,4 +1,4 @@
-//! What the bytes of a field tell of its value (SBE 1.0, "Field encoding").
+//! What the bytes of a field say about its value (SBE 1.0, "Field encoding").
 #![tactic(auto)]
 
 mod elements;

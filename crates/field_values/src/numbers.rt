@@ -7,7 +7,7 @@ ghost use Rattle.field_values.specs.Told.{number_in, prim_in, HasNumber};
 
 use sbe_types::{Kind, Order, Prim, get_num};
 
-/// The number of a single number, an enum or a set. It needs a field that has one.
+/// The number of a single number, an enum or a set. Requires a field that has one.
 pub fn number_in(order: Order, kind: &Kind, bytes: &[u8]) -> i128
     requires ready { IsKindInOrder kind.now }
     requires number { HasNumber order kind.now bytes.now }
@@ -16,7 +16,7 @@ pub fn number_in(order: Order, kind: &Kind, bytes: &[u8]) -> i128
     get_num(order, prim_of(kind), bytes)
 }
 
-/// The primitive of a kind that may be one number.
+/// The primitive of a kind that may be a single number.
 fn prim_of(kind: &Kind) -> Prim
     requires { IsSome (prim_in kind.now) }
     ensures { prim_in kind.now ≡ Some result }

@@ -12,17 +12,17 @@ use sbe_types::{Kind, Leaf, LeafShape, Order, Presence, get_num};
 /// Whether a field of a block has a value.
 #[derive(Clone, Copy, Debug, PartialEq, Eq)]
 pub enum FieldState {
-    /// It isn't there at the message's version.
+    /// The field doesn't exist at the message's version.
     Absent,
-    /// The schema fixes it.
+    /// The value is fixed by the schema.
     Const,
     /// It is null (SBE 1.0, "Null values").
     Null,
-    /// A value is there.
+    /// It has a value.
     Here,
 }
 
-/// Whether a field that is there has a value. It needs as many bytes as the kind is wide.
+/// Whether a field that exists has a value. Requires as many bytes as the kind is wide.
 pub fn state_in(order: Order, kind: &Kind, bytes: &[u8]) -> FieldState
     requires ready { IsKindInOrder kind.now }
     requires wide { length bytes.now ≡ width kind.now }
@@ -76,7 +76,7 @@ fn text_state(leaf: &Leaf, bytes: &[u8]) -> FieldState
     }
 }
 
-/// Whether no text stands before the first 00.
+/// Whether there is no text before the first 00.
 fn is_blank(bytes: &[u8]) -> bool
     ensures { result ≡ is_empty (before_zero bytes.now) }
 {

@@ -8,7 +8,7 @@ ghost use Rattle.field_values.specs.Told.{before_zero, text_in};
 
 use memchr::memchr;
 
-/// The text in the bytes of a field that has one: what stands before the first 00.
+/// The text in the bytes of a field that has one: the bytes before the first 00.
 pub fn text_in(bytes: &[u8]) -> &[u8]
     ensures { (order : Order) (known : Bool) (kind : Kind) (v : Value) → Shows order known kind v bytes.now → IsSome (text_in v) → text_in v ≡ Some result.now }
 {

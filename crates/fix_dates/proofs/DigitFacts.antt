@@ -28,7 +28,7 @@ rest_digits before n places =
     let parts = mod-mul n {m = 10} {c = 10 ^ places} (omega arith) some in
     rw (more, parts) (grind arith)
 
--- what digits are read as, behind a number
+-- what digits are read as, after a number
 pub read_digits : (places n before : ℕ) → number_after before (digits places n) ≡ Some (before * 10 ^ places + n % 10 ^ places)
 unfolding number_after digits
 read_digits zero n before = let e : before ≡ before * 10 ^ 0 + n % 10 ^ 0 = omega arith in ap Some e

@@ -15,6 +15,6 @@ pub record FitsDay (parts : Day) : Type 0 where
   pub month : parts.month < 100
   pub day : parts.day < 100
 
--- days, which stand for their numbers
+-- the texts of days, which stand for the days' numbers
 abbrev pub days : Kind Day ℤ
 days = record { text = day_text; Fits = FitsDay; Real = IsDay; Stands = λ day n. number_of day ≡ n }

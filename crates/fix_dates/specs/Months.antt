@@ -37,28 +37,28 @@ HasPart year month part.Whole = Unit {0}
 HasPart year month (part.Day day) = IsDay (record { year = year; month = month; day = day })
 HasPart year month (part.Week week) = (1 ≤ week) × (week ≤ 5)
 
--- a month from 1 to 12, with a part that it has
+-- a month from 1 to 12, and a part that it has
 pub record IsMonth (parts : Month) : Type 0 where
   pub low : 1 ≤ parts.month
   pub high : parts.month ≤ 12
   pub has : HasPart parts.year parts.month parts.part
 
--- the day that a part is, if it is one
+-- the day of a part, if it is one
 abbrev pub day_part : Part → Option ℤ
 day_part part.Whole = None
 day_part (part.Day day) = Some (pos day)
 day_part (part.Week week) = None
 
--- the week that a part is, if it is one
+-- the week of a part, if it is one
 abbrev pub week_part : Part → Option ℤ
 week_part part.Whole = None
 week_part (part.Day day) = None
 week_part (part.Week week) = Some (pos week)
 
--- the year, the month, and the day or the week that the parts are
+-- the value of the parts: the year, the month, and the day or the week
 abbrev pub value_of : Month → MonthYear
 value_of month = record { year = pos month.year; month = pos month.month; day = day_part month.part; week = week_part month.part }
 
--- months, which stand for themselves
+-- the texts of months, which stand for these values
 abbrev pub months : Kind Month MonthYear
 months = record { text = month_text; Fits = FitsMonth; Real = IsMonth; Stands = λ month value. value_of month ≡ value }

@@ -1,10 +1,10 @@
--- What it is to show a value as a text, and to read a text as a value. Own profile: the refusals and their order.
+-- What it means to show a value as a text, and to read a text as a value. Own profile: the refusals and their order.
 use Rattle.std.specs.Prelude.{◌≡◌, ◌≢◌, Result, Ok, Err, List, [], ℕ}
 use Rattle.fix_values.specs.declared.rule.V.{V}
 use Rattle.fix_values.specs.declared.rule.V.TheVariants.{Spelling, Range, Inexact, Soh, Empty, UnknownCode}
 
--- A kind of texts: the text of its parts, whether each part fits its digits, whether the parts are in
--- their ranges, and which value they stand for.
+-- A kind of text: the text of its parts, whether each part fits its digits, whether the parts are in their ranges, and
+-- which value they stand for.
 pub record Kind (Parts Value : Type 0) : Type 1 where
   pub text : Parts → List ℕ
   pub Fits : Parts → Type 0
@@ -34,7 +34,7 @@ pub record NotExact {Parts Value : Type 0} (kind : Kind Parts Value) (text : Lis
   pub real : kind.Real parts
   pub inexact : (value : Value) → ¬ (kind.Stands parts value)
 
--- What reading a text answers: first its form is asked, then the ranges, then whether it is exact.
+-- What reading a text answers: its form is checked first, then the ranges, then whether it is exact.
 abbrev pub Reads : {Parts Value : Type 0} → Kind Parts Value → List ℕ → Result Value V → Type 0
 Reads kind text (Ok value) = Spells kind text value
 Reads {Parts} kind text (Err Spelling) = (parts : Parts) → kind.Fits parts → text ≢ kind.text parts
@@ -44,7 +44,7 @@ Reads kind text (Err Soh) = ⊥
 Reads kind text (Err Empty) = ⊥
 Reads kind text (Err UnknownCode) = ⊥
 
--- What showing a value answers and leaves: a text that spells it, or nothing where no text does.
+-- What showing a value answers and leaves: a text that spells it, or nothing if no text does.
 abbrev pub Shows : {Parts Value Done : Type 0} → Kind Parts Value → Value → Result Done V → List ℕ → Type 0
 Shows kind value (Ok done) out = Spells kind out value
 Shows kind value (Err Spelling) out = ⊥

@@ -8,7 +8,7 @@ use Rattle.fix_dates.specs.declared.month.Part.TheVariants.{Week}
 abbrev pub second_day : Day
 second_day = record { year = 1970; month = 1; day = 2 }
 
--- a second and a half behind midnight, in milliseconds
+-- a second and a half after midnight, in milliseconds
 abbrev pub half_past : Clock
 half_past = record { hour = 0; minute = 0; second = 1; fraction = 500; places = 3 }
 

@@ -4,7 +4,7 @@ ghost use Rattle.fix_dates.specs.Calendar.{IsDay, number_of};
 
 use jiff_core::civil::Date;
 
-/// A year, a month and a day, which the calendar may have or not.
+/// A year, a month and a day, which need not exist in the calendar.
 #[derive(Clone, Copy, Debug, PartialEq, Eq, Drop)]
 pub struct Day {
     /// From 0 to 9999.
@@ -21,7 +21,7 @@ const FIRST: i128 = -719_528;
 /// The number of 31 December 9999.
 const LAST: i128 = 2_932_896;
 
-/// The day of the years 0 to 9999 that has this number.
+/// The day of the years 0 to 9999 with this number.
 pub fn day_of(n: i128) -> Option<Day>
     ensures some { IfSome result IsDay }
     ensures year { IfSome result (λ day. day.year < 10000) }
@@ -42,7 +42,7 @@ pub fn day_of(n: i128) -> Option<Day>
     })
 }
 
-/// The number of a day, where the calendar has it.
+/// The number of a day, if it exists in the calendar.
 pub fn number_of_day(day: Day) -> Option<i32>
     requires year { day.year < 10000 }
     requires month { day.month < 100 }

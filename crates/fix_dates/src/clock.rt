@@ -5,22 +5,22 @@ ghost use Rattle.fix_dates.specs.Clocks.{clock_text, fraction_text, FitsClock, I
 use crate::digits::{number, put_digits};
 use fix_values::{ROOM, Short};
 
-/// What stands in the text of a time of day.
+/// The parts of the text of a time of day.
 #[derive(Clone, Copy, Debug, PartialEq, Eq, Drop)]
 pub struct Clock {
     pub hour: u8,
     pub minute: u8,
     pub second: u8,
-    /// The digits behind the point, as one number.
+    /// The digits after the point, as one number.
     pub fraction: u64,
-    /// How many they are.
+    /// The number of these digits.
     pub places: u8,
 }
 
-/// How many seconds a day has: there are no leap seconds.
+/// The seconds of a day: there are no leap seconds.
 pub const SECONDS_OF_A_DAY: u64 = 86_400;
 
-/// How many of the unit a day has; none where the unit isn't one.
+/// How many of the unit a day has, or `None` if the unit isn't one of the four.
 pub fn units_of_a_day(unit: u8) -> Option<u64>
     ensures some { IfSome result (λ units. units ≡ SECONDS_OF_A_DAY * 10 ^ unit) }
     ensures known { IfSome result (λ units. IsUnit unit) }
@@ -35,7 +35,7 @@ pub fn units_of_a_day(unit: u8) -> Option<u64>
     }
 }
 
-/// The time of day at which so many of the unit have passed since midnight.
+/// The time of day at which `count` of the unit have passed since midnight.
 pub fn clock_at(count: u64, unit: u8) -> Clock
     requires unit { IsUnit unit }
     requires count { count < SECONDS_OF_A_DAY * 10 ^ unit }
@@ -61,7 +61,7 @@ pub fn is_time(clock: &Clock) -> bool
     clock.hour <= 23 && clock.minute <= 59 && clock.second <= 59
 }
 
-/// The nanoseconds since midnight, where they are whole.
+/// The nanoseconds since midnight, if they are an integer.
 pub fn nanos_of(clock: &Clock) -> Option<u64>
     requires fits { FitsClock clock.now }
     requires real { IsTime clock.now }
@@ -76,7 +76,7 @@ pub fn nanos_of(clock: &Clock) -> Option<u64>
     Some(seconds * 1_000_000_000 + rest)
 }
 
-/// The nanoseconds that a fraction of a second is, where they are whole.
+/// A fraction of a second in nanoseconds, if they are an integer.
 fn fraction_nanos(fraction: u64, places: u8) -> Option<u64>
     requires few { places ≤ 12 }
     requires fits { fraction < 10 ^ places }
@@ -105,7 +105,7 @@ pub fn put_clock(out: &mut Short, clock: &Clock)
     put_fraction(out, clock.fraction, clock.places);
 }
 
-/// Appends a point and a fraction, where it has digits.
+/// Appends a point and a fraction, if it has digits.
 fn put_fraction(out: &mut Short, fraction: u64, places: u8)
     requires { length out.old + 1 + places ≤ ROOM }
     ensures text { out.new ≡ out.old ++ fraction_text places fraction }
@@ -116,7 +116,7 @@ fn put_fraction(out: &mut Short, fraction: u64, places: u8)
     }
 }
 
-/// The parts that the text of a time of day spells.
+/// The parts of the text of a time of day.
 pub fn clock_in(text: &[u8]) -> Option<Clock>
     ensures some { IfSome result (λ clock. text.now ≡ clock_text clock) }
     ensures fits { IfSome result FitsClock }
@@ -139,7 +139,7 @@ pub fn clock_in(text: &[u8]) -> Option<Clock>
     })
 }
 
-/// The fraction that stands behind the seconds, as a number and how many digits it has.
+/// The fraction after the seconds, as a number and the number of its digits.
 fn fraction_in(text: &[u8]) -> Option<(u64, u8)>
     ensures some { IfSome result (λ f. text.now ≡ fraction_text f.1 f.0) }
     ensures few { IfSome result (λ f. f.1 ≤ 12) }

@@ -7,12 +7,12 @@ use crate::calendar::{Day, day_of, number_of_day};
 use crate::digits::{number, put_digits};
 use fix_values::{ROOM, Short, V};
 
-/// Shows a day by its number, counted in days from 1 January 1970, as `YYYYMMDD`: FIX's datatypes
-/// UTCDateOnly and LocalMktDate.
+/// Writes a day as `YYYYMMDD`, given as a number of days from 1 January 1970: FIX's datatypes UTCDateOnly and
+/// LocalMktDate.
 ///
 /// # Errors
 ///
-/// `Range` where the year isn't 0 to 9999. Then `out` is empty.
+/// `Range` if the year isn't from 0 to 9999. `out` is then empty.
 pub fn show_day(n: i128, out: &mut Short) -> Result<(), V>
     ensures { Shows days n result out.new }
 {
@@ -22,12 +22,12 @@ pub fn show_day(n: i128, out: &mut Short) -> Result<(), V>
     Ok(())
 }
 
-/// Reads the number of a day, counted in days from 1 January 1970, from a text `YYYYMMDD`: FIX's
-/// datatypes UTCDateOnly and LocalMktDate.
+/// Reads a day from a text `YYYYMMDD`, as a number of days from 1 January 1970: FIX's datatypes UTCDateOnly and
+/// LocalMktDate.
 ///
 /// # Errors
 ///
-/// `Spelling` where the text isn't eight digits, and then `Range` where the calendar has no such day.
+/// `Spelling` if the text isn't eight digits; otherwise `Range` if the calendar has no such day.
 pub fn read_day(text: &[u8]) -> Result<i128, V>
     ensures { Reads days text.now result }
 {

@@ -3,7 +3,7 @@ ghost use Rattle.fix_dates.specs.Digits.{digits, number_in};
 
 use fix_values::{ROOM, Short};
 
-/// Appends the last `places` decimal digits of a number, the highest first.
+/// Appends the last `places` decimal digits of a number, most significant first.
 #[tactic(auto, unfolding(crate::specs::Digits::digits), using(crate::proofs::DigitFacts::length_digits))]
 pub fn put_digits(out: &mut Short, number: u64, places: u8)
     requires { length out.old + places ≤ ROOM }
@@ -16,7 +16,7 @@ pub fn put_digits(out: &mut Short, number: u64, places: u8)
     }
 }
 
-/// The number that a text of digits spells; none where a byte is no digit.
+/// The number in a text of digits, or `None` if a byte isn't a digit.
 #[tactic(auto, unfolding(crate::specs::Digits::number_after))]
 pub fn number(text: &[u8]) -> Option<u64>
     requires { length text.now ≤ 18 }

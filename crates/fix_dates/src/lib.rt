@@ -1,7 +1,6 @@
-//! Dates and times as FIX tag-value spells them, and back.
+//! Dates and times in the spelling of FIX tag-value, written and read.
 //!
-//! Calendar days are those of jiff's civil dates; the contracts state the proleptic Gregorian
-//! calendar by its own rule.
+//! Calendar days are jiff's civil dates; the contracts state the proleptic Gregorian calendar by its own rule.
 #![tactic(auto)]
 
 mod calendar;

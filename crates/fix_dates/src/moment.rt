@@ -1,11 +1,11 @@
 ghost use Rattle.std.specs.Prelude.{◌≤◌};
 
-/// A moment that a text names: its nanoseconds, from 1 January 1970 or from midnight.
+/// A moment in a text: its nanoseconds, from 1 January 1970 or from midnight.
 #[derive(Clone, Copy, Debug, PartialEq, Eq, Drop)]
 pub struct Moment {
     /// Nanoseconds, negative before 1970.
     pub nanos: i128,
-    /// How many digits its fraction of a second has, of which nine are the most.
+    /// The number of digits of its fraction of a second, at most nine.
     pub digits: u8,
     pub ghost few: { digits ≤ 9 },
 }

@@ -8,10 +8,10 @@ use crate::calendar::{Day, number_of_day};
 use crate::digits::{number, put_digits};
 use fix_values::{ROOM, Short, V};
 
-/// A month of a year, and a day of it or a week of it or neither.
+/// A month of a year, with a day of it, a week of it, or neither.
 #[derive(Clone, Copy, Debug, PartialEq, Eq, Drop)]
 pub struct MonthYear {
-    /// From 0 to 9999, where it has a text.
+    /// From 0 to 9999, if it is to have a text.
     pub year: i128,
     /// From 1, which is January, to 12.
     pub month: i128,
@@ -21,7 +21,7 @@ pub struct MonthYear {
     pub week: Option<i128>,
 }
 
-/// What stands behind the year and the month.
+/// What follows the year and the month.
 #[derive(Clone, Copy, Debug, PartialEq, Eq, Drop)]
 pub enum Part {
     /// Nothing.
@@ -32,7 +32,7 @@ pub enum Part {
     Week(u8),
 }
 
-/// What stands in the text of a month.
+/// The parts of the text of a month.
 #[derive(Clone, Copy, Debug, PartialEq, Eq, Drop)]
 pub struct Month {
     pub year: u16,
@@ -40,13 +40,13 @@ pub struct Month {
     pub part: Part,
 }
 
-/// Shows a month as `YYYYMM`, and behind it `DD` where it has a day, or `w` and one digit where it
-/// has a week: FIX's datatype MonthYear.
+/// Writes a month as `YYYYMM`, followed by `DD` if it has a day, or by `w` and one digit if it has a week: FIX's
+/// datatype MonthYear.
 ///
 /// # Errors
 ///
-/// `Range` where the year isn't 0 to 9999, the month isn't 1 to 12, the day isn't in its month, the
-/// week isn't 1 to 5, or both day and week are there. Then `out` is empty.
+/// `Range` if the year isn't from 0 to 9999, the month isn't from 1 to 12, the day isn't in its month, the week isn't
+/// from 1 to 5, or there are both a day and a week. `out` is then empty.
 pub fn show_month(value: &MonthYear, out: &mut Short) -> Result<(), V>
     ensures { Shows months value.now result out.new }
 {
@@ -61,12 +61,12 @@ pub fn show_month(value: &MonthYear, out: &mut Short) -> Result<(), V>
     Ok(())
 }
 
-/// Reads a month, FIX's datatype MonthYear, and the day or the week of it that the text names.
+/// Reads a month, FIX's datatype MonthYear, and the day or the week in the text.
 ///
 /// # Errors
 ///
-/// `Spelling` where the text is neither `YYYYMM` nor `YYYYMMDD` nor `YYYYMM`, `w` and one digit, and
-/// then `Range` where the month isn't 1 to 12, the day isn't in its month or the week isn't 1 to 5.
+/// `Spelling` if the text is neither `YYYYMM` nor `YYYYMMDD` nor `YYYYMM`, `w` and one digit; otherwise `Range` if the
+/// month isn't from 1 to 12, the day isn't in its month or the week isn't from 1 to 5.
 pub fn read_month(text: &[u8]) -> Result<MonthYear, V>
     ensures { Reads months text.now result }
 {
@@ -79,7 +79,7 @@ pub fn read_month(text: &[u8]) -> Result<MonthYear, V>
     Ok(value_by(&month))
 }
 
-/// The parts whose text is to be that of the value; none where they don't fit their digits.
+/// The parts of the value's text, or `None` if they don't fit their digits.
 fn month_of(value: &MonthYear) -> Option<Month>
     ensures some { IfSome result (λ month. value_of month ≡ value.now) }
     ensures fits { IfSome result FitsMonth }
@@ -96,7 +96,7 @@ fn month_of(value: &MonthYear) -> Option<Month>
     })
 }
 
-/// The part of a month that a day or a week is, of which not both are there.
+/// The part of a month for a day or a week, of which at most one is given.
 fn part_of(day: Option<i128>, week: Option<i128>) -> Option<Part>
     ensures day { IfSome result (λ part. day_part part ≡ day) }
     ensures week { IfSome result (λ part. week_part part ≡ week) }
@@ -112,7 +112,7 @@ fn part_of(day: Option<i128>, week: Option<i128>) -> Option<Part>
     }
 }
 
-/// The number, where it is from 0 to the limit.
+/// The number, if it is from 0 to the limit.
 fn small(n: i128, limit: u16) -> Option<u16>
     ensures some { IfSome result (λ k. pos k ≡ n) }
     ensures bound { IfSome result (λ k. k ≤ limit) }
@@ -124,7 +124,7 @@ fn small(n: i128, limit: u16) -> Option<u16>
     Some(n as u16)
 }
 
-/// The year, the month, and the day or the week that the parts name.
+/// The year, the month, and the day or the week in the parts.
 fn value_by(month: &Month) -> MonthYear
     ensures { result ≡ value_of month.now }
 {
@@ -173,7 +173,7 @@ fn put_month(out: &mut Short, month: &Month)
     put_part(out, month.part);
 }
 
-/// Appends what stands behind the year and the month.
+/// Appends what follows the year and the month.
 fn put_part(out: &mut Short, part: Part)
     requires { length out.old + 2 ≤ ROOM }
     ensures { out.new ≡ out.old ++ part_text part }
@@ -188,7 +188,7 @@ fn put_part(out: &mut Short, part: Part)
     }
 }
 
-/// The parts that the text of a month spells.
+/// The parts of the text of a month.
 fn month_in(text: &[u8]) -> Option<Month>
     ensures some { IfSome result (λ month. text.now ≡ month_text month) }
     ensures fits { IfSome result FitsMonth }
@@ -204,7 +204,7 @@ fn month_in(text: &[u8]) -> Option<Month>
     Some(Month { year, month, part })
 }
 
-/// What stands behind the year and the month.
+/// What follows the year and the month.
 fn part_in(text: &[u8]) -> Option<Part>
     ensures some { IfSome result (λ part. text.now ≡ part_text part) }
     ensures fits { IfSome result FitsPart }

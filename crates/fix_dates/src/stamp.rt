@@ -11,7 +11,7 @@ use crate::clock::{Clock, clock_at, clock_in, is_time, nanos_of, put_clock, unit
 use crate::day::{day_in, put_day};
 use fix_values::{Short, V};
 
-/// What stands in the text of a moment: a day and a time of it.
+/// The parts of the text of a moment: a day and a time of it.
 #[derive(Clone, Copy, Debug, PartialEq, Eq, Drop)]
 pub struct Stamp {
     pub day: Day,
@@ -22,12 +22,12 @@ const NANOS_OF_A_DAY: i128 = 86_400_000_000_000;
 
 const NANOS_OF_A_SECOND: i128 = 1_000_000_000;
 
-/// Shows a moment, which is a number of units of ten to the minus `unit` seconds since 1 January
-/// 1970, as `YYYYMMDD-HH:MM:SS` with `unit` digits behind a point: FIX's datatype UTCTimestamp.
+/// Writes a moment as `YYYYMMDD-HH:MM:SS` with `unit` digits after a point, given as a number of units of ten to the
+/// minus `unit` seconds since 1 January 1970: FIX's datatype UTCTimestamp.
 ///
 /// # Errors
 ///
-/// `Range` where the year isn't 0 to 9999, or the unit isn't 0, 3, 6 or 9. Then `out` is empty.
+/// `Range` if the year isn't from 0 to 9999, or the unit isn't 0, 3, 6 or 9. `out` is then empty.
 pub fn show_stamp(n: i128, unit: u8, out: &mut Short) -> Result<(), V>
     ensures { Shows (stamps_in unit) n result out.new }
 {
@@ -45,12 +45,12 @@ pub fn show_stamp(n: i128, unit: u8, out: &mut Short) -> Result<(), V>
     Ok(())
 }
 
-/// Reads a moment, FIX's datatype UTCTimestamp, as its nanoseconds since 1 January 1970.
+/// Reads a moment, FIX's datatype UTCTimestamp, as nanoseconds since 1 January 1970.
 ///
 /// # Errors
 ///
-/// `Spelling` where the text isn't that of a day, a dash and that of a time of day, then `Range` where
-/// a part isn't in its range, and then `Inexact` where digits behind the ninth aren't 0.
+/// `Spelling` if the text isn't that of a day, a dash and that of a time of day; otherwise `Range` if a part isn't in
+/// its range; otherwise `Inexact` if digits after the ninth aren't 0.
 pub fn read_stamp(text: &[u8]) -> Result<Moment, V>
     ensures { Reads stamps text.now result }
 {
@@ -72,12 +72,11 @@ pub fn read_stamp(text: &[u8]) -> Result<Moment, V>
     })
 }
 
-/// The number of units of ten to the minus `unit` seconds that a moment is. It needs the unit 0, 3, 6
-/// or 9.
+/// A moment as a number of units of ten to the minus `unit` seconds. Requires the unit 0, 3, 6 or 9.
 ///
 /// # Errors
 ///
-/// `Inexact` where it isn't a whole number of them.
+/// `Inexact` if it isn't an integer number of them.
 pub fn fit_moment(moment: &Moment, unit: u8) -> Result<i128, V>
     requires { IsUnit unit }
     ensures { FitsIn moment.now unit result }
@@ -89,7 +88,7 @@ pub fn fit_moment(moment: &Moment, unit: u8) -> Result<i128, V>
     Ok(moment.nanos / nanos)
 }
 
-/// The whole days in a number of units, counted downwards before 1970, and the units that are left.
+/// The whole days in a number of units, rounded down also before 1970, and the units that are left.
 fn days_and_rest(n: i128, units: u64) -> (i128, u64)
     requires { 0 < units }
     ensures sum { (result.0 *ℤ pos units) +ℤ pos result.1 ≡ n }
@@ -106,7 +105,7 @@ fn nanos_since(days: i32, nanos: u64) -> i128
     days as i128 * NANOS_OF_A_DAY + nanos as i128
 }
 
-/// The parts that the text of a moment spells.
+/// The parts of the text of a moment.
 fn stamp_in(text: &[u8]) -> Option<Stamp>
     ensures some { IfSome result (λ stamp. text.now ≡ stamp_text stamp) }
     ensures day { IfSome result (λ stamp. FitsDay stamp.day) }

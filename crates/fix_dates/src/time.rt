@@ -6,12 +6,12 @@ use crate::Moment;
 use crate::clock::{clock_at, clock_in, is_time, nanos_of, put_clock, units_of_a_day};
 use fix_values::{Short, V};
 
-/// Shows a time of day, which is a number of units of ten to the minus `unit` seconds since
-/// midnight, as `HH:MM:SS` with `unit` digits behind a point: FIX's datatype UTCTimeOnly.
+/// Writes a time of day as `HH:MM:SS` with `unit` digits after a point, given as a number of units of ten to the minus
+/// `unit` seconds since midnight: FIX's datatype UTCTimeOnly.
 ///
 /// # Errors
 ///
-/// `Range` where it isn't from 0 to below one day, or the unit isn't 0, 3, 6 or 9. Then `out` is empty.
+/// `Range` if it isn't at least 0 and below one day, or the unit isn't 0, 3, 6 or 9. `out` is then empty.
 pub fn show_time(n: i128, unit: u8, out: &mut Short) -> Result<(), V>
     ensures { Shows (times_in unit) n result out.new }
 {
@@ -24,13 +24,12 @@ pub fn show_time(n: i128, unit: u8, out: &mut Short) -> Result<(), V>
     Ok(())
 }
 
-/// Reads a time of day, FIX's datatype UTCTimeOnly, as its nanoseconds since midnight.
+/// Reads a time of day, FIX's datatype UTCTimeOnly, as nanoseconds since midnight.
 ///
 /// # Errors
 ///
-/// `Spelling` where the text isn't `HH:MM:SS` with 1 to 12 digits behind a point or none, then
-/// `Range` where an hour is above 23 or a minute or second above 59, and then `Inexact` where digits
-/// behind the ninth aren't 0.
+/// `Spelling` if the text isn't `HH:MM:SS`, with or without a point and 1 to 12 digits; otherwise `Range` if an hour is
+/// above 23 or a minute or second above 59; otherwise `Inexact` if digits after the ninth aren't 0.
 pub fn read_time(text: &[u8]) -> Result<Moment, V>
     ensures { Reads times text.now result }
 {

@@ -1,4 +1,5 @@
--- The head of a text. From the FIX tag=value encoding (FIX 4.4), Message format. Own profile: which header fields are given, and their order.
+-- The head of a text. From the FIX tag=value encoding (FIX 4.4), Message format. Own profile: which header fields are
+-- given, and their order.
 use Rattle.std.specs.Prelude.{ℕ, List, [], ◌∷◌, ◌++◌, map, Option, Some, None, ⊤}
 use Rattle.std.specs.Option.{option_map}
 use Rattle.std.specs.Fmt.{decimal}
@@ -39,7 +40,7 @@ given_fields head = given 49 head.sender ++ (given 56 head.target ++ (given 34 (
 abbrev pub head_fields : List ℕ → Head → List Field
 head_fields kind head = typed kind ∷ given_fields head
 
--- each field is a place of its own, and none is refused
+-- each field as a place of its own, and no refusal
 abbrev pub field_places : List Field → Places
 field_places fields = record { places = map (λ f. record { way = []; fields = f ∷ [] }) fields; refused = None }
 
@@ -47,16 +48,16 @@ field_places fields = record { places = map (λ f. record { way = []; fields = f
 abbrev pub headed : ℕ → List ℕ → Head → Draft
 headed limit kind head = begun limit head.begin (bytes_of (head_fields kind head))
 
--- no field of a head has a length field
+-- tag lists without length fields, as for a head
 abbrev pub no_lists : TagLists
 no_lists = record { header = []; lengths = [] }
 
--- a value that is given may be that of a field
+-- a value that is given is one that a field may have
 abbrev pub IsGivenValue : Option (List ℕ) → Type 0
 IsGivenValue None = ⊤
 IsGivenValue (Some value) = IsValue value
 
--- the texts of a head may be values of fields
+-- the texts of a head are values that fields may have
 pub record IsHeadReady (head : Head) : Type 0 where
   pub begin : IsValue head.begin
   pub sender : IsGivenValue head.sender

@@ -7,7 +7,7 @@ use Rattle.fix_messages.specs.Heads.{Head}
 abbrev pub bare : Head
 bare = record { begin = codes "FIX.4.4"; sender = None; target = None; seq = None; time = None }
 
--- a head with all options but the time
+-- a head with all options except the time
 abbrev pub full : Head
 full = record { begin = codes "FIX.4.4"; sender = Some (codes "FIRM"); target = Some (codes "EXCH"); seq = Some 1; time = None }
 
@@ -15,7 +15,7 @@ full = record { begin = codes "FIX.4.4"; sender = Some (codes "FIRM"); target = 
 abbrev pub raw : TagLists
 raw = record { header = []; lengths = (95, 96) ∷ [] }
 
--- a text of so many letters
+-- a text of n letters
 abbrev pub long_text : ℕ → List ℕ
 long_text zero = []
 long_text (suc n) = 120 ∷ long_text n

@@ -30,7 +30,7 @@ pub struct FixHead<'a> {
     pub time: Option<&'a [u8]>,
 }
 
-/// Begins a text with its head. Where it says no, `halt` tells the field that has no room, and there is no text.
+/// Begins a text with its head. If it returns false, `halt` receives the field that has no room, and there is no text.
 pub(crate) fn put_head(
     head: &FixHead<'_>,
     msg_type: &[u8],
@@ -83,7 +83,7 @@ fn put_given(tag: u32, value: Option<&[u8]>, out: &mut FixWriter, halt: &mut Hal
     }
 }
 
-/// Writes a header field of a number, if it is given.
+/// Writes a header field with a number, if it is given.
 #[tactic(auto, using(message_walk::proofs::Values::count_value))]
 fn put_number(tag: u32, number: Option<u64>, out: &mut FixWriter, halt: &mut Halt) -> bool
     requires open { out.old.phase ≡ Open }
@@ -117,7 +117,7 @@ fn put_field(tag: u32, value: &[u8], out: &mut FixWriter, halt: &mut Halt) -> bo
     }
 }
 
-/// Tells that a field has no room.
+/// Records that there is no room for a field.
 fn no_room(full: Full, halt: &mut Halt) -> bool
     ensures refused { result ≡ false }
     ensures halt { halt.new ≡ record { cause = cause.Full full.needed; way = [] } }

@@ -1,4 +1,4 @@
-//! Laws of the texts of messages, as functions without a body.
+//! Laws of the texts of messages, stated as functions without a body.
 
 ghost use Rattle.std.specs.Prelude.{◌≡◌, ◌≤◌, ◌++◌, ℕ, List, length, None, Ok};
 ghost use Rattle.sbe_types.specs.declared.message.Value.{Value};
@@ -17,7 +17,7 @@ pub fn texts_have_the_fields_of_their_messages()
         → fields_of p t ≡ Ok (place_fields (places_of p t).places) }
 {}
 
-/// A text has the fields of its head, and after them those of the message with the length field of each data field.
+/// A text has the fields of its head, followed by those of the message, with the length field of each data field.
 pub fn texts_have_heads_and_fields()
     ensures { (lists : TagLists) (kind : List ℕ) (head : Head) (fields : List Field)
         → message_text lists kind head fields ≡ text_over head.begin (bytes_of (head_fields kind head ++ with_lengths lists fields)) }

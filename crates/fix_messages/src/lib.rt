@@ -1,4 +1,4 @@
-//! Tag-value texts of messages: a head, and after it the fields of a message in the order of the mapped structure.
+//! Tag-value texts of messages: a head, followed by the fields of a message in the order of the mapped structure.
 #![tactic(auto)]
 
 mod head;

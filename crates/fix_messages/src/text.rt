@@ -14,7 +14,7 @@ use flyweight_view::BlockView;
 use message_walk::{Halt, PlanRow, PutValue, put_rows};
 use tagvalue_codec::FixWriter;
 
-/// A template as a mapping has it: the type of its messages, and the rows of its plan.
+/// A template as a mapping describes it: the type of its messages, and the rows of its plan.
 pub struct MessageRows<'a, R> {
     /// MsgType (35).
     pub msg_type: &'a [u8],
@@ -22,8 +22,8 @@ pub struct MessageRows<'a, R> {
     pub rows: &'a [PlanRow<R>],
 }
 
-/// Writes the text of a message: its head, and its fields in the order of the structure. It takes no memory. Where it says
-/// no, `halt` tells the first place that isn't written, and there is no text.
+/// Writes the text of a message: its head, and its fields in the order of the structure. Allocates nothing. If it
+/// returns false, `halt` receives the first place that isn't written, and there is no text.
 pub fn write_text<R: PutValue>(
     template: &MessageRows<'_, R>,
     root: &BlockView<'_>,

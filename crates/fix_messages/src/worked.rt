@@ -1,4 +1,4 @@
-//! The definitions computed on small texts. Each row is the clause of a function without a body; no code runs here.
+//! The definitions, computed on small texts. Each row is the contract of a function without a body; no code runs here.
 
 ghost use Rattle.std.specs.Prelude.{◌≡◌, ◌∷◌, [], codes, None, Some};
 ghost use Rattle.tagvalue_codec.specs.Drafts.{field_of};
@@ -21,14 +21,14 @@ pub fn has_a_whole_head()
         ≡ codes "8=FIX.4.4\u{1}9=90\u{1}35=D\u{1}49=FIRM\u{1}56=EXCH\u{1}34=1\u{1}11=ORD00001\u{1}453=1\u{1}448=FIRM\u{1}452=1\u{1}55=GEM4\u{1}54=1\u{1}38=7\u{1}40=2\u{1}44=99.5\u{1}10=190\u{1}" }
 {}
 
-/// A data field, with SOH in it, after its length field.
+/// A data field that contains SOH, after its length field.
 pub fn has_a_length_field()
     ensures { message_text raw (codes "U1") bare (field_of 96 (codes "a\u{1}b") ∷ [])
         ≡ codes "8=FIX.4.4\u{1}9=18\u{1}35=U1\u{1}95=3\u{1}96=a\u{1}b\u{1}10=125\u{1}" }
 {}
 
-/// A text of 38 bytes, whose limit is met exactly and passed by one; and one whose head alone passes it, by its type and then by
-/// its sequence number.
+/// A text of 38 bytes, which meets its limit exactly and exceeds it by one; and one whose head alone exceeds it, by its
+/// type and then by its sequence number.
 pub fn keeps_to_the_limit()
     ensures met { text_refusal no_lists 38 (codes "U3") bare (field_places (field_of 44 (codes "123.45") ∷ [])) ≡ None }
     ensures passed { text_refusal no_lists 37 (codes "U3") bare (field_places (field_of 44 (codes "123.45") ∷ [])) ≡ Some (over_limit (record { way = []; size = 38 })) }
@@ -46,7 +46,7 @@ pub fn tells_the_limit_first()
         ≡ Some (unwritten (record { way = to_part 146 ∷ to_entry 0 ∷ []; why = no_delimiter })) }
 {}
 
-/// A body of 99 bytes, and one of 100, whose number has a digit more.
+/// A body of 99 bytes, and one of 100, whose number has one more digit.
 pub fn counts_the_digits_of_a_length()
     ensures two { text_refusal no_lists 1000 (codes "U3") bare (field_places (field_of 58 (long_text 89) ∷ [])) ≡ None }
     ensures met { text_refusal no_lists 121 (codes "U3") bare (field_places (field_of 58 (long_text 89) ∷ [])) ≡ None }

@@ -65,7 +65,7 @@ fixcheck_answers tags limits = frames_once limits true no_line (IsFixCheckReply 
 
 -- ---- what the code writes
 
--- a failed write is no want of memory
+-- a failed write is never out of memory
 pub no_memory_wanted : ◌≡◌ {A = Status} status.WriteFault status.NoMemory → ◌≡◌ {A = Bool} true false
 no_memory_wanted h = cc
 

@@ -1,4 +1,4 @@
--- The command `fixcheck`: what its file is judged as, and its reply to a frame. Own profile.
+-- The command `fixcheck`: what its file contains or why it is refused, and its reply to a frame. Own profile.
 use Rattle.std.specs.Prelude.{◌≡◌, ◌≢◌, ◌<◌, ◌≤◌, ℕ, List, [], ◌∷◌, ◌++◌, codes, decimal, length, slice_get, Option, Some, Result, Ok, Err, ⊤}
 use Rattle.json_values.specs.Plain.{plain_text}
 use Rattle.json_values.specs.Values.{text_data}
@@ -29,19 +29,19 @@ use Rattle.replies.specs.declared.verdict.Verdict.TheVariants.{Answered, Refused
 
 -- ---- the line of a text
 
--- the value of the third field of a text, which is 35
+-- the value of the third field of a text, which is the field 35
 abbrev pub type_of : List Field → List ℕ
 type_of [] = []
 type_of (begin ∷ []) = []
 type_of (begin ∷ size ∷ []) = []
 type_of (begin ∷ size ∷ kind ∷ others) = kind.value
 
--- The line of an item that is a text of this type and of so many fields.
+-- The line of an item that is a text of this type with this many fields.
 abbrev pub text_line : ℕ → List ℕ → ℕ → List ℕ
 text_line item kind fields =
     codes "{\"item\":" ++ (decimal item ++ (codes ",\"type\":" ++ (plain_text (text_data kind) ++ (codes ",\"fields\":" ++ (decimal fields ++ codes "}\n")))))
 
--- ---- a body that is no text
+-- ---- a body that isn't a text
 
 -- the code of a fault
 abbrev pub fault_code : TCode → List ℕ
@@ -54,7 +54,7 @@ fault_code NoField = codes "T06"
 fault_code DataLength = codes "T07"
 fault_code TooMany = codes "T08"
 
--- the right number of bytes, the right sum in three digits, or nothing
+-- the detail of a fault: the right number of bytes, the right sum in three digits, or nothing
 abbrev pub fault_detail : TCode → ℕ → List ℕ
 fault_detail FirstTag n = []
 fault_detail BodyLength n = []
@@ -65,26 +65,26 @@ fault_detail NoField n = []
 fault_detail DataLength n = []
 fault_detail TooMany n = []
 
--- a fault of a body
+-- the refusal of a fault of a body
 abbrev pub of_fault : FixFault → RefusedItem
 of_fault fault = record { code = fault_code fault.code; offset = Some fault.offset; path = []; detail = fault_detail fault.code fault.detail }
 
--- the sum that a fault tells has three digits
+-- the sum that a fault reports has three digits
 abbrev pub HasDigits : TCode → ℕ → Type 0
 HasDigits code detail = code ≡ CheckSum → detail < 1000
 
 -- ---- the reply
 
--- a line of the output
+-- the reply with a line of the output
 abbrev pub answered : List ℕ → Reply
 answered line = record { output = line; notes = []; verdict = Answered }
 
--- a line of the notes
+-- the reply with a line of the notes
 abbrev pub noted : List ℕ → Reply
 noted line = record { output = []; notes = line; verdict = Refused }
 
--- A frame of another encoding type than that of tag-value texts is refused. Else its body is answered by a line where it is a text of some fields,
--- or refused at its first fault.
+-- A frame with another encoding type than that of tag-value texts is refused. Else the answer for its body is a line if
+-- it is a text of some fields, or the refusal of its first fault.
 pub data IsTextReply (tags : List Pair) (number : ℕ) (item : Item) (reply : Reply) : Type 0 where
   other_encoding : item.encoding ≢ TAG_VALUE → reply ≡ noted (refused_line number (of_encoding item.encoding)) → IsTextReply tags number item reply
   a_text : item.encoding ≡ TAG_VALUE → (fields : List Field) → FixText tags fields item.body
@@ -96,7 +96,7 @@ pub data IsTextReply (tags : List Pair) (number : ℕ) (item : Item) (reply : Re
 abbrev pub IsFixCheckReply : List Pair → Kept → Item → Reply → Type 0
 IsFixCheckReply tags kept item reply = IsTextReply tags kept.items item reply
 
--- what becomes of an item whose line is written so
+-- the verdict on an item whose line was written, or the status of a failed write
 abbrev pub put_so : Result (Unit {0}) WriteFault → Verdict → Result Verdict Status
 put_so (Ok done) verdict = Ok verdict
 put_so (Err e) verdict = Err status.WriteFault
@@ -112,10 +112,10 @@ abbrev pub tags_judged : Result Repository RefusedFile → Result (List Pair) Re
 tags_judged (Ok repository) = Ok (pairs_of (members_of repository))
 tags_judged (Err file) = Err file
 
--- the file of that name is judged so
+-- the file with this name contains this, or is refused
 abbrev pub JudgesTags : List ℕ → (List ℕ → Option (List ℕ)) → Result (List Pair) RefusedFile → Type 0
 JudgesTags name contents judged = judged ≡ tags_judged (judged_in role.Map (file_map (contents name)))
 
--- The files of `fixcheck`: the mapping alone.
+-- The files of `fixcheck`: only the mapping.
 abbrev pub fixcheck_files : List ℕ → FilesOf (List Pair)
 fixcheck_files name = record { AreJudged = JudgesTags name; IsRole = IsMap; AreGood = λ tags. ⊤ }

@@ -13,7 +13,7 @@ use sbe_base::{Sink, Status, WriteFault};
 use std::alloc::Global;
 use tagvalue_codec::{DataTags, FieldTable, read_fix};
 
-/// What the answers to frames are made with: the fields of a text, and the chunk that their lines go by.
+/// What the answers to frames are made with: the fields of a text, and the chunk through which lines are printed.
 #[derive(Drop)]
 pub struct TextSpace {
     table: FieldTable,
@@ -21,7 +21,7 @@ pub struct TextSpace {
 }
 
 impl TextSpace {
-    /// Takes memory for the fields of one text.
+    /// Allocates memory for the fields of one text.
     pub fn new(alloc: Global) -> Result<TextSpace, NoMem> {
         let table = FieldTable::new(alloc)?;
         Ok(TextSpace {
@@ -31,12 +31,12 @@ impl TextSpace {
     }
 }
 
-/// Writes the answer to a frame: the line of a text to the output, or the line of a refused item to the notes. It takes no
-/// memory.
+/// Writes the answer to a frame: the line of a text to the output, or the line of a refused item to the notes.
+/// Allocates nothing.
 ///
 /// # Errors
 ///
-/// `WriteFault` where a write fails; the sink then holds a front of the line.
+/// `WriteFault` if a write fails. The sink then holds a prefix of the line.
 pub fn answer_text<O: Sink, N: Sink>(
     tags: &DataTags,
     item: u64,
@@ -83,7 +83,7 @@ fn type_in<'a>(text: &'a [u8], table: &FieldTable) -> &'a [u8]
     &text[field.from..field.to]
 }
 
-/// What becomes of an item whose line is written so.
+/// What becomes of an item after its line was written.
 fn verdict_of(put: Result<(), WriteFault>, verdict: Verdict) -> Result<Verdict, Status>
     ensures told { result ≡ put_so put verdict }
     ensures wants { Wants true result }

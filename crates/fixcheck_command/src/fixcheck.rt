@@ -19,7 +19,7 @@ use std::alloc::Global;
 use std::marker::Model;
 use tagvalue_codec::DataTags;
 
-/// Judges each frame as a tag-value text, by the data fields of a mapping.
+/// Checks each frame as a tag-value text, given the data fields of a mapping.
 #[derive(Drop)]
 pub struct FixChecker {
     tags: DataTags,
@@ -35,7 +35,7 @@ impl Model for FixChecker {
     ghost view = { λ check. check.tags };
 }
 
-/// Loads and judges the mapping of a fixcheck.
+/// Loads and checks the mapping of a fixcheck.
 pub fn load_fixcheck<F: Files>(
     alloc: Global,
     name: &str,
@@ -57,7 +57,7 @@ pub fn load_fixcheck<F: Files>(
 }
 
 impl FixChecker {
-    /// Takes all memory that the answers to frames need.
+    /// Allocates all memory that the answers to frames need.
     fn new(alloc: Global, repository: &Repository) -> Result<FixChecker, NoMem>
         ensures { IfOk result (λ checker. checker ≡ pairs_of (members_of repository.now)) }
     {

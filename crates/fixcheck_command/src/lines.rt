@@ -11,7 +11,7 @@ use refused_items::{put_encoding, put_refused_back, put_refused_front, put_refus
 use sbe_base::{Sink, WriteFault};
 use tagvalue_codec::{FixFault, TCode};
 
-/// Writes the line of a text of this type and of so many fields.
+/// Writes the line of a text with this type and this number of fields.
 pub fn write_text<O: Sink>(
     sink: &mut O,
     item: u64,
@@ -39,7 +39,7 @@ fn put_text_line<O: Sink>(printer: &mut Printer<'_, O>, item: u64, kind: &[u8], 
     printer.put(b"}\n");
 }
 
-/// Writes the line of an item whose frame is of another encoding type.
+/// Writes the line of an item whose frame has another encoding type.
 pub fn note_encoding<N: Sink>(
     sink: &mut N,
     item: u64,
@@ -53,7 +53,7 @@ pub fn note_encoding<N: Sink>(
     printer.finish()
 }
 
-/// Writes the line of an item whose body is no text.
+/// Writes the line of an item whose body isn't a text.
 pub fn note_fault<N: Sink>(
     sink: &mut N,
     item: u64,
@@ -68,7 +68,7 @@ pub fn note_fault<N: Sink>(
     printer.finish()
 }
 
-/// Prints the line of an item whose body is no text.
+/// Prints the line of an item whose body isn't a text.
 fn put_fault<N: Sink>(printer: &mut Printer<'_, N>, item: u64, fault: &FixFault)
     requires { HasDigits fault.now.code fault.now.detail }
     ensures { Prints N.state printer.old printer.new (refused_line item (of_fault fault.now)) }
@@ -78,7 +78,7 @@ fn put_fault<N: Sink>(printer: &mut Printer<'_, N>, item: u64, fault: &FixFault)
     put_back(printer, fault.code, fault.detail);
 }
 
-/// Prints what follows the path: the right number or the right sum, where the fault tells one.
+/// Prints what follows the path: the right number or the right sum, if the fault gives one.
 fn put_back<N: Sink>(printer: &mut Printer<'_, N>, code: TCode, detail: u64)
     requires { HasDigits code detail }
     ensures { Prints N.state printer.old printer.new (back_text (fault_detail code detail)) }

@@ -53,7 +53,7 @@ byte_plain byte (x ∷ xs) h = let o = opened x (before_byte byte xs) (x == byte
 rest_is : (bytes : List ℕ) (n : ℕ) → take (length bytes - n) (drop n bytes) ≡ drop n bytes
 rest_is bytes n = between_to_end bytes n (length bytes) (omega arith)
 
--- a search behind a front without it
+-- a search after a front without it
 pub byte_nowhere : (byte : ℕ) (bytes : List ℕ) (n : ℕ) → before_byte byte (take n bytes) ≡ None → IsFirstByte (is_byte byte) (take (length bytes - n) (drop n bytes)) None → before_byte byte bytes ≡ None
 byte_nowhere byte bytes n front h =
     let back : before_byte byte (drop n bytes) ≡ None = ap (before_byte byte) (sym (rest_is bytes n)) ∙ none_ended byte (take (length bytes - n) (drop n bytes)) h in
@@ -77,7 +77,7 @@ end_is (x ∷ xs) = ap (λ o. if x == line_end then Some [] else with_byte x o) 
 pub plain_none : (bytes : List ℕ) → before_end bytes ≡ None → AllByRecursion (λ b. b ≢ line_end) bytes
 plain_none bytes h = byte_plain line_end bytes (sym (end_is bytes) ∙ h)
 
--- a search behind a front without a line end
+-- a search after a front without a line end
 pub nowhere : (bytes : List ℕ) (n : ℕ) → before_end (take n bytes) ≡ None → IsFirstByte (is_byte 10) (take (length bytes - n) (drop n bytes)) None → before_end bytes ≡ None
 nowhere bytes n front h = end_is bytes ∙ byte_nowhere line_end bytes n (sym (end_is (take n bytes)) ∙ front) h
 

@@ -8,16 +8,16 @@ use crate::window::Window;
 use open_framing::{HEAD_BYTES, Head, HeadErr, read_head};
 use sbe_base::Source;
 
-/// How a stream of frames ended. The answer stays.
+/// How a stream of frames ended. Once it ended, this answer stays.
 #[derive(Clone, Copy, Debug, PartialEq, Eq)]
 pub enum Ended {
-    /// The source ended behind a frame, or before the first one.
+    /// The source ended after a frame, or before the first one.
     End,
-    /// The source ended so many bytes into a frame.
+    /// The source ended this many bytes into a frame.
     Inside(usize),
-    /// The next six bytes are no head.
+    /// The next six bytes aren't a head.
     Head(HeadErr),
-    /// One byte more came than the limit of the input.
+    /// There is one byte more than the limit of the input.
     Over,
 }
 
@@ -26,12 +26,12 @@ pub enum Ended {
 pub(crate) enum Stop {
     /// A read failed.
     Fault,
-    /// No frame will be held.
+    /// There will be no further frame.
     Ended(Ended),
 }
 
 impl Window {
-    /// Takes the next frame. Where a whole one was held, that is let go first.
+    /// Takes the next frame. A whole frame that was held is released first.
     pub(crate) fn next_frame<I: Source>(&mut self, input: &mut I, whole: bool) -> Result<Head, Stop>
         requires room { HEAD_BYTES ≤ self.old.held.size }
         requires begun { whole ≡ false → IsBegun self.old.held }
@@ -47,7 +47,7 @@ impl Window {
         self.read_frame(input)
     }
 
-    /// Takes the next frame of what the source has read ahead, where the whole of it is there.
+    /// Takes the next frame from what the source has read ahead, if all of it is there.
     fn take_ahead<I: Source>(&mut self, input: &mut I) -> Option<Head>
         requires none { self.old.held.bytes ≡ [] }
         ensures nexts { IfSome result (λ head. Nexts self.old.held self.new.held (I.state input.old).told (I.state input.new).told (Ok head)) }
@@ -65,7 +65,7 @@ impl Window {
         None
     }
 
-    /// Takes the next frame, of which a part may be held.
+    /// Takes the next frame, of which a part may be held already.
     #[inline(never)]
     fn read_frame<I: Source>(&mut self, input: &mut I) -> Result<Head, Stop>
         requires room { HEAD_BYTES ≤ self.old.held.size }
@@ -103,7 +103,7 @@ impl Window {
         Ok(())
     }
 
-    /// Reads until so many bytes are held.
+    /// Reads until `want` bytes are held.
     fn fill<I: Source>(&mut self, input: &mut I, want: usize) -> Result<(), Stop>
         requires room { want ≤ self.old.held.size }
         requires less { length self.old.held.bytes ≤ want }
@@ -123,12 +123,12 @@ impl Window {
     }
 }
 
-/// What a slice holds are bytes.
+/// The items of a byte slice are bytes.
 fn are_bytes(bytes: &[u8])
     ensures { IsBytes bytes.now }
 {}
 
-/// Why no frame is held where so many bytes of it are and no more came.
+/// Why no frame is held, when `len` bytes of it are and no more came.
 fn stop_of(dry: Dry, len: usize) -> Stop
     ensures { IsStopOf dry len result }
 {
@@ -139,7 +139,7 @@ fn stop_of(dry: Dry, len: usize) -> Stop
     }
 }
 
-/// The end of a source behind so many bytes of a frame.
+/// The end of a source after `len` bytes of a frame.
 fn end_behind(len: usize) -> Ended
     ensures { IsEndBehind len result }
 {

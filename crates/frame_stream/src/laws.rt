@@ -1,5 +1,5 @@
-//! Laws of the definitions, as functions without a body: what is taken one after another is the cut of the stream, or
-//! its lines.
+//! Laws of the definitions, stated as functions without a body: what is taken piece by piece is the cut of the stream,
+//! or its lines.
 
 ghost use Rattle.std.specs.Prelude.{◌≡◌, ◌∷◌, ◌++◌, ◌+◌, [], ℕ, Ok, List, length};
 ghost use Rattle.std.specs.List.{AllByRecursion};
@@ -11,28 +11,28 @@ ghost use Rattle.frame_stream.specs.declared.lines.LineEnded.{LineEnded};
 ghost use Rattle.frame_stream.specs.Stream.{StreamState, TakesBy, TakesItems, cut_end, room, told_by};
 ghost use Rattle.frame_stream.specs.LineTakes.{LineState, TakesLast, TakesLineBy, TakesLines, line_room, line_told_by, lines_end};
 
-/// Frames at the front of a stream are items of its cut, and the rest is cut as it was.
+/// With frames in front of it, a stream has these as further items, and the rest is cut as before.
 pub fn frames_go_on()
     ensures { (items more : List Item) (stream : List ℕ) (limit input : ℕ) (end : CutEnd)
         → AllByRecursion (IsFrame limit) items → Cut stream limit input more end
         → Cut (joined frame_of items ++ stream) limit (length (joined frame_of items) + input) (items ++ more) end }
 {}
 
-/// The items that are taken, and the end behind them, are the cut of the stream.
+/// The items that are taken, and the end after them, are the cut of the stream.
 pub fn takes_are_the_cut()
     ensures { (items : List Item) (stream left left' : List ℕ) (old next new : StreamState) (end : Ended)
         → TakesItems items stream old next left → TakesBy left next new left' (told_by end)
         → Cut stream old.frame (room old) items (cut_end end) }
 {}
 
-/// Lines with their ends at the front of a stream are lines of it, and those of the rest are as they were.
+/// With lines and their ends in front of it, a stream has these as further lines, and the rest is cut as before.
 pub fn all_lines_go_on()
     ensures { (some more : List (List ℕ)) (stream : List ℕ) (input : ℕ) (end : lines.LineEnd)
         → AllByRecursion lines.IsLine some → lines.Lines stream input more end
         → lines.Lines (joined lines.ended some ++ stream) (length (joined lines.ended some) + input) (some ++ more) end }
 {}
 
-/// The lines that are taken, and the end behind them, are the lines of the stream.
+/// The lines that are taken, and the end after them, are the lines of the stream.
 pub fn takes_are_the_lines()
     ensures end { (some : List (List ℕ)) (stream left left' : List ℕ) (old next new : LineState) (end : LineEnded)
         → TakesLines some stream old next left → TakesLineBy left next new left' (line_told_by end)

@@ -1,4 +1,4 @@
-//! Takes one frame or line after another from a source, through one buffer that is made once.
+//! Takes frames or lines from a source one by one, through one buffer that is allocated once.
 //!
 //! The frames are those of the FIX Simple Open Framing Header 1.0, as the crate `open_framing` reads them.
 #![tactic(auto)]

@@ -10,50 +10,52 @@ use std::alloc::Global;
 use std::marker::Model;
 use thiserror::Error;
 
-/// What a [`LineStream`] took.
+/// The answer of [`LineStream::take`].
 #[derive(Clone, Copy, Debug, PartialEq, Eq)]
 pub enum LineTaken {
-    /// A line, which is [`LineStream::line`].
+    /// A line, which [`LineStream::line`] returns.
     Line,
-    /// The source ended behind a line, or before the first one.
+    /// The source ended after a line, or before the first one.
     End,
 }
 
-/// Why a [`LineStream`] took no line.
+/// Why [`LineStream::take`] failed.
 #[derive(Clone, Copy, Debug, PartialEq, Eq, Drop, Error)]
 pub enum LineErr {
-    /// The next 1,048,577 bytes have no line end, the byte 0a.
+    /// The next 1,048,577 bytes contain no line end, the byte 0a.
     #[error("a line has more than 1048576 bytes")]
     LineOver,
-    /// As many bytes as the limit of the input were taken, they have no further line end, and the source has more.
+    /// As many bytes were taken as the limit of the input allows, they contain no further line end, and the source has
+    /// more.
     #[error("the input has more bytes than its limit")]
     InputLimit,
-    /// A read failed: the source's count of faults rose, or stands at its last value.
+    /// A read failed: the source's count of faults rose, or is at its largest value.
     #[error("a read failed")]
     ReadFault,
 }
 
-/// How a stream of lines ended. The answer stays.
+/// How a stream of lines ended. Once it ended, this answer stays.
 #[derive(Clone, Copy, Debug, PartialEq, Eq)]
 pub enum LineEnded {
     /// The source ended, and all its lines were taken.
     End,
-    /// The next line is over the limit of a line.
+    /// The next line is longer than a line may be.
     Over,
-    /// One byte more came than the limit of the input.
+    /// There is one byte more than the limit of the input.
     Limit,
 }
 
-/// The lines of a source, taken one after another. A line ends with the byte 0a, which the last one may lack.
+/// The lines of a source, taken one by one. A line ends with the byte 0a, which the last one may lack.
 ///
-/// What comes are the lines of the source's bytes, whatever pieces the source gives them in. The stream reads ahead
-/// into its own buffer, of 1,048,577 bytes; it reads only where no line end stands in the bytes behind the last line.
+/// The lines are those of the source's bytes, whatever the sizes of the pieces in which the source gives them. The
+/// stream reads ahead into its own buffer of 1,048,577 bytes; it reads only if the bytes after the last line contain no
+/// line end.
 #[derive(Drop)]
 pub struct LineStream {
     bytes: Window,
-    /// How many of the bytes are the last line.
+    /// How many of the bytes belong to the last line.
     line: usize,
-    /// How many of the bytes have been taken with it.
+    /// How many of the bytes were taken with it.
     front: usize,
     ended: Option<LineEnded>,
 }
@@ -69,8 +71,8 @@ impl Model for LineStream {
 }
 
 impl LineStream {
-    /// A stream that nothing was taken of, with memory for a line of 1,048,576 bytes and its end, and for an input of
-    /// `limits.input` bytes at most. The limit of a frame isn't looked at.
+    /// A stream from which nothing was taken yet. It allocates memory for a line of 1,048,576 bytes and its end, and
+    /// accepts an input of at most `limits.input` bytes. The limit of a frame is ignored.
     pub fn open(alloc: Global, limits: Limits) -> Result<LineStream, NoMem>
         ensures { IfOk result (λ stream. stream ≡ lines_opened limits.input) }
     {
@@ -82,15 +84,15 @@ impl LineStream {
         })
     }
 
-    /// Takes the next line, and lets the one before it go. It takes no memory.
+    /// Takes the next line and releases the previous one. Allocates nothing.
     ///
-    /// Once the answer was an end, a line over the limit or the limit of the input, each later call gives the same
-    /// answer and reads nothing. So it is behind a last line without its end: each later call answers the end.
+    /// After the end, a line that is too long, or the limit of the input, each later call gives the same answer and
+    /// reads nothing. The same holds after a last line without a line end: each later call reports the end.
     ///
     /// # Errors
     ///
-    /// Each variant of [`LineErr`]. After [`LineErr::ReadFault`] the bytes of the unfinished line stay, and the next
-    /// call goes on with them.
+    /// Each variant of [`LineErr`]. After [`LineErr::ReadFault`] the bytes of the unfinished line are kept, and the
+    /// next call goes on with them.
     pub fn take<I: Source>(&mut self, input: &mut I) -> Result<LineTaken, LineErr>
         ensures stays { IfSome self.old.ended (λ ended. result ≡ line_told_by ended) }
         ensures kept { IsSome self.old.ended → self.new ≡ record self.old { line = [] } }
@@ -135,15 +137,15 @@ impl LineStream {
         }
     }
 
-    /// The line that was taken last, without its end, and no bytes where the last answer was none.
+    /// The line that was taken last, without its end. Empty if the last call took no line.
     pub fn line(&self) -> &[u8]
         ensures { result.now ≡ self.now.line }
     {
         &self.bytes.as_slice()[..self.line]
     }
 
-    /// How many bytes were taken in all, those that were read ahead too. The one byte that shows that an input is above
-    /// its limit isn't counted.
+    /// How many bytes were taken in all, including those that were read ahead. The one byte that shows that an input
+    /// exceeds its limit isn't counted.
     pub fn taken(&self) -> u64
         ensures { result ≡ self.now.taken }
     {
@@ -151,7 +153,7 @@ impl LineStream {
     }
 }
 
-/// The answer at an end.
+/// The answer at and after an end.
 fn told(ended: LineEnded) -> Result<LineTaken, LineErr>
     ensures { result ≡ line_told_by ended }
 {
@@ -162,7 +164,7 @@ fn told(ended: LineEnded) -> Result<LineTaken, LineErr>
     }
 }
 
-/// What is taken at the end of a source, where so many bytes are held.
+/// What is taken at the end of a source when `len` bytes are held.
 fn last_taken(len: usize) -> LineTaken
     ensures { IsLastTaken len result }
 {

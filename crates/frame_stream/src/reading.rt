@@ -11,12 +11,12 @@ pub enum Dry {
     Fault,
     /// The source has ended.
     End,
-    /// One byte more came than may be taken.
+    /// There is one byte more than may be taken.
     Over,
 }
 
-/// Reads once, behind the first `len` bytes of a buffer and at most `most` bytes. Where none may be taken, one more
-/// byte shows whether the source has ended, and isn't kept.
+/// Reads once, to the place after the first `len` bytes of a buffer, and at most `most` bytes. If none may be taken,
+/// reads one more byte to see whether the source has ended, and discards it.
 pub(crate) fn read_within<I: Source>(
     input: &mut I,
     buf: &mut [u8],
@@ -54,7 +54,7 @@ fn read_over<I: Source>(input: &mut I) -> Dry
     }
 }
 
-/// Reads behind the first bytes of a buffer.
+/// Reads to the place after the first bytes of a buffer.
 fn read_behind<I: Source>(
     input: &mut I,
     buf: &mut [u8],

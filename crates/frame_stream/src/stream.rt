@@ -12,39 +12,39 @@ use std::alloc::Global;
 use std::marker::Model;
 use thiserror::Error;
 
-/// The most bytes that the limit of a frame may be: 16 MiB, the head of the Simple Open Framing Header 1.0 included.
+/// The largest limit of a frame: 16 MiB, including the head of the Simple Open Framing Header 1.0.
 pub const LONGEST_FRAME: usize = 16_777_216;
 
-/// What a [`FrameStream`] took.
+/// The answer of [`FrameStream::take`].
 #[derive(Clone, Copy, Debug, PartialEq, Eq)]
 pub enum Taken {
-    /// A frame with this head. Its body is [`FrameStream::frame`].
+    /// A frame with this head. [`FrameStream::frame`] returns its body.
     Frame(Head),
-    /// The source ended behind a frame, or before the first one.
+    /// The source ended after a frame, or before the first one.
     End,
-    /// The source ended so many bytes into a frame: one or more, and fewer than the frame has.
+    /// The source ended this many bytes into a frame: at least one, and fewer than the frame has.
     EndInside(usize),
 }
 
-/// Why a [`FrameStream`] took no frame.
+/// Why [`FrameStream::take`] failed.
 #[derive(Clone, Copy, Debug, PartialEq, Eq, Drop, Error)]
 pub enum StreamErr {
-    /// The next six bytes are no head of a frame. It is never [`HeadErr::HeadShort`].
+    /// The next six bytes aren't the head of a frame. Never [`HeadErr::HeadShort`].
     #[error("{0}")]
     Head(HeadErr),
-    /// As many bytes as the limit of the input were taken, the frame isn't whole, and the source has more.
+    /// As many bytes were taken as the limit of the input allows, the frame is incomplete, and the source has more.
     #[error("the input has more bytes than its limit")]
     InputLimit,
-    /// A read failed: the source's count of faults rose, or stands at its last value.
+    /// A read failed: the source's count of faults rose, or is at its largest value.
     #[error("a read failed")]
     ReadFault,
 }
 
-/// The frames of a source, taken one after another. A frame is what the FIX Simple Open Framing Header 1.0 says:
-/// Message_Length in four bytes, Encoding_Type in two, and the body.
+/// The frames of a source, taken one by one. A frame follows the FIX Simple Open Framing Header 1.0: Message_Length in
+/// four bytes, Encoding_Type in two, and the body.
 ///
-/// What comes is the cut of the source's bytes into frames, whatever pieces the source gives them in. No byte behind
-/// a frame is asked for before the next frame is.
+/// The frames are the cut of the source's bytes, whatever the sizes of the pieces in which the source gives them. No
+/// byte after a frame is asked for before the next frame is.
 #[derive(Drop)]
 pub struct FrameStream {
     bytes: Window,
@@ -63,8 +63,8 @@ impl Model for FrameStream {
 }
 
 impl FrameStream {
-    /// A stream that nothing was taken of, with memory for a frame of `limits.frame` bytes, its head included, and
-    /// for an input of `limits.input` bytes at most.
+    /// A stream from which nothing was taken yet. It allocates memory for a frame of `limits.frame` bytes, including
+    /// its head, and accepts an input of at most `limits.input` bytes.
     pub fn open(alloc: Global, limits: Limits) -> Result<FrameStream, NoMem>
         requires low { HEAD_BYTES ≤ limits.frame }
         requires high { limits.frame ≤ LONGEST_FRAME }
@@ -77,15 +77,14 @@ impl FrameStream {
         })
     }
 
-    /// Takes the next frame, and lets the one before it go. It takes no memory.
+    /// Takes the next frame and releases the previous one. Allocates nothing.
     ///
-    /// Once the answer was an end, a head at fault or the limit of the input, each later call gives the same answer
-    /// and reads nothing.
+    /// After the end, a faulty head or the limit of the input, each later call gives the same answer and reads nothing.
     ///
     /// # Errors
     ///
-    /// Each variant of [`StreamErr`]. After [`StreamErr::ReadFault`] the bytes of the unfinished frame stay, and the
-    /// next call goes on with them.
+    /// Each variant of [`StreamErr`]. After [`StreamErr::ReadFault`] the bytes of the unfinished frame are kept, and
+    /// the next call goes on with them.
     #[inline(always)]
     pub fn take<I: Source>(&mut self, input: &mut I) -> Result<Taken, StreamErr>
         ensures stays { IfSome self.old.ended (λ ended. result ≡ told_by ended) }
@@ -117,7 +116,7 @@ impl FrameStream {
         }
     }
 
-    /// The body of the frame that was taken last, and no bytes where the last answer was none.
+    /// The body of the frame that was taken last. Empty if the last call took no frame.
     pub fn frame(&self) -> &[u8]
         ensures { result.now ≡ self.now.body }
     {
@@ -128,8 +127,7 @@ impl FrameStream {
         }
     }
 
-    /// The bytes that were taken behind the last whole frame: those of the frame that isn't whole, or of a head at
-    /// fault.
+    /// The bytes that were taken after the last whole frame: those of an incomplete frame, or of a faulty head.
     pub fn held(&self) -> &[u8]
         ensures { result.now ≡ self.now.held }
     {
@@ -140,7 +138,7 @@ impl FrameStream {
         }
     }
 
-    /// How many bytes were taken in all. The one byte that shows that an input is above its limit isn't counted.
+    /// How many bytes were taken in all. The one byte that shows that an input exceeds its limit isn't counted.
     pub fn taken(&self) -> u64
         ensures { result ≡ self.now.taken }
     {
@@ -148,7 +146,7 @@ impl FrameStream {
     }
 }
 
-/// The answer at an end.
+/// The answer at and after an end.
 fn told(ended: Ended) -> Result<Taken, StreamErr>
     ensures { result ≡ told_by ended }
 {

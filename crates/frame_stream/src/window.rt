@@ -12,25 +12,25 @@ use std::alloc::Global;
 use std::marker::Model;
 use std::simd::Simd;
 
-/// How many bytes are copied where a frame has no more.
+/// How many bytes are copied of a frame that has at most that many.
 const SHORT: usize = 32;
 
-/// How many bytes are copied at once where a frame has more.
+/// How many bytes one copy moves of a longer frame.
 const HALF: usize = 64;
 
-/// How many bytes are copied where a frame has more than the short ones, and no more than these.
+/// How many bytes are copied of a frame that has more than [`SHORT`] and at most that many.
 const LONG: usize = 2 * HALF;
 
-/// Why no line's end is held.
+/// Why no line end is held.
 #[derive(Clone, Copy, Debug, PartialEq, Eq)]
 pub(crate) enum NoEnd {
     /// No more bytes came.
     Dry(Dry),
-    /// There is no room for more.
+    /// The buffer is full.
     Full,
 }
 
-/// Bytes in a buffer, of a source that may give so many at most. Where they lie in it doesn't show.
+/// Bytes in a buffer, from a source that may give at most a limited number. Their position in the buffer doesn't show.
 #[derive(Drop)]
 pub struct Window {
     buffer: Vec<u8>,
@@ -52,7 +52,7 @@ impl Model for Window {
 }
 
 impl Window {
-    /// No bytes yet, and room for `size`.
+    /// Creates an empty window with room for `size` bytes, which may take at most `limit` bytes in all.
     pub fn new(alloc: Global, size: usize, limit: u64) -> Result<Window, NoMem>
         ensures { IfOk result (λ w. w.held ≡ none_held size limit) }
     {
@@ -88,7 +88,7 @@ impl Window {
         self.end - self.start
     }
 
-    /// What is held has room, and no more bytes were taken than may be.
+    /// The bytes that are held fit the buffer, and no more bytes were taken than the limit allows.
     pub fn is_within(&self)
         ensures fits { length self.now.held.bytes ≤ self.now.held.size }
         ensures taken { self.now.held.taken ≤ self.now.held.limit }
@@ -96,14 +96,14 @@ impl Window {
         let _taken = self.taken;
     }
 
-    /// How many bytes have room.
+    /// The size of the buffer.
     pub fn size(&self) -> usize
         ensures { result ≡ self.now.held.size }
     {
         self.buffer.len()
     }
 
-    /// Lets all bytes go.
+    /// Releases all bytes.
     pub(crate) fn let_go_all(&mut self)
         ensures { self.new.held ≡ released true self.old.held }
     {
@@ -111,7 +111,7 @@ impl Window {
         self.end = 0;
     }
 
-    /// Lets the first bytes go, and tells where the next line end stands. It reads only where none is held.
+    /// Releases the first bytes, and returns the position of the next line end. Reads only if no line end is held.
     pub(crate) fn next_end<I: Source>(
         &mut self,
         input: &mut I,
@@ -130,7 +130,7 @@ impl Window {
         }
     }
 
-    /// Lets the first bytes go.
+    /// Releases the first `n` bytes.
     pub fn let_go(&mut self, n: usize)
         requires { n ≤ length self.old.held.bytes }
         ensures { self.new.held ≡ let_go_of n self.old.held }
@@ -139,7 +139,7 @@ impl Window {
         self.start += n;
     }
 
-    /// Reads until a line end is held, and tells where it stands.
+    /// Reads until a line end is held, and returns its position.
     fn read_end<I: Source>(&mut self, input: &mut I) -> Result<usize, NoEnd>
         requires none { before_end self.old.held.bytes ≡ None }
         ensures ends { LineEnds self.old.held self.new.held (I.state input.old).told (I.state input.new).told result }
@@ -161,7 +161,7 @@ impl Window {
         Err(NoEnd::Full)
     }
 
-    /// Reads once, so that at most so many bytes are held.
+    /// Reads once, so that at most `want` bytes are held.
     pub fn more<I: Source>(&mut self, input: &mut I, want: usize) -> Result<(), Dry>
         requires less { length self.old.held.bytes < want }
         requires room { want ≤ self.old.held.size }
@@ -176,7 +176,8 @@ impl Window {
         self.more_behind(input, want)
     }
 
-    /// Takes so many bytes of what the source has read ahead, where they are there and may be taken.
+    /// Takes `n` bytes of what the source has read ahead, if they are there and may be taken. Returns false if it took
+    /// none.
     pub(crate) fn copy_ahead<I: Source>(&mut self, input: &mut I, n: usize) -> bool
         requires none { self.old.held.bytes ≡ [] }
         requires room { n ≤ self.old.held.size }
@@ -199,7 +200,7 @@ impl Window {
         true
     }
 
-    /// Moves the bytes to the front of the buffer. Nothing else shows of it.
+    /// Moves the bytes to the front of the buffer. Nothing else changes for a caller.
     fn compact(&mut self)
         ensures held { self.new.held ≡ self.old.held }
         ensures free { self.new.free ≡ self.old.held.size - length self.old.held.bytes }
@@ -210,7 +211,7 @@ impl Window {
         self.end = end - start;
     }
 
-    /// Reads once behind the bytes.
+    /// Reads once to the place after the bytes.
     fn more_behind<I: Source>(&mut self, input: &mut I, want: usize) -> Result<(), Dry>
         requires free { 0 < self.old.free }
         requires less { length self.old.held.bytes < want }
@@ -232,7 +233,7 @@ impl Window {
     }
 }
 
-/// Where the first line end stands. The first `plain` bytes have none.
+/// The position of the first line end. The first `plain` bytes have none.
 fn find_end(bytes: &[u8], plain: usize) -> Option<usize>
     requires within { plain ≤ length bytes.now }
     requires none { before_end (take plain bytes.now) ≡ None }
@@ -254,8 +255,8 @@ fn move_front(buf: &mut [u8], start: usize, end: usize)
     buf.copy_within(start..end, 0);
 }
 
-/// Copies the first bytes of a slice to the front of a buffer. What lies behind them in the buffer may change: a few bytes
-/// are copied in blocks of one size, so that the way of the copy doesn't go by their number.
+/// Copies the first `n` bytes of a slice to the front of a buffer. The bytes after them in the buffer may change: a few
+/// bytes are copied in blocks of a fixed size, so that the course of the copy doesn't depend on their exact number.
 #[inline(always)]
 fn copy_front(buf: &mut [u8], from: &[u8], n: usize)
     requires there { n ≤ length from.now }
@@ -273,7 +274,7 @@ fn copy_front(buf: &mut [u8], from: &[u8], n: usize)
     }
 }
 
-/// Whether two slices have so many bytes.
+/// Whether both slices have at least `n` bytes.
 #[inline(always)]
 fn has_both(buf: &[u8], from: &[u8], n: usize) -> bool
     ensures { IsTrue result ↔ ((n ≤ length buf.now) × (n ≤ length from.now)) }
@@ -281,7 +282,8 @@ fn has_both(buf: &[u8], from: &[u8], n: usize) -> bool
     buf.len() >= n && from.len() >= n
 }
 
-/// Copies the `N` bytes of a slice that stand behind its first `at` to the same place of a buffer, which has these.
+/// Copies `N` bytes of a slice, from offset `at` on, to the same offset of a buffer that already holds the bytes before
+/// it.
 #[inline(always)]
 fn copy_block<const N: usize>(buf: &mut [u8], from: &[u8], at: usize)
     requires there { at + N ≤ length from.now }

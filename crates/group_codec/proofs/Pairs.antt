@@ -74,7 +74,7 @@ module _ (p q n : ℕ) (one other : List ℕ) (apart : p + length one ≤ q) (wh
 
 -- ---- the two members
 
--- two members of these names are the numbers at these spots, one behind the other
+-- two members of these names are the numbers at these spots, one after the other
 pub record IsPair (one other : List ℕ) (first last : Spot) (dim : List Member) : Type 0 where
   pub a : Member
   pub b : Member

@@ -1,4 +1,4 @@
--- The dimension that is put in front of a group's entries. From SBE 1.0, Repeating group encoding.
+-- The dimension that is put before a group's entries. From SBE 1.0, Repeating group encoding.
 use Rattle.std.specs.Prelude.{◌≡◌, ℕ, true, List, codes}
 use Rattle.sbe_types.specs.declared.kind.Kind.{Comp}
 use Rattle.sbe_types.specs.declared.kind.Member.{Member}
@@ -12,7 +12,7 @@ pub record IsWholeDim (dim : List Member) : Type 0 where
   pub exact : is_dimension dim ≡ true
   pub order : IsCompositeInOrder (Comp dim)
 
--- a dimension of these members takes so many bytes, has room for the block length, and admits the count
+-- a dimension of these members takes `room` bytes, can hold the block length, and admits the count
 pub record CanSay (dim : List Member) (block count room : ℕ) : Type 0 where
   pub wide : room ≡ members_end 0 dim
   pub has_room : holds dim (codes "blockLength") block ≡ true

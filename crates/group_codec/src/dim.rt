@@ -9,35 +9,35 @@ use layout_tables::{DimRow, Layout, number_at};
 use sbe_types::Order;
 use thiserror::Error;
 
-/// What a group's dimension says, and where it ends.
+/// The contents of a group's dimension, and where it ends.
 #[derive(Clone, Copy, Debug, PartialEq, Eq)]
 pub struct Dim {
-    /// How many bytes the block of each entry has.
+    /// The size of each entry's block in bytes.
     pub block: u32,
-    /// How many entries follow.
+    /// The number of entries.
     pub count: u32,
-    /// The place of the first byte behind the dimension.
+    /// The offset of the first byte after the dimension.
     pub after: usize,
 }
 
-/// Why bytes are no dimension.
+/// Why bytes aren't a dimension.
 #[derive(Clone, Copy, Debug, PartialEq, Eq, Drop, Error)]
 pub enum DimErr {
-    /// The dimension passes the end of the bytes.
+    /// The dimension extends past the end of the bytes.
     #[error("the dimension passes the end of the bytes")]
     Truncated,
-    /// This count isn't admitted.
+    /// This count is out of range.
     #[error("{0} entries are not admitted")]
     Count(u32),
 }
 
-/// Reads the dimension of a group that begins at a place of the bytes (SBE 1.0, "Repeating group encoding").
-/// A group is named by the number of its entries' level. The block length isn't judged.
+/// Reads the dimension of a group that begins at an offset of the bytes (SBE 1.0, "Repeating group encoding"). The
+/// group is identified by the number of its entries' level. The block length isn't checked.
 ///
 /// # Errors
 ///
-/// `Truncated` exactly where the dimension passes the end of the bytes, and then `Count` exactly where the
-/// count isn't admitted as a required number of its type.
+/// `Truncated` exactly if the dimension extends past the end of the bytes; otherwise `Count` exactly if the count is
+/// out of the range of its type.
 #[tactic(auto, using(layout_tables::proofs::GroupWalk::dim_within, crate::proofs::DimRows::row_there, crate::proofs::DimRows::level_told, crate::proofs::DimRows::never_none))]
 pub fn read_dim(layout: &Layout, group: usize, bytes: &[u8], at: usize) -> Result<Dim, DimErr>
     requires group { IsSome (dim_at layout.now group) }
@@ -50,7 +50,7 @@ pub fn read_dim(layout: &Layout, group: usize, bytes: &[u8], at: usize) -> Resul
     }
 }
 
-/// The same by the dimension's row.
+/// The same, given the dimension's row.
 #[inline(always)]
 pub fn read_dim_row(order: Order, row: &DimRow, bytes: &[u8], at: usize) -> Result<Dim, DimErr>
     requires row { IsDimRow row.now }

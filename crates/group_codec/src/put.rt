@@ -15,9 +15,9 @@ use field_bytes::put_num_at;
 use layout_tables::{DimRow, Layout, SpotRow};
 use sbe_types::Order;
 
-/// Writes the dimension of a group (SBE 1.0, "Repeating group encoding"), with zeros between its two numbers. A group
-/// is named by the number of its entries' level. It needs as many bytes as the dimension takes, a block length
-/// that has room, and a count that is admitted.
+/// Writes the dimension of a group (SBE 1.0, "Repeating group encoding"), with zeros between its two numbers. The group
+/// is identified by the number of its entries' level. Requires as many bytes as the dimension takes, a block length
+/// that fits its type, and a count within its range.
 pub fn put_dim(layout: &Layout, group: usize, block: u32, count: u32, out: &mut [u8])
     requires checked { IsChecked layout.now }
     requires group { (dim : List Member) × (dim_at layout.now group ≡ Some dim) × CanSay dim block count (length out.old) }
@@ -30,7 +30,7 @@ pub fn put_dim(layout: &Layout, group: usize, block: u32, count: u32, out: &mut 
     }
 }
 
-/// The same by the dimension's row.
+/// The same, given the dimension's row.
 #[tactic(auto, using(crate::proofs::DimPuts::dim_put))]
 pub fn put_dim_row(order: Order, row: &DimRow, block: u32, count: u32, out: &mut [u8])
     requires row { IsDimRow row.now }
@@ -45,7 +45,7 @@ pub fn put_dim_row(order: Order, row: &DimRow, block: u32, count: u32, out: &mut
     put_spot(order, &row.count, count, out);
 }
 
-/// Puts a number of a dimension at its place.
+/// Writes a number of a dimension at its offset.
 fn put_spot(order: Order, spot: &SpotRow, n: u32, out: &mut [u8])
     requires inside { spot.now.place + prim_width spot.now.leaf.prim ≤ length out.old }
     requires number { is_number_of spot.now.leaf.prim (pos n) ≡ true }

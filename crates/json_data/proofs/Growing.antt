@@ -27,7 +27,7 @@ module _ (ms : List Pair) (i : ℕ) (other : Pair) (h : i < length ms) where
   abbrev here : Pair
   here = get_or ms i other
 
-  -- member i, behind those before it
+  -- member i, after those before it
   pub member_there : members_of (take (i + 1) ms) ≡ put here.0.now (data_of here.1) (members_of (take i ms))
   member_there = ap members_of (take_more ms i other h) ∙ one_more_member (take i ms) here
 
@@ -40,7 +40,7 @@ module _ (ms : List Pair) (i : ℕ) (other : Pair) (h : i < length ms) where
 
 -- ---- items
 
--- the items of a list, and others behind them
+-- the items of a list, and others after them
 abbrev pub ahead : List Json → Items → Items
 ahead [] rest = rest
 ahead (d ∷ ds) rest = item (data_of d) (ahead ds rest)

@@ -7,7 +7,7 @@ use Rattle.json.proofs.Grammar.{items_end, items_more, members_end, members_no_k
 use Rattle.serde_json.specs.Data.{Data, array, object, no_items, item, Members, no_members, put}
 use Rattle.serde_json.specs.Read.{of_json, of_items, of_members, converted}
 
--- a value and the tokens behind it, where there is one
+-- a value and the tokens after it, where there is one
 abbrev ReadAs : Type 0 → Type 0
 ReadAs A = Option (A × List Token)
 
@@ -105,7 +105,7 @@ unfolding items
 item_refused p zero ts going h = refl
 item_refused p (suc n) ts going h = ap (λ o. converted of_items (items_step p (items p n) ts o)) going ∙ no_first (items p n) (p ts) h
 
--- no value comes behind a key
+-- no value comes after a key
 pub member_refused : (p : Parse json.Json) (turns : ℕ) (ts : List Token) (found : Members) (key : List ℕ) (s : List Token) → read_key ts ≡ Some (Some key, s) → converted of_json (p s) ≡ None
     → converted (λ ms. of_members ms found) (members p turns ts) ≡ None
 unfolding members
@@ -114,7 +114,7 @@ member_refused p (suc n) ts found key s named h = rw named (no_value key found (
 
 -- ---- the whole text
 
--- the data where nothing stands behind it
+-- the data where nothing stands after it
 abbrev pub whole : ReadAs json.Json → Option Data
 whole o = option_and_then of_json (option_and_then (λ p. if_last p.0 p.1) o)
 

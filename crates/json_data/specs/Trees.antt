@@ -1,4 +1,5 @@
--- The data that a tree stands for. From RFC 8259; of several members with one key the last counts, as `serde_json` reads it.
+-- The data that a tree stands for. From RFC 8259; of several members with the same key the last counts, as `serde_json`
+-- reads it.
 use Rattle.std.specs.Prelude.{ℕ, List, [], ◌∷◌, map}
 use Rattle.std.specs.Borrow.{Bor}
 use Rattle.serde_json.specs.Data.{Num, unsigned, negative, float, Data, null, boolean, number, string, array, object, Items, no_items, item, Members, no_members, put}
@@ -18,12 +19,12 @@ abbrev pub listed : List Data → Items
 listed [] = no_items
 listed (d ∷ ds) = item d (listed ds)
 
--- members, put in one after another behind those that were found
+-- members, inserted in order after those that were found
 abbrev pub put_each : List (Bor (List ℕ) × Data) → Members → Members
 put_each [] found = found
 put_each (m ∷ ms) found = put_each ms (put m.0.now m.1 found)
 
--- one level, with each tree inside already seen as its data
+-- one level, given the data of each tree inside it
 abbrev pub level_of : Json-F Data → Data
 level_of Json-F.Null = null
 level_of (Json-F.Bool b) = boolean b

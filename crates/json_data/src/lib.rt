@@ -1,4 +1,4 @@
-//! JSON texts as trees: the data that a text holds (RFC 8259), which is lent from the text.
+//! JSON texts as trees: the data of a text (RFC 8259), borrowed from the text.
 #![tactic(auto)]
 
 mod data;

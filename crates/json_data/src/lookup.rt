@@ -4,7 +4,7 @@ ghost use Rattle.json_data.specs.Trees.{data_of, members_of};
 
 use crate::data::{Json, Pair};
 
-/// The value under a name: that of the last member with this key.
+/// The value of a name: that of the last member with this key.
 pub fn find<'v, 'a>(members: &'v [Pair<'a>], name: &[u8]) -> Option<&'v Json<'a>>
     ensures { option_map (λ v. data_of v.now) result ≡ get_member name.now (members_of members.now) }
 {

@@ -6,19 +6,20 @@ ghost use Rattle.json_data.specs.Trees.{num_of};
 
 use fast_float::{Numeral, parse_u64};
 
-/// A number of a JSON text: an integer of 64 bits, or the nearest float of 64 bits where it is written as no such integer.
+/// A number of a JSON text: an integer of 64 bits, or the nearest 64-bit float if the text isn't written as such an
+/// integer.
 #[derive(Clone, Copy, Debug, Drop)]
 pub enum Number {
-    /// An integer from 0 on.
+    /// An integer that is at least 0.
     Natural(u64),
     /// An integer below 0.
     Negative(i64),
-    /// Anything else, as `-0` and `1.0`.
+    /// Anything else, such as `-0` and `1.0`.
     Float(f64),
 }
 
 impl Number {
-    /// The number that a token of JSON writes; none where no finite float is near it.
+    /// The number that a JSON token denotes, or `None` if no finite float is near it.
     #[inline(always)]
     pub(crate) fn parse(text: &str) -> Option<Number>
         ensures { option_map num_of result ≡ number_of text.now }
@@ -52,7 +53,7 @@ impl Number {
         }
     }
 
-    /// A number behind a minus.
+    /// A number after a minus.
     #[inline(always)]
     fn below(numeral: &Numeral<'_>) -> Option<Number>
         ensures { option_map num_of result ≡ number_from true numeral.now }
@@ -65,7 +66,7 @@ impl Number {
         Number::nearest(true, numeral)
     }
 
-    /// The nearest float, where it is finite.
+    /// The nearest float, if it is finite.
     #[inline(never)]
     fn nearest(negative: bool, numeral: &Numeral<'_>) -> Option<Number>
         ensures { option_map num_of result ≡ float_of negative numeral.now }
@@ -78,7 +79,7 @@ impl Number {
         }
     }
 
-    /// An integer from 0 on.
+    /// The number as a `u64`, if it is an integer that is at least 0 and below 2^64.
     pub fn as_u64(&self) -> Option<u64>
         ensures { result ≡ as_u64 (num_of self.now) }
     {
@@ -88,7 +89,7 @@ impl Number {
         }
     }
 
-    /// An integer.
+    /// The number as an integer, if it is one.
     pub fn as_i128(&self) -> Option<i128>
         ensures { result ≡ as_integer (num_of self.now) }
     {
@@ -100,7 +101,7 @@ impl Number {
     }
 }
 
-/// The number of a text of digits alone, where it has 64 bits.
+/// The number of a text of digits only, if it fits 64 bits.
 #[inline(always)]
 fn natural(digits: &[u8]) -> Option<u64>
     ensures { IfSome result (λ n. number_of digits.now ≡ Some (unsigned n)) }
@@ -114,7 +115,7 @@ fn natural(digits: &[u8]) -> Option<u64>
     }
 }
 
-/// Whether a minus comes first.
+/// Whether the text begins with a minus.
 #[inline(always)]
 fn has_minus(bytes: &[u8]) -> bool
     ensures value { result ≡ (slice_index bytes.now 0 == 45) }

@@ -12,16 +12,16 @@ use json::{Invalid, Reader, Scratch, Token};
 use std::alloc::{AllocError, Global};
 use thiserror::Error;
 
-/// How deep arrays and objects may nest.
+/// How deeply arrays and objects may nest.
 const MAX_DEPTH: usize = 127;
 
 /// Why no data was read.
 #[derive(Clone, Copy, Debug, PartialEq, Eq, Drop, Error)]
 pub enum JsonFault {
-    /// It is no JSON text, or has a number too great for a float of 64 bits, or nests too deep.
+    /// It isn't a JSON text, contains a number that is too large for a 64-bit float, or nests too deeply.
     #[error("not JSON")]
     NotJson,
-    /// Memory is wanting.
+    /// Out of memory.
     #[error("out of memory")]
     Memory,
 }
@@ -48,7 +48,7 @@ impl From<AllocError> for JsonFault {
     }
 }
 
-/// The memory that reading takes. It is lent to one text after another, and keeps what it has.
+/// The memory for reading. It is lent to one text after another, and keeps what it has allocated.
 #[derive(Drop)]
 pub struct JsonSpace {
     arena: Bump,
@@ -56,7 +56,7 @@ pub struct JsonSpace {
 }
 
 impl JsonSpace {
-    /// A space without memory.
+    /// Creates a space without memory.
     pub fn new(alloc: Global) -> JsonSpace {
         JsonSpace {
             arena: Bump::new(alloc),
@@ -64,16 +64,16 @@ impl JsonSpace {
         }
     }
 
-    /// The data of a text in UTF-8.
+    /// Reads the data of a text in UTF-8.
     ///
     /// # Errors
     ///
-    /// `NotJson` where the bytes hold no data; `Memory` for want of memory.
+    /// `NotJson` if the bytes aren't a JSON text; `Memory` if memory runs out.
     pub fn read<'a>(&'a mut self, bytes: &'a [u8]) -> Result<Json<'a>, JsonFault>
         ensures ok { IfOk result (λ d. IsUtf8 bytes.now × (data_read bytes.now ≡ Some (data_of d))) }
         ensures err { result ≡ Err JsonFault.NotJson → IsUtf8 bytes.now → data_read bytes.now ≡ None }
     {
-        // Where it fails, the arena stays as it is and goes on growing.
+        // If this fails, the arena is kept as it is and goes on growing.
         let _ = self.arena.reset();
         match simdutf8::basic::from_utf8(bytes) {
             Ok(text) => read_text(&self.arena, text, &mut self.scratch),
@@ -99,7 +99,7 @@ fn read_text<'a>(
     Ok(data)
 }
 
-/// The next data of a reader, whose arrays and objects nest no deeper than `depth`.
+/// The next data of a reader, in which arrays and objects nest at most `depth` deep.
 #[cycle(read)]
 #[inline(always)]
 fn read_data<'a>(
@@ -136,7 +136,7 @@ fn read_data<'a>(
     }
 }
 
-/// The items of an array, whose opening bracket was taken.
+/// The items of an array whose opening bracket has been read.
 #[cycle(read)]
 #[inline(never)]
 fn read_items<'a>(
@@ -157,7 +157,7 @@ fn read_items<'a>(
     Ok(into_bump_slice(found))
 }
 
-/// The members of an object, whose opening brace was taken.
+/// The members of an object whose opening brace has been read.
 #[cycle(read)]
 #[inline(never)]
 fn read_members<'a>(

@@ -11,7 +11,7 @@ use Rattle.json_elements.specs.Reading.{Reading, ◌>>=◌, refuse, at_child}
 
 -- ---- the shape of an element
 
--- The byte that ends a prefix.
+-- The byte is a colon, which ends a prefix.
 abbrev pub is_colon : ℕ → Bool
 is_colon c = nat_eq c 58
 
@@ -24,7 +24,7 @@ abbrev pub lone : Data → Option (List ℕ × Data)
 lone (object (member key d no_members)) = Some (local_name key, d)
 lone _ = None
 
--- An element with its name, which there must be.
+-- What is read of an element by its name and value, which it must have.
 abbrev pub named_in : {A : Type 0} → (List ℕ → Data → Reading A) → Option (List ℕ × Data) → Reading A
 named_in by None = refuse Shape
 named_in by (Some p) = by p.0 p.1
@@ -33,7 +33,7 @@ named_in by (Some p) = by p.0 p.1
 abbrev pub named : {A : Type 0} → (List ℕ → Data → Reading A) → Data → Reading A
 named by d = named_in by (lone d)
 
--- The children, of which a missing `content` has none.
+-- The children; none if `content` is missing.
 abbrev pub content_in : Option Data → Reading Items
 content_in None = Ok no_items
 content_in (Some (array ds)) = Ok ds
@@ -44,21 +44,21 @@ abbrev pub content : Data → Reading Items
 content (object ms) = content_in (get_member (codes "content") ms)
 content _ = refuse Shape
 
--- How many children there are.
+-- The number of children.
 abbrev pub items_count : Items → ℕ
 items_count no_items = 0
 items_count (item d ds) = suc (items_count ds)
 
--- asks for at most so many
+-- at most this many, or a refusal
 abbrev pub at_most : ℕ → ℕ → Reading (Unit {0})
 at_most most n = if nat_le n most then Ok tt else refuse Limit
 
--- asks for no children: the first isn't allowed
+-- no children; the first one isn't allowed
 abbrev pub no_children : Items → Reading (Unit {0})
 no_children no_items = Ok tt
 no_children (item d ds) = at_child 0 (refuse Shape)
 
--- what is read of each child, from position i on
+-- what is read of each child, from index i on
 abbrev pub each : {A : Type 0} → (Data → Reading A) → ℕ → Items → Reading (List A)
 each by i no_items = Ok []
 each by i (item d ds) = do
@@ -89,7 +89,7 @@ abbrev mutual
   branches_listed by (array ds) = branches_from by 0 ds
   branches_listed by _ = Ok []
 
-  -- The branches from position i on.
+  -- The branches from index i on.
   pub branches_from : {A : Type 0} → (List ℕ → Data → Reading (List A) → Reading A) → ℕ → Items → Reading (List A)
   branches_from by i no_items = Ok []
   branches_from by i (item d ds) = do

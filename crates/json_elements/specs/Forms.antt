@@ -9,11 +9,11 @@ use Rattle.json_elements.specs.Reading.{Reading, ◌>>=◌, refuse}
 
 -- ---- whole numbers: a JSON integer, or a string of decimal digits with an optional `-`
 
--- the digits behind an optional `-`
+-- the digits after an optional `-`
 abbrev pub digits_part : List ℕ → List ℕ
 digits_part s = if slice_index s 0 == 45 then drop 1 s else s
 
--- A text of digits, behind a minus sign or none.
+-- A text of digits after an optional minus sign.
 abbrev pub is_whole_text : List ℕ → Bool
 is_whole_text s = nat_lt 0 (length (digits_part s)) && all_ascii_digits (digits_part s)
 
@@ -22,7 +22,7 @@ abbrev pub fits_i128 : ℤ → Bool
 fits_i128 (pos n) = nat_lt n (2 ^ 127)
 fits_i128 (negsuc n) = nat_lt n (2 ^ 127)
 
--- a text is the number that it spells, where it spells one of 128 bits
+-- the number that a text spells, if it spells one of 128 bits
 abbrev pub whole_text : List ℕ → Reading ℤ
 whole_text s = if is_whole_text s && fits_i128 (signed_digits_value 10 s) then Ok (signed_digits_value 10 s) else refuse BadAttribute
 
@@ -43,18 +43,18 @@ whole (object ms) = refuse BadAttribute
 
 -- ---- numbers from 0 on
 
--- a number from 0 on, where those above `most` are refused with `above`
+-- a number from 0 on; one above `most` gives `above`
 abbrev pub natural_to : ℕ → Reading ℕ → ℤ → Reading ℕ
 natural_to most above (pos n) = if nat_le n most then Ok n else above
 natural_to most above (negsuc n) = refuse BadAttribute
 
--- from 0 to 4294967295; others have a bad form
+-- from 0 to 4294967295; any other isn't of the form
 abbrev pub id_number : Data → Reading ℕ
 id_number d = do
   n ← whole d
   natural_to 4294967295 (refuse BadAttribute) n
 
--- from 0 on, with a limit
+-- from 0 up to a limit
 abbrev pub limited : ℕ → Data → Reading ℕ
 limited most d = do
   n ← whole d

@@ -9,7 +9,7 @@ use crate::refusal::{Cause, ElementErr, inside, refuse};
 use json_data::Json;
 use std::alloc::Global;
 
-/// An attribute that must be there.
+/// Reads an attribute that is required.
 pub fn needed<F: Form>(
     alloc: Global,
     element: &Json<'_>,
@@ -23,7 +23,7 @@ pub fn needed<F: Form>(
     }
 }
 
-/// An attribute that may be missing.
+/// Reads an attribute that may be missing.
 pub fn optional<F: Form>(
     alloc: Global,
     element: &Json<'_>,
@@ -40,7 +40,7 @@ pub fn optional<F: Form>(
     }
 }
 
-/// An attribute that counts as `otherwise` where it is missing.
+/// Reads an attribute that defaults to `otherwise` if it is missing.
 pub fn with_default<F: Form>(
     alloc: Global,
     element: &Json<'_>,

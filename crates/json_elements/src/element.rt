@@ -11,7 +11,7 @@ use crate::refusal::{Cause, ElementErr, at_child, refuse, refused};
 use json_data::{Json, Pair, find};
 use std::alloc::Global;
 
-/// The name and the value of an element, which is an object of one key.
+/// The name and the value of an element, which is an object with one key.
 #[tactic(auto, using(crate::proofs::Lone::not_object))]
 pub fn lone_of<'a>(value: &Json<'a>) -> Option<(&'a str, &'a Json<'a>)>
     ensures { option_map (λ p. (p.0.now, data_of p.1.now)) result ≡ lone (data_of value.now) }
@@ -19,7 +19,7 @@ pub fn lone_of<'a>(value: &Json<'a>) -> Option<(&'a str, &'a Json<'a>)>
     lone_among(value.as_object()?)
 }
 
-/// The same of the members of an object. One key may come more than once: then the last counts.
+/// The same, given the members of the object. If its key occurs more than once, the last one counts.
 fn lone_among<'a>(members: &'a [Pair<'a>]) -> Option<(&'a str, &'a Json<'a>)>
     ensures { option_map (λ p. (p.0.now, data_of p.1.now)) result ≡ lone (object (members_of members.now)) }
 {
@@ -46,7 +46,7 @@ fn has_key(member: &Pair<'_>, key: &[u8]) -> bool
     member.0.as_bytes() == key
 }
 
-/// A name without its prefix, which ends with the first colon.
+/// A name without its prefix, which ends at the first colon.
 fn without_prefix(key: &str) -> &str
     ensures { result.now ≡ local_name key.now }
 {
@@ -56,7 +56,7 @@ fn without_prefix(key: &str) -> &str
     }
 }
 
-/// The children of an element, by its value.
+/// The children of an element, given its value.
 pub fn content_of<'a>(alloc: Global, element: &Json<'a>) -> Result<&'a [Json<'a>], ElementErr>
     ensures { GivesAs (λ s. items_of s.now) result (content (data_of element.now)) }
 {
@@ -82,7 +82,7 @@ pub(crate) fn member_of<'a>(element: &Json<'a>, key: &str) -> Option<&'a Json<'a
     }
 }
 
-/// Asks for at most so many children.
+/// Refuses more than `most` children.
 #[tactic(auto, using(crate::proofs::Children::items_seen))]
 pub fn limit_children(alloc: Global, items: &[Json<'_>], most: usize) -> Result<(), ElementErr>
     ensures { Gives result (at_most most (items_count (items_of items.now))) }
@@ -93,7 +93,7 @@ pub fn limit_children(alloc: Global, items: &[Json<'_>], most: usize) -> Result<
     Ok(())
 }
 
-/// Asks for no children.
+/// Refuses any children.
 #[tactic(auto, using(crate::proofs::Children::childless, crate::proofs::Children::with_child))]
 pub fn refuse_children(alloc: Global, items: &[Json<'_>]) -> Result<(), ElementErr>
     ensures { Gives result (no_children (items_of items.now)) }

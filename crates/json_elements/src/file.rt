@@ -10,8 +10,8 @@ use std::alloc::Global;
 /// The most bytes that a file may have.
 pub const FILE_LIMIT: usize = 1_048_576;
 
-/// The JSON value of a file, lent from its bytes and from the space that reads it. It is refused where
-/// it is too long, begins as XML does, or is no JSON text.
+/// The JSON value of a file, borrowed from its bytes and from the space that reads it. A file is refused if it is too
+/// long, begins like XML, or isn't a JSON text.
 #[tactic(auto, using(crate::proofs::Values::value_found, crate::proofs::Values::no_value))]
 pub fn read_value<'a>(
     alloc: Global,
@@ -33,7 +33,7 @@ pub fn read_value<'a>(
     }
 }
 
-/// Whether the first byte behind a byte order mark and blanks is `<`.
+/// Whether the first byte after a byte order mark and white space is `<`.
 fn looks_like_xml(bytes: &[u8]) -> bool
     ensures { result ≡ is_xml bytes.now }
 {

@@ -14,15 +14,15 @@ use std::alloc::Global;
 pub trait Form {
     type Out: Drop;
 
-    /// What is read of a value.
+    /// The type that a value is read as.
     ghost form: { Data → Reading Self.Out };
 
-    /// Reads a value. A refusal has no steps yet: it is of the value itself.
+    /// Reads a value. A refusal has no steps yet: it refers to the value itself.
     fn read(alloc: Global, value: &Json<'_>) -> Result<Self::Out, ElementErr>
         ensures { Gives result (form (data_of value.now)) };
 }
 
-/// A whole number of 128 bits: a JSON integer, or a string of decimal digits with an optional `-`.
+/// An integer of 128 bits: a JSON integer, or a string of decimal digits with an optional `-`.
 pub enum WholeNumber {}
 
 impl Form for WholeNumber {
@@ -35,7 +35,7 @@ impl Form for WholeNumber {
     }
 }
 
-/// A whole number from 0 to 4294967295.
+/// An integer from 0 to 4294967295.
 pub enum IdNumber {}
 
 impl Form for IdNumber {
@@ -66,7 +66,7 @@ impl Form for JsonText {
     }
 }
 
-/// A JSON string, or a JSON integer, which is taken as its decimal digits.
+/// A JSON string, or a JSON integer, which is read as its decimal digits.
 pub enum TextOrNumber {}
 
 impl Form for TextOrNumber {
@@ -86,7 +86,7 @@ impl Form for TextOrNumber {
     }
 }
 
-/// A whole number from 0 on; one above `most` breaks a limit.
+/// Reads an integer that is at least 0. One above `most` breaks a limit.
 pub fn read_limited(alloc: Global, value: &Json<'_>, most: u32) -> Result<u32, ElementErr>
     ensures { Gives result (limited most (data_of value.now)) }
 {
@@ -100,7 +100,7 @@ pub fn read_limited(alloc: Global, value: &Json<'_>, most: u32) -> Result<u32, E
     Ok(n as u32)
 }
 
-/// The text of a JSON string.
+/// Reads the text of a JSON string.
 pub fn str_of<'a>(alloc: Global, value: &Json<'a>) -> Result<&'a str, ElementErr>
     ensures { GivesAs (λ s. s.now) result (text (data_of value.now)) }
 {

@@ -15,8 +15,8 @@ use std::alloc::Global;
 pub trait Child {
     type Out: Drop;
 
-    /// What is read of a child by those before it, its name and its value; nothing where the name
-    /// isn't known.
+    /// The result of reading a child, given the children before it, its name and its value; nothing if the name is
+    /// unknown.
     ghost child: { List Self.Out → List ℕ → Data → Reading (Option Self.Out) };
 
     /// Reads a child, if its name is known.
@@ -29,7 +29,7 @@ pub trait Child {
         ensures { Gives result (child before.now name.now (data_of element.now)) };
 }
 
-/// No children: every name is passed over.
+/// No children: every name is skipped.
 pub enum NoChild {}
 
 impl Child for NoChild {
@@ -47,7 +47,7 @@ impl Child for NoChild {
     }
 }
 
-/// The children of known names, in their order.
+/// Reads the children with known names, in their order.
 pub fn read_children<C: Child>(
     alloc: Global,
     items: &[Json<'_>],
@@ -63,7 +63,7 @@ pub fn read_children<C: Child>(
     Ok(children)
 }
 
-/// The child at a position, if its name is known.
+/// Reads the child at a position, if its name is known.
 fn child_at<C: Child>(
     alloc: Global,
     before: &[C::Out],

@@ -1,4 +1,4 @@
-//! Laws of the definitions, as functions without a body.
+//! Laws of the definitions, stated as functions without a body.
 
 ghost use Rattle.std.specs.Prelude.{◌≡◌};
 ghost use Rattle.json_elements.specs.declared.file.TheConstants.{FILE_LIMIT};

@@ -1,5 +1,5 @@
-//! Files of elements in JSON: an element is an object of one key, its name, whose value holds
-//! attributes, and child elements in `content`. What is refused is told with its place.
+//! Files of elements in JSON: an element is an object with one key, its name, whose value holds attributes, and child
+//! elements in `content`. A refusal states the place of what is refused.
 #![tactic(auto)]
 
 mod attribute;

@@ -10,19 +10,19 @@ use thiserror::Error;
 /// Why a file of elements is refused.
 #[derive(Clone, Copy, Debug, PartialEq, Eq, Error)]
 pub enum Cause {
-    /// It begins as XML does.
+    /// It begins like XML.
     #[error("begins as XML does")]
     Xml,
-    /// It is no JSON value.
+    /// It isn't a JSON value.
     #[error("no JSON value")]
     NotJson,
-    /// It isn't an element that may stand at its place.
+    /// It isn't an element that is allowed at its place.
     #[error("no element of this place")]
     Shape,
-    /// An attribute that must be there is missing.
+    /// A required attribute is missing.
     #[error("a missing attribute")]
     Missing,
-    /// An attribute isn't of its form.
+    /// An attribute doesn't have its form.
     #[error("an attribute of another form")]
     BadAttribute,
     /// It breaks a limit.
@@ -30,15 +30,14 @@ pub enum Cause {
     Limit,
 }
 
-/// A step of the way to what is refused: a name, or a position in an array, counted from 0.
+/// A step of the path to what is refused: a name, or a position in an array, counted from 0.
 #[derive(Clone, Copy, Debug, PartialEq, Eq)]
 pub enum Step {
     Name(&'static str),
     Item(usize),
 }
 
-/// Why nothing was read: a refusal, with the steps to its place from the innermost outwards, or
-/// want of memory.
+/// Why nothing was read: a refusal, with the steps to its place, innermost first, or out of memory.
 #[derive(Debug, Drop, Error)]
 pub enum ElementErr {
     #[error("{0}")]
@@ -57,21 +56,21 @@ impl From<NoMem> for ElementErr {
     }
 }
 
-/// A refusal of what is read here.
+/// Refuses what is being read, with this cause.
 pub fn refuse<T>(alloc: Global, cause: Cause) -> Result<T, ElementErr>
     ensures { Gives result (refuse cause) }
 {
     Err(refused(alloc, cause))
 }
 
-/// The same, apart from what was to be read.
+/// The same, independent of the type that was to be read.
 pub(crate) fn refused(alloc: Global, cause: Cause) -> ElementErr
     ensures { result ≡ Refused cause [] }
 {
     ElementErr::Refused(cause, List::new(alloc))
 }
 
-/// What was read one step below, seen from here.
+/// The result of reading one level below, as seen from here: a refusal gets one more step.
 pub fn inside<T: Drop>(step: &'static str, read: Result<T, ElementErr>) -> Result<T, ElementErr>
     ensures { (told : Reading T) → Gives read told → Gives result (inside step.now told) }
 {
@@ -81,14 +80,14 @@ pub fn inside<T: Drop>(step: &'static str, read: Result<T, ElementErr>) -> Resul
     }
 }
 
-/// What was read of the child at position `i`, seen from the element around it.
+/// The result of reading the child at position `i`, as seen from the element around it.
 pub fn at_child<T: Drop>(i: usize, read: Result<T, ElementErr>) -> Result<T, ElementErr>
     ensures { (told : Reading T) → Gives read told → Gives result (at_child i told) }
 {
     inside("content", at_position(i, read))
 }
 
-/// What was read at position `i` of an array, seen from the array.
+/// The result of reading position `i` of an array, as seen from the array.
 fn at_position<T: Drop>(i: usize, read: Result<T, ElementErr>) -> Result<T, ElementErr>
     ensures { (told : Reading T) → Gives read told → Gives result (inside (decimal i) told) }
 {
@@ -99,7 +98,7 @@ fn at_position<T: Drop>(i: usize, read: Result<T, ElementErr>) -> Result<T, Elem
 }
 
 impl ElementErr {
-    /// The same refusal, one step further out.
+    /// The same refusal, with one more outer step.
     fn within(self, step: Step) -> ElementErr
         ensures { GoesOut step self result }
     {
@@ -113,7 +112,7 @@ impl ElementErr {
     }
 }
 
-/// The JSON pointer of these steps, of which the innermost comes first.
+/// The JSON pointer of these steps, given innermost first.
 pub fn path_of(alloc: Global, steps: &[Step]) -> Result<Text, NoMem>
     ensures { IfOk result (λ text. text ≡ pointer steps.now) }
 {

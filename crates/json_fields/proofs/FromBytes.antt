@@ -97,7 +97,7 @@ module _ (order : Order) (leaf : LeafOf) where
   unfolding value_data
   array_is v b h wide = ap (value_data (Leaf leaf)) h.1 ∙ ap (λ items. Some (array items)) (elements_are h.0 leaf.length b h.2 wide)
 
--- one element, and then those behind it
+-- one element, and then those after it
 pub elements_next : (order : Order) (leaf : LeafOf) (later : Bool) (left : ℕ) (b rest : List ℕ) (n : ℤ) → 0 < left → n ≡ number_of order leaf.prim (take (prim_width leaf.prim) b) → rest ≡ drop (prim_width leaf.prim) b
     → (comma_if later ++ plain_text (element_shown leaf n)) ++ plain_items true (elements_shown order leaf (left - 1) rest) ≡ plain_items later (elements_shown order leaf left b)
 elements_next order leaf later zero b rest n some is same = absurd (omega (arith, some))

@@ -64,7 +64,7 @@ entry_is later name o d is = rw is (append_assoc (comma_if later) (key_text name
 pub later_is : (later : Bool) (o : Option Data) (d : Data) → o ≡ Some d → later_behind later o ≡ true
 later_is later o d is = rw is refl
 
--- a member that is there, and those behind it
+-- a member that is there, and those after it
 pub entry_goes : (later : Bool) (name : List ℕ) (o : Option Data) (d : Data) (es : List Entry) → o ≡ Some d
     → ((comma_if later ++ key_text name) ++ shown_text o) ++ entries_text true es ≡ entries_text later ((name, o) ∷ es)
 entry_goes later name o d es is =
@@ -97,7 +97,7 @@ module _ (order : Order) (all : List Member) (b : List ℕ) where
             step known vs later e m rest so_far.0 so_far.1 so_far.2 so_far.3 so_far.4 k (subst (λ q. PrintsShown order m.kind q (Prints state key next)) is w);
       }
 
-  -- the whole composite, with the bracket before its members and the one behind them
+  -- the whole composite, with the bracket before its members and the one after them
   pub goes_over : {O : Type 0} {state : O → Object (List ℕ)} {before start now next : Printer O} (later : Bool) (e : ℕ) → Prints state before start (codes "{") → Goes order all b (Prints state start now) later e [] → Prints state now next (codes "}") →
       PrintsShown order (Comp all) b (Prints state before next)
   goes_over later e first g last =

@@ -1,4 +1,4 @@
--- The rows of a table, printed one behind another.
+-- The rows of a table, printed one after another.
 use Rattle.std.proofs.Common.{◌≡◌, ◌≤◌, ◌<◌, ◌+◌, ℕ, ℤ, Bool, true, false, cond, List, [], ◌∷◌, ◌++◌, length, map, drop, get_or, refl, sym, ap, ◌∙◌, subst, arith, append_assoc}
 use Rattle.std.proofs.lemmas.List.{append-nil}
 use Rattle.serde_json.specs.Data.{null}
@@ -58,7 +58,7 @@ goes_next {all} {block} {O} {state} {start} {now} {literal} {next} before rest s
         let so_far = g.goes known text h in
         on known text so_far.0 so_far.1 (subst (λ ss. SlotsText Little known ss block so_far.0) is so_far.2) so_far.3 so_far.4
 
--- all values, and what stands behind them
+-- all values, and what follows them
 pub goes_over : {all : List Slot} {block : List ℕ} {O : Type 0} {state : O → Object (List ℕ)} {start now next : Printer O} (rest : List Slot) (last : List ℕ) → rest ≡ [] → Goes all rest block (Prints state start now) → Prints state now next last →
     (known : Bool) (text front : List ℕ) → SlotsText Little known all block front → text ≡ front ++ last → Prints state start next text
 goes_over {all} {block} {O} {state} {start} {now} {next} rest last is g k known text front h same =

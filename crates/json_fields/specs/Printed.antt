@@ -1,4 +1,4 @@
--- The text of pieces, where the bytes of each value show one. Which text a value has is own profile.
+-- The text of pieces, if the bytes of each value show one. Which text a value has is own profile.
 use Rattle.std.specs.Prelude.{◌≡◌, ℕ, Bool, List, [], ◌∷◌, ◌++◌}
 use Rattle.sbe_types.specs.declared.kind.Order.{Order}
 use Rattle.sbe_types.specs.declared.message.Value.{Value}
@@ -15,13 +15,13 @@ PiecesText order known (literal bytes ∷ ps) block text = (rest : List ℕ) × 
 PiecesText order known (shown kind place ∷ ps) block text =
     (v : Value) × (rest : List ℕ) × Shows order known kind v (bytes_there kind place block) × (text ≡ shown_text (value_data kind v) ++ rest) × PiecesText order known ps block rest
 
--- the text of values, each behind what stands before it
+-- the text of values, each after what is before it
 abbrev pub SlotsText : Order → Bool → List Slot → List ℕ → List ℕ → Type 0
 SlotsText order known [] block text = text ≡ []
 SlotsText order known (s ∷ ss) block text =
     (v : Value) × (rest : List ℕ) × Shows order known s.kind v (bytes_there s.kind s.place block) × (text ≡ s.before ++ (shown_text (value_data s.kind v) ++ rest))
     × SlotsText order known ss block rest
 
--- the same, and what stands behind the last value
+-- the text of values, and what follows the last one
 abbrev pub JoinedText : Order → Bool → Joined → List ℕ → List ℕ → Type 0
 JoinedText order known j block text = (front : List ℕ) × SlotsText order known j.slots block front × (text ≡ front ++ j.last)

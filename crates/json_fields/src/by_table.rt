@@ -23,8 +23,8 @@ use printers::Printer;
 use sbe_base::Sink;
 use sbe_types::{Kind, Order, Prim, get_num};
 
-/// Prints the values of a block by their table, each after the text before it, and then the text after the last one. Numbers
-/// have the lowest byte first.
+/// Prints the values of a block by their table, each after the text before it, and then the text after the last one.
+/// Numbers are little-endian.
 pub fn put_rows<O: Sink>(printer: &mut Printer<'_, O>, table: &TextRows, block: &[u8])
     requires table { IsTextTable (values_of table.now) table.now }
     requires fits { TextsFit (length block.now) table.now.rows.items }

@@ -1,4 +1,4 @@
-// The values that bytes show, as JSON.
+// The values that bytes encode, as JSON.
 ghost use Rattle.std.specs.Prelude.{◌≡◌, ◌≤◌, ◌+◌, ◌*◌, ◌++◌, pos, false, true, length, take, drop};
 ghost use Rattle.serde_json.specs.Data.{array};
 ghost use Rattle.serde_json.specs.Written.{comma_if};
@@ -25,7 +25,7 @@ use printers::Printer;
 use sbe_base::Sink;
 use sbe_types::{Kind, Leaf, LeafShape, List, Member, Named, Order, Presence, Prim, get_num};
 
-/// Prints the value that the bytes of a kind show. It needs a kind in order, and as many bytes as it is wide.
+/// Prints the value that the bytes of a kind encode. Requires a valid kind, and as many bytes as it is wide.
 #[cycle(kind)]
 #[inline(always)]
 #[tactic(auto, using(crate::proofs::FromBytes::enum_written, crate::proofs::FromBytes::set_written, crate::proofs::FromBytes::constant_written))]
@@ -76,8 +76,8 @@ fn put_members<O: Sink>(
     printer.put(b"}");
 }
 
-/// The bytes of a composite's member, which stands behind members that end at `end` and itself ends at
-/// `behind`. A constant has none.
+/// The bytes of a composite's member, which follows members that end at `end` and itself ends at `behind`. A constant
+/// has none.
 fn member_bytes<'a>(member: &Member, end: u32, behind: u32, bytes: &'a [u8]) -> &'a [u8]
     requires behind { behind ≡ end_past end member.now.offset member.now.kind }
     requires within { is_const member.now.kind ≡ false → begins_at end member.now.offset + width member.now.kind ≤ length bytes.now }
@@ -139,7 +139,7 @@ fn put_one<O: Sink>(printer: &mut Printer<'_, O>, leaf: &Leaf, number: &i128)
     }
 }
 
-/// Prints the number of an enum, or null. It needs names in form.
+/// Prints the number of an enum, or null. Requires well-formed names.
 #[inline(never)]
 pub(crate) fn put_listed<O: Sink>(
     printer: &mut Printer<'_, O>,
@@ -157,7 +157,7 @@ pub(crate) fn put_listed<O: Sink>(
     }
 }
 
-/// Prints the name of an enum's number as it stands, or the number where no valid value has it.
+/// Prints the name of an enum's number without escaping, or the number if no valid value has it.
 #[inline(always)]
 #[tactic(auto, using(crate::proofs::Valid::name_written, crate::proofs::Valid::number_written))]
 fn put_valid<O: Sink>(printer: &mut Printer<'_, O>, names: &[Named], number: &i128)
@@ -170,7 +170,7 @@ fn put_valid<O: Sink>(printer: &mut Printer<'_, O>, names: &[Named], number: &i1
     }
 }
 
-/// Prints the text before the first 00: null where it is empty and the leaf optional.
+/// Prints the text before the first 00, or null if it is empty and the leaf is optional.
 #[inline(always)]
 #[tactic(auto, using(crate::proofs::Fronts::front_written))]
 pub(crate) fn put_text_in<O: Sink>(printer: &mut Printer<'_, O>, leaf: &Leaf, bytes: &[u8])
@@ -182,7 +182,7 @@ pub(crate) fn put_text_in<O: Sink>(printer: &mut Printer<'_, O>, leaf: &Leaf, by
     }
 }
 
-/// Prints the text before the first 00, whatever its bytes: null where it is empty and the leaf optional.
+/// Prints the text before the first 00, whatever its bytes, or null if it is empty and the leaf is optional.
 #[inline(never)]
 fn put_any_text<O: Sink>(printer: &mut Printer<'_, O>, leaf: &Leaf, bytes: &[u8])
     ensures { Prints O.state printer.old printer.new (plain_text (text_shown leaf.now bytes.now)) }
@@ -216,7 +216,7 @@ fn put_array<O: Sink>(printer: &mut Printer<'_, O>, order: Order, leaf: &Leaf, b
     printer.put(b"]");
 }
 
-/// Prints an element of an array or null, behind a comma where another stands before.
+/// Prints an element of an array or null, preceded by a comma if it isn't the first.
 fn put_next<O: Sink>(printer: &mut Printer<'_, O>, later: bool, leaf: &Leaf, number: &i128)
     ensures { Prints O.state printer.old printer.new (comma_if later ++ plain_text (element_shown leaf.now number.now)) }
 {

@@ -1,4 +1,4 @@
-//! The values that the bytes of fields show, as JSON.
+//! The values that the bytes of fields encode, as JSON.
 #![tactic(auto)]
 
 mod by_table;

@@ -16,29 +16,29 @@ use Rattle.layout_tables.specs.Rowed.{RowIs, FieldsAre, newest_of, part_row}
 abbrev pub AreInOrder : List Field → Type 0
 AreInOrder fields = AllByRecursion (λ (f : Field). IsKindInOrder f.kind) fields
 
--- what is asked of a level before its row is made
+-- what is required of a level before its row is made
 pub record IsOrdered (node : Node) : Type 0 where
   pub measured : IsMeasuredLevel node
   pub kinds : AreInOrder (out-Level node.level).fields
 
--- what is asked of some levels
+-- what is required of some levels
 abbrev pub AreOrdered : List Node → Type 0
 AreOrdered nodes = AllByRecursion IsOrdered nodes
 
--- the rows of some levels, of which the first is number k
+-- the rows are those of some levels, of which the first is number k
 abbrev pub RowsAre : ℕ → List LevelRow → List Node → Type 0
 RowsAre k [] [] = ⊤
 RowsAre k [] (n ∷ ns) = ⊥
 RowsAre k (r ∷ rs) [] = ⊥
 RowsAre k (r ∷ rs) (n ∷ ns) = RowIs k r n × RowsAre (suc k) rs ns
 
--- the rows of those levels were added
+-- the rows of these levels were added
 pub record Grown (old new : List LevelRow) (ns : List Node) : Type 0 where
   pub rows : List LevelRow
   pub is : new ≡ old ++ rows
   pub are : RowsAre (length old) rows ns
 
--- the row of level n, with what stands around it
+-- the row is that of level n, with the number of its message and its dimension from `around`
 pub record LevelIs (around : Around) (n : ℕ) (level : Level) (row : LevelRow) : Type 0 where
   pub template : row.template ≡ around.template
   pub since : row.since ≡ (out-Level level).since
@@ -52,7 +52,7 @@ pub record LevelIs (around : Around) (n : ℕ) (level : Level) (row : LevelRow) 
   pub flat_is : IsFlat level row.flat
   pub end : row.end ≡ n + length (nodes around.template None level)
 
--- a level's row was added, and those of its groups
+-- a level's row was added, and then those of its groups
 pub record Pushed (around : Around) (old new : List LevelRow) (level : Level) : Type 0 where
   pub row : LevelRow
   pub this : LevelIs around (length old) level row

@@ -1,4 +1,4 @@
-//! The layout of a schema that is in order: its tables, made level by level.
+//! The layout of a checked schema: its tables, built level by level.
 #![tactic(auto)]
 
 mod flats;

@@ -1,4 +1,4 @@
-// Data parts by their numbers.
+// Data parts by number.
 ghost use Rattle.std.specs.Prelude.{◌≡◌, ◌≤◌, ◌^◌, ◌++◌, length, map, IfSome, IfNone, IfOk, OnOk};
 ghost use Rattle.layout_tables.specs.Parts.{firsts_from, places_from, places_in};
 
@@ -22,7 +22,7 @@ pub(crate) fn firsts_of(alloc: Global, levels: &[LevelRow]) -> Result<Vec<usize>
     Ok(firsts)
 }
 
-/// Where each data part stands.
+/// The location of each data part.
 pub(crate) fn places_of(alloc: Global, levels: &[LevelRow]) -> Result<Vec<PartPlace>, NoMem>
     ensures { IfOk result (λ places. places.items ≡ places_from 0 (map (λ row. length row.parts.items) levels.now)) }
 {
@@ -39,7 +39,7 @@ pub(crate) fn places_of(alloc: Global, levels: &[LevelRow]) -> Result<Vec<PartPl
     Ok(places)
 }
 
-/// Adds the places of a level's data parts.
+/// Adds the locations of a level's data parts.
 fn push_places(places: &mut Vec<PartPlace>, level: u32, many: u32) -> Result<(), NoMem>
     ensures { OnOk result (places.new.items ≡ places.old.items ++ places_in level 0 many) }
 {
@@ -49,7 +49,7 @@ fn push_places(places: &mut Vec<PartPlace>, level: u32, many: u32) -> Result<(),
     Ok(())
 }
 
-/// The number in 32 bits, or none where it needs more.
+/// The number in 32 bits, or `None` if it doesn't fit.
 pub(crate) fn narrowed(n: usize) -> Option<u32>
     ensures same { IfSome result (λ m. m ≡ n) }
     ensures none { IfNone result (2 ^ 32 ≤ n) }

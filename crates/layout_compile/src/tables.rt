@@ -1,4 +1,4 @@
-// The tables are made level by level, as the tree of the schema stands.
+// The tables are built level by level, in the order of the schema's tree.
 ghost use Rattle.std.specs.Prelude.{◌≡◌, true, ℕ, ◌++◌, ◌∷◌, [], length, map, flat_map, None, Some, IfSome, IfOk, OnOk};
 ghost use Rattle.std.specs.Option.{option_map};
 ghost use Rattle.sbe_types.specs.declared.schema.Level.{out-Level};
@@ -23,8 +23,7 @@ use sbe_types::{DataField, Field, Group, Kind, Level, List, Member, NoMem, Prim,
 use schema_check::Checked;
 use std::alloc::Global;
 
-/// The layout of a schema that is in order: where each of its parts stands, and how wide it is. What is wanting is
-/// memory alone.
+/// Builds the layout of a checked schema: the offset and width of each of its parts. The only error is out of memory.
 pub fn compile(alloc: Global, checked: &Checked) -> Result<Layout, NoMem>
     ensures { IfOk result (λ layout. layout ≡ checked.now) }
 {
@@ -33,7 +32,7 @@ pub fn compile(alloc: Global, checked: &Checked) -> Result<Layout, NoMem>
     Ok(of_tables(schema, tables))
 }
 
-/// The tables of a schema that is in order.
+/// The tables of a checked schema.
 fn tables_of(alloc: Global, schema: &WireSchema) -> Result<Tables, NoMem>
     requires { IsChecked schema.now }
     ensures { IfOk result (λ tables. AreTables schema.now tables) }
@@ -74,7 +73,7 @@ fn header_row(members: &List<Member>) -> HeaderRow
     }
 }
 
-/// Whether the four numbers of a header have two bytes each, and stand one behind another.
+/// Whether the four numbers of a header have two bytes each and follow one another.
 fn are_usual(block: &SpotRow, template: &SpotRow, schema: &SpotRow, version: &SpotRow) -> bool
     ensures block { result ≡ true → IsTwoBytes 0 block.now }
     ensures template { result ≡ true → IsTwoBytes 2 template.now }
@@ -87,7 +86,7 @@ fn are_usual(block: &SpotRow, template: &SpotRow, schema: &SpotRow, version: &Sp
         && is_two_bytes(version, 6)
 }
 
-/// Whether a number stands there, and has two bytes.
+/// Whether a number is at this offset and has two bytes.
 fn is_two_bytes(spot: &SpotRow, place: u32) -> bool
     ensures { result ≡ true → IsTwoBytes place spot.now }
 {
@@ -116,7 +115,7 @@ fn dim_row(dim: &List<Member>) -> DimRow
     }
 }
 
-/// The number of that name, which the members have.
+/// The number with this name, which the members have.
 #[tactic(auto, using(crate::proofs::Counters::counter_is, crate::proofs::Counters::counter_there))]
 fn counter_of(members: &List<Member>, name: &[u8]) -> SpotRow
     requires narrow { IsNarrow (Comp members.now) }
@@ -129,7 +128,7 @@ fn counter_of(members: &List<Member>, name: &[u8]) -> SpotRow
     }
 }
 
-/// The number of that name, if the members have it.
+/// The number with this name, if the members have it.
 fn spot_of(members: &List<Member>, name: &[u8]) -> Option<SpotRow>
     requires { IsNarrow (Comp members.now) }
     ensures { option_map as_spot result ≡ spot_named 0 name.now members.now }
@@ -191,7 +190,7 @@ fn is_constant(kind: &Kind) -> bool
     }
 }
 
-/// The greatest version from which on a field stands.
+/// The greatest version at which a field first exists.
 fn newest_of(fields: &[Field]) -> u32
     ensures { result ≡ newest_of fields.now }
 {
@@ -216,7 +215,7 @@ fn part_rows(alloc: Global, parts: &[DataField]) -> Result<Vec<PartRow>, NoMem>
     Ok(rows)
 }
 
-/// How many levels there are, this one and those of its groups; none where a number can't say it.
+/// How many levels there are, including this one and those of its groups, or `None` if the count overflows.
 #[cycle(count)]
 fn count_level(level: &Level) -> Option<usize>
     ensures { IfSome result (λ n. (t : ℕ) → n ≡ length (nodes t None level.now)) }
@@ -247,7 +246,7 @@ fn count_below(groups: &[Group]) -> Option<usize>
     Some(many)
 }
 
-/// What stands around a level: its message, and the dimension before its entries.
+/// What surrounds a level: its message, and the dimension before its entries.
 #[derive(Clone, Copy)]
 struct Around {
     template: usize,
@@ -327,7 +326,7 @@ fn push_below(
     Ok(())
 }
 
-/// Adds the rows of all messages, and answers the numbers of their roots.
+/// Adds the rows of all messages, and returns the numbers of their roots.
 fn push_roots(
     alloc: Global,
     levels: &mut Vec<LevelRow>,

@@ -1,4 +1,4 @@
-// Messages by their ids.
+// Messages by id.
 ghost use Rattle.std.specs.Prelude.{◌≡◌, ℕ, ◌==◌, if◌then◌else◌, Some, None, IfOk, OnOk};
 ghost use Rattle.std.specs.BTreeMap.{get};
 ghost use Rattle.std.specs.Option.{option_or};
@@ -9,7 +9,7 @@ use sbe_types::{Level, NoMem};
 use std::alloc::Global;
 use std::collections::BTreeMap;
 
-/// The number of the first message of each id.
+/// The number of the first message with each id.
 pub(crate) fn ids_of(alloc: Global, messages: &[Level]) -> Result<BTreeMap<u32, usize>, NoMem>
     ensures { IfOk result (λ ids. AreIds messages.now (get nat_cmp ids)) }
 {
@@ -20,7 +20,7 @@ pub(crate) fn ids_of(alloc: Global, messages: &[Level]) -> Result<BTreeMap<u32, 
     Ok(ids)
 }
 
-/// Adds the number of a message, unless one before it has the id.
+/// Adds the number of a message, unless an earlier one has its id.
 fn add_id(ids: &mut BTreeMap<u32, usize>, id: u32, i: usize) -> Result<(), NoMem>
     ensures { OnOk result ((q : ℕ) → get nat_cmp ids.new q ≡ option_or (get nat_cmp ids.old q) (if id == q then Some i else None)) }
 {

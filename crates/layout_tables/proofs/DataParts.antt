@@ -98,7 +98,7 @@ part_told schema places k p is h at =
 
 -- ---- the number of a data part
 
--- where a level's data parts begin, behind k others
+-- where a level's data parts begin, after k others
 first_is : (k : ℕ) (nodes : List Node) (n f : ℕ) → slice_get (firsts_from k (part_counts nodes)) n ≡ Some f → f ≡ k + length (parts_of (take n nodes))
 first_is k [] n f h = cc
 first_is k (x ∷ nodes) zero f h =

@@ -102,7 +102,7 @@ root_is schema n this at =
 stands_front : (xs : List Node) (k : ℕ) (ys zs : List Node) → Stands xs k (ys ++ zs) → Stands xs k ys
 stands_front xs k ys zs h = (h.0, zs ++ h.1, h.2 ∙ ap (λ l. h.0 ++ l) (append_assoc ys zs h.1), h.3)
 
--- a group's level, the levels of its groups, and those behind it
+-- a group's level, the levels of its groups, and those after it
 pub record ChildAt (schema : WireSchema) (t k : ℕ) (g : Group) (rest : List Group) : Type 0 where
   pub at : slice_get (all_nodes schema) k ≡ Some (group_node t g)
   pub below : Stands (all_nodes schema) (k + 1) (flat_map (nodes_of t) (out-Level (out-Group g).level).groups)
@@ -192,7 +192,7 @@ below_root schema n first row root is there same other =
 pub group_found : (schema : WireSchema) (n t : ℕ) (g : Group) → slice_get (all_nodes schema) n ≡ Some (group_node t g) → level_at schema n ≡ Some (out-Group g).level
 group_found schema n t g at = ap (option_map (λ (x : Node). x.level)) at
 
--- behind the last group no level is left
+-- after the last group no level is left
 pub none_left : (t : ℕ) (gs : List Group) (i : ℕ) → length gs ≤ i → length (flat_map (nodes_of t) (drop i gs)) ≡ 0
 none_left t [] zero h = refl
 none_left t [] (suc i) h = refl

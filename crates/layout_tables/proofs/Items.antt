@@ -11,7 +11,7 @@ pub long_map : {X Y : Type 0} (f : X → Y) (xs : List X) → length (map f xs) 
 long_map f [] = refl
 long_map f (x ∷ xs) = ap suc (long_map f xs)
 
--- ---- two lists, one behind the other
+-- ---- two lists, one after the other
 
 pub in_two : {X : Type 0} (a b : List X) (k : ℕ) (x : X) → slice_get (a ++ b) k ≡ Some x → (slice_get a k ≡ Some x) ⊎ ((j : ℕ) × (k ≡ length a + j) × (slice_get b j ≡ Some x))
 in_two [] b k x h = inr (k, omega arith, h)
@@ -28,7 +28,7 @@ get_behind [] b k j h = ap (slice_get b) (omega arith)
 get_behind (y ∷ a) b zero j h = absurd (omega arith)
 get_behind (y ∷ a) b (suc k) j h = get_behind a b k j (omega arith)
 
--- ---- a front of a list, and what is behind it
+-- ---- a front of a list, and what is after it
 
 pub take_one : {X : Type 0} (xs : List X) (i : ℕ) (x : X) → i < length xs → x ≡ get_or xs i x → take (i + 1) xs ≡ take i xs ++ x ∷ []
 take_one [] i x h is = absurd (omega arith)

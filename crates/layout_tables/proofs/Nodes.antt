@@ -81,13 +81,13 @@ unfolding nodes levels.out-Level carrier.out
 nodes_open t dim (Level' name id semantic since block_length fields n groups parts) =
     ap (λ l. node t dim (Level' name id semantic since block_length fields n groups parts) ∷ l) (below_is t groups ∙ ap (flat_map (nodes_of t)) (sym (items_shown-the_row-Group-0 n groups)))
 
--- the levels of a level's groups stand behind it
+-- the levels of a level's groups stand after it
 pub children : (schema : WireSchema) (n : ℕ) (this : Node) → slice_get (all_nodes schema) n ≡ Some this → Stands (all_nodes schema) (n + 1) (flat_map (nodes_of this.template) (out-Level this.level).groups)
 children schema n this at =
     let here = subst (λ ys. Stands (all_nodes schema) n ys) (nodes_open this.template this.dim this.level) (in_roots 0 schema.messages n this at) in
     stands_split (all_nodes schema) n (this ∷ []) (flat_map (nodes_of this.template) (out-Level this.level).groups) here
 
--- the first of some groups, and those behind it
+-- the first of some groups, and those after it
 pub child : (schema : WireSchema) (k t : ℕ) (g : Group) (gs : List Group) → Stands (all_nodes schema) k (flat_map (nodes_of t) (g ∷ gs)) →
     (dim : List Member) × (level : Level) × (g ≡ Group' dim level) × (slice_get (all_nodes schema) k ≡ Some (node t (Some dim) level)) × Stands (all_nodes schema) (k + length (nodes t (Some dim) level)) (flat_map (nodes_of t) gs)
 unfolding nodes_of

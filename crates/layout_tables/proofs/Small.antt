@@ -1,4 +1,4 @@
--- The least number of bytes of an entry is small: no part ends behind the largest place.
+-- The least number of bytes of an entry is small: no part ends after the largest place.
 use Rattle.std.proofs.Common.{◌≡◌, ◌≤◌, ◌<◌, ◌+◌, ◌&&◌, not, cond, ℕ, Bool, true, false, List, [], ◌∷◌, Option, Some, None, refl, sym, subst, arith, length}
 use Rattle.std.specs.Prelude.{slice_get}
 use Rattle.std.specs.List.{AllByRecursion}

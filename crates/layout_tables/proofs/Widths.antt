@@ -27,7 +27,7 @@ place_within e [] i some = cc
 place_within e (x ∷ ms) zero some = omega arith
 place_within e (x ∷ ms) (suc i) some = let rest = place_within (end_past e x.offset x.kind) ms i some in omega (arith, rest)
 
--- behind the last member nothing is added
+-- after the last member nothing is added
 pub members_done : (e : ℕ) (ms : List Member) (n : ℕ) → length ms ≤ n → members_end e (drop n ms) ≡ e
 members_done e [] zero h = refl
 members_done e [] (suc n) h = refl

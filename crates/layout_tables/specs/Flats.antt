@@ -5,7 +5,7 @@ use Rattle.flat_rows.specs.declared.rows.FlatRows.{FlatRows}
 use Rattle.flat_rows.specs.Scalars.{scalars_of}
 use Rattle.flat_rows.specs.Tables.{stands_for, IsTable}
 
--- the table stands for the values of a level's block, in wire order
+-- the table represents the values of a level's block, in wire order
 pub record IsFlat (level : Level) (table : FlatRows) : Type 0 where
   pub table_is : IsTable table
   pub stands : stands_for table ≡ scalars_of (out-Level level).fields

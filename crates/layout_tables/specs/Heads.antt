@@ -14,7 +14,7 @@ number_at order spot bytes = natural (number_of order spot.leaf.prim (take (prim
 abbrev pub header_width : WireSchema → ℕ
 header_width schema = members_end 0 schema.header.members
 
--- the header's number of that name; none where the body is shorter than the header
+-- the header's number with this name; None if the body is shorter than the header
 abbrev pub header_number : WireSchema → List ℕ → List ℕ → Option ℕ
 header_number schema name body =
     if nat_lt (length body) (header_width schema) then None else Some (number_named schema.order schema.header.members name (take (header_width schema) body))

@@ -11,15 +11,15 @@ abbrev pub dim_width : Option DimRow → ℕ
 dim_width None = 0
 dim_width (Some dim) = dim.width
 
--- a group that is alive has its dimension
+-- the bytes that a group takes at least: its dimension, if it is alive
 abbrev pub row_least : ℕ → LevelRow → ℕ
 row_least version row = if is_alive version row.since then dim_width row.dim else 0
 
--- a data part that is alive has its length number
+-- the bytes that a data part takes at least: its length number, if it is alive
 abbrev pub part_row_least : ℕ → PartRow → ℕ
 part_row_least version part = if is_alive version part.since then prim_width part.length.prim else 0
 
--- the same of some data parts
+-- the same for some data parts
 abbrev pub part_rows_least : ℕ → List PartRow → ℕ
 part_rows_least version [] = 0
 part_rows_least version (part ∷ parts) = part_row_least version part + part_rows_least version parts

@@ -1,4 +1,4 @@
--- The text of a path: names joined by dots, with `[i]` for an entry of a group or an element of an array, as
+-- The text of a path: names joined by dots, with `[i]` for an entry of a group or an element of an array, as in
 -- `legs[2].subs[0].price.mantissa`. Own profile.
 use Rattle.std.specs.Prelude.{ℕ, Bool, true, false, if◌then◌else◌, Option, Some, None, List, [], ◌∷◌, ◌++◌, map, slice_get, unwrap_or, codes, decimal}
 use Rattle.std.specs.Option.{option_map, option_and_then, IsSome}
@@ -12,7 +12,8 @@ use Rattle.sbe_types.specs.declared.schema.Group.{Group, out-Group}
 use Rattle.sbe_types.specs.declared.schema.Level.{Level, out-Level}
 use Rattle.sbe_types.specs.declared.schema.WireSchema.{WireSchema}
 
--- where a path has come to: a message's root or an entry, a group before its entry, a field or member, or what has no parts
+-- where a path has arrived: at a message's root or an entry, at a group before its entry, at a field or member, or at
+-- something without parts
 pub data Inside : Type 0 where
   in_level : Level → Inside
   in_group : Level → Inside
@@ -52,21 +53,21 @@ kind_parts (Enum l names) = []
 kind_parts (Set p names) = []
 kind_parts (Const c) = []
 
--- the parts at a place
+-- the parts inside a position
 abbrev pub parts_inside : Inside → List NamedPart
 parts_inside (in_level level) = level_parts level
 parts_inside (in_group level) = []
 parts_inside (in_kind kind) = kind_parts kind
 parts_inside in_nothing = []
 
--- an entry of a group is its level
+-- the position of an entry, which is the level of the group
 abbrev pub entry_inside : Inside → Option Inside
 entry_inside (in_level level) = None
 entry_inside (in_group level) = Some (in_level level)
 entry_inside (in_kind kind) = None
 entry_inside in_nothing = None
 
--- an array's element has no parts
+-- the position of an array's element, which has no parts
 abbrev pub element_of : Kind → Option Inside
 element_of (Leaf l) = Some in_nothing
 element_of (Enum l names) = None
@@ -74,7 +75,7 @@ element_of (Set p names) = None
 element_of (Const c) = None
 element_of (Comp' n members) = None
 
--- an element of a place
+-- the position of an element
 abbrev pub element_inside : Inside → Option Inside
 element_inside (in_level level) = None
 element_inside (in_group level) = None
@@ -85,7 +86,7 @@ element_inside in_nothing = None
 abbrev pub bracketed : ℕ → List ℕ
 bracketed i = codes "[" ++ (decimal i ++ codes "]")
 
--- a dot before each name but the first
+-- a dot before each name except the first
 abbrev pub dot : Bool → List ℕ
 dot is_first = if is_first then [] else codes "."
 
@@ -102,13 +103,13 @@ to_part is_first p = record { text = dot is_first ++ p.name; inside = p.inside }
 abbrev pub to_item : ℕ → Inside → Stepped
 to_item i next = record { text = bracketed i; inside = next }
 
--- one step from a place; none where it leads nowhere
+-- one step from a position; None if it leads nowhere
 abbrev pub stepped : Bool → Inside → Step → Option Stepped
 stepped is_first inside (Part i) = option_map (to_part is_first) (slice_get (parts_inside inside) i)
 stepped is_first inside (Entry i) = option_map (to_item i) (entry_inside inside)
 stepped is_first inside (Elem i) = option_map (to_item i) (element_inside inside)
 
--- the text of the steps from a place on; none where they lead nowhere
+-- the text of the steps from a position on; None if they lead nowhere
 abbrev pub path_from : Bool → Inside → List Step → Option (List ℕ)
 path_from is_first inside [] = Some []
 path_from is_first inside (step ∷ steps) = option_and_then (λ s. option_map (λ rest. s.text ++ rest) (path_from false s.inside steps)) (stepped is_first inside step)
@@ -117,7 +118,7 @@ path_from is_first inside (step ∷ steps) = option_and_then (λ s. option_map (
 abbrev pub path_found : WireSchema → ℕ → List Step → Option (List ℕ)
 path_found schema template steps = option_and_then (λ level. path_from true (in_level level) steps) (slice_get schema.messages template)
 
--- the steps lead from a message's root to one of its parts
+-- the steps lead from the root of a message to one of its parts
 abbrev pub IsPathOf : WireSchema → ℕ → List Step → Type 0
 IsPathOf schema template steps = IsSome (path_found schema template steps)
 

@@ -1,4 +1,4 @@
--- What the rows of a layout say of the schema's levels, fields and numbers.
+-- What the rows of a layout state of the schema's levels, fields and numbers.
 use Rattle.std.specs.Prelude.{◌≡◌, ℕ, suc, ◌+◌, max, true, not, ◌&&◌, if◌then◌else◌, Option, Some, None, List, [], ◌∷◌, length, map, slice_get, ⊤, codes}
 use Rattle.sbe_types.specs.declared.kind.Member.{Member}
 use Rattle.sbe_types.specs.declared.kind.Primitive.TheVariants.{U16}
@@ -19,34 +19,34 @@ use Rattle.schema_facts.specs.Levels.{Node, all_nodes, nodes}
 use Rattle.layout_tables.specs.Flats.{IsFlat}
 use Rattle.schema_facts.specs.Measured.{IsCounter}
 
--- the spot that a row tells
+-- the spot that a row gives
 abbrev pub as_spot : SpotRow → Spot
 as_spot row = record { place = row.place; leaf = row.leaf }
 
--- the row tells the number of that name, which stands in the members' bytes
+-- the row gives the number with this name, which is within the members' bytes
 pub record SpotIs (members : List Member) (name : List ℕ) (row : SpotRow) : Type 0 where
   pub named : spot_named 0 name members ≡ Some (as_spot row)
   pub counts : IsCounter (members_end 0 members) (as_spot row)
 
--- the row of a dimension
+-- the row is that of a dimension
 pub record DimIs (row : DimRow) (dim : List Member) : Type 0 where
   pub width : row.width ≡ members_end 0 dim
   pub block : SpotIs dim (codes "blockLength") row.block
   pub count : SpotIs dim (codes "numInGroup") row.count
 
--- the number stands there, and has two bytes
+-- the number is at this offset, and has two bytes
 pub record IsTwoBytes (place : ℕ) (row : SpotRow) : Type 0 where
   pub place_is : row.place ≡ place
   pub prim_is : row.leaf.prim ≡ U16
 
--- the four numbers of a header have two bytes each, one behind another
+-- the four numbers of a header have two bytes each, one after another
 pub record IsUsual (row : HeaderRow) : Type 0 where
   pub block : IsTwoBytes 0 row.block
   pub template : IsTwoBytes 2 row.template
   pub schema : IsTwoBytes 4 row.schema
   pub version : IsTwoBytes 6 row.version
 
--- the row of a header
+-- the row is that of a header
 pub record HeaderIs (row : HeaderRow) (members : List Member) : Type 0 where
   pub width : row.width ≡ members_end 0 members
   pub block : SpotIs members (codes "blockLength") row.block
@@ -62,21 +62,21 @@ DimOf None (Some dim) = ⊥
 DimOf (Some row) None = ⊥
 DimOf (Some row) (Some dim) = DimIs row dim
 
--- the row of a field behind fields that end at e
+-- the row is that of a field after fields that end at e
 pub record FieldIs (e : ℕ) (f : Field) (r : FieldRow) : Type 0 where
   pub since : r.since ≡ f.since
   pub constant : r.is_constant ≡ is_const f.kind
   pub place : r.place ≡ begin_of e f.offset
   pub end : r.end ≡ end_past e f.offset f.kind
 
--- the rows of fields behind fields that end at e
+-- the rows are those of fields after fields that end at e
 abbrev pub FieldsAre : ℕ → List Field → List FieldRow → Type 0
 FieldsAre e [] [] = ⊤
 FieldsAre e [] (r ∷ rs) = ⊥
 FieldsAre e (f ∷ fs) [] = ⊥
 FieldsAre e (f ∷ fs) (r ∷ rs) = FieldIs e f r × FieldsAre (end_past e f.offset f.kind) fs rs
 
--- the floor by the rows, where the block must reach so far already
+-- the floor by the rows, where the block already has to reach `reached`
 abbrev pub rows_floor : ℕ → ℕ → List FieldRow → ℕ
 rows_floor version reached [] = reached
 rows_floor version reached (r ∷ rs) = rows_floor version (if is_alive version r.since && not r.is_constant then r.end else reached) rs
@@ -85,16 +85,16 @@ rows_floor version reached (r ∷ rs) = rows_floor version (if is_alive version 
 abbrev pub part_row : DataField → PartRow
 part_row part = record { since = part.since; length = part.length }
 
--- the greatest since of fields, or n where it is greater
+-- the largest since of fields, or n if it is larger
 abbrev pub newest_from : ℕ → List Field → ℕ
 newest_from n [] = n
 newest_from n (f ∷ fs) = newest_from (max n f.since) fs
 
--- from this version on all fields are alive
+-- the first version at which all fields are alive
 abbrev pub newest_of : List Field → ℕ
 newest_of fields = newest_from 0 fields
 
--- the row of level n; the stored floor is that of all its fields
+-- the row is that of level n; the stored floor is that of all its fields
 pub record RowIs (n : ℕ) (row : LevelRow) (node : Node) : Type 0 where
   pub template : row.template ≡ node.template
   pub since : row.since ≡ (out-Level node.level).since
@@ -113,11 +113,11 @@ pub record AreRows (schema : WireSchema) (levels : List LevelRow) : Type 0 where
   pub as_many : length levels ≡ length (all_nodes schema)
   pub rows : (n : ℕ) (row : LevelRow) (node : Node) → slice_get levels n ≡ Some row → slice_get (all_nodes schema) n ≡ Some node → RowIs n row node
 
--- the row of level n
+-- the row is that of level n of the schema
 abbrev pub RowFor : WireSchema → ℕ → LevelRow → Type 0
 RowFor schema n row = (node : Node) × (slice_get (all_nodes schema) n ≡ Some node) × RowIs n row node
 
--- the numbers of the roots of messages, of which the first is number t and begins at level k
+-- the numbers of the roots of messages, of which the first is number t and its root is level k
 abbrev pub roots_from : ℕ → ℕ → List Level → List ℕ
 roots_from k t [] = []
 roots_from k t (level ∷ levels) = k ∷ roots_from (k + length (nodes t None level)) (suc t) levels

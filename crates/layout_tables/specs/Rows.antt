@@ -33,7 +33,7 @@ subs = Level' (codes "subs") 103 [] 0 5 (field (codes "price") 7 0 price ∷ [])
 abbrev pub legs : Level
 legs = Level' (codes "legs") 102 [] 0 1 (field (codes "ratio") 6 0 (Leaf uint8) ∷ []) (tt ∷ []) (more_of-Group (Group' size16 subs) end_of-Group) (data_of (codes "note") 8 0 ∷ [])
 
--- the entries of fees, which stand from version 1 on: a number
+-- the entries of fees, which exist from version 1 on: a number
 abbrev pub fees : Level
 fees = Level' (codes "fees") 104 [] 1 4 (field (codes "amount") 9 1 (Leaf uint32) ∷ []) [] end_of-Group []
 
@@ -68,25 +68,25 @@ worked =
       messages = order ∷ ping ∷ [];
     }
 
--- one group of that name around the entries of a level
+-- one group with this name around the entries of a level
 abbrev pub around : List ℕ → Level → Level
 around name level = Level' name 1 [] 0 0 [] (tt ∷ []) (more_of-Group (Group' size16 level) end_of-Group) []
 
--- a composite of one member of that name
+-- a composite of one member with this name
 abbrev pub holding : List ℕ → Kind → Kind
 holding name kind = Comp' (tt ∷ []) (more_of-Member name None kind end_of-Member)
 
--- a field of a composite four deep, whose innermost member is an array
+-- a field of four nested composites, whose innermost member is an array
 abbrev pub deep_field : Field
 deep_field = field (codes "x") 1 0 (holding (codes "p") (holding (codes "q") (holding (codes "r") (holding (codes "sizes") three))))
 
--- a message of six groups around one another, the innermost with that field
+-- a message of six nested groups, the innermost with that field
 abbrev pub deep : Level
 deep =
     around (codes "Deep") (around (codes "a") (around (codes "b") (around (codes "c") (around (codes "d") (around (codes "e")
     (Level' (codes "f") 1 [] 0 6 (deep_field ∷ []) [] end_of-Group []))))))
 
--- the schema of this message alone
+-- the schema with only this message
 abbrev pub deep_schema : WireSchema
 deep_schema =
     record {
@@ -97,31 +97,31 @@ deep_schema =
       messages = deep ∷ [];
     }
 
--- the names of all levels, by their numbers
+-- the names of all levels, by number
 abbrev pub level_names : List (List ℕ)
 level_names = map (λ (node : Node). (out-Level node.level).name) (all_nodes worked)
 
--- the names of all data parts, by their numbers
+-- the names of all data parts, by number
 abbrev pub data_names : List (List ℕ)
 data_names = map (λ (part : DataField). part.name) (all_parts worked)
 
--- to the mantissa of an entry of subs in an entry of legs
+-- the steps to the mantissa of an entry of subs in an entry of legs
 abbrev pub to_mantissa : List Step
 to_mantissa = Part 5 ∷ Entry 2 ∷ Part 1 ∷ Entry 0 ∷ Part 0 ∷ Part 0 ∷ []
 
--- to an element of an array
+-- the steps to an element of an array
 abbrev pub to_element : List Step
 to_element = Part 3 ∷ Elem 1 ∷ []
 
--- to the data of an entry of legs
+-- the steps to the data of an entry of legs
 abbrev pub to_note : List Step
 to_note = Part 5 ∷ Entry 13 ∷ Part 2 ∷ []
 
--- to an entry of a field, which there is none of
+-- the steps to an entry of a field, which doesn't exist
 abbrev pub to_nothing : List Step
 to_nothing = Part 0 ∷ Entry 0 ∷ []
 
--- to an element of the innermost array, with as many steps as a path can need
+-- the steps to an element of the innermost array, as many as a path can need
 abbrev pub to_deepest : List Step
 to_deepest =
     Part 0 ∷ Entry 1 ∷ Part 0 ∷ Entry 2 ∷ Part 0 ∷ Entry 3 ∷ Part 0 ∷ Entry 4 ∷ Part 0 ∷ Entry 5 ∷ Part 0 ∷ Entry 6

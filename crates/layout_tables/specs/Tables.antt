@@ -12,12 +12,12 @@ use Rattle.schema_facts.specs.Levels.{all_nodes}
 use Rattle.layout_tables.specs.Rowed.{AreRows, HeaderIs, roots_from}
 use Rattle.layout_tables.specs.Parts.{part_counts, firsts_from, places_from}
 
--- the look-up gives the number of the first message of an id
+-- the look-up gives the number of the first message with an id
 abbrev pub AreIds : List Level → (ℕ → Option ℕ) → Type 0
 AreIds messages look_up = (id : ℕ) → look_up id ≡ option_map (λ m. m.0) (message_named 0 id messages)
 
--- the schema is in order, and the tables are the rows of its header and of all its levels, the numbers of the roots, the messages by
--- their ids, and the data parts by their numbers
+-- the schema is in order, and the tables are the rows of its header and of all its levels, the numbers of the roots,
+-- the messages by id, and the data parts by number
 pub record AreTables (schema : WireSchema) (tables : Tables) : Type 0 where
   pub checked : IsChecked schema
   pub header_is : HeaderIs tables.header schema.header.members

@@ -1,4 +1,4 @@
-// What stands below a level: its groups and data parts, by their numbers.
+// What is below a level: its groups and data parts, by number.
 ghost use Rattle.std.specs.Prelude.{◌≡◌, ◌<◌, length, slice_get, Some, IsSome};
 ghost use Rattle.std.specs.Option.{option_map};
 ghost use Rattle.sbe_types.specs.declared.schema.Group.{out-Group};
@@ -12,7 +12,7 @@ use crate::rows::PartRow;
 use sbe_types::{Leaf, MemberList};
 
 impl Layout {
-    /// The number of the level of a level's group `i`. It needs both in range.
+    /// The number of the level of a level's group `i`. Requires both in range.
     pub fn group(&self, level: usize, i: usize) -> usize
         requires level { level < length (all_nodes self.now) }
         requires group { i < length (groups_at self.now level) }
@@ -30,7 +30,7 @@ impl Layout {
         child
     }
 
-    /// From which version on a group stands on the wire, by the number of its level. It needs a level in range.
+    /// The first version that has a group on the wire, by the number of its level. Requires a level in range.
     #[tactic(auto, using(crate::proofs::Told::level_since))]
     pub fn group_since(&self, group: usize) -> u32
         requires { group < length (all_nodes self.now) }
@@ -39,7 +39,7 @@ impl Layout {
         self.row(group).since
     }
 
-    /// The members of a group's dimension, by the number of its level. It needs the level of a group.
+    /// The members of a group's dimension, by the number of its level. Requires the level of a group.
     pub fn dim(&self, group: usize) -> &MemberList
         requires { IsSome (dim_at self.now group) }
         ensures { dim_at self.now group ≡ Some result.now }
@@ -47,7 +47,7 @@ impl Layout {
         &self.group_of(group).dim
     }
 
-    /// The number of a level's data part `i`, among those of the whole schema. It needs both in range.
+    /// The number of a level's data part `i`, among those of the whole schema. Requires both in range.
     pub fn data(&self, level: usize, i: usize) -> usize
         requires level { level < length (all_nodes self.now) }
         requires part { i < length (parts_at self.now level) }
@@ -59,7 +59,7 @@ impl Layout {
         self.first_part(level) + i
     }
 
-    /// From which version on a data part stands on the wire. It needs a part in range.
+    /// The first version that has a data part on the wire. Requires a part in range.
     #[tactic(auto, using(crate::proofs::DataParts::row_since))]
     pub fn data_since(&self, part: usize) -> u32
         requires { part < length (all_parts self.now) }
@@ -68,7 +68,7 @@ impl Layout {
         self.part_row(part).since
     }
 
-    /// The name of a data part. It needs a part in range.
+    /// The name of a data part. Requires a part in range.
     #[tactic(auto, using(crate::proofs::DataParts::name_told))]
     pub fn data_name(&self, part: usize) -> &[u8]
         requires { part < length (all_parts self.now) }
@@ -80,7 +80,7 @@ impl Layout {
             .as_slice()
     }
 
-    /// The type of a data part's length. It needs a part in range.
+    /// The type of a data part's length. Requires a part in range.
     #[tactic(auto, using(crate::proofs::DataParts::row_length))]
     pub fn length(&self, part: usize) -> &Leaf
         requires { part < length (all_parts self.now) }
@@ -89,7 +89,7 @@ impl Layout {
         &self.part_row(part).length
     }
 
-    /// The row of a data part. It needs a part in range.
+    /// The row of a data part. Requires a part in range.
     pub fn part_row(&self, part: usize) -> &PartRow
         requires { part < length (all_parts self.now) }
         ensures { option_map part_row (slice_get (all_parts self.now) part) ≡ Some result.now }

@@ -12,9 +12,9 @@ use crate::layout::Layout;
 use crate::rows::{LevelRow, PartRow};
 
 impl Layout {
-    /// The least number of bytes of an entry of a level at a version: the floor of its block, the dimensions
-    /// of its groups and the length numbers of its data, as far as they are alive. No entry that lays out has
-    /// fewer, and where a group is alive each of its entries has at least one. It needs a level in range.
+    /// The least number of bytes of an entry of a level at a version: the floor of its block, the dimensions of its
+    /// groups and the length numbers of its data, as far as the version has them. No entry that is laid out has fewer,
+    /// and each entry of a group that the version has takes at least one byte. Requires a level in range.
     #[tactic(auto, using(crate::proofs::LeastRows::entry_told, crate::proofs::Small::floor_small))]
     pub fn min_entry(&self, level: usize, version: u32) -> u32
         requires { level < length (all_nodes self.now) }
@@ -28,7 +28,7 @@ impl Layout {
         self.floor(level, version) + groups + parts
     }
 
-    /// The bytes of the dimensions of a level's groups that are alive. It needs a level in range.
+    /// The bytes of the dimensions of those groups of a level that the version has. Requires a level in range.
     fn groups_least(&self, level: usize, version: u32) -> u32
         requires { level < length (all_nodes self.now) }
         ensures least { result ≡ groups_least version (groups_at self.now level) }
@@ -46,7 +46,7 @@ impl Layout {
         least
     }
 
-    /// The bytes of the length numbers of a level's data parts that are alive. It needs a level in range.
+    /// The bytes of the length numbers of those data parts of a level that the version has. Requires a level in range.
     #[tactic(auto, using(crate::proofs::Told::parts_there, crate::proofs::LeastRows::parts_told))]
     fn parts_least(&self, level: usize, version: u32) -> u32
         requires { level < length (all_nodes self.now) }
@@ -58,7 +58,7 @@ impl Layout {
     }
 }
 
-/// The bytes of a group's dimension, where the group is alive.
+/// The bytes of a group's dimension, if the version has the group.
 fn dim_least(row: &LevelRow, version: u32) -> u32
     ensures { result ≡ row_least version row.now }
 {
@@ -68,7 +68,7 @@ fn dim_least(row: &LevelRow, version: u32) -> u32
     }
 }
 
-/// The bytes of the length numbers of data parts that are alive.
+/// The bytes of the length numbers of those data parts that the version has.
 fn lengths_least(parts: &[PartRow], version: u32) -> u32
     requires { length parts.now ≤ PART_LIMIT }
     ensures least { result ≡ part_rows_least version parts.now }
@@ -81,7 +81,7 @@ fn lengths_least(parts: &[PartRow], version: u32) -> u32
     least
 }
 
-/// The bytes of a data part's length number, where the part is alive.
+/// The bytes of a data part's length number, if the version has the part.
 fn length_least(part: &PartRow, version: u32) -> usize
     ensures least { result ≡ part_row_least version part.now }
     ensures small { result ≤ 8 }

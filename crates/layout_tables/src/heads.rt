@@ -9,7 +9,7 @@ use crate::rows::SpotRow;
 use sbe_types::{Order, Prim, get_num};
 
 impl Layout {
-    /// The number schemaId of a body's header, or none exactly where the body is shorter than the header.
+    /// The schemaId of a body's header, or `None` exactly if the body is shorter than the header.
     pub fn schema_id(&self, body: &[u8]) -> Option<u32>
         ensures { result ≡ header_number self.now (codes "schemaId") body.now }
     {
@@ -22,7 +22,7 @@ impl Layout {
     }
 }
 
-/// A number of a header or a dimension, read from the composite's bytes. It needs a number that stands within them.
+/// A number of a header or a dimension, read from the composite's bytes. Requires a number that is inside them.
 pub fn number_at(order: Order, spot: &SpotRow, bytes: &[u8]) -> u32
     requires { IsCounter (length bytes.now) (as_spot spot.now) }
     ensures { result ≡ number_at order (as_spot spot.now) bytes.now }
@@ -32,14 +32,14 @@ pub fn number_at(order: Order, spot: &SpotRow, bytes: &[u8]) -> u32
     small_number(order, spot.leaf.prim, &bytes[place..end])
 }
 
-/// The number that the bytes of a small unsigned primitive show.
+/// The number that the bytes of a small unsigned primitive encode.
 #[inline(always)]
 pub fn small_number(order: Order, prim: Prim, bytes: &[u8]) -> u32
     requires small { IsSmall prim }
     requires wide { length bytes.now ≡ prim_width prim }
     ensures { result ≡ natural (number_of order prim bytes.now) }
 {
-    // Asked for by two tests, the most frequent first: a table of all primitives would be jumped through at each number.
+    // Two tests, the most frequent one first: a `match` over all primitives would jump through a table at each number.
     if prim == Prim::U16 {
         return get_num(order, Prim::U16, bytes) as u32;
     }

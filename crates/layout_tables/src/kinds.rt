@@ -7,8 +7,8 @@ ghost use Rattle.schema_facts.specs.Measured.{IsNarrow};
 use flat_rows::{begin_of, end_behind};
 use sbe_types::MemberList;
 
-/// Where a composite's member `i` begins, counted from the composite's first byte (SBE 1.0, offset).
-/// It needs a member in range that isn't a constant, and members that end within 1,048,576 bytes.
+/// The offset of a composite's member `i` from the composite's first byte (SBE 1.0, offset). Requires a member in range
+/// that isn't a constant, and members that end within 1,048,576 bytes.
 pub fn member_place(members: &MemberList, i: usize) -> u32
     requires narrow { IsNarrow (Comp members.now) }
     requires placed { IsSome (place_in 0 members.now i) }

@@ -1,4 +1,4 @@
-//! Laws of the least number of bytes that an entry has, and of the places and names of parts.
+//! Laws of the least number of bytes of an entry, and of the offsets and names of parts.
 
 ghost use Rattle.std.specs.Prelude.{◌≡◌, ◌≤◌, ◌<◌, ◌+◌, ℕ, List, Some, length, slice_get, false};
 ghost use Rattle.sbe_types.specs.declared.kind.Kind.{Kind};
@@ -20,21 +20,21 @@ ghost use Rattle.layout_tables.specs.Parts.{parts_in_all};
 ghost use Rattle.sbe_types.specs.declared.schema.Group.{out-Group};
 ghost use Rattle.std.specs.Option.{option_map, IsSome};
 
-/// No entry that lays out has fewer bytes than the floor of its block, the dimensions of its groups and
-/// the length numbers of its data take.
+/// No entry that is laid out has fewer bytes than the floor of its block, the dimensions of its groups and the length
+/// numbers of its data take.
 pub fn no_entry_is_shorter()
     ensures { (mode : Mode) (level : Level) (k : ℕ) (entry : Block) (b : List ℕ)
         → EntryLays (λ e bytes. TailLays mode level e bytes) (form_of mode level) k entry b
         → entry_least mode.version level ≤ length b }
 {}
 
-/// A message of a schema in order has at most as many entries in all as its body has bytes.
+/// A message of a checked schema has at most as many entries in all as its body has bytes.
 pub fn no_more_entries_than_bytes()
     ensures { (schema : WireSchema) (m : Msg) (level : Level) (body : List ℕ) → IsChecked schema
         → slice_get schema.messages m.template ≡ Some level → Lays schema m body → count_in level m.block ≤ length body }
 {}
 
-/// Each field that is no constant has a place.
+/// Each field that isn't a constant has an offset.
 pub fn fields_have_places()
     ensures { (fields : List Field) (i : ℕ) (kind : Kind) → option_map (λ f. f.kind) (slice_get fields i) ≡ Some kind
         → is_const kind ≡ false → IsSome (field_place 0 fields i) }

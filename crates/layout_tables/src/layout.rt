@@ -16,11 +16,11 @@ use crate::rows::{HeaderRow, LevelRow, PartPlace, Tables, floor_of};
 use sbe_types::{Group, Header, Level, Order, WireSchema};
 use std::marker::Model;
 
-/// The tables of a schema that is in order: where each part stands. To contracts it is the schema.
+/// The tables of a checked schema: where each part is. Contracts see it as the schema.
 ///
-/// Levels are numbered from 0 in the schema's order, a message's root directly before the levels of its
-/// groups, and a group's level directly before those of its own groups. A group is named by the number of its
-/// entries' level. Data parts are numbered from 0 over the whole schema, level by level in that order.
+/// Levels are numbered from 0 in the schema's order: a message's root directly precedes the levels of its groups, and a
+/// group's level directly precedes those of its own groups. A group is identified by the number of its entries' level.
+/// Data parts are numbered from 0 over the whole schema, level by level in that order.
 #[derive(Drop)]
 pub struct Layout {
     schema: WireSchema,
@@ -45,7 +45,7 @@ impl Model for Layout {
 }
 
 impl Layout {
-    /// The schema itself, which is in order.
+    /// The schema itself, which is checked.
     pub fn schema(&self) -> &WireSchema
         ensures schema { result.now ≡ self.now }
         ensures order { IsChecked self.now }
@@ -60,7 +60,7 @@ impl Layout {
         self.tables.levels.len()
     }
 
-    /// The number of the first message of that id, or none exactly where no message has it.
+    /// The number of the first message with this id, or `None` exactly if no message has it.
     pub fn template(&self, id: u32) -> Option<usize>
         ensures { result ≡ option_map (λ m. m.0) (message_named 0 id self.now.messages) }
     {
@@ -74,7 +74,7 @@ impl Layout {
         self.schema.messages.len()
     }
 
-    /// The level of a message's root. It needs a template in range.
+    /// The level of a message's root. Requires a template in range.
     #[tactic(auto, using(crate::proofs::Told::roots_within, crate::proofs::Told::root_told))]
     pub fn root(&self, template: usize) -> usize
         requires { template < length self.now.messages }
@@ -83,7 +83,7 @@ impl Layout {
         self.tables.roots[template]
     }
 
-    /// A message's root, as the schema has it. It needs a template in range.
+    /// A message's root, as the schema has it. Requires a template in range.
     pub fn message(&self, template: usize) -> &Level
         requires { template < length self.now.messages }
         ensures { slice_get self.now.messages template ≡ Some result.now }
@@ -91,7 +91,7 @@ impl Layout {
         self.schema.messages.at(template)
     }
 
-    /// The id of a message. It needs a template in range.
+    /// The id of a message. Requires a template in range.
     pub fn template_id(&self, template: usize) -> u32
         requires { template < length self.now.messages }
         ensures { option_map (λ m. (out-Level m).id) (slice_get self.now.messages template) ≡ Some result }
@@ -107,7 +107,7 @@ impl Layout {
         self.tables.places.len()
     }
 
-    /// The row of a level. It needs a level in range.
+    /// The row of a level. Requires a level in range.
     pub fn row(&self, level: usize) -> &LevelRow
         requires { level < length (all_nodes self.now) }
         ensures { RowFor self.now level result.now }
@@ -115,7 +115,7 @@ impl Layout {
         &self.tables.levels[level]
     }
 
-    /// A level, as the schema has it. It needs a level in range.
+    /// A level, as the schema has it. Requires a level in range.
     #[tactic(auto, using(crate::proofs::Finds::root_found, crate::proofs::Finds::group_found))]
     pub fn level(&self, n: usize) -> &Level
         requires { n < length (all_nodes self.now) }
@@ -131,7 +131,7 @@ impl Layout {
         }
     }
 
-    /// Where data part `part` of the schema stands. It needs a part in range.
+    /// The location of data part `part` of the schema. Requires a part in range.
     pub fn part_place(&self, part: usize) -> PartPlace
         requires { part < length (all_parts self.now) }
         ensures { PartStands self.now part result }
@@ -139,7 +139,7 @@ impl Layout {
         self.tables.places[part]
     }
 
-    /// How many data parts stand before those of a level. It needs a level in range.
+    /// How many data parts precede those of a level. Requires a level in range.
     pub(crate) fn first_part(&self, level: usize) -> usize
         requires { level < length (all_nodes self.now) }
         ensures { (i : ℕ) → i < length (parts_at self.now level) → Numbered self.now level i result }
@@ -147,7 +147,7 @@ impl Layout {
         self.tables.firsts[level]
     }
 
-    /// How many groups and data parts a level has, which are few. It needs a level in range.
+    /// How many groups and data parts a level has, which are few. Requires a level in range.
     #[tactic(auto, using(crate::proofs::Told::groups_there, crate::proofs::Told::parts_there))]
     pub(crate) fn few_parts(&self, level: usize) -> (usize, usize)
         requires { level < length (all_nodes self.now) }
@@ -160,7 +160,7 @@ impl Layout {
         (row.groups, row.parts.len())
     }
 
-    /// The group of a level's entries. It needs the level of a group.
+    /// The group of a level's entries. Requires the level of a group.
     #[tactic(auto, using(crate::proofs::Finds::group_found, crate::proofs::GroupWalk::dim_found))]
     pub(crate) fn group_of(&self, n: usize) -> &Group
         requires { IsSome (dim_at self.now n) }
@@ -173,7 +173,7 @@ impl Layout {
         group_in(self, root.groups.as_slice(), template, first + 1, n)
     }
 
-    /// How many fields, groups and data parts a level has. It needs a level in range.
+    /// How many fields, groups and data parts a level has. Requires a level in range.
     #[tactic(auto, using(crate::proofs::Told::fields_there, crate::proofs::Told::groups_there, crate::proofs::Told::parts_there))]
     pub fn counts(&self, level: usize) -> (usize, usize, usize)
         requires { level < length (all_nodes self.now) }
@@ -183,8 +183,7 @@ impl Layout {
         (row.fields.len(), row.groups, row.parts.len())
     }
 
-    /// The block length that is written, in bytes: the declared one, or the computed one. It needs a level in
-    /// range.
+    /// The block length that is written, in bytes: the declared one, or the computed one. Requires a level in range.
     #[tactic(auto, using(crate::proofs::Told::block_told))]
     pub fn block(&self, level: usize) -> u32
         requires { level < length (all_nodes self.now) }
@@ -193,7 +192,7 @@ impl Layout {
         self.row(level).block
     }
 
-    /// From which version on field `i` of a level stands on the wire. It needs both in range.
+    /// The first version that has field `i` of a level on the wire. Requires both in range.
     #[tactic(auto, using(crate::proofs::Told::fields_there, crate::proofs::Told::since_at))]
     pub fn since(&self, level: usize, i: usize) -> u32
         requires level { level < length (all_nodes self.now) }
@@ -203,8 +202,8 @@ impl Layout {
         self.row(level).fields[i].since
     }
 
-    /// Where field `i` of a level begins, counted from its block's first byte (SBE 1.0, offset). It needs a
-    /// level in range, and in it a field in range that isn't a constant.
+    /// The offset of field `i` of a level from its block's first byte (SBE 1.0, offset). Requires a level in range, and
+    /// in it a field in range that isn't a constant.
     #[tactic(auto, using(crate::proofs::Told::place_within, crate::proofs::Told::place_at))]
     pub fn place(&self, level: usize, i: usize) -> u32
         requires level { level < length (all_nodes self.now) }
@@ -214,8 +213,8 @@ impl Layout {
         self.row(level).fields[i].place
     }
 
-    /// The end of the last field of a level that is alive at a version and no constant, or 0: a block has at
-    /// least so many bytes. It needs a level in range.
+    /// The end of the last field of a level that the version has and that isn't a constant, or 0: a block has at least
+    /// that many bytes. Requires a level in range.
     #[tactic(auto, using(crate::proofs::Told::floor_told))]
     pub fn floor(&self, level: usize, version: u32) -> u32
         requires { level < length (all_nodes self.now) }
@@ -236,7 +235,7 @@ impl Layout {
         &self.schema.header
     }
 
-    /// The header's row: its width, and where its numbers stand.
+    /// The header's row: its width, and the offsets of its numbers.
     pub fn header_row(&self) -> &HeaderRow
         ensures { HeaderIs result.now self.now.header.members }
     {
@@ -272,7 +271,7 @@ fn level_of(group: &Group) -> &Level
     &group.level
 }
 
-/// The group whose entries' level has that number, among groups whose levels begin at `first`.
+/// The group whose entries' level has this number, among groups whose levels begin at `first`.
 #[cycle(find)]
 fn group_in<'a>(
     layout: &'a Layout,

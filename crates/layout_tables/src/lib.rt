@@ -1,4 +1,4 @@
-//! Layouts: the places, widths and floors of a schema in flat tables.
+//! Layouts: the offsets, widths and floors of a schema in flat tables.
 #![tactic(auto)]
 
 mod below;

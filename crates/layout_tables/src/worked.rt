@@ -12,24 +12,24 @@ ghost use Rattle.layout_tables.specs.Paths.{path_found, path_text};
 ghost use Rattle.layout_tables.specs.Rowed.{newest_of};
 ghost use Rattle.layout_tables.specs.Rows.{worked, order, order_fields, legs, level_names, data_names, to_mantissa, to_element, to_note, to_nothing, deep_schema, to_deepest};
 
-/// A message's root stands before the levels of its groups, and a group's level before those of its own groups.
+/// A message's root precedes the levels of its groups, and a group's level precedes those of its own groups.
 pub fn levels_are_numbered_from_the_root_down()
     ensures { level_names ≡ codes "Order" ∷ codes "legs" ∷ codes "subs" ∷ codes "fees" ∷ codes "Ping" ∷ [] }
 {}
 
-/// The second message's root stands behind all levels of the first, and the second group behind those of the first.
+/// The second message's root follows all levels of the first one, and the second group those of the first one.
 pub fn roots_and_groups_stand_behind_those_before_them()
     ensures root { root_of worked 1 ≡ 4 }
     ensures group { group_number worked 0 1 ≡ 3 }
 {}
 
-/// The data of a root stands before that of its groups.
+/// The data of a root precedes that of its groups.
 pub fn data_is_numbered_level_by_level()
     ensures names { data_names ≡ codes "memo" ∷ codes "note" ∷ [] }
     ensures number { part_number worked 1 0 ≡ 1 }
 {}
 
-/// A constant has no place and takes no bytes, and a stated offset leaves a gap.
+/// A constant has no offset and takes no bytes, and a stated offset leaves a gap.
 pub fn fields_stand_behind_one_another()
     ensures constant { field_place 0 order_fields 1 ≡ None }
     ensures behind_it { field_place 0 order_fields 2 ≡ Some 1 }
@@ -45,7 +45,8 @@ pub fn floors_grow_by_versions()
     ensures later { floor 9 order_fields ≡ 18 }
 {}
 
-/// An entry has its floor, the dimensions of its groups and the length numbers of its data, as far as they are alive.
+/// An entry takes its floor, the dimensions of its groups and the length numbers of its data, as far as the version has
+/// them.
 pub fn entries_have_the_least_that_is_alive()
     ensures first { entry_least 0 order ≡ 12 + 4 }
     ensures second { entry_least 1 order ≡ 12 + 4 + 4 }
@@ -53,7 +54,7 @@ pub fn entries_have_the_least_that_is_alive()
     ensures entry { entry_least 0 legs ≡ 1 + 4 + 2 }
 {}
 
-/// Names are joined by dots, and an entry or element stands in brackets.
+/// Names are joined by dots, and the number of an entry or element is in brackets.
 pub fn paths_are_written_out()
     ensures members { path_text worked 0 to_mantissa ≡ codes "legs[2].subs[0].price.mantissa" }
     ensures element { path_text worked 0 to_element ≡ codes "sizes[1]" }
@@ -63,14 +64,14 @@ pub fn paths_are_written_out()
     ensures nothing { path_found worked 0 to_nothing ≡ None }
 {}
 
-/// A level's groups count after its fields, and then its data.
+/// A level's groups are counted after its fields, and then its data.
 pub fn parts_are_named_in_order()
     ensures field { slice_get (names_at worked 0) 0 ≡ Some (codes "side") }
     ensures group { slice_get (names_at worked 0) 5 ≡ Some (codes "legs") }
     ensures data { slice_get (names_at worked 0) 7 ≡ Some (codes "memo") }
 {}
 
-/// The schema id is read from a whole header alone.
+/// The schema id is read only from a complete header.
 pub fn schema_ids_want_a_whole_header()
     ensures whole { header_number worked (codes "schemaId") (18 ∷ 0 ∷ 20 ∷ 0 ∷ 77 ∷ 1 ∷ 2 ∷ 0 ∷ []) ≡ Some 333 }
     ensures short { header_number worked (codes "schemaId") (18 ∷ 0 ∷ 20 ∷ 0 ∷ 77 ∷ 1 ∷ 2 ∷ []) ≡ None }

@@ -12,7 +12,7 @@ field_tags ended = []
 field_tags (plain tag rest) = tag ∷ field_tags rest
 field_tags (counted tag inner rest) = field_tags rest
 
--- the tags of the counts of its groups
+-- the tags of the counts of a level's groups
 abbrev pub group_tags : Structure → List ℕ
 group_tags ended = []
 group_tags (plain tag rest) = group_tags rest
@@ -24,7 +24,7 @@ entry_rows ended = []
 entry_rows (plain tag rest) = entry_rows rest
 entry_rows (counted tag inner rest) = rows_of inner ∷ entry_rows rest
 
--- rows that are lent
+-- the rows that are lent
 abbrev pub lent_rows : List (Bor (List PlaceRow)) → List (List PlaceRow)
 lent_rows all = map (λ rows. rows.now) all
 
@@ -34,14 +34,15 @@ pub record HasPlaces (s : Structure) (places : LevelPlaces) : Type 0 where
   pub groups : places.groups ≡ group_tags s
   pub entries : lent_rows places.entries.items ≡ entry_rows s
 
--- ---- how they are gathered
+-- ---- how the places are collected
 
--- the first place of a structure that has this tag, with the rows of its entries where it is a group's, and the rows after it
+-- the first place of a structure, which has this tag, with the rows of its entries if it is a group, and the rows after
+-- it
 pub data FirstPlace (s : Structure) (tag : ℕ) (own : Option (List PlaceRow)) (after : List PlaceRow) : Type 0 where
   a_field : (more : Structure) → s ≡ plain tag more → own ≡ None → after ≡ rows_of more → FirstPlace s tag own after
   a_group : (inner more : Structure) → s ≡ counted tag inner more → own ≡ Some (rows_of inner) → after ≡ rows_of more → FirstPlace s tag own after
 
--- the places so far and those that are left are all
+-- the places so far and those that are left are all places
 pub record Gathers (s left : Structure) (fields groups : List ℕ) (entries : List (List PlaceRow)) : Type 0 where
   pub fields_rest : fields ++ field_tags left ≡ field_tags s
   pub groups_rest : groups ++ group_tags left ≡ group_tags s

@@ -1,5 +1,5 @@
-//! The places of one level of a message's structure, each found by its tag: whether a field is at it, or the rows of a
-//! group's entries.
+//! The places of one level of a message's structure, found by tag: whether there is a field, or the rows of a group's
+//! entries.
 #![tactic(auto)]
 
 mod places;

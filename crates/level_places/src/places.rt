@@ -9,7 +9,7 @@ use lists::{List, NoMem};
 use std::alloc::Global;
 use structure_rows::PlaceRow;
 
-/// The places of a level by their tags.
+/// The places of a level, by tag.
 #[derive(Drop)]
 pub struct LevelPlaces<'a> {
     fields: IdTable,
@@ -19,11 +19,11 @@ pub struct LevelPlaces<'a> {
 }
 
 impl<'a> LevelPlaces<'a> {
-    /// The places of the level that these rows are.
+    /// Creates the places of the level with these rows.
     ///
     /// # Errors
     ///
-    /// Out of memory.
+    /// If memory runs out.
     pub fn new(alloc: Global, rows: &'a [PlaceRow]) -> Result<LevelPlaces<'a>, NoMem>
         ensures { IfOk result (λ places. (s : Structure) → rows.now ≡ rows_of s → HasPlaces s places) }
     {
@@ -52,14 +52,14 @@ impl<'a> LevelPlaces<'a> {
         })
     }
 
-    /// Whether a field is at the place of a tag.
+    /// Whether the place with this tag is a field.
     pub fn is_field(&self, tag: u32) -> bool
         ensures { (s : Structure) → HasPlaces s self.now → result ≡ is_plain tag s }
     {
         self.fields.place(tag).is_some()
     }
 
-    /// The rows of the entries of the group whose count has a tag.
+    /// The rows of the entries of the group whose count has this tag.
     pub fn entries(&self, tag: u32) -> Option<&'a [PlaceRow]>
         ensures { (s : Structure) → HasPlaces s self.now
             → MatchOption result (inner_of tag s ≡ None)
@@ -72,7 +72,7 @@ impl<'a> LevelPlaces<'a> {
     }
 }
 
-/// The rows at a place.
+/// The rows at an index.
 fn rows_at<'a>(all: &[&'a [PlaceRow]], i: usize) -> Option<&'a [PlaceRow]>
     ensures { MatchOption result (slice_get (lent_rows all.now) i ≡ None) (λ rows. slice_get (lent_rows all.now) i ≡ Some rows.now) }
 {
@@ -82,7 +82,7 @@ fn rows_at<'a>(all: &[&'a [PlaceRow]], i: usize) -> Option<&'a [PlaceRow]>
     Some(all[i])
 }
 
-/// The rows of a group's entries, if the row is a group's, and the rows after them.
+/// The rows of a group's entries, if the row belongs to a group, and the rows after them.
 pub fn first_place(row: PlaceRow, rest: &[PlaceRow]) -> (Option<&[PlaceRow]>, &[PlaceRow])
     ensures shorter { length result.1.now ≤ length rest.now }
     ensures inside { IfSome result.0 (λ own. length own.now ≤ length rest.now) }
@@ -97,7 +97,7 @@ pub fn first_place(row: PlaceRow, rest: &[PlaceRow]) -> (Option<&[PlaceRow]>, &[
     }
 }
 
-/// The rows from one on.
+/// The rows from row `n` on.
 #[tactic(auto, using(std::proofs::lemmas::List::take_rest))]
 fn rest_from(rows: &[PlaceRow], n: usize) -> &[PlaceRow]
     requires { n ≤ length rows.now }
@@ -106,7 +106,7 @@ fn rest_from(rows: &[PlaceRow], n: usize) -> &[PlaceRow]
     &rows[n..]
 }
 
-/// The rows before one.
+/// The rows before row `n`.
 fn front(rows: &[PlaceRow], n: usize) -> &[PlaceRow]
     requires { n ≤ length rows.now }
     ensures { result.now ≡ take n rows.now }

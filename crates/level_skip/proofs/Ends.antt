@@ -66,7 +66,7 @@ module _ (order : Order) (version : ℕ) where
               (at_all b tt);
         }
 
--- ---- one part behind another
+-- ---- one part after another
 
 went_on : {X : Type 0} (len at : ℕ) (r : Result (X × List ℕ) Fault) (f : ℕ → Result ℕ Fault) (g : ℕ → Option ℕ) → ((n : ℕ) → n ≤ len → result_ok (f n) ≡ g n) →
     result_ok (placed len at r >>= f) ≡ option_and_then g (result_ok (placed len at r))
@@ -170,7 +170,7 @@ module _ (order : Order) (version : ℕ) where
   abbrev entry : Level → ℕ → Reader Unit
   entry level k = entry_passed (tail_passed order version level) k
 
-  -- the place behind the entries of a dimension that ends at a place
+  -- the place after the entries of a dimension that ends at a place
   abbrev pub entries_behind : Level → List ℕ → ℕ → ℕ × ℕ → Option ℕ
   entries_behind level body after d = steps_behind (behind (entry level d.0) body) d.1 after
 

@@ -92,7 +92,7 @@ module _ (order : Order) (version : ℕ) (g : Group) (bytes : List ℕ) (at : �
         ap inside_it (told ∙ ap found floors)
         ∙ sym (group_is order version g bytes at near ∙ ap (λ t. cond t (inside_it (found (floor version (out-Level level).fields))) (Some at)) lives)
 
-    -- a dimension that ends at a place, and what is behind its entries
+    -- a dimension that ends at a place, and what is after its entries
     pub group_entered : (d : ℕ × ℕ) (after : ℕ) (result : Option ℕ) → Some d ≡ found least → after ≡ at + members_end 0 (out-Group g).dim → result ≡ entries_behind order version level bytes after d →
         result ≡ behind (group_passed order version g) bytes at
     group_entered d after result told ends went = went ∙ ap (λ a. entries_behind order version level bytes a d) ends ∙ here (Some d) told
@@ -137,7 +137,7 @@ flat_level level h =
     let parts : length (out-Level level).parts ≡ 0 = grind (arith, nat_tests) in
     (none_there (out-Level level).groups groups, none_there (out-Level level).parts parts)
 
--- ---- blocks one behind another
+-- ---- blocks one after another
 
 module _ (k : ℕ) (bytes : List ℕ) where
   one_block : (n at : ℕ) → (t : Bool) → nat_le k (length bytes - at) ≡ t →

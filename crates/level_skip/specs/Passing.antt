@@ -1,5 +1,5 @@
--- Entries that are passed over: their blocks are not judged, and their groups and data are as long as they say.
--- From SBE 1.0, Repeating group encoding and Variable-length data.
+-- Entries that are skipped: their blocks are not checked, and their groups and data are as long as they state. From SBE
+-- 1.0, Repeating group encoding and Variable-length data.
 use Rattle.std.specs.Prelude.{ℕ, nat_le, if◌then◌else◌, Ok, Err, pos}
 use Rattle.sbe_types.specs.declared.kind.Order.{Order}
 use Rattle.sbe_types.specs.declared.schema.Group.{Group, Group'}
@@ -23,12 +23,12 @@ unfoldable mutual
   tail_passed order version (Level' name id semantic since block_length fields _ groups parts) b =
       then_read (groups_passed order version groups) (λ _. passed (each_read (data_read order version) 0 parts)) b
 
-  -- groups, one behind another
+  -- groups, in order
   pub groups_passed : Order → ℕ → {n : _} → Row_of-Group n → Reader Unit
   groups_passed order version end_of-Group b = Ok (tt, b)
   groups_passed order version (more_of-Group g rest) b = then_read (group_passed order version g) (λ _. groups_passed order version rest) b
 
-  -- a group, which takes no bytes where it is not alive
+  -- a group, which takes no bytes if it isn't alive
   pub group_passed : Order → ℕ → Group → Reader Unit
   group_passed order version (Group' dim level) b =
       if is_alive version (out-Level level).since
@@ -40,7 +40,7 @@ unfoldable mutual
 abbrev pub entry_in : Order → ℕ → Level → ℕ → Reader Unit
 entry_in order version level k = entry_passed (tail_passed order version level) k
 
--- the same where the block reaches the floor
+-- the same if the block reaches the floor
 abbrev pub level_passed : Order → ℕ → Level → ℕ → Reader Unit
 level_passed order version level k b =
     if nat_le (floor version (out-Level level).fields) k

@@ -1,4 +1,4 @@
-//! What is stepped over where an entry lies.
+//! Laws of skipping an entry.
 
 ghost use Rattle.std.specs.Prelude.{◌≡◌, ◌++◌, ◌+◌, ℕ, List, Ok, Some, length};
 ghost use Rattle.sbe_types.specs.declared.message.Block.{Block};
@@ -10,14 +10,15 @@ ghost use Rattle.sbe_wire.specs.Placed.{IsPlacedLevel};
 ghost use Rattle.level_skip.specs.Passing.{level_passed};
 ghost use Rattle.level_skip.specs.Behind.{behind};
 
-/// Where an entry of a level lies, exactly its bytes are passed over, whatever follows them.
+/// If an entry of a level lies at the front of the bytes, exactly its bytes are skipped, whatever follows them.
 pub fn entry_that_lies_is_passed()
     ensures { (mode : Mode) (level : Level) (k : ℕ) (entry : Block) (front rest : List ℕ) → IsPlacedLevel level
         → EntryLays (λ e b. TailLays mode level e b) (form_of mode level) k entry front
         → level_passed mode.order mode.version level k (front ++ rest) ≡ Ok (tt, rest) }
 {}
 
-/// Where an entry of a level lies, the place behind it is the one behind its bytes, wherever they begin.
+/// If an entry of a level lies in the bytes, the offset after it is that of the byte after its last one, wherever it
+/// begins.
 pub fn entry_that_lies_ends_behind_its_bytes()
     ensures { (mode : Mode) (level : Level) (k : ℕ) (entry : Block) (before front rest : List ℕ) → IsPlacedLevel level
         → EntryLays (λ e b. TailLays mode level e b) (form_of mode level) k entry front

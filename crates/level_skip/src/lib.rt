@@ -1,4 +1,4 @@
-//! Entries that are stepped over, with all their groups and data.
+//! Skips entries, with all their groups and data.
 #![tactic(auto)]
 
 pub mod laws;

@@ -20,13 +20,14 @@ use layout_tables::{DimRow, Layout, PartRow};
 use sbe_types::{Group, Level, Order};
 use var_data::read_data_of;
 
-/// Steps over one entry of a level, with all its groups and data, and tells the place behind them. The entry's block begins at
-/// a place of the bytes, and has as many of them as the dimension says. What stands in blocks isn't judged. It needs a level in
-/// range.
+/// Skips one entry of a level, with all its groups and data, and returns the offset after them. The entry's block
+/// begins at an offset of the bytes, and has the length that the dimension states. The contents of blocks aren't
+/// checked. Requires a level in range.
 ///
-/// None exactly where a part of the entry can't be laid out: a block, a dimension, a length number or data pass the end of the
-/// bytes; a count or a length isn't admitted; or a block is shorter than the floor of its level at that version (SBE 1.0,
-/// "Repeating group encoding", "Variable-length data"). Where a count is 0 the block length isn't compared.
+/// `None` exactly if a part of the entry can't be laid out: a block, a dimension, a length number or data extend past
+/// the end of the bytes; a count or a length is out of range; or a block is shorter than the floor of its level at this
+/// version (SBE 1.0, "Repeating group encoding", "Variable-length data"). If a count is 0 the block length isn't
+/// compared.
 pub fn skip_level(
     layout: &Layout,
     level: usize,
@@ -55,7 +56,7 @@ pub fn skip_level(
     )
 }
 
-/// The place behind an entry of a level, with a block of so many bytes.
+/// The offset after an entry of a level, with a block of `block` bytes.
 #[cycle(skip)]
 fn pass_entry(
     layout: &Layout,
@@ -85,7 +86,7 @@ fn pass_entry(
     }
 }
 
-/// The place behind the groups of a level.
+/// The offset after the groups of a level.
 #[cycle(skip)]
 fn pass_groups(
     layout: &Layout,
@@ -114,7 +115,7 @@ fn pass_groups(
     Some(at)
 }
 
-/// The number of the level behind a level.
+/// The number of the level that follows a level.
 fn first_child(layout: &Layout, n: usize) -> usize
     requires { n < length (all_nodes layout.now) }
     ensures { result ≡ n + 1 }
@@ -123,7 +124,7 @@ fn first_child(layout: &Layout, n: usize) -> usize
     n + 1
 }
 
-/// The place behind a group, whose entries' level has that number.
+/// The offset after a group, whose entries' level has this number.
 #[cycle(skip)]
 fn pass_group(
     layout: &Layout,
@@ -154,7 +155,7 @@ fn pass_group(
     }
 }
 
-/// The dimension of a group whose entries have at least so many bytes in their blocks, if one lies there.
+/// The dimension of a group whose entries have blocks of at least `least` bytes, if there is one.
 fn find_dim(order: Order, row: &DimRow, least: u32, bytes: &[u8], at: usize) -> Option<Dim>
     requires row { IsDimRow row.now }
     requires at { at ≤ length bytes.now }
@@ -174,7 +175,7 @@ fn find_dim(order: Order, row: &DimRow, least: u32, bytes: &[u8], at: usize) -> 
     }
 }
 
-/// The place behind the entries of a group, from behind its dimension on.
+/// The offset after the entries of a group, from the end of its dimension on.
 #[cycle(skip)]
 fn pass_entries(
     layout: &Layout,
@@ -210,7 +211,7 @@ fn is_flat(level: &Level) -> bool
     level.groups.is_empty() && level.parts.is_empty()
 }
 
-/// The place behind the blocks of entries without groups and data.
+/// The offset after the blocks of entries without groups and data.
 fn pass_blocks(dim: Dim, bytes: &[u8]) -> Option<usize>
     requires at { dim.after ≤ length bytes.now }
     ensures told { result ≡ steps_behind (bytes_behind dim.block bytes.now) dim.count dim.after }
@@ -223,7 +224,7 @@ fn pass_blocks(dim: Dim, bytes: &[u8]) -> Option<usize>
     Some(dim.after + size)
 }
 
-/// The place behind data parts.
+/// The offset after data parts.
 fn pass_parts(
     order: Order,
     version: u32,
@@ -246,7 +247,7 @@ fn pass_parts(
     Some(at)
 }
 
-/// The place behind a data part.
+/// The offset after a data part.
 fn pass_part(order: Order, version: u32, part: &PartRow, bytes: &[u8], at: usize) -> Option<usize>
     requires small { IsSmall part.now.length.prim }
     requires at { at ≤ length bytes.now }

@@ -1,4 +1,4 @@
--- The parts of an order, one behind another, are the canonical body of its message.
+-- The parts of an order, one after another, are the canonical body of its message.
 use Rattle.std.proofs.Common.{◌≡◌, ◌≤◌, ◌<◌, ◌+◌, ◌-◌, ℕ, suc, ℤ, List, [], ◌∷◌, length, drop, map, get_or, Option, Some, refl, sym, ap, ap₂, ◌∙◌, subst, arith}
 use Rattle.std.specs.Prelude.{slice_get}
 use Rattle.std.specs.Option.{option_and_then}
@@ -124,7 +124,7 @@ pub order_parts : (number : ℤ) (legs : List ℤ) (note : List ℕ) → (out-Bl
 unfolding carrier.out
 order_parts number legs note = refl
 
--- a leg has nothing behind its block
+-- a leg has nothing after its block
 pub no_tail : (order : Order) (level : Level) (quantity : ℤ) → (out-Level level).groups ≡ [] → (out-Level level).parts ≡ [] → tail_bytes order level (leg_block quantity) ≡ Some []
 unfolding carrier.out
 no_tail order level quantity groups parts =
@@ -182,7 +182,7 @@ module _ (schema : WireSchema) (ready : IsReadySchema schema) (order : IsOrderSc
       let front : drop i xs ≡ x ∷ drop (i + 1) xs = drop_at xs i x (item_at xs i x low is) ∙ ap (λ j. x ∷ drop j xs) on in
       left_behind now new (leg_bytes schema x) (legs_in (drop (i + 1) xs)) (legs_in (drop i xs)) (behind old (legs_in xs)) one (ap (all_bytes (leg_bytes schema)) front) so_far
 
-  -- the dimension, and all legs behind it
+  -- the dimension, and all legs after it
   pub legs_written : (xs : List ℤ) (i : ℕ) (old opened last new : Held) → old.frames ≡ Tail (root_of schema 0) 0 ∷ [] → Groups schema (length xs) old opened → length xs ≤ i →
       behind last.bytes (legs_in (drop i xs)) ≡ behind opened.bytes (legs_in xs) → new ≡ ends last → behind old.bytes (legs_bytes schema xs) ≡ Some new.bytes
   legs_written xs i old opened last new at groups over left ended =
@@ -209,7 +209,7 @@ module _ (schema : WireSchema) (ready : IsReadySchema schema) (order : IsOrderSc
       ∙ ap (entries_bytes schema.order (out-Group g).dim long (λ entry. entry_put schema.order legs entry)) (entries_are v (map leg_block xs) refl)
       ∙ ap₂ both (ap (λ k. named_bytes schema.order (dimension_numbers long k) 0 (out-Group g).dim) (length-map xs leg_block) ∙ sym dim) (sym (legs_put xs))
 
-  -- the group and the data behind the root's block
+  -- the group and the data after the root's block
   tail_written : (number : ℤ) (xs : List ℤ) (note front : List ℕ) (mid last : Held) → behind front (legs_bytes schema xs) ≡ Some mid.bytes → mid.frames ≡ Tail (root_of schema 0) 1 ∷ [] → Adds schema note mid last →
       behind front (tail_bytes schema.order levels.root (order_block number xs note)) ≡ Some last.bytes
   unfolding carrier.out

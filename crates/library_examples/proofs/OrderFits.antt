@@ -136,7 +136,7 @@ module _ (schema : WireSchema) where
       let front : drop i xs ≡ x ∷ drop (i + 1) xs = drop_at xs i x (item_at xs i x low is) ∙ ap (λ j. x ∷ drop j xs) on in
       ap (λ m. or_else m (legs_misfit schema (drop (i + 1) xs))) (sym one) ∙ sym (ap (legs_misfit schema) front) ∙ so_far
 
-  -- all legs, behind their dimension
+  -- all legs, after their dimension
   pub legs_fit : (xs : List ℤ) (i : ℕ) (old opened : Held) → old.frames ≡ Tail (root_of schema 0) 0 ∷ [] → Groups schema (length xs) old opened → length xs ≤ i →
       legs_misfit schema (drop i xs) ≡ legs_misfit schema xs → LegsFit schema xs
   legs_fit xs i old opened at groups over so_far = (

@@ -1,4 +1,4 @@
--- What is told of the body of a line.
+-- What is reported of the body of a line.
 use Rattle.std.specs.Prelude.{◌≡◌, ℕ, List, Some, None, Ok}
 use Rattle.sbe_types.specs.declared.schema.WireSchema.{WireSchema}
 use Rattle.sbe_types.specs.declared.message.Msg.{Msg}
@@ -17,7 +17,7 @@ pub record IsBodyOf (schema : WireSchema) (line : List ℕ) (limit : ℕ) (body 
   pub fits : misfit schema message limit ≡ None
   pub written : canonical schema message ≡ Some body
 
--- the line holds no message; or it holds one, and this is the first misfit of it within the limit
+-- the line isn't a message; or it is one, and this is its first misfit within the limit
 abbrev pub IsNoBody : WireSchema → List ℕ → ℕ → BodyErr → Type 0
 IsNoBody schema line limit (Line fault) = IsRefused schema line fault
 IsNoBody schema line limit (Misfit e) = (m : Msg) × (tree_of schema line ≡ Ok m) × (misfit schema m limit ≡ Some (sized_err e))

@@ -1,4 +1,4 @@
--- What is told of the template of a line.
+-- What is reported of the template of a line.
 use Rattle.std.specs.Prelude.{◌≡◌, ℕ, List, Some, Ok, Err, slice_get, ⊤}
 use Rattle.std.specs.Option.{option_map}
 use Rattle.sbe_types.specs.declared.schema.Level.{out-Level}
@@ -15,7 +15,7 @@ pub record NamesTemplate (schema : WireSchema) (line name : List ℕ) : Type 0 w
   pub held : tree_of schema line ≡ Ok message
   pub named : option_map (λ level. (out-Level level).name) (slice_get schema.messages message.template) ≡ Some name
 
--- the line holds no message, by the first refusal; for want of memory nothing is said
+-- the line isn't a message, by the first refusal; nothing is required when out of memory
 abbrev pub IsRefused : WireSchema → List ℕ → LineFault → Type 0
 IsRefused schema line (Refused code place) = tree_of schema line ≡ Err (refusal code place)
 IsRefused schema line Memory = ⊤

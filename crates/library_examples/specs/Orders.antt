@@ -25,7 +25,8 @@ use Rattle.tree_codec.specs.Puts.{HasRoom, Puts, entry_put, entry_stretch, group
 abbrev pub legs_of : WireSchema → ℕ
 legs_of schema = group_number schema (root_of schema 0) 0
 
--- The first message has one field, one group whose entries have one field and nothing behind their block, and one data part.
+-- The first message has one field, one group whose entries have one field and nothing after their block, and one data
+-- part.
 pub record IsOrderSchema (schema : WireSchema) : Type 0 where
   pub message : 0 < length schema.messages
   pub fields : length (fields_at schema (root_of schema 0)) ≡ 1
@@ -57,21 +58,21 @@ order_block number legs note = record {
 abbrev pub order_message : ℕ → ℤ → List ℤ → List ℕ → Msg
 order_message version number legs note = record { template = 0; version = version; block = order_block number legs note }
 
--- the same of an order as code has it
+-- the same for an order of the code
 abbrev pub message_of_order : ℕ → Order → Msg
 message_of_order version order = order_message version order.number order.legs.now order.note.now
 
--- ---- its bytes
+-- ---- the bytes of an order
 
--- those of a leg
+-- the bytes of a leg
 abbrev pub leg_bytes : WireSchema → ℤ → Option (List ℕ)
 leg_bytes schema quantity = option_and_then (λ (level : Level). entry_put schema.order level (leg_block quantity)) (level_at schema (legs_of schema))
 
--- those of all legs behind their dimension
+-- the bytes of all legs after their dimension
 abbrev pub legs_bytes : WireSchema → List ℤ → Option (List ℕ)
 legs_bytes schema legs = both (dimension_in schema (legs_of schema) (length legs)) (all_bytes (leg_bytes schema) legs)
 
--- ---- what of it fits
+-- ---- what fits of an order
 
 -- the quantity fits the field of a leg
 abbrev pub LegFits : WireSchema → ℤ → Type 0
@@ -82,36 +83,36 @@ abbrev pub legs_misfit : WireSchema → List ℤ → Option Misfit
 legs_misfit schema [] = None
 legs_misfit schema (q ∷ qs) = or_else (misfit_at schema (legs_of schema) 0 (value.Num q)) (legs_misfit schema qs)
 
--- the group may have so many legs, and each fits
+-- the group may have this many legs, and each fits
 abbrev pub LegsFit : WireSchema → List ℤ → Type 0
 LegsFit schema legs = (admits_entries schema (legs_of schema) (length legs) ≡ true) × (legs_misfit schema legs ≡ None)
 
 -- ---- what has room
 
--- The entry of a leg has no misfit, and room behind what is held.
+-- The entry of a leg has no misfit, and there is room for it after what is held.
 pub record LegHasRoom (schema : WireSchema) (quantity : ℤ) (held : Held) : Type 0 where
   pub level : Level
   pub there : level_at schema (legs_of schema) ≡ Some level
   pub room : HasRoom (entry_stretch schema.order level (leg_block quantity)) held
 
--- The entry of a leg stands behind what was held, and the writer goes on with the next one.
+-- The entry of a leg was appended, and the writer continues with the next one.
 pub record PutsLeg (schema : WireSchema) (quantity : ℤ) (old new : Held) : Type 0 where
   pub level : Level
   pub there : level_at schema (legs_of schema) ≡ Some level
   pub puts : Puts (entry_stretch schema.order level (leg_block quantity)) (Entries (legs_of schema) (entries_left old.frames - 1)) old new
 
--- The group of all legs has no misfit, and room behind what is held.
+-- The group of all legs has no misfit, and there is room for it after what is held.
 pub record LegsHaveRoom (schema : WireSchema) (legs : List ℤ) (held : Held) : Type 0 where
   pub group : Group
   pub one : groups_at schema (root_of schema 0) ≡ group ∷ []
   pub room : HasRoom (group_stretch schema.order group (groupval.Entries (map leg_block legs))) held
 
--- The group of all legs stands behind what was held, and the writer goes on behind it.
+-- The group of all legs was appended, and the writer continues after it.
 pub record PutsLegs (schema : WireSchema) (legs : List ℤ) (old new : Held) : Type 0 where
   pub group : Group
   pub one : groups_at schema (root_of schema 0) ≡ group ∷ []
   pub puts : Puts (group_stretch schema.order group (groupval.Entries (map leg_block legs))) (Tail (root_of schema 0) 1) old new
 
--- an order that isn't written: the schema's first message is no order, or the message has a misfit within the limit
+-- an order that isn't written: the schema's first message isn't an order, or the message has a misfit within the limit
 abbrev pub IsNoOrder : WireSchema → Msg → ℕ → Type 0
 IsNoOrder schema m limit = IsOrderSchema schema → misfit schema m limit ≢ None

@@ -42,7 +42,7 @@ abbrev pub sum_at : ℕ → List Seen → ℤ
 sum_at i [] = pos 0
 sum_at i (e ∷ es) = unwrap_or (number_at i e) (pos 0) +ℤ sum_at i es
 
--- the entries of a group; where it is absent there are none
+-- the entries of a group; none if it is absent
 abbrev pub all_entries : Option (Option (List Seen)) → List Seen
 all_entries None = []
 all_entries (Some None) = []
@@ -56,7 +56,7 @@ group_entries group seen = all_entries (group_seen (slice_get seen.groups group)
 abbrev pub group_sum : ℕ → ℕ → Seen → ℤ
 group_sum group field seen = sum_at field (group_entries group seen)
 
--- The sum of a field over some of the first entries passes 128 bits.
+-- The sum of a field over some of the first entries exceeds 128 bits.
 pub record PassesRange (field : ℕ) (entries : List Seen) : Type 0 where
   pub front : List Seen
   pub back : List Seen
@@ -71,7 +71,8 @@ pub record IsSum (schema : WireSchema) (body : List ℕ) (group field : ℕ) (su
   pub root : slice_get schema.messages message.template ≡ Some level
   pub is : sum ≡ group_sum group field (seen_level level message.block)
 
--- A message lies in the body, and over some of the first entries of one of its groups the sum of a field passes 128 bits.
+-- A message lies in the body, and over some of the first entries of one of its groups the sum of a field exceeds 128
+-- bits.
 pub record IsOver (schema : WireSchema) (body : List ℕ) (group field : ℕ) : Type 0 where
   pub message : Msg
   pub level : Level
@@ -79,7 +80,7 @@ pub record IsOver (schema : WireSchema) (body : List ℕ) (group field : ℕ) : 
   pub root : slice_get schema.messages message.template ≡ Some level
   pub passes : PassesRange field (group_entries group (seen_level level message.block))
 
--- the first fault of the body, or that a sum passes 128 bits
+-- the first fault of the body, or that a sum exceeds 128 bits
 abbrev pub IsNoSum : WireSchema → List ℕ → ℕ → ℕ → SumErr → Type 0
 IsNoSum schema body group field (Refused r) = FirstFault schema (refused r) body
 IsNoSum schema body group field Over = IsOver schema body group field

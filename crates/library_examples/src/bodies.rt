@@ -1,4 +1,4 @@
-// A line of JSON becomes a body.
+// Turns a line of JSON into a body.
 ghost use Rattle.std.specs.Prelude.{◌≡◌, length, IfOk, IfErr, OnOk};
 ghost use Rattle.library_examples.specs.Bodies.{IsBodyOf, IsNoBody};
 
@@ -13,18 +13,18 @@ use typed_writer::FrameBuf;
 /// Why a line has no body.
 #[derive(Drop)]
 pub enum BodyErr {
-    /// The line holds no message of the schema.
+    /// The line doesn't hold a message of the schema.
     Line(LineFault),
     /// The message has no canonical body within the buffer's limit.
     Misfit(EncodeErr),
 }
 
-/// Writes the canonical body of the message that a line of JSON holds, and tells how many bytes it has. The layout is
+/// Writes the canonical body of the message that a line of JSON holds, and returns its length in bytes. The layout is
 /// that of the checked schema.
 ///
 /// # Errors
 ///
-/// `Line` and `Misfit` tell the first fault, with its place.
+/// `Line` and `Misfit` carry the first fault, with its place.
 pub fn body_of_line(
     alloc: Global,
     checked: &Checked,

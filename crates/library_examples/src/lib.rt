@@ -1,5 +1,5 @@
-//! Small uses of the library, for whoever embeds it: a schema file is loaded; a field is summed over the entries of a group, from
-//! the bytes; an order is written part by part; the template of a line of JSON is told.
+//! Small uses of the library, for those who embed it: a schema file is loaded; a field is summed over the entries of a
+//! group, from the bytes; an order is written part by part; the template of a line of JSON is found.
 #![tactic(auto)]
 
 mod bodies;

@@ -11,7 +11,7 @@ use std::alloc::Global;
 ///
 /// # Errors
 ///
-/// `Refused` exactly where the line holds no message of the schema, and `Memory` for want of memory.
+/// `Refused` exactly if the line doesn't hold a message of the schema, and `Memory` if memory runs out.
 pub fn template_of<'a>(
     alloc: Global,
     checked: &'a Checked,

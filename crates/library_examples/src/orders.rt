@@ -20,31 +20,31 @@ pub struct Order<'a> {
     pub note: &'a [u8],
 }
 
-/// Why an order isn't written.
+/// Why an order wasn't written.
 #[derive(Drop)]
 pub enum OrderErr {
-    /// The schema's first message is no order.
+    /// The schema's first message isn't an order.
     Schema,
     /// The message can't be begun.
     Start(StartErr),
     /// A number doesn't fit its field.
     Field(FieldErr),
-    /// A further field of the block has to be set.
+    /// Another field of the block must be set.
     Unset(usize),
     /// The legs or the note can't be appended.
     Part(TailErr),
-    /// A leg has no room.
+    /// There is no room for a leg.
     Full(Full),
 }
 
-/// Writes an order as the first message of a schema: the message fits, and its canonical body is what the buffer then
-/// holds. Tells how many bytes it has. The message has one field, one group whose entries have one field, and one data
-/// part. It takes no memory.
+/// Writes an order as the first message of a schema: the message fits, and the buffer then holds its canonical body.
+/// Returns its length in bytes. The message must have one field, one group whose entries have one field, and one data
+/// part. Allocates nothing.
 ///
 /// # Errors
 ///
-/// Only where the first message of the schema is no order, or the order has a misfit within the buffer's limit. No contract
-/// says which, nor what the buffer then holds.
+/// Only if the first message of the schema isn't an order, or the order has a misfit within the buffer's limit. No
+/// contract says which one, or what the buffer then holds.
 pub fn write_order(
     layout: &Layout,
     order: &Order<'_>,
@@ -131,7 +131,7 @@ fn write_legs(layout: &Layout, tail: &mut TailW<'_>, legs: &[i128]) -> Result<()
     }
 }
 
-/// Appends the entry of a leg. It needs an entry that is still to come.
+/// Appends the entry of a leg. Requires an entry that is still to come.
 fn write_leg(layout: &Layout, entries: &mut EntriesW<'_>, quantity: i128) -> Result<(), OrderErr>
     requires ready { IsReadySchema layout.now }
     requires schema { IsOrderSchema layout.now }

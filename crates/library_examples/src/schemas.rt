@@ -1,4 +1,4 @@
-// A schema file becomes a layout.
+// Turns a schema file into a layout.
 ghost use Rattle.std.specs.Prelude.{IfOk, IfErr};
 ghost use Rattle.library_examples.specs.Schemas.{IsLoaded, IsNotLoaded};
 
@@ -16,16 +16,16 @@ pub enum LoadErr {
     File(SchemaErr),
     /// The schema breaks a rule.
     Rule(CheckErr),
-    /// Memory is wanting.
+    /// Out of memory.
     Memory,
 }
 
-/// The layout of a schema file: its elements are read, its rules are asked, and each part gets its place. All memory
-/// that a schema needs is taken here.
+/// The layout of a schema file: its elements are read, its rules are checked, and each part gets its offset. All memory
+/// that a schema needs is allocated here.
 ///
 /// # Errors
 ///
-/// `File` and `Rule` tell the first fault, with its place.
+/// `File` and `Rule` carry the first fault, with its place.
 pub fn load(alloc: Global, file: &[u8]) -> Result<Layout, LoadErr>
     ensures loaded { IfOk result (λ layout. IsLoaded file.now layout) }
     ensures refused { IfErr result (IsNotLoaded file.now) }

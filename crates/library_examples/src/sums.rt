@@ -14,18 +14,17 @@ use sbe_types::{Kind, LeafShape};
 pub enum SumErr {
     /// No message of the schema lies in the body.
     Refused(Refusal),
-    /// The sum passes 128 bits.
+    /// The sum doesn't fit 128 bits.
     Over,
 }
 
-/// The sum of field `field` over the entries of group `group` of the message that lies in a body. Both are counted
-/// from 0. An entry without a number there counts as 0, and so does a message without the group. It takes no
-/// memory.
+/// The sum of field `field` over the entries of group `group` of the message that lies in a body. Both numbers count
+/// from 0. An entry without a number there counts as 0, and so does a message without the group. Allocates nothing.
 ///
 /// # Errors
 ///
-/// `Refused` exactly where no message of the schema lies in the body. `Over` only where the numbers of some of the first
-/// entries have a sum that passes 128 bits.
+/// `Refused` exactly if no message of the schema lies in the body. `Over` only if the sum of the numbers of some of the
+/// first entries doesn't fit 128 bits.
 pub fn sum_entries(layout: &Layout, body: &[u8], group: usize, field: usize) -> Result<i128, SumErr>
     ensures sum { IfOk result (IsSum layout.now body.now group field) }
     ensures refused { IfErr result (IsNoSum layout.now body.now group field) }
@@ -65,7 +64,7 @@ fn sum_over(entries: EntriesView<'_>, field: usize) -> Option<i128>
     Some(sum)
 }
 
-/// The number of a field, or 0 where it has none.
+/// The number of a field, or 0 if it has none.
 fn number_or_zero(block: &BlockView<'_>, i: usize) -> i128
     ensures { result ≡ unwrap_or (number_at i block.now) (pos 0) }
 {
@@ -75,7 +74,7 @@ fn number_or_zero(block: &BlockView<'_>, i: usize) -> i128
     0
 }
 
-/// Whether a field has a number. It needs a field in range.
+/// Whether a field has a number. Requires a field in range.
 fn has_number(block: &BlockView<'_>, i: usize) -> bool
     requires { i < length block.now.fields }
     ensures { result ≡ is_some (option_and_then number_in (slice_get (out-Block block.now.block).fields i)) }
@@ -89,7 +88,7 @@ fn has_number(block: &BlockView<'_>, i: usize) -> bool
     }
 }
 
-/// Whether a value of the kind is one number: an integer, an enum or a set.
+/// Whether a value of the kind is a single number: an integer, an enum or a set.
 fn is_number_kind(kind: &Kind) -> bool
     ensures { result ≡ is_number_kind kind.now }
 {

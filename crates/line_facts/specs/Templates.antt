@@ -10,6 +10,6 @@ pub record IsOfSchema (schema : WireSchema) (m : Msg) : Type 0 where
   pub template : IsSome (slice_get schema.messages m.template)
   pub version : m.version ≡ schema.version
 
--- so is each message that a line holds
+-- the same holds of each message that a line holds
 abbrev pub LinesHaveTemplates : Type 0
 LinesHaveTemplates = (schema : WireSchema) (line : List ℕ) (m : Msg) → tree_of schema line ≡ Ok m → IsOfSchema schema m

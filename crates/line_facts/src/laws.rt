@@ -1,4 +1,4 @@
-//! A law of the definition of what a line holds.
+//! A law of the definition of a line's contents.
 
 ghost use Rattle.line_facts.specs.Templates.{LinesHaveTemplates};
 

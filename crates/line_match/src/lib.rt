@@ -1,4 +1,4 @@
-//! Whether the line of a message is a given one: it is printed into a sink that takes the bytes of that line alone.
+//! Whether the line of a message is a given one: it is printed into a sink that accepts only the bytes of that line.
 #![tactic(auto)]
 
 mod matched;

@@ -3,7 +3,7 @@ ghost use Rattle.line_match.specs.Pieces.{StandsAt};
 
 use sbe_base::{Failed, Sink};
 
-/// Takes the bytes of a line alone, in order, and fails at any other.
+/// Accepts only the bytes of a line, in order, and fails at any other.
 #[derive(Drop)]
 pub(crate) struct SameSink<'a> {
     line: &'a [u8],
@@ -13,7 +13,7 @@ pub(crate) struct SameSink<'a> {
 }
 
 impl<'a> SameSink<'a> {
-    /// A sink that has taken nothing of the line.
+    /// A sink that has accepted nothing of the line yet.
     pub(crate) fn new(line: &'a [u8]) -> SameSink<'a>
         ensures line { result.line.now ≡ line.now }
         ensures at { result.at ≡ 0 }
@@ -25,7 +25,7 @@ impl<'a> SameSink<'a> {
         }
     }
 
-    /// Whether this is the line, and it was taken whole.
+    /// Whether this is the line, and all of it was accepted.
     pub(crate) fn is_whole(&self, line: &[u8]) -> bool
         ensures { result ≡ true → line.now ≡ take self.now.at self.now.line.now }
     {
@@ -33,7 +33,7 @@ impl<'a> SameSink<'a> {
     }
 }
 
-/// Whether the bytes stand at a place of the line.
+/// Whether the bytes are at this offset of the line.
 #[inline(always)]
 fn has_next(line: &[u8], at: usize, bytes: &[u8]) -> bool
     requires { at ≤ length line.now }

@@ -19,7 +19,7 @@ group_list_read (g ∷ gs) ms = do
   vs ← group_list_read gs ms
   Ok (v ∷ vs)
 
--- what stands in the object of a level
+-- a block by the members of the object of a level
 unfoldable pub block_opened : Level → Members → Reading Block
 block_opened level ms = do
   found_fields ← part (codes "fields") (field_names (out-Level level).fields) ms

@@ -63,11 +63,11 @@ abbrev pub group_names : {n : _} → Row_of-Group n → List (List ℕ)
 group_names end_of-Group = []
 group_names (more_of-Group g rest) = group_name g ∷ group_names rest
 
--- what stands in an entry's object
+-- a block by the members of an entry's object
 abbrev pub entry_of : (Members → Reading Block) → Members → Reading Block
 entry_of block ms = known entry_names ms >>= (λ _. block ms)
 
--- an entry: an object
+-- an entry, which is an object
 abbrev pub entry_in : (Members → Reading Block) → Data → Reading Block
 entry_in block d = do
   ms ← or_refuse Kind [] (as_object d)
@@ -81,16 +81,16 @@ entries_of block ds = each (entry_in block) 0 ds >>= (λ entries. Ok (groupval.E
 abbrev pub entries_in : (Members → Reading Block) → Data → Reading GroupVal
 entries_in block d = or_refuse Kind [] (as_array d) >>= entries_of block
 
--- the entries of a group; a missing one has none
+-- the entries of a group; none if it is missing
 abbrev pub group_in : (Members → Reading Block) → Option Data → Reading GroupVal
 group_in block found = there_or (Ok (groupval.Entries [])) (entries_in block) found
 
--- a block of these values
+-- a block with these values
 abbrev pub block_with : List Value → List GroupVal → List DataVal → Block
 block_with fields groups parts = record { fields = fields; groups = groups; parts = parts }
 
 unfoldable mutual
-  -- what stands in the object of a message's root or of an entry: fields, then groups, then data
+  -- the block of a message's root or of an entry, by the members of its object: fields, then groups, then data
   pub block_read : Level → Members → Reading Block
   block_read (Level' name id semantic since block_length fields n groups parts) ms = do
     found_fields ← part (codes "fields") (field_names fields) ms
@@ -115,22 +115,22 @@ unfoldable mutual
 
 -- ---- messages
 
--- a message's level, with its number in the schema
+-- the level of a message, and its number in the schema
 pub record Template : Type 0 where
   pub number : ℕ
   pub level : Level
 
--- the first level of that name, where they count from i on
+-- the first level with this name; the levels are numbered from i on
 abbrev pub level_named : ℕ → List Level → List ℕ → Option Template
 level_named i [] s = None
 level_named i (level ∷ levels) s =
     if bytes_eq (out-Level level).name s then Some (record { number = i; level = level }) else level_named (suc i) levels s
 
--- the template by its name; an unknown name is its own place
+-- the template with this name; the place of an unknown name is the name itself
 abbrev pub named_template : List Level → List ℕ → Reading Template
 named_template levels s = or_refuse UnknownName s (level_named 0 levels s)
 
--- the template of a message, which must be there, as a string
+-- the template of a message, whose name must be there, as a string
 abbrev pub template_in : List Level → Option Data → Reading Template
 template_in levels None = refuse Shape (codes "template")
 template_in levels (Some d) = or_refuse Kind (codes "template") (as_str d) >>= named_template levels
@@ -140,7 +140,7 @@ abbrev pub is_version : ℕ → Option ℕ → Bool
 is_version version None = false
 is_version version (Some n) = n == version
 
--- the version, where it stands, is the schema's
+-- the version, if it is there, is the schema's
 abbrev pub version_in : ℕ → Option Data → Reading (Unit {0})
 version_in version None = Ok tt
 version_in version (Some d) =
@@ -163,7 +163,7 @@ message_read schema ms = do
 abbrev pub message_in : WireSchema → Data → Reading Msg
 message_in schema d = or_refuse Shape [] (as_object d) >>= message_read schema
 
--- the message in what is read of a text
+-- the message of what is read of a text
 abbrev pub found_in : WireSchema → Option Data → Reading Msg
 found_in schema None = refuse NotJson []
 found_in schema (Some d) = message_in schema d

@@ -16,7 +16,7 @@ use lists::List;
 use sbe_types::{Block, BlockList, Group, GroupVal, GroupValList, Level};
 use std::alloc::Global;
 
-/// What stands in the object of a message's root or of an entry: fields, then groups, then data.
+/// Reads the contents of the object of a message's root or of an entry: fields, then groups, then data.
 #[cycle(block)]
 #[tactic(auto, unfolding(crate::specs::Code::block_opened))]
 fn read_opened(
@@ -42,7 +42,7 @@ fn read_opened(
     })
 }
 
-/// The block of a level.
+/// Reads the block of a level.
 #[cycle(block)]
 pub fn read_block(
     alloc: Global,
@@ -54,7 +54,7 @@ pub fn read_block(
     read_opened(alloc, level, object)
 }
 
-/// The entries of groups, in the schema's order.
+/// Reads the entries of groups, in the schema's order.
 #[cycle(block)]
 #[tactic(auto, unfolding(crate::specs::Code::group_list_read), using(crate::proofs::ListSteps::groups_more))]
 fn read_groups(
@@ -71,7 +71,7 @@ fn read_groups(
     Ok(out)
 }
 
-/// The entries of a group.
+/// Reads the entries of a group.
 #[cycle(block)]
 fn read_group(
     alloc: Global,
@@ -88,7 +88,7 @@ fn read_group(
     )
 }
 
-/// The entries of a group; a missing one has none.
+/// Reads the entries of a group; a missing one has none.
 #[cycle(block)]
 fn read_entries(
     alloc: Global,
@@ -109,7 +109,7 @@ fn read_entries(
     }
 }
 
-/// The entries of an array.
+/// Reads the entries of an array.
 #[cycle(block)]
 #[tactic(auto, unfolding(line_values::specs::Objects::each), using(crate::proofs::ItemSteps::entries_more))]
 fn read_items(alloc: Global, level: &Level, items: &[Json<'_>]) -> Result<BlockList, LineFault>
@@ -122,7 +122,7 @@ fn read_items(alloc: Global, level: &Level, items: &[Json<'_>]) -> Result<BlockL
     Ok(out)
 }
 
-/// Entry `i` of an array.
+/// Reads entry `i` of an array.
 #[cycle(block)]
 fn read_item(alloc: Global, level: &Level, i: usize, item: &Json<'_>) -> Result<Block, LineFault>
     ensures { Gives result (at_place i (entry_in (block_read level.now) (data_of item.now))) }
@@ -130,7 +130,7 @@ fn read_item(alloc: Global, level: &Level, i: usize, item: &Json<'_>) -> Result<
     at_item(alloc, i, read_entry(alloc, level, item))
 }
 
-/// An entry: an object.
+/// Reads an entry, which must be an object.
 #[cycle(block)]
 fn read_entry(alloc: Global, level: &Level, item: &Json<'_>) -> Result<Block, LineFault>
     ensures { Gives result (entry_in (block_read level.now) (data_of item.now)) }
@@ -141,7 +141,7 @@ fn read_entry(alloc: Global, level: &Level, item: &Json<'_>) -> Result<Block, Li
     }
 }
 
-/// What stands in an entry's object.
+/// Reads the contents of an entry's object.
 #[cycle(block)]
 fn read_known(alloc: Global, level: &Level, object: Option<&[Pair<'_>]>) -> Result<Block, LineFault>
     ensures { Gives result (entry_of (block_read level.now) (seen object.entry)) }

@@ -9,7 +9,7 @@ use lists::List;
 use sbe_types::{Field, ValueList};
 use std::alloc::Global;
 
-/// The values of fields, in the schema's order.
+/// Reads the values of fields, in the schema's order.
 #[tactic(auto, unfolding(crate::specs::Lines::fields_read), using(crate::proofs::ListSteps::fields_more))]
 pub fn read_fields(
     alloc: Global,

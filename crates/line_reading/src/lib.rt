@@ -1,5 +1,5 @@
-//! Reads messages from JSON lines: a line becomes a message of the schema, or is refused with a code and the
-//! place of what is wrong.
+//! Reads messages from JSON lines: a line becomes a message of the schema, or is refused with a code and the place of
+//! what is wrong.
 #![tactic(auto)]
 
 mod blocks;

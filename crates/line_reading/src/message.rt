@@ -12,7 +12,7 @@ use sbe_types::{Level, Msg, WireSchema};
 use schema_check::Checked;
 use std::alloc::Global;
 
-/// The first level of that name, with its number.
+/// The first level with this name, and its number.
 #[tactic(auto, using(crate::proofs::LevelSteps::level_next))]
 fn level_named<'l>(levels: &'l [Level], name: &[u8]) -> Option<(usize, &'l Level)>
     ensures { option_map (λ p. template p.0 p.1.now) result ≡ level_named 0 levels.now name.now }
@@ -25,7 +25,7 @@ fn level_named<'l>(levels: &'l [Level], name: &[u8]) -> Option<(usize, &'l Level
     None
 }
 
-/// The template of a message, which must be there, as a string.
+/// Reads the template of a message, which is required and must be a string.
 fn read_template<'l>(
     alloc: Global,
     levels: &'l [Level],
@@ -54,7 +54,7 @@ fn is_version(version: u32, found: Option<u64>) -> bool
     }
 }
 
-/// Asks that the version, where it stands, is the schema's.
+/// Checks that the version, if there is one, is the schema's.
 fn check_version(alloc: Global, version: u32, found: Option<&Json<'_>>) -> Result<(), LineFault>
     ensures { Gives result (version_in version (option_map (λ v. data_of v.now) found.entry)) }
 {
@@ -69,7 +69,7 @@ fn check_version(alloc: Global, version: u32, found: Option<&Json<'_>>) -> Resul
     }
 }
 
-/// The message in an object: its template, its version, its unknown keys, its root.
+/// Reads the message in an object: its template, its version, its unknown keys, its root.
 fn read_message(
     alloc: Global,
     schema: &WireSchema,
@@ -89,7 +89,7 @@ fn read_message(
     })
 }
 
-/// The message in JSON data, which must be an object.
+/// Reads the message in JSON data, which must be an object.
 fn read_tree(alloc: Global, schema: &WireSchema, found: &Json<'_>) -> Result<Msg, LineFault>
     ensures { Gives result (message_in schema.now (data_of found.now)) }
 {
@@ -99,7 +99,8 @@ fn read_tree(alloc: Global, schema: &WireSchema, found: &Json<'_>) -> Result<Msg
     }
 }
 
-/// The message that a line holds, or why it is refused: the first fault by the steps of reading, with its place.
+/// Reads the message that a line holds, or returns why it is refused: the first fault in the order of reading, with its
+/// place.
 pub fn msg_of_line(alloc: Global, checked: &Checked, line: &[u8]) -> Result<Msg, LineFault>
     ensures { Gives result (tree_of checked.now line.now) }
 {
@@ -107,7 +108,7 @@ pub fn msg_of_line(alloc: Global, checked: &Checked, line: &[u8]) -> Result<Msg,
     msg_of_line_with(alloc, checked, line, &mut space)
 }
 
-/// The same, with the space that reading takes, which is lent from line to line.
+/// The same, with memory for reading that is lent from line to line.
 pub fn msg_of_line_with(
     alloc: Global,
     checked: &Checked,
@@ -119,7 +120,7 @@ pub fn msg_of_line_with(
     read_line(alloc, checked.schema(), line, space)
 }
 
-/// The message that a line holds, by the schema.
+/// Reads the message that a line holds, by the schema.
 fn read_line(
     alloc: Global,
     schema: &WireSchema,

@@ -10,7 +10,7 @@ use lists::List;
 use sbe_types::{DataField, DataVal, DataValList};
 use std::alloc::Global;
 
-/// The bytes of data; a missing one is empty.
+/// Reads the bytes of data; a missing one is empty.
 fn read_data(alloc: Global, found: Option<&Json<'_>>) -> Result<DataVal, LineFault>
     ensures { Gives result (data_there (option_map (λ v. data_of v.now) found.entry)) }
 {
@@ -20,7 +20,7 @@ fn read_data(alloc: Global, found: Option<&Json<'_>>) -> Result<DataVal, LineFau
     }
 }
 
-/// The bytes of a data part.
+/// Reads the bytes of a data part.
 fn read_part(
     alloc: Global,
     part: &DataField,
@@ -32,7 +32,7 @@ fn read_part(
     inside(alloc, name, read_data(alloc, find_in(object, name)))
 }
 
-/// The bytes of data parts, in the schema's order.
+/// Reads the bytes of data parts, in the schema's order.
 #[tactic(auto, unfolding(crate::specs::Lines::parts_read), using(crate::proofs::ListSteps::parts_more))]
 pub fn read_parts(
     alloc: Global,

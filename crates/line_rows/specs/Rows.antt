@@ -28,7 +28,7 @@ use Rattle.sbe_types.specs.declared.message.Block.{Block}
 
 -- ---- parts
 
--- a number, or an array of so many
+-- a number, or an array of this length
 abbrev pub leaf : Primitive → ℕ → LeafShape → Presence → LeafOf
 leaf prim length shape presence = record { prim = prim; length = length; shape = shape; presence = presence; null = pos 255; low = pos 0; high = pos 254 }
 
@@ -36,11 +36,11 @@ leaf prim length shape presence = record { prim = prim; length = length; shape =
 abbrev pub field : List ℕ → Kind → Field
 field name kind = record { name = name; id = 1; since = 0; offset = None; kind = kind }
 
--- a field of one number that must be there
+-- a field of one number that is required
 abbrev pub number : List ℕ → Primitive → Field
 number name prim = field name (Leaf (leaf prim 1 Number Required))
 
--- data
+-- a data part
 abbrev pub data_of : List ℕ → DataField
 data_of name = record { name = name; id = 2; since = 0; length = leaf U16 1 Number Required }
 
@@ -48,7 +48,7 @@ data_of name = record { name = name; id = 2; since = 0; length = leaf U16 1 Numb
 abbrev pub named : List ℕ → ℤ → Named
 named name n = record { name = name; number = n }
 
--- a level with these fields, no group, and these data parts
+-- a level with these fields, no groups, and these data parts
 abbrev pub flat_level : List ℕ → List Field → List DataField → Level
 flat_level name fields parts = Level' name 3 [] 0 0 fields [] end_of-Group parts
 
@@ -64,13 +64,13 @@ schema_of levels = record { id = 7; version = 0; order = Little; header = record
 abbrev pub block : List Value → List GroupVal → List DataVal → Block
 block fields groups parts = record { fields = fields; groups = groups; parts = parts }
 
--- the message of that block
+-- a message with that block
 abbrev pub message : ℕ → Block → Msg
 message template b = record { template = template; version = 0; block = b }
 
 -- ---- numbers, groups and data
 
--- two numbers, of which the second may be null; a group; groups in a group with data
+-- two numbers, of which the second is optional; a group; groups in a group with data
 abbrev pub demo : WireSchema
 demo = schema_of
     (flat_level (codes "Ping") (number (codes "a") U16 ∷ field (codes "b") (Leaf (leaf I32 1 Number Optional)) ∷ []) []
@@ -81,7 +81,7 @@ demo = schema_of
 abbrev pub word_line : List ℕ
 word_line = codes "nonsense"
 
--- a template alone
+-- only a template
 abbrev pub lone_line : List ℕ
 lone_line = codes "{\"template\":\"Ping\"}"
 
@@ -93,7 +93,7 @@ pong_line = codes "{\"template\":\"Pong\"}"
 abbrev pub ping_line : List ℕ
 ping_line = codes "{\"template\":\"Ping\",\"fields\":{\"a\":258}}"
 
--- its message
+-- the message of that line
 abbrev pub ping_message : Msg
 ping_message = message 0 (block (value.Num (pos 258) ∷ value.Null ∷ []) [] [])
 
@@ -105,7 +105,7 @@ letter_line = codes "{\"template\":\"Ping\",\"fields\":{\"a\":\"x\"}}"
 abbrev pub twice_line : List ℕ
 twice_line = codes "{\"template\":\"Grp\",\"groups\":{\"g\":[{\"fields\":{\"x\":1}},{\"fields\":{\"x\":1}}]}}"
 
--- their message
+-- the message of that line
 abbrev pub twice_message : Msg
 twice_message = message 1 (block [] (groupval.Entries (block (value.Num (pos 1) ∷ []) [] [] ∷ block (value.Num (pos 1) ∷ []) [] [] ∷ []) ∷ []) [])
 
@@ -113,7 +113,7 @@ twice_message = message 1 (block [] (groupval.Entries (block (value.Num (pos 1) 
 abbrev pub nest_line : List ℕ
 nest_line = codes "{\"data\":{},\"fields\":{},\"groups\":{\"legs\":[{\"data\":{\"note\":\"hi\"},\"fields\":{\"q\":1},\"groups\":{\"subs\":[]}}]},\"template\":\"Nest\",\"version\":0}"
 
--- its message
+-- the message of that line
 abbrev pub nest_message : Msg
 nest_message = message 2 (block [] (groupval.Entries (block (value.Num (pos 1) ∷ []) (groupval.Entries [] ∷ []) (dataval.Bytes (codes "hi") ∷ []) ∷ []) ∷ []) [])
 
@@ -139,21 +139,21 @@ kinds = schema_of (flat_level (codes "Kinds")
     ∷ field (codes "k") (Const (constant.Num (negsuc 1))) ∷ field (codes "l") (Const (constant.Text (codes "USD"))) ∷ field (codes "m") (Const (constant.Code Char (named (codes "Sell") (pos 50))))
     ∷ field (codes "px") price ∷ []) (data_of (codes "d") ∷ []) ∷ [])
 
--- each kind as it is written
+-- each kind, as it is printed
 abbrev pub kinds_line : List ℕ
 kinds_line = codes "{\"data\":{\"d\":{\"hex\":\"00ab\"}},\"fields\":{\"c\":\"A\",\"t\":\"a\\\"\",\"o\":[0,255],\"n\":[null,-1],\"e\":\"Sell\",\"s\":[\"B\",\"A\"],\"k\":-2,\"l\":\"USD\",\"m\":\"Sell\",\"px\":{\"mantissa\":5,\"in\":{\"x\":7}}},\"groups\":{},\"template\":\"Kinds\",\"version\":0}"
 
--- its message
+-- the message of that line
 abbrev pub kinds_message : Msg
 kinds_message = message 0 (block
     (value.Num (pos 65) ∷ value.Text (codes "a\"") ∷ value.Nums (elem.Num (pos 0) ∷ elem.Num (pos 255) ∷ []) ∷ value.Nums (elem.Null ∷ elem.Num (negsuc 0) ∷ []) ∷ value.Enum (pos 50) ∷ value.Set 5
     ∷ value.Const ∷ value.Const ∷ value.Const ∷ value.Comp (value.Num (pos 5) ∷ value.Comp (value.Num (pos 7) ∷ []) ∷ []) ∷ []) [] (dataval.Bytes (0 ∷ 171 ∷ []) ∷ []))
 
--- keys in another order, an escape, hex of either case, a number for a set, and what may be missing
+-- keys in another order, an escape, hex in upper and lower case, a number for a set, and with optional parts missing
 abbrev pub other_line : List ℕ
 other_line = codes "{\"template\":\"Kinds\",\"fields\":{\"px\":{\"in\":{\"x\":7}},\"o\":[1],\"c\":\"\\u0041\",\"t\":{\"hex\":\"6aFf\"},\"s\":18446744073709551615,\"e\":null,\"m\":50}}"
 
--- its message
+-- the message of that line
 abbrev pub other_message : Msg
 other_message = message 0 (block
     (value.Num (pos 65) ∷ value.Text (106 ∷ 255 ∷ []) ∷ value.Nums (elem.Num (pos 1) ∷ []) ∷ value.Nums (elem.Null ∷ elem.Null ∷ []) ∷ value.Null ∷ value.Set 18446744073709551615
@@ -165,7 +165,7 @@ other_message = message 0 (block
 abbrev pub list_line : List ℕ
 list_line = codes "[]"
 
--- no template
+-- a template is missing
 abbrev pub untold_line : List ℕ
 untold_line = codes "{\"zz\":1}"
 
@@ -189,11 +189,11 @@ key_line = codes "{\"template\":\"Grp\",\"groups\":{\"g\":[{\"fields\":{\"x\":1}
 abbrev pub entry_line : List ℕ
 entry_line = codes "{\"template\":\"Grp\",\"groups\":{\"g\":[1]}}"
 
--- a missing field beside groups that are no object
+-- a required field is missing, and groups isn't an object
 abbrev pub groups_line : List ℕ
 groups_line = codes "{\"template\":\"Nest\",\"groups\":{\"legs\":[{\"groups\":1}]}}"
 
--- groups that are no object
+-- groups isn't an object
 abbrev pub missing_line : List ℕ
 missing_line = codes "{\"template\":\"Nest\",\"groups\":{\"legs\":[{\"groups\":[],\"fields\":{\"q\":1}}]}}"
 

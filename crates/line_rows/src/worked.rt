@@ -1,4 +1,4 @@
-//! The definition of what a line holds, computed on small lines.
+//! The definition of a line's contents, computed on small lines.
 
 ghost use Rattle.std.specs.Prelude.{◌≡◌, codes, Ok, Err};
 ghost use Rattle.line_values.specs.declared.refusals.JCode.TheVariants as code;
@@ -6,17 +6,17 @@ ghost use Rattle.line_values.specs.Refusals.{refusal};
 ghost use Rattle.line_reading.specs.Lines.{tree_of};
 ghost use Rattle.line_rows.specs.Rows.{demo, kinds, word_line, lone_line, pong_line, ping_line, ping_message, letter_line, twice_line, twice_message, nest_line, nest_message, kinds_line, kinds_message, other_line, other_message, list_line, untold_line, number_line, version_line, key_line, keys_line, entry_line, groups_line, missing_line, null_line, octets_line, choice_line, choices_line, odd_line, constant_line, inner_line, place_line};
 
-/// A word is no JSON text.
+/// A bare word isn't a JSON text.
 pub fn is_no_value()
     ensures { tree_of demo word_line ≡ Err (refusal code.NotJson (codes "")) }
 {}
 
-/// A field that must be there.
+/// A required field is missing.
 pub fn misses_a_field()
     ensures { tree_of demo lone_line ≡ Err (refusal code.Shape (codes "a")) }
 {}
 
-/// A template that the schema doesn't have is its own place.
+/// A template that the schema doesn't have is the place of its own refusal.
 pub fn has_no_such_template()
     ensures { tree_of demo pong_line ≡ Err (refusal code.UnknownName (codes "Pong")) }
 {}
@@ -26,7 +26,7 @@ pub fn leaves_out_a_null()
     ensures { tree_of demo ping_line ≡ Ok ping_message }
 {}
 
-/// A string where a number is wanted.
+/// A string instead of a number.
 pub fn has_a_letter_for_a_number()
     ensures { tree_of demo letter_line ≡ Err (refusal code.Kind (codes "a")) }
 {}
@@ -46,17 +46,17 @@ pub fn has_each_kind()
     ensures { tree_of kinds kinds_line ≡ Ok kinds_message }
 {}
 
-/// Values of each kind in the other ways in which they may stand, or missing.
+/// Values of each kind in the other allowed forms, or missing.
 pub fn has_each_kind_otherwise()
     ensures { tree_of kinds other_line ≡ Ok other_message }
 {}
 
-/// An array is no message.
+/// An array isn't a message.
 pub fn is_no_object()
     ensures { tree_of demo list_line ≡ Err (refusal code.Shape (codes "")) }
 {}
 
-/// No template is told.
+/// The template is missing.
 pub fn has_no_template()
     ensures { tree_of demo untold_line ≡ Err (refusal code.Shape (codes "template")) }
 {}
@@ -66,12 +66,12 @@ pub fn has_a_number_for_a_template()
     ensures { tree_of demo number_line ≡ Err (refusal code.Kind (codes "template")) }
 {}
 
-/// Another version, which is told before an unknown key.
+/// Another version, which is reported before an unknown key.
 pub fn has_another_version()
     ensures { tree_of demo version_line ≡ Err (refusal code.Kind (codes "version")) }
 {}
 
-/// Of two unknown keys the least is told, before what is wrong in the fields.
+/// Of two unknown keys the least one is reported, before what is wrong in the fields.
 pub fn has_two_unknown_keys()
     ensures { tree_of demo keys_line ≡ Err (refusal code.UnknownName (codes "B")) }
 {}
@@ -81,22 +81,22 @@ pub fn has_an_unknown_key_in_an_entry()
     ensures { tree_of demo key_line ≡ Err (refusal code.UnknownName (codes "g[1].zz")) }
 {}
 
-/// An entry that is no object.
+/// An entry that isn't an object.
 pub fn has_a_number_for_an_entry()
     ensures { tree_of demo entry_line ≡ Err (refusal code.Kind (codes "g[0]")) }
 {}
 
-/// Fields are judged before groups.
+/// Fields are checked before groups.
 pub fn misses_a_field_before_its_groups()
     ensures { tree_of demo groups_line ≡ Err (refusal code.Shape (codes "legs[0].q")) }
 {}
 
-/// Groups that are no object, inside an entry.
+/// Groups that aren't an object, inside an entry.
 pub fn has_a_list_for_groups()
     ensures { tree_of demo missing_line ≡ Err (refusal code.Kind (codes "legs[0].groups")) }
 {}
 
-/// A null where none may stand.
+/// A null where none is allowed.
 pub fn has_a_null_for_a_number()
     ensures { tree_of demo null_line ≡ Err (refusal code.Kind (codes "a")) }
 {}
@@ -131,7 +131,7 @@ pub fn has_an_unknown_member()
     ensures { tree_of kinds inner_line ≡ Err (refusal code.UnknownName (codes "px.foo")) }
 {}
 
-/// A composite's member that must be there.
+/// A required member of a composite is missing.
 pub fn misses_a_member()
     ensures { tree_of kinds place_line ≡ Err (refusal code.Shape (codes "px.in.x")) }
 {}

@@ -1,4 +1,4 @@
-//! A growing list, which contracts see as the list of its items.
+//! A growable list, which contracts see as the list of its items.
 #![tactic(auto)]
 
 mod list;

@@ -4,7 +4,7 @@ use std::alloc::{AllocError, AllocFailed, Global};
 use std::marker::Model;
 use thiserror::Error;
 
-/// Want of memory. It is merged with no other answer.
+/// Out of memory. No other error is merged with it.
 #[derive(Clone, Copy, Debug, PartialEq, Eq, Drop, Error)]
 #[error("out of memory")]
 pub struct NoMem;
@@ -39,7 +39,7 @@ impl<T> Model for List<T> {
 }
 
 impl<T> List<T> {
-    /// An empty list, which takes no memory.
+    /// Creates an empty list. Allocates nothing.
     pub fn new(alloc: Global) -> List<T>
         ensures { result ≡ [] }
     {
@@ -48,21 +48,21 @@ impl<T> List<T> {
         }
     }
 
-    /// How many items it holds.
+    /// The number of items.
     pub fn len(&self) -> usize
         ensures { result ≡ length self.now }
     {
         self.items.len()
     }
 
-    /// Whether it holds none.
+    /// Whether the list is empty.
     pub fn is_empty(&self) -> bool
         ensures { result ≡ (length self.now == 0) }
     {
         self.items.is_empty()
     }
 
-    /// Lends item `i`, counted from 0.
+    /// Borrows item `i`, counted from 0.
     pub fn at(&self, i: usize) -> &T
         requires { i < length self.now }
         ensures { slice_get self.now i ≡ Some result.now }
@@ -70,14 +70,14 @@ impl<T> List<T> {
         &self.items[i]
     }
 
-    /// Lends all items.
+    /// Borrows all items.
     pub fn as_slice(&self) -> &[T]
         ensures { result.now ≡ self.now }
     {
         self.items.as_slice()
     }
 
-    /// Its items, as a vector.
+    /// Turns the list into a vector of its items.
     pub fn into_vec(self) -> Vec<T>
         ensures { result.items ≡ self }
     {
@@ -86,7 +86,7 @@ impl<T> List<T> {
 }
 
 impl<T: Drop> List<T> {
-    /// Appends one item. Where memory is wanting, the list stays as it was.
+    /// Appends one item. If memory runs out, the list is unchanged.
     pub fn push(&mut self, item: T) -> Result<(), NoMem>
         ensures ok { OnOk result (self.new ≡ self.old ++ item ∷ []) }
         ensures err { OnErr result (self.new ≡ self.old) }
@@ -97,7 +97,7 @@ impl<T: Drop> List<T> {
 }
 
 impl<T: Copy> List<T> {
-    /// A list of the same items.
+    /// Creates a list of the same items.
     pub fn from_slice(alloc: Global, items: &[T]) -> Result<List<T>, NoMem>
         ensures { IfOk result (λ list. list ≡ items.now) }
     {
@@ -105,7 +105,7 @@ impl<T: Copy> List<T> {
         Ok(List { items })
     }
 
-    /// Appends all items in order. Where memory is wanting, the list stays as it was.
+    /// Appends all items in order. If memory runs out, the list is unchanged.
     pub fn extend(&mut self, items: &[T]) -> Result<(), NoMem>
         ensures ok { OnOk result (self.new ≡ self.old ++ items.now) }
         ensures err { OnErr result (self.new ≡ self.old) }

@@ -25,7 +25,7 @@ datatype_from d = do
   _ ← known_children no_child [] 0 children
   Ok (record { name = name })
 
--- A child of `datatypes` of that name.
+-- A child of `datatypes` with this name.
 abbrev pub datatype_item : ElementName → Data → Reading (Option DatatypeEl)
 datatype_item element.Datatype d = known (codes "datatype") (datatype_from d)
 datatype_item _ d = Ok None
@@ -45,7 +45,7 @@ code_from d = do
   _ ← known_children no_child [] 0 children
   Ok (record { name = name; value = value })
 
--- A child of a code set of that name.
+-- A child of a code set with this name.
 abbrev pub code_item : ElementName → Data → Reading (Option CodeEl)
 code_item element.Code d = known (codes "code") (code_from d)
 code_item _ d = Ok None
@@ -65,7 +65,7 @@ code_set_from d = do
   its_codes ← known_children code_child [] 0 children
   Ok (record { name = name; type_name = type_name; children = its_codes })
 
--- A child of `codeSets` of that name.
+-- A child of `codeSets` with this name.
 abbrev pub code_set_item : ElementName → Data → Reading (Option CodeSetEl)
 code_set_item element.CodeSet d = known (codes "codeSet") (code_set_from d)
 code_set_item _ d = Ok None
@@ -87,7 +87,7 @@ field_from d = do
   _ ← known_children no_child [] 0 children
   Ok (record { id = id; name = name; type_name = type_name; length_id = length_id })
 
--- A child of `fields` of that name.
+-- A child of `fields` with this name.
 abbrev pub field_item : ElementName → Data → Reading (Option FieldEl)
 field_item element.Field d = known (codes "field") (field_from d)
 field_item _ d = Ok None

@@ -27,7 +27,7 @@ component_from d = do
   references ← known_children ref_child [] 0 children
   Ok (record { id = id; name = name; children = references })
 
--- A child of `components` of that name.
+-- A child of `components` with this name.
 abbrev pub component_item : ElementName → Data → Reading (Option ComponentEl)
 component_item element.Component d = known (codes "component") (component_from d)
 component_item _ d = Ok None
@@ -38,17 +38,17 @@ component_child before name d = component_item (element_of name) d
 
 -- ---- group: id, name; numInGroup, and then references
 
--- What may stand at its place.
+-- What is read, if it is allowed at this place.
 abbrev pub allowed : {A : Type 0} → Bool → Reading A → Reading A
 allowed true read = read
 allowed false read = refuse Shape
 
--- None stand before.
+-- The list of items before is empty.
 abbrev pub is_first : List GroupItem → Bool
 is_first [] = true
 is_first (x ∷ xs) = false
 
--- A child of a group of that name, the first or a later one: the count comes first.
+-- A child of a group with this name, by whether it is the first: the count must come first.
 abbrev pub group_item : Bool → ElementName → Data → Reading (Option GroupItem)
 group_item first element.NumInGroup d = allowed first (inside (codes "numInGroup") (id_from d) >>= (λ id. Ok (Some (child.NumInGroup (record { id = id })))))
 group_item first element.FieldRef d = allowed (not first) (inside (codes "fieldRef") (id_from d) >>= (λ id. Ok (Some (child.FieldRef (record { id = id })))))
@@ -60,7 +60,7 @@ group_item first _ d = Ok None
 abbrev pub group_child : Reads GroupItem
 group_child before name d = group_item (is_first before) (element_of name) d
 
--- Some stand there.
+-- There is at least one item.
 abbrev pub some_item : List GroupItem → Reading (Unit {0})
 some_item [] = refuse Shape
 some_item (x ∷ xs) = Ok tt
@@ -75,7 +75,7 @@ group_from d = do
   _ ← some_item items
   Ok (record { id = id; name = name; children = items })
 
--- A child of `groups` of that name.
+-- A child of `groups` with this name.
 abbrev pub group_list_item : ElementName → Data → Reading (Option GroupEl)
 group_list_item element.Group d = known (codes "group") (group_from d)
 group_list_item _ d = Ok None

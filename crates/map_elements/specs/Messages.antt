@@ -14,7 +14,7 @@ use Rattle.map_elements.specs.declared.element_name.ElementName.TheVariants as e
 use Rattle.map_elements.specs.Names.{element_of, a_msg_type}
 use Rattle.map_elements.specs.References.{members, known, ref_child}
 
--- A child of a message of that name, of which one may be a structure.
+-- A child of a message with this name, of which one may be a structure.
 abbrev pub structure_item : List StructureEl → ElementName → Data → Reading (Option StructureEl)
 structure_item [] element.Structure d = inside (codes "structure") (members ref_child d) >>= (λ references. Ok (Some (record { children = references })))
 structure_item (s ∷ before) element.Structure d = refuse Shape
@@ -33,7 +33,7 @@ message_from d = do
   structures ← known_children structure_child [] 0 children
   Ok (record { name = name; msg_type = msg_type; children = structures })
 
--- A child of `messages` of that name.
+-- A child of `messages` with this name.
 abbrev pub message_item : ElementName → Data → Reading (Option MessageEl)
 message_item element.Message d = known (codes "message") (message_from d)
 message_item _ d = Ok None

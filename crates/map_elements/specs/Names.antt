@@ -10,7 +10,7 @@ use Rattle.map_elements.specs.declared.element_name.ElementName.{ElementName}
 use Rattle.map_elements.specs.declared.element_name.ElementName.TheVariants as element
 use Rattle.map_elements.specs.declared.form.TheConstants.{ID_LIMIT, TEXT_LIMIT}
 
--- the element of a name without prefix
+-- the element with this name, without prefix
 abbrev pub element_of : List ℕ → ElementName
 element_of name =
     if bytes_eq name (codes "repository") then element.Repository
@@ -34,7 +34,7 @@ element_of name =
     else if bytes_eq name (codes "componentRef") then element.ComponentRef
     else element.Other
 
--- from 1 to 999999999
+-- an id, from 1 to 999999999
 abbrev pub id_in : ℤ → Reading ℕ
 id_in (pos n) = if nat_le 1 n && nat_le n ID_LIMIT then Ok n else refuse BadAttribute
 id_in (negsuc n) = refuse BadAttribute
@@ -43,11 +43,11 @@ id_in (negsuc n) = refuse BadAttribute
 abbrev pub an_id : Data → Reading ℕ
 an_id d = whole d >>= id_in
 
--- 1 to 64 bytes
+-- a text of 1 to 64 bytes
 abbrev pub short_in : List ℕ → Reading (List ℕ)
 short_in s = if nat_le 1 (length s) && nat_le (length s) TEXT_LIMIT then Ok s else refuse BadAttribute
 
--- without SOH, which ends a field of tag-value text
+-- a text of 1 to 64 bytes without SOH, which ends a field of tag-value text
 abbrev pub plain_in : List ℕ → Reading (List ℕ)
 plain_in s = if list_any (nat_eq 1) s then refuse BadAttribute else short_in s
 

@@ -17,7 +17,7 @@ members child d = do
   children ← content d
   known_children child [] 0 children
 
--- An element that is known at its place, by its name.
+-- An element whose name is known at this place.
 abbrev pub known : {A : Type 0} → List ℕ → Reading A → Reading (Option A)
 known name read = inside name read >>= (λ x. Ok (Some x))
 
@@ -29,7 +29,7 @@ id_from d = do
   _ ← known_children no_child [] 0 children
   Ok id
 
--- A reference of that name.
+-- A reference with this name.
 abbrev pub reference : ElementName → Data → Reading (Option RefItem)
 reference element.FieldRef d = inside (codes "fieldRef") (id_from d) >>= (λ id. Ok (Some (item.FieldRef (record { id = id }))))
 reference element.GroupRef d = inside (codes "groupRef") (id_from d) >>= (λ id. Ok (Some (item.GroupRef (record { id = id }))))

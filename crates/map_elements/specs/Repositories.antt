@@ -1,5 +1,5 @@
--- A repository, and the file that it is read from. Each element is judged in this order: its shape, its attributes in the
--- order in which they stand here, its children.
+-- A repository, and the file that it is read from. Each element is checked in this order: its shape, its attributes in
+-- the order listed here, its children.
 use Rattle.std.specs.Prelude.{ℕ, List, codes, Option, Some, None, Ok}
 use Rattle.serde_json.specs.Data.{Data}
 use Rattle.json_elements.specs.declared.refusal.Cause.TheVariants.{Shape}
@@ -18,7 +18,7 @@ use Rattle.map_elements.specs.Fields.{datatype_child, code_set_child, field_chil
 use Rattle.map_elements.specs.Groups.{component_child, group_list_child}
 use Rattle.map_elements.specs.Messages.{message_child}
 
--- A child of a repository of that name.
+-- A child of a repository with this name.
 abbrev pub repository_item : ElementName → Data → Reading (Option RepositoryItem)
 repository_item element.Datatypes d = inside (codes "datatypes") (members datatype_child d) >>= (λ xs. Ok (Some (part.Datatypes (record { children = xs }))))
 repository_item element.CodeSets d = inside (codes "codeSets") (members code_set_child d) >>= (λ xs. Ok (Some (part.CodeSets (record { children = xs }))))

@@ -1,7 +1,7 @@
 ghost use Rattle.std.specs.Prelude.{◌≡◌};
 ghost use Rattle.map_elements.specs.Names.{element_of};
 
-/// What an element of a mapping is called.
+/// The name of an element of a mapping.
 #[derive(Clone, Copy, Debug, PartialEq, Eq)]
 pub enum ElementName {
     Repository,
@@ -23,12 +23,12 @@ pub enum ElementName {
     FieldRef,
     GroupRef,
     ComponentRef,
-    /// No element of these.
+    /// None of these elements.
     Other,
 }
 
 impl ElementName {
-    /// The element of a name without its prefix.
+    /// The element with this name, which has no prefix.
     pub fn of(name: &str) -> ElementName
         ensures { result ≡ element_of name.now }
     {

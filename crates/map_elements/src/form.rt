@@ -13,7 +13,7 @@ pub const ID_LIMIT: u32 = 999_999_999;
 /// The most bytes of a msgType or of a code's value.
 pub const TEXT_LIMIT: usize = 64;
 
-/// An id: a whole number from 1 to 999999999.
+/// An id: an integer from 1 to 999999999.
 pub enum MapId {}
 
 impl Form for MapId {

@@ -1,5 +1,5 @@
-//! The elements of mapping files in JSON, after FIX Orchestra. An element whose name isn't known at
-//! its place is passed over.
+//! The elements of mapping files in JSON, after FIX Orchestra. An element whose name is unknown at its place is
+//! skipped.
 #![tactic(auto)]
 
 mod element_name;

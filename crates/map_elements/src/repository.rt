@@ -17,7 +17,7 @@ use map_types::{
 };
 use std::alloc::Global;
 
-/// The repository of a file, or the first element or attribute that isn't of its form.
+/// The repository of a file, or the first element or attribute that doesn't have its form.
 pub fn read_repository(alloc: Global, bytes: &[u8]) -> Result<Repository, ElementErr>
     ensures { Gives result (repository_of bytes.now) }
 {

@@ -1,4 +1,4 @@
--- What the file of a mapping is judged as, and what loading it answers.
+-- The mapping of a file, or why the file is refused, and what loading it answers.
 use Rattle.std.specs.Prelude.{◌≡◌, ℕ, List, [], Option, Some, None, Result, Ok, Err, ⊤}
 use Rattle.sbe_base.specs.Loads.{MayLoad}
 use Rattle.json_elements.specs.declared.file.TheConstants.{FILE_LIMIT}
@@ -12,12 +12,12 @@ use Rattle.schema_files.specs.declared.files.LoadStop.TheVariants.{Refused, Faul
 use Rattle.schema_files.specs.declared.files.FileRole.{FileRole}
 use Rattle.schema_files.specs.declared.files.FileRole.TheVariants as role
 
--- a mapping, or why the file holds none
+-- a mapping, or why the file has none
 abbrev pub in_file : Mapping → Result Repository FileRefusal
 in_file (Ok repository) = Ok repository
 in_file (Err e) = Err (NoMap e.code e.path)
 
--- The mapping of a file that is there. One over its limit holds none.
+-- The mapping of a file, or why it is refused; a file over its limit has none.
 abbrev pub file_map : Option (List ℕ) → Result Repository FileRefusal
 file_map None = Err Absent
 file_map (Some bytes) = in_file (map_of bytes)
@@ -33,18 +33,18 @@ ReadsMap bytes (Err (Refused refusal)) = in_file (map_of bytes) ≡ Err refusal
 ReadsMap bytes (Err Fault) = ⊥
 ReadsMap bytes (Err NoMemory) = ⊤
 
--- the same of a file, unless the files failed; out of memory only for a file that may be loaded
+-- the same for a file, unless the files failed; out of memory only for a file that may be loaded
 abbrev pub LoadsMapAs : Option (List ℕ) → Result Repository LoadStop → Type 0
 LoadsMapAs file (Ok repository) = file_map file ≡ Ok repository
 LoadsMapAs file (Err (Refused refusal)) = file_map file ≡ Err refusal
 LoadsMapAs file (Err Fault) = ⊤
 LoadsMapAs file (Err NoMemory) = MayLoad file FILE_LIMIT
 
--- the same of a name, where the files tell what they hold
+-- the same for a name, if the contents of the files are modelled
 abbrev pub LoadsMap : Option (List ℕ → Option (List ℕ)) → List ℕ → Result Repository LoadStop → Type 0
 LoadsMap told name result = (contents : List ℕ → Option (List ℕ)) → told ≡ Some contents → LoadsMapAs (contents name) result
 
--- the file of a mapping
+-- the role is that of the mapping's file
 abbrev pub IsMap : FileRole → Type 0
 IsMap role.Schema = ⊥
 IsMap (role.Also n) = ⊥

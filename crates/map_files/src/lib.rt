@@ -1,4 +1,4 @@
-//! The files of mappings: one is loaded and judged, or refused.
+//! The files of mappings: one is loaded and checked, or refused.
 #![tactic(auto)]
 
 mod map_file;

@@ -11,7 +11,7 @@ use sbe_base::{Files, LoadErr};
 use schema_files::{FileRefusal, LoadStop};
 use std::alloc::Global;
 
-/// The mapping of that file, which keeps all rules.
+/// The mapping of this file, which keeps all rules.
 pub fn load_map<F: Files>(alloc: Global, files: &mut F, name: &str) -> Result<Repository, LoadStop>
     ensures kept { (F.state files.new).told ≡ (F.state files.old).told }
     ensures loads { LoadsMap (F.state files.old).told name.now result }
@@ -41,7 +41,7 @@ fn read_repository(alloc: Global, bytes: &[u8]) -> Result<Repository, LoadStop>
     }
 }
 
-/// The refusal of a file over its limit, as the reader of mappings would refuse it.
+/// The refusal of a file over its size limit, the same as the reader of mappings would give.
 fn too_long(alloc: Global) -> FileRefusal
     ensures { result ≡ too_long }
 {

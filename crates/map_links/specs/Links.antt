@@ -24,15 +24,15 @@ pub record Linked : Type 0 where
   pub groups : List GroupEl
   pub messages : List MessageEl
 
--- Those of a repository.
+-- The components, groups and messages of a repository.
 abbrev pub linked_of : Members → Linked
 linked_of m = record { components = m.components; groups = m.groups; messages = m.messages }
 
--- Those that are lent.
+-- The components, groups and messages that are lent.
 abbrev pub linked : List (Bor ComponentEl) → List (Bor GroupEl) → List (Bor MessageEl) → Linked
 linked components groups messages = record { components = seen components; groups = seen groups; messages = seen messages }
 
--- the ids of these members, and the msgTypes
+-- the ids of these members, and the MsgTypes
 abbrev pub ids_of : List FieldEl → Linked → Ids
 ids_of fields m = record {
   fields = map (λ f. f.id) fields;
@@ -41,19 +41,19 @@ ids_of fields m = record {
   msg_types = map (λ m. m.msg_type) m.messages;
 }
 
--- the id of a reference names nothing
+-- no member has the id of a reference
 abbrev pub is_unknown : Ids → RefItem → Bool
 is_unknown ids (item.FieldRef r) = is_none (place_of r.id ids.fields)
 is_unknown ids (item.ComponentRef r) = is_none (place_of r.id ids.components)
 is_unknown ids (item.GroupRef r) = is_none (place_of r.id ids.groups)
 
--- what a reference leads to: a tag, or the first component or group of its id; `count` components come before the groups
+-- what a reference leads to: a tag, or the first component or group with its id; `count` components precede the groups
 abbrev pub link_of : ℕ → Ids → RefItem → Option Link
 link_of count ids (item.FieldRef r) = Some (Field r.id)
 link_of count ids (item.ComponentRef r) = option_map To (place_of r.id ids.components)
 link_of count ids (item.GroupRef r) = option_map (λ i. To (count + i)) (place_of r.id ids.groups)
 
--- The same of a child of a group.
+-- The same for a child of a group.
 abbrev pub item_link : ℕ → Ids → GroupItem → Option Link
 item_link count ids c = option_and_then (link_of count ids) (ref_in c)
 
@@ -62,7 +62,7 @@ abbrev pub count_of : List GroupItem → Option ℕ
 count_of (child.NumInGroup n ∷ more) = Some n.id
 count_of _ = None
 
--- the references of a message; without a structure it has none
+-- the references of a message's structure; none without one
 abbrev pub structure_in : List StructureEl → List RefItem
 structure_in [] = []
 structure_in (s ∷ more) = s.children
@@ -73,18 +73,18 @@ structure_of m = structure_in m.children
 
 -- ---- nodes
 
--- A component.
+-- The node of a component.
 abbrev pub component_node : ℕ → Ids → ComponentEl → Node
 component_node count ids c = record { count = None; links = filter_map (link_of count ids) c.children }
 
--- A group.
+-- The node of a group.
 abbrev pub group_node : ℕ → Ids → GroupEl → Node
 group_node count ids g = record { count = count_of g.children; links = filter_map (item_link count ids) g.children }
 
--- A message.
+-- The node of a message.
 abbrev pub message_node : ℕ → Ids → MessageEl → Node
 message_node count ids m = record { count = None; links = filter_map (link_of count ids) (structure_of m) }
 
--- components, groups and messages, one list after another
+-- the nodes of components, groups and messages, one list after another
 abbrev pub nodes_of : ℕ → Ids → Linked → List Node
 nodes_of count ids m = (map (component_node count ids) m.components ++ map (group_node count ids) m.groups) ++ map (message_node count ids) m.messages

@@ -20,7 +20,7 @@ pub struct Ids {
 }
 
 impl Ids {
-    /// The tables of these members.
+    /// Builds the tables of these members.
     pub fn new(
         alloc: Global,
         fields: &[&FieldEl],
@@ -42,7 +42,7 @@ impl Ids {
         })
     }
 
-    /// Where a reference leads, if its id is known. `count` components come before the groups.
+    /// Where a reference leads, if its id is known. `count` components precede the groups.
     pub fn link(&self, count: usize, reference: RefItem) -> Option<Link>
         requires { count + length self.now.groups < 2 ^ 64 }
         ensures { result ≡ link_of count self.now reference }
@@ -73,7 +73,7 @@ impl Ids {
         }
     }
 
-    /// Whether the id of a reference names nothing.
+    /// Whether the id of a reference refers to nothing.
     pub fn is_unknown(&self, reference: RefItem) -> bool
         ensures { result ≡ is_unknown self.now reference }
     {

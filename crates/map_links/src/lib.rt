@@ -1,5 +1,4 @@
-//! The references of a mapping with their ids resolved: components, groups and messages as the nodes
-//! of one graph.
+//! The references of a mapping with their ids resolved: components, groups and messages as the nodes of one graph.
 #![tactic(auto)]
 
 mod ids;

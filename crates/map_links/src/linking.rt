@@ -11,8 +11,8 @@ use map_types::{ComponentEl, GroupEl, GroupItem, MessageEl, RefItem};
 use reference_graph::{Link, Node};
 use std::alloc::Global;
 
-/// The components, then the groups, then the messages, with their references resolved. What an
-/// unknown id names isn't there.
+/// The components, then the groups, then the messages, with their references resolved. References to unknown ids are
+/// left out.
 pub fn nodes_of(
     alloc: Global,
     ids: &Ids,
@@ -33,7 +33,7 @@ pub fn nodes_of(
 
 /// A member that refers to others.
 trait Linking {
-    /// Its node, where `count` components come before the groups.
+    /// Its node. `count` components precede the groups.
     ghost node: { ℕ → Ids → Self → Node };
 
     fn node(&self, alloc: Global, ids: &Ids, count: usize) -> Result<Node, NoMem>
@@ -91,7 +91,7 @@ fn push_nodes<M: Linking>(
     Ok(())
 }
 
-/// The references of a message, which has none where it has no structure.
+/// The references of a message. It has none if it has no structure.
 pub fn structure_of(message: &MessageEl) -> &[RefItem]
     ensures { result.now ≡ structure_of message.now }
 {
@@ -140,7 +140,7 @@ impl Reference for GroupItem {
     }
 }
 
-/// Where these references lead. Those of unknown ids are left out.
+/// Where these references lead. Those with unknown ids are left out.
 fn links_of<R: Reference>(
     alloc: Global,
     ids: &Ids,

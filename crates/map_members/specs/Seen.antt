@@ -2,6 +2,6 @@
 use Rattle.std.specs.Prelude.{List, map}
 use Rattle.std.specs.Borrow.{Bor}
 
--- what members that are lent are
+-- the members that are lent
 abbrev pub seen : {A : Type 0} → List (Bor A) → List A
 seen members = map (λ m. m.now) members

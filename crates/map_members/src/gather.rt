@@ -9,10 +9,10 @@ use std::alloc::Global;
 
 /// A member of one of the lists of a repository.
 pub trait Member {
-    /// Those that a child of a repository has.
+    /// The members of this kind that a child of a repository has.
     ghost listed: { RepositoryItem → List Self };
 
-    /// Those that a child of a repository has.
+    /// The members of this kind that a child of a repository has.
     fn list_of(item: &RepositoryItem) -> &[Self]
         ensures { result.now ≡ listed item.now };
 }

@@ -1,4 +1,4 @@
-//! What is answered to a mapping file.
+//! Answers about a mapping file.
 
 use anyhow::{Result, bail};
 use orchestra_map::{MCode, MapErr, data_tags, header_tags, read_map};
@@ -33,7 +33,7 @@ fn code_told(code: MCode) -> &'static str {
     }
 }
 
-/// A row: a mapping and tags. What each is to the data fields of the mapping.
+/// A row: a mapping and tags. Answers the role of each in the data fields of the mapping.
 pub fn data_told(alloc: Global, row: &Row) -> Result<String> {
     let bytes = row.bytes(alloc, 0)?;
     let Ok(repository) = read_map(alloc, bytes.as_slice()) else {
@@ -55,7 +55,7 @@ fn role_told(alloc: Global, tags: &DataTags, tag: &str) -> Result<String> {
     }
 }
 
-/// A row: a mapping and tags. Which of them are the header's.
+/// A row: a mapping and tags. Answers which of them belong to the header.
 pub fn header_told(alloc: Global, row: &Row) -> Result<String> {
     let bytes = row.bytes(alloc, 0)?;
     let Ok(repository) = read_map(alloc, bytes.as_slice()) else {

@@ -4,7 +4,7 @@ use anyhow::{Result, bail};
 use row_tables::Row;
 use std::alloc::Global;
 
-/// A text with the row's first old text, which is there once, replaced by its new one.
+/// A text in which the row's first old text, which occurs once, is replaced by its new one.
 pub fn changed(alloc: Global, text: &str, row: &Row) -> Result<String> {
     let old = row.text(0)?;
     let Some((front, back)) = text.split_once(old) else {
@@ -19,7 +19,7 @@ pub fn changed(alloc: Global, text: &str, row: &Row) -> Result<String> {
     Ok(made)
 }
 
-/// A message of so many fields.
+/// A message with `many` fields.
 pub fn of_fields(alloc: Global, many: usize) -> Result<String> {
     let mut text = String::from_str(
         alloc,
@@ -45,7 +45,7 @@ pub fn of_fields(alloc: Global, many: usize) -> Result<String> {
     Ok(text)
 }
 
-/// Components of which each refers twice to the one before it, and a message that refers to the last.
+/// Components each of which refers twice to the previous one, and a message that refers to the last one.
 pub fn of_doubled(alloc: Global, many: usize) -> Result<String> {
     let mut text = String::from_str(
         alloc,
@@ -67,7 +67,7 @@ pub fn of_doubled(alloc: Global, many: usize) -> Result<String> {
     Ok(text)
 }
 
-/// What comes before an item of a list.
+/// What precedes an item of a list.
 fn comma(i: usize) -> &'static str {
     if i == 0 {
         return "";

@@ -1,5 +1,4 @@
-//! Rows of mapping files: each is read, or refused with its code and path; its data tags and the tags of
-//! its header.
+//! Rows of mapping files: each is read, or refused with its code and path; its data tags and the tags of its header.
 #![tactic(auto)]
 
 mod answers;

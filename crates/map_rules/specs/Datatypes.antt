@@ -3,15 +3,15 @@ use Rattle.std.specs.Prelude.{ℕ, Bool, ◌||◌, List, [], ◌∷◌, codes}
 use Rattle.std.specs.List.{list_any}
 use Rattle.std.specs.Str.{bytes_eq}
 
--- It is one of these names.
+-- The name is one of these.
 abbrev pub is_one_of : List (List ℕ) → List ℕ → Bool
 is_one_of names name = list_any (bytes_eq name) names
 
--- int and the datatypes that are spelled as it is
+-- int and the datatypes that are spelled like it
 abbrev pub is_int_type : List ℕ → Bool
 is_int_type = is_one_of (codes "int" ∷ (codes "Length" ∷ (codes "NumInGroup" ∷ (codes "SeqNum" ∷ []))))
 
--- float and the datatypes that are spelled as it is
+-- float and the datatypes that are spelled like it
 abbrev pub is_decimal_type : List ℕ → Bool
 is_decimal_type = is_one_of (codes "Price" ∷ (codes "Qty" ∷ (codes "Amt" ∷ (codes "PriceOffset" ∷ (codes "Percentage" ∷ (codes "float" ∷ []))))))
 
@@ -27,7 +27,7 @@ is_time_type =
     is_one_of
     (codes "UTCTimestamp" ∷ (codes "UTCTimeOnly" ∷ (codes "UTCDateOnly" ∷ (codes "LocalMktDate" ∷ (codes "MonthYear" ∷ (codes "DayOfMonth" ∷ (codes "TZTimeOnly" ∷ (codes "TZTimestamp" ∷ []))))))))
 
--- datatypes that are known and translated to nothing
+-- datatypes that are known but can't be translated
 abbrev pub is_other_type : List ℕ → Bool
 is_other_type = is_one_of (codes "Language" ∷ (codes "XMLData" ∷ (codes "MultipleStringValue" ∷ [])))
 

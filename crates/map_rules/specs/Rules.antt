@@ -1,4 +1,4 @@
--- The rules of code sets, fields, components, groups and messages, each one sentence about a member at its place.
+-- The rules for code sets, fields, components, groups and messages, each as one statement about a member and its index.
 use Rattle.std.specs.Prelude.{ℕ, zero, suc, nat_eq, Bool, false, ◌||◌, not, is_none, is_some, List, [], ◌∷◌, codes, map, flat_map, length, take, Option, Some, None, slice_get}
 use Rattle.std.specs.List.{list_any}
 use Rattle.std.specs.Str.{bytes_eq}
@@ -39,23 +39,24 @@ is_datatype tables name = is_standard name || is_named name tables.datatypes
 abbrev pub is_type : Tables → List ℕ → Bool
 is_type tables name = is_datatype tables name || is_named name tables.code_sets
 
--- a name that was looked for stands before place i
+-- a name that was found occurs before index i
 abbrev pub found_earlier : List (List ℕ) → ℕ → Option (List ℕ) → Bool
 found_earlier names i None = false
 found_earlier names i (Some name) = list_any (bytes_eq name) (take i names)
 
--- one of the first n names stands earlier too
+-- one of the first n names occurs earlier too
 abbrev pub some_again : List (List ℕ) → ℕ → Bool
 some_again names zero = false
 some_again names (suc i) = found_earlier names i (slice_get names i) || some_again names i
 
--- Some name stands twice.
+-- Some name occurs twice.
 abbrev pub has_again : List (List ℕ) → Bool
 has_again names = some_again names (length names)
 
 -- ---- code sets
 
--- of a code set: its name stands earlier; the name or the value of a code stands earlier in it; its type is no datatype
+-- the rules for a code set: its name occurs earlier; the name or the value of a code occurs earlier in it; its type
+-- isn't a datatype
 abbrev pub code_set_rules : Tables → ℕ → CodeSetEl → List Rule
 code_set_rules tables i s =
     rule Duplicate (list_any (bytes_eq s.name) (take i tables.code_sets))
@@ -66,16 +67,16 @@ code_set_rules tables i s =
 
 -- ---- fields
 
--- an id stands earlier in its list
+-- an id occurs earlier in its list
 abbrev pub stands_earlier : List ℕ → ℕ → ℕ → Bool
 stands_earlier ids i id = list_any (nat_eq id) (take i ids)
 
--- What is asked of a lengthId, if there is one.
+-- A test holds of a lengthId, if there is one.
 abbrev pub of_length : (ℕ → Bool) → Option ℕ → Bool
 of_length test None = false
 of_length test (Some id) = test id
 
--- the lengthId of a field, and 0, which no id is, where it has none
+-- the lengthId of a field, or 0, which isn't an id, if it has none
 abbrev pub length_or_zero : Option ℕ → ℕ
 length_or_zero None = 0
 length_or_zero (Some id) = id
@@ -84,18 +85,19 @@ length_or_zero (Some id) = id
 abbrev pub is_framing : ℕ → Bool
 is_framing id = nat_eq id 8 || (nat_eq id 9 || (nat_eq id 10 || nat_eq id 35))
 
--- A field that was looked for has another type than Length.
+-- A field, if it was found, has another type than Length.
 abbrev pub is_other : Option FieldEl → Bool
 is_other None = false
 is_other (Some f) = not (bytes_eq f.type_name (codes "Length"))
 
--- The field at a place that was looked for has another type than Length.
+-- The field with an index, if it was found, has another type than Length.
 abbrev pub is_other_at : List FieldEl → Option ℕ → Bool
 is_other_at fields None = false
 is_other_at fields (Some j) = is_other (slice_get fields j)
 
--- of a field: its id stands earlier; its lengthId stands earlier; its lengthId names no field; its type isn't known; it has
--- a lengthId and one of the two frames a message; its lengthId names a field of another type than Length
+-- the rules for a field: its id occurs earlier; its lengthId occurs earlier; its lengthId isn't that of a field; its
+-- type isn't known; it has a lengthId and one of the two frames a message; its lengthId is that of a field with another
+-- type than Length
 abbrev pub field_rules : Ids → Tables → List FieldEl → ℕ → FieldEl → List Rule
 field_rules ids tables fields i f =
     rule Duplicate (stands_earlier ids.fields i f.id)
@@ -108,29 +110,30 @@ field_rules ids tables fields i f =
 
 -- ---- components, groups and messages
 
--- a child of a group names nothing: its count no field, or a reference nothing
+-- a child of a group refers to nothing: its count not to a field, or a reference not to a member
 abbrev pub is_unknown_child : Ids → GroupItem → Bool
 is_unknown_child ids (child.NumInGroup n) = is_none (place_of n.id ids.fields)
 is_unknown_child ids (child.FieldRef r) = is_unknown ids (item.FieldRef r)
 is_unknown_child ids (child.GroupRef r) = is_unknown ids (item.GroupRef r)
 is_unknown_child ids (child.ComponentRef r) = is_unknown ids (item.ComponentRef r)
 
--- of a component or group: whether its id stands earlier; whether a reference names nothing; whether a chain of references
--- from it comes to a component or group twice
+-- the rules for a component or group: whether its id occurs earlier; whether a reference names nothing; whether a chain
+-- of references from it meets a component or group twice
 abbrev pub linked_rules : Bool → Bool → Bool → List Rule
 linked_rules again unknown endless = rule Duplicate again ∷ (rule UnknownReference unknown ∷ (rule Cycle endless ∷ []))
 
--- those of a component
+-- the rules for a component
 abbrev pub component_rules : ℕ → Ids → List Node → ℕ → ComponentEl → List Rule
 component_rules count ids graph i c =
     linked_rules (stands_earlier ids.components i c.id) (list_any (is_unknown ids) c.children) (is_endless graph (component_node count ids c).links)
 
--- those of a group, whose count must name a field too
+-- the rules for a group, whose count must also be a field
 abbrev pub group_rules : ℕ → Ids → List Node → ℕ → GroupEl → List Rule
 group_rules count ids graph i g =
     linked_rules (stands_earlier ids.groups i g.id) (list_any (is_unknown_child ids) g.children) (is_endless graph (group_node count ids g).links)
 
--- of a message: its msgType stands earlier; a reference names nothing; its structure has one tag twice; it is over a limit
+-- the rules for a message: its msgType occurs earlier; a reference names nothing; its structure has some tag twice; it
+-- is over a limit
 abbrev pub message_rules : ℕ → Ids → List Node → ℕ → MessageEl → List Rule
 message_rules count ids graph i m =
     rule Duplicate (list_any (bytes_eq m.msg_type) (take i ids.msg_types))
@@ -146,26 +149,26 @@ abbrev pub tables_of : List DatatypeEl → List CodeSetEl → List FieldEl → T
 tables_of datatypes code_sets fields =
     record { datatypes = map (λ d. d.name) datatypes; code_sets = map (λ s. s.name) code_sets; lengths = map (λ f. length_or_zero f.length_id) fields }
 
--- of components, groups and messages, in this order, by the graph of their references
+-- the verdict on components, groups and messages, in this order, by the graph of their references
 abbrev pub graph_verdict : ℕ → Ids → List Node → Linked → Verdict
 graph_verdict count ids graph m =
     list_verdict (codes "components") (component_rules count ids graph) 0 m.components
     then (list_verdict (codes "groups") (group_rules count ids graph) 0 m.groups
     then list_verdict (codes "messages") (message_rules count ids graph) 0 m.messages)
 
--- the same, where the graph is that of these members
+-- the same by the graph of these members
 abbrev pub linked_verdict : Ids → Linked → Verdict
 linked_verdict ids m = graph_verdict (length m.components) ids (nodes_of (length m.components) ids m) m
 
--- of fields, components, groups and messages, in this order, by tables of their ids and names
+-- the verdict on fields, components, groups and messages, in this order, by tables of their ids and names
 abbrev pub verdict_by : Ids → Tables → List FieldEl → Linked → Verdict
 verdict_by ids tables fields m = list_verdict (codes "fields") (field_rules ids tables fields) 0 fields then linked_verdict ids m
 
--- the same, where the table of ids is that of these members
+-- the same by the table of these members' ids
 abbrev pub fields_verdict : Tables → List FieldEl → Linked → Verdict
 fields_verdict tables fields m = verdict_by (ids_of fields m) tables fields m
 
--- of all members of a mapping
+-- the verdict on all members of a mapping
 abbrev pub verdict : Members → Verdict
 verdict m =
     list_verdict (codes "codeSets") (code_set_rules (tables_of m.datatypes m.code_sets m.fields)) 0 m.code_sets
@@ -175,7 +178,7 @@ verdict m =
 abbrev pub items_linked : List RepositoryItem → Linked
 items_linked items = record { components = flat_map components_of items; groups = flat_map groups_of items; messages = flat_map messages_of items }
 
--- of code sets and fields, and of the other members among the children of a repository
+-- the verdict on code sets and fields, and on the other members among the children of a repository
 abbrev pub lists_verdict : List RepositoryItem → List CodeSetEl → List FieldEl → Verdict
 lists_verdict items sets fields =
     list_verdict (codes "codeSets") (code_set_rules (tables_of (flat_map datatypes_of items) sets fields)) 0 sets

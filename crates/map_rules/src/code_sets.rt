@@ -10,7 +10,7 @@ use lists::{List, NoMem, Text};
 use map_types::{CodeEl, CodeSetEl, MCode, MapErr};
 use std::alloc::Global;
 
-/// Judges the code sets one after another.
+/// Checks the code sets one after another.
 pub fn judge_code_sets(
     alloc: Global,
     tables: &Tables,
@@ -26,7 +26,7 @@ pub fn judge_code_sets(
     Ok(())
 }
 
-/// The first rule that a code set at its place breaks.
+/// The first rule that the code set at an index breaks.
 fn code_set_broken(
     alloc: Global,
     tables: &Tables,
@@ -60,7 +60,7 @@ fn code_set_broken(
     ]))
 }
 
-/// Whether some name stands twice.
+/// Whether some name occurs twice.
 fn has_again(alloc: Global, names: List<Text>) -> Result<bool, NoMem>
     ensures { IfOk result (λ again. again ≡ has_again names) }
 {
@@ -69,7 +69,7 @@ fn has_again(alloc: Global, names: List<Text>) -> Result<bool, NoMem>
     Ok(is_any_again(&table, count))
 }
 
-/// Whether one of these names stands twice. `count` is their number.
+/// Whether one of these names occurs twice. `count` is their number.
 fn is_any_again(table: &NameTable, count: usize) -> bool
     requires { count ≡ length table.now }
     ensures { result ≡ has_again table.now }
@@ -87,7 +87,7 @@ fn either(a: bool, b: bool) -> bool
     a || b
 }
 
-/// Whether the name at a place stands earlier too.
+/// Whether the name at an index occurs earlier too.
 fn is_again_at(table: &NameTable, i: usize) -> bool
     requires { i < length table.now }
     ensures { result ≡ found_earlier table.now i (slice_get table.now i) }

@@ -10,7 +10,7 @@ use map_links::Ids;
 use map_types::{FieldEl, MCode, MapErr};
 use std::alloc::Global;
 
-/// Judges the fields one after another.
+/// Checks the fields one after another.
 pub fn judge_fields(
     alloc: Global,
     ids: &Ids,
@@ -32,7 +32,7 @@ pub fn judge_fields(
     Ok(())
 }
 
-/// The first rule that a field at its place breaks.
+/// The first rule that the field at an index breaks.
 fn field_broken(
     ids: &Ids,
     tables: &Tables,
@@ -74,7 +74,7 @@ fn field_broken(
     ])
 }
 
-/// Whether a lengthId stands earlier.
+/// Whether a lengthId occurs earlier.
 fn is_length_again(tables: &Tables, i: usize, length_id: Option<u32>) -> bool
     requires { slice_get tables.now.lengths i ≡ Some (length_or_zero length_id) }
     ensures { result ≡ of_length (stands_earlier tables.now.lengths i) length_id }
@@ -85,7 +85,7 @@ fn is_length_again(tables: &Tables, i: usize, length_id: Option<u32>) -> bool
     }
 }
 
-/// Whether a lengthId names no field.
+/// Whether a lengthId refers to no field.
 fn is_length_unknown(ids: &Ids, length_id: Option<u32>) -> bool
     ensures { result ≡ of_length (λ id. is_none (place_of id ids.now.fields)) length_id }
 {
@@ -112,7 +112,7 @@ fn is_framing(id: u32) -> bool
     id == 8 || (id == 9 || (id == 10 || id == 35))
 }
 
-/// Whether a lengthId names a field of another type than Length.
+/// Whether a lengthId refers to a field whose type isn't Length.
 fn is_length_other(ids: &Ids, fields: &[&FieldEl], length_id: Option<u32>) -> bool
     ensures { result ≡ of_length (λ id. is_other_at (seen fields.now) (place_of id ids.now.fields)) length_id }
 {
@@ -125,7 +125,7 @@ fn is_length_other(ids: &Ids, fields: &[&FieldEl], length_id: Option<u32>) -> bo
     }
 }
 
-/// Whether the field at a place is of another type than Length.
+/// Whether the type of the field at an index isn't Length.
 fn is_other_at(fields: &[&FieldEl], j: usize) -> bool
     ensures { result ≡ is_other_at (seen fields.now) (Some j) }
 {

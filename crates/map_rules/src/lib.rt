@@ -1,5 +1,5 @@
-//! The rules that the members of a mapping keep among one another: names and ids that stand twice,
-//! references to nothing, references without end, tags at two places, wrong datatypes, and limits.
+//! The rules for the members of a mapping as a whole: names and ids that occur twice, references to nothing, endless
+//! references, tags at two places, wrong datatypes, and limits.
 #![tactic(auto)]
 
 mod code_sets;

@@ -15,7 +15,7 @@ use map_types::{ComponentEl, GroupEl, GroupItem, MCode, MapErr, MessageEl, RefIt
 use reference_graph::Structures;
 use std::alloc::Global;
 
-/// Judges components, groups and messages, in this order.
+/// Checks components, groups and messages, in this order.
 pub fn judge_linked(
     alloc: Global,
     ids: &Ids,
@@ -34,7 +34,7 @@ pub fn judge_linked(
     judge_by(alloc, ids, &structures, components, groups, messages)
 }
 
-/// The same, where the structures are known.
+/// The same, when the structures are known.
 fn judge_by(
     alloc: Global,
     ids: &Ids,
@@ -56,7 +56,7 @@ fn judge_by(
     judge_messages(alloc, ids, structures, count, messages)
 }
 
-/// Judges the components one after another. `count` is their number.
+/// Checks the components one after another. `count` is their number.
 fn judge_components(
     alloc: Global,
     ids: &Ids,
@@ -79,7 +79,7 @@ fn judge_components(
     Ok(())
 }
 
-/// The first rule that a component at its place breaks.
+/// The first rule that the component at an index breaks.
 fn component_broken(
     ids: &Ids,
     structures: &Structures,
@@ -117,7 +117,7 @@ fn first_linked(again: bool, unknown: bool, endless: bool) -> Option<MCode>
     ])
 }
 
-/// Judges the groups one after another. `count` components come before them.
+/// Checks the groups one after another. `count` components precede them.
 fn judge_groups(
     alloc: Global,
     ids: &Ids,
@@ -141,7 +141,7 @@ fn judge_groups(
     Ok(())
 }
 
-/// The first rule that a group at its place breaks.
+/// The first rule that the group at an index breaks.
 fn group_broken(
     ids: &Ids,
     structures: &Structures,
@@ -160,8 +160,8 @@ fn group_broken(
     first_linked(again, unknown, endless)
 }
 
-/// Judges the messages one after another, where components and groups keep their rules. `count`
-/// components come before the groups.
+/// Checks the messages one after another, when components and groups keep their rules. `count` components precede the
+/// groups.
 fn judge_messages(
     alloc: Global,
     ids: &Ids,
@@ -183,8 +183,7 @@ fn judge_messages(
     Ok(())
 }
 
-/// The first rule that a message breaks, at its place among the messages and its place among the
-/// nodes.
+/// The first rule that a message breaks, given its index among the messages and its index among the nodes.
 fn message_broken(
     alloc: Global,
     ids: &Ids,
@@ -223,7 +222,7 @@ fn message_broken(
     ]))
 }
 
-/// Whether a reference names nothing.
+/// Whether a reference refers to nothing.
 fn is_any_unknown(ids: &Ids, references: &[RefItem]) -> bool
     ensures { result ≡ list_any (is_unknown ids.now) references.now }
 {
@@ -235,7 +234,7 @@ fn is_any_unknown(ids: &Ids, references: &[RefItem]) -> bool
     false
 }
 
-/// Whether a child of a group names nothing.
+/// Whether a child of a group refers to nothing.
 fn is_any_child_unknown(ids: &Ids, children: &[GroupItem]) -> bool
     ensures { result ≡ list_any (is_unknown_child ids.now) children.now }
 {

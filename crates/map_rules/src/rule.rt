@@ -26,7 +26,7 @@ pub fn first_broken(rules: &[Rule]) -> Option<MCode>
     None
 }
 
-/// Refuses the member at a place of a list, if it breaks a rule.
+/// Refuses the member at an index of a list, if it breaks a rule.
 pub fn refuse_at(alloc: Global, list: &str, i: usize, broken: Option<MCode>) -> Result<(), MapErr>
     ensures { Answers result (member_verdict list.now i broken) }
 {

@@ -8,18 +8,17 @@ use lists::{List, NoMem, Text};
 use map_types::{CodeSetEl, DatatypeEl, FieldEl};
 use std::alloc::Global;
 
-/// The names of declared datatypes and of code sets, and the lengthIds of fields, each list in its
-/// order.
+/// The names of declared datatypes and of code sets, and the lengthIds of fields, each list in its order.
 #[derive(Drop)]
 pub struct Tables {
     pub datatypes: NameTable,
     pub code_sets: NameTable,
-    /// For each field its lengthId, or 0, which no id is.
+    /// For each field its lengthId, or 0, which isn't an id.
     pub lengths: IdTable,
 }
 
 impl Tables {
-    /// The tables of these members.
+    /// Builds the tables of these members.
     pub fn new(
         alloc: Global,
         datatypes: &[&DatatypeEl],

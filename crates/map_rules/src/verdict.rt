@@ -18,8 +18,7 @@ use map_types::{
 };
 use std::alloc::Global;
 
-/// Judges code sets, fields, components, groups and messages, in this order, each member by its rules
-/// in order.
+/// Checks code sets, fields, components, groups and messages, in this order, each member by its rules in order.
 pub fn judge(alloc: Global, repository: &Repository) -> Result<(), MapErr>
     ensures { Answers result (verdict (members_of repository.now)) }
 {
@@ -29,7 +28,7 @@ pub fn judge(alloc: Global, repository: &Repository) -> Result<(), MapErr>
     judge_lists(alloc, items, code_sets.as_slice(), fields.as_slice())
 }
 
-/// The same, where code sets and fields are gathered.
+/// The same, when code sets and fields are gathered.
 #[tactic(auto, using(crate::proofs::Keys::set_names, crate::proofs::Keys::field_lengths))]
 fn judge_lists(
     alloc: Global,
@@ -57,7 +56,7 @@ fn tables_in(
     Tables::new(alloc, datatypes.as_slice(), code_sets, fields)
 }
 
-/// Judges fields, components, groups and messages.
+/// Checks fields, components, groups and messages.
 fn judge_items(
     alloc: Global,
     items: &[RepositoryItem],
@@ -84,7 +83,7 @@ fn judge_items(
     )
 }
 
-/// The same, where all members are gathered.
+/// The same, when all members are gathered.
 fn judge_by_ids(
     alloc: Global,
     tables: &Tables,
@@ -101,7 +100,7 @@ fn judge_by_ids(
     judge_with_ids(alloc, &ids, tables, fields, components, groups, messages)
 }
 
-/// The same, where their ids are in tables too.
+/// The same, when their ids are in tables too.
 fn judge_with_ids(
     alloc: Global,
     ids: &Ids,

@@ -1,4 +1,4 @@
--- What the elements of a repository hold.
+-- What the elements of a repository contain.
 use Rattle.std.specs.Prelude.{List, [], flat_map, Option, Some, None}
 use Rattle.map_types.specs.declared.tree.RefItem.{RefItem}
 use Rattle.map_types.specs.declared.tree.RefItem.TheVariants as item
@@ -14,44 +14,44 @@ use Rattle.map_types.specs.declared.tree.Repository.{Repository}
 use Rattle.map_types.specs.declared.tree.RepositoryItem.{RepositoryItem}
 use Rattle.map_types.specs.declared.tree.RepositoryItem.TheVariants as part
 
--- The reference that a child of a group is.
+-- The reference that a child of a group is, if it is one.
 abbrev pub ref_in : GroupItem → Option RefItem
 ref_in (child.NumInGroup n) = None
 ref_in (child.FieldRef r) = Some (item.FieldRef r)
 ref_in (child.GroupRef r) = Some (item.GroupRef r)
 ref_in (child.ComponentRef r) = Some (item.ComponentRef r)
 
--- The declared datatypes of a child of a repository.
+-- The declared datatypes in a child of a repository.
 abbrev pub datatypes_of : RepositoryItem → List DatatypeEl
 datatypes_of (part.Datatypes list) = list.children
 datatypes_of _ = []
 
--- Its code sets.
+-- The code sets in a child of a repository.
 abbrev pub code_sets_of : RepositoryItem → List CodeSetEl
 code_sets_of (part.CodeSets list) = list.children
 code_sets_of _ = []
 
--- Its fields.
+-- The fields in a child of a repository.
 abbrev pub fields_of : RepositoryItem → List FieldEl
 fields_of (part.Fields list) = list.children
 fields_of _ = []
 
--- Its components.
+-- The components in a child of a repository.
 abbrev pub components_of : RepositoryItem → List ComponentEl
 components_of (part.Components list) = list.children
 components_of _ = []
 
--- Its groups.
+-- The groups in a child of a repository.
 abbrev pub groups_of : RepositoryItem → List GroupEl
 groups_of (part.Groups list) = list.children
 groups_of _ = []
 
--- Its messages.
+-- The messages in a child of a repository.
 abbrev pub messages_of : RepositoryItem → List MessageEl
 messages_of (part.Messages list) = list.children
 messages_of _ = []
 
--- the members of a repository, those of one kind as one list
+-- the members of a repository, with those of each kind as one list
 pub record Members : Type 0 where
   pub datatypes : List DatatypeEl
   pub code_sets : List CodeSetEl

@@ -1,5 +1,5 @@
-//! Mapping files as a tree: the elements of a FIX Orchestra repository that a mapping is made of, and
-//! the codes with which one is refused.
+//! Mapping files as a tree: the elements of a FIX Orchestra repository that make up a mapping, and the codes of its
+//! refusals.
 #![tactic(auto)]
 
 mod codes;

@@ -3,13 +3,13 @@ ghost use Rattle.map_types.specs.Trees.{ref_in};
 
 use lists::{List, Text};
 
-/// A `repository`: a mapping as its file has it.
+/// A `repository`: a mapping as its file states it.
 #[derive(Debug, Drop)]
 pub struct Repository {
     pub children: List<RepositoryItem>,
 }
 
-/// A child of a `repository`. One kind of list may come several times; its members count as one list.
+/// A child of a `repository`. The same kind of list may occur several times; its members count as one list.
 #[derive(Debug, Drop)]
 pub enum RepositoryItem {
     Datatypes(DatatypesEl),
@@ -38,7 +38,7 @@ pub struct CodeSetsEl {
     pub children: List<CodeSetEl>,
 }
 
-/// A code set: the values of a field whose type it is.
+/// A code set: the values of fields that have it as their type.
 #[derive(Debug, Drop)]
 pub struct CodeSetEl {
     pub name: Text,
@@ -67,7 +67,7 @@ pub struct FieldEl {
     pub name: Text,
     /// A datatype or a code set.
     pub type_name: Text,
-    /// The id of the field that says how long the data of this one is.
+    /// The id of the field that holds the length of this field's data.
     pub length_id: Option<u32>,
 }
 
@@ -161,7 +161,7 @@ pub enum GroupItem {
 }
 
 impl GroupItem {
-    /// The reference that it is, if it isn't the count.
+    /// The reference, if it isn't the count.
     pub fn reference(self) -> Option<RefItem>
         ensures { result ≡ ref_in self }
     {

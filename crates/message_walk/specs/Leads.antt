@@ -1,4 +1,4 @@
--- What a field begins with. From the FIX tag=value encoding (FIX 4.4), Message format.
+-- The bytes that a field begins with. From the FIX tag=value encoding (FIX 4.4), Message format.
 use Rattle.std.specs.Prelude.{◌≡◌, ℕ, false, List}
 use Rattle.tagvalue_codec.specs.Fields.{tag_bytes, IsTag}
 use Rattle.tagvalue_codec.specs.Texts.{is_locked}

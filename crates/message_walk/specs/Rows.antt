@@ -25,30 +25,30 @@ use Rattle.message_walk.specs.declared.plan.Part.TheVariants as part
 
 -- ---- rows
 
--- the rule of data as they are
+-- the rule is that of raw data
 pub record IsRaw (rule : Rule) : Type 0 where
   pub leaf : LeafOf
   pub is : rule ≡ raw_data leaf
 
--- the rule of data as a text
+-- the rule is that of data as a text
 pub record IsPassage (rule : Rule) : Type 0 where
   pub leaf : LeafOf
   pub is : rule ≡ text_data leaf
 
--- the row's part is the field or data of a slot, whose data field has this length field, if any
+-- the row's part is the field or data part of a slot; `lead`: the tag of its length field, if it has one
 abbrev pub IsSlotAt : {R : Type 0} → (R → Rule → Type 0) → Option ℕ → Slot → ℕ → Part R → Type 0
 IsSlotAt spells lead s n (part.Field by) = (s.place ≡ in_fields n) × (lead ≡ None) × spells by s.rule
 IsSlotAt spells lead s n (part.Data (Some own)) = (s.place ≡ in_data n) × (lead ≡ Some own) × IsRaw s.rule
 IsSlotAt spells lead s n (part.Data None) = (s.place ≡ in_data n) × (lead ≡ None) × IsPassage s.rule
 IsSlotAt spells lead s n (part.Group size) = ⊥
 
--- how many rows are those of a group's entries
+-- how many rows a group's entries have
 abbrev pub size_of : {R : Type 0} → Part R → Option ℕ
 size_of (part.Field by) = None
 size_of (part.Data lead) = None
 size_of (part.Group size) = Some size
 
--- the rows are those of the plan: a row a place, those of a group's entries after the group's
+-- the rows are those of the plan: one for each place, with those of a group's entries after the group's
 abbrev pub AreRows : {R : Type 0} → (R → Rule → Type 0) → TagLists → Plan → List (PlanRow R) → Type 0
 AreRows spells lists done rows = rows ≡ []
 AreRows spells lists (single s rest) rows =
@@ -64,18 +64,18 @@ pub record IsByTable (k : Kind) (rule : Rule) : Type 0 where
   pub datatype : Datatype
   pub is : rule_of k datatype ≡ Some rule
 
--- the rule is one for the field of that number
+-- the rule is one for the field with this number
 pub record IsForField (rule : Rule) (i : ℕ) (fields : List FieldOf) : Type 0 where
   pub field : FieldOf
   pub there : slice_get fields i ≡ Some field
   pub by_table : IsByTable field.kind rule
 
--- the place is one of a level with these fields and data, and the rule one for it
+-- the place is one of a level with these fields and data, and the rule is one for it
 abbrev pub IsThere : Rule → Place → List FieldOf → List DataField → Type 0
 IsThere rule (in_fields i) fields parts = IsForField rule i fields
 IsThere rule (in_data i) fields parts = i < length parts
 
--- the places of the plan are some of a level with these parts
+-- the places of the plan are some of those of a level with these parts
 abbrev pub Fits : Plan → List FieldOf → List Group → List DataField → Type 0
 Fits done fields groups parts = ⊤
 Fits (single s rest) fields groups parts = IsThere s.rule s.place fields parts × Fits rest fields groups parts
@@ -84,31 +84,31 @@ Fits (group g inner rest) fields groups parts =
     × Fits inner (out-Level (out-Group found).level).fields (out-Level (out-Group found).level).groups (out-Level (out-Group found).level).parts)
     × Fits rest fields groups parts
 
--- the same of what is seen of a level
+-- the same for what a view of a level shows
 abbrev pub FitsSeen : Plan → Seen → Type 0
 FitsSeen p seen = Fits p seen.fields seen.groups seen.parts
 
 -- ---- views
 
--- the value of the field of that number
+-- the value of the field with this number
 abbrev pub field_of : Seen → ℕ → Value
 field_of seen i = nth_or value.Absent i (out-Block seen.block).fields
 
--- the value of data that is seen
+-- the value of the data that a view shows
 abbrev pub value_seen : Option (List ℕ) → Value
 value_seen None = value.Absent
 value_seen (Some bytes) = value.Text bytes
 
--- the entries that are seen
+-- the entries that a view shows
 abbrev pub entries_seen : Option (List Seen) → List Seen
 entries_seen None = []
 entries_seen (Some es) = es
 
--- the places of an entry that is seen
+-- the places of an entry that a view shows
 abbrev pub entry_places : Plan → Seen → Places
 entry_places p e = begun_places (begins p (values_of p e.block)) (places_of p (values_of p e.block))
 
--- a group's count and its entries, without the step to it
+-- the places of a group's count and its entries, without the step to the group
 abbrev pub run_inside : {X : Type 0} → ℕ → (X → Places) → List X → Places
 run_inside tag entry [] = no_places
 run_inside tag entry (e ∷ es) = then_places (place_of tag (decimal (length (e ∷ es)))) (entries_places entry 0 (e ∷ es))

@@ -1,4 +1,5 @@
--- What is written of a message into a draft: place by place, up to the first that is refused or doesn't fit. Own profile.
+-- What is written of a message into a draft: place by place, up to the first that is refused or doesn't fit. Own
+-- profile.
 use Rattle.std.specs.Prelude.{◌≡◌, ℕ, Bool, true, false, nat_lt, if◌then◌else◌, List, [], ◌∷◌, ◌++◌, length, Option, Some, None, Result}
 use Rattle.std.specs.Option.{option_map}
 use Rattle.fix_values.specs.declared.rule.V.{V}
@@ -21,11 +22,11 @@ fields_bytes lists fields = bytes_of (with_lengths lists fields)
 abbrev pub with_fields : TagLists → Draft → List Field → Draft
 with_fields lists d fields = begun d.limit d.begin (d.body ++ fields_bytes lists fields)
 
--- how many bytes the text has, finished with more fields
+-- the length of the text, if it is finished with more fields
 abbrev pub text_size : TagLists → Draft → List Field → ℕ
 text_size lists d fields = length (text_over d.begin (d.body ++ fields_bytes lists fields))
 
--- the text passes the limit with more fields
+-- with more fields the text exceeds the limit
 abbrev pub is_over : TagLists → Draft → List Field → Bool
 is_over lists d fields = nat_lt d.limit (text_size lists d fields)
 
@@ -34,45 +35,45 @@ pub record State : Type 0 where
   pub draft : Draft
   pub halt : Option Halt
 
--- the text is over the limit with the fields of a place
+-- the halt because the text exceeds the limit with the fields of a place
 abbrev pub full_at : TagLists → Draft → Written → Halt
 full_at lists d x = halt_of (over_limit (record { way = x.way; size = text_size lists d x.fields }))
 
--- what places leave, written one after another, and then what ends them
+-- what is left after places are written in order, and then what ends them
 abbrev pub after_places : TagLists → Draft → List Written → Option Refused → State
 after_places lists d [] refused = record { draft = d; halt = option_map (λ r. halt_of (unwritten r)) refused }
 after_places lists d (x ∷ xs) refused =
     if is_over lists d x.fields then record { draft = d; halt = Some (full_at lists d x) } else after_places lists (with_fields lists d x.fields) xs refused
 
--- what the places of a message leave
+-- what is left after the places of a message
 abbrev pub after : TagLists → Draft → Places → State
 after lists d all = after_places lists d all.places all.refused
 
--- more is written, unless a place wasn't
+-- more is written, unless a place was refused
 abbrev pub continued : Draft → Option Halt → (Draft → State) → State
 continued d None more = more d
 continued d (Some h) more = record { draft = d; halt = Some h }
 
--- a state, and what is written after it
+-- a state, and what is written after it, unless a place was refused
 abbrev pub go_on : State → (Draft → State) → State
 go_on s more = continued s.draft s.halt more
 
--- the same inside a part or an entry
+-- a state inside a part or an entry
 abbrev pub state_in : Way → State → State
 state_in step s = record { draft = s.draft; halt = halt_in step s.halt }
 
--- an answer: all was written, or what wasn't
+-- the state by whether all was written; if not, with this halt
 abbrev pub outcome : Bool → Draft → Halt → State
 outcome true d h = record { draft = d; halt = None }
 outcome false d h = record { draft = d; halt = Some h }
 
--- what became of one field, with the draft and the halt
+-- what happened to one field, with the draft and the halt
 pub record PutResult : Type 0 where
   pub put : Put
   pub draft : Draft
   pub halt : Halt
 
--- what it leaves
+-- the state after one field
 abbrev pub put_state : Put → Draft → Halt → State
 put_state put.Written d h = record { draft = d; halt = None }
 put_state put.Nothing d h = record { draft = d; halt = None }

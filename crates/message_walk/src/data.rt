@@ -17,7 +17,7 @@ use crate::put::{Put, put_data_text, put_text};
 use fix_values::show_text;
 use tagvalue_codec::FixWriter;
 
-/// Writes data as it is, with its length field, unless it is empty or absent.
+/// Writes raw data with its length field, unless it is empty or absent.
 #[tactic(auto, using(crate::proofs::DataPuts::raw_none, crate::proofs::DataPuts::raw_empty, crate::proofs::DataPuts::raw_some))]
 fn put_raw(
     length_lead: &Lead,
@@ -63,7 +63,7 @@ fn put_passage(lead: &Lead, found: Option<&[u8]>, out: &mut FixWriter, halt: &mu
     }
 }
 
-/// Writes the field of a text, if it may be written.
+/// Writes the field of a text, if the text may be written.
 #[tactic(auto, using(crate::proofs::DataPuts::judged_fine, crate::proofs::DataPuts::judged_bad, crate::proofs::Values::shown_value))]
 pub fn put_judged(lead: &Lead, text: &[u8], out: &mut FixWriter, halt: &mut Halt) -> Put
     requires { out.old.phase ≡ Open }
@@ -80,7 +80,7 @@ pub fn put_judged(lead: &Lead, text: &[u8], out: &mut FixWriter, halt: &mut Halt
     }
 }
 
-/// Writes data as it is where it has a length field, and as a text where it has none, unless it is empty or absent.
+/// Writes data, raw if it has a length field and as a text if it has none, unless it is empty or absent.
 #[inline(always)]
 pub(crate) fn put_data(
     length_lead: &Option<Lead>,

@@ -12,11 +12,11 @@ pub enum Cause {
     NoText(V),
     /// Its entry doesn't begin with the delimiter.
     NoDelimiter,
-    /// The text would be too long: so many bytes, or `u64::MAX` where they are more than that.
+    /// The text would be too long: this many bytes, or `u64::MAX` if they are more than that.
     Full(u64),
 }
 
-/// The first place that isn't written, lent to the walk so that nothing wide is handed back.
+/// The first place that isn't written, lent to the walk so that nothing wide is returned.
 #[derive(Drop)]
 pub struct Halt {
     pub cause: Cause,
@@ -24,7 +24,7 @@ pub struct Halt {
 }
 
 impl Halt {
-    /// Before anything was refused.
+    /// The initial contents, before anything was refused.
     pub fn new() -> Halt {
         Halt {
             cause: Cause::NoDelimiter,
@@ -32,7 +32,7 @@ impl Halt {
         }
     }
 
-    /// The place is right here.
+    /// Records that it is the current place.
     #[cold]
     pub fn tell(&mut self, cause: Cause)
         ensures { self.new ≡ record { cause = cause; way = [] } }
@@ -41,7 +41,7 @@ impl Halt {
         self.way.clear();
     }
 
-    /// The place is inside a step.
+    /// Records that the place is inside this step.
     #[cold]
     pub fn under(&mut self, step: WayStep)
         ensures { self.new ≡ record { cause = self.old.cause; way = pushed (way_of step) self.old.way } }

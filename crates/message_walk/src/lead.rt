@@ -1,4 +1,4 @@
-// What a field begins with.
+// The beginning of a field.
 ghost use Rattle.std.specs.Prelude.{◌≡◌, ◌≤◌, ◌+◌, ◌++◌, ◌∷◌, [], length, take, false, Some, IfSome};
 ghost use Rattle.tagvalue_codec.specs.Fields.{tag_bytes, IsTag};
 ghost use Rattle.tagvalue_codec.specs.Drafts.{IsReady};
@@ -7,7 +7,7 @@ ghost use Rattle.tagvalue_codec.specs.Texts.{is_locked};
 use itoa::Buffer;
 use std::marker::Model;
 
-/// A tag as a field begins with it: its digits and `=`.
+/// A tag as it begins a field: its digits and `=`.
 #[derive(Drop)]
 pub struct Lead {
     tag: u32,
@@ -28,7 +28,8 @@ impl Model for Lead {
 }
 
 impl Lead {
-    /// The lead of a tag; none where it has more than nine digits or is 0, 8, 9, 10 or 35, which no application field has.
+    /// The lead of a tag. `None` if the tag has more than nine digits or is 0, 8, 9, 10 or 35, which no application
+    /// field has.
     #[tactic(auto, using(crate::proofs::Leads::few_digits, crate::proofs::Leads::lead_made))]
     pub fn new(tag: u32) -> Option<Lead>
         ensures same { IfSome result (λ lead. lead ≡ tag) }
@@ -64,14 +65,14 @@ impl Lead {
     }
 }
 
-/// Whether the tag is that of the head or of the sum.
+/// Whether the tag belongs to the head or is that of the sum.
 fn is_locked(tag: u32) -> bool
     ensures { result ≡ is_locked tag }
 {
     tag == 8 || (tag == 9 || (tag == 10 || tag == 35))
 }
 
-/// Copies bytes after those that an array begins with, and tells where they end.
+/// Copies bytes after those at the front of an array, and returns where they end.
 fn append(bytes: &mut [u8], used: usize, piece: &[u8]) -> usize
     requires { used + length piece.now ≤ length bytes.old }
     ensures bytes { take (used + length piece.now) bytes.new ≡ take used bytes.old ++ piece.now }

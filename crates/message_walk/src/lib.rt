@@ -1,7 +1,7 @@
-//! The fields of a message, written as a walk over the rows of a plan and over the view of the message.
+//! Writes the fields of a message, by a walk over the rows of a plan and over the view of the message.
 //!
-//! A row is a place of a level: its tag, and what is there. Rows are in the order of the mapped structure, and those of a
-//! group's entries follow the group's own. How a value becomes a text is up to the rows (`PutValue`).
+//! A row is a place of a level: its tag, and what is there. Rows are in the order of the mapped structure, and those of
+//! a group's entries follow the group's own. The rows determine how a value becomes a text (`PutValue`).
 #![tactic(auto)]
 
 mod data;

@@ -16,8 +16,8 @@ use crate::walk::put_rows;
 use flyweight_view::BlockView;
 use tagvalue_codec::FixWriter;
 
-/// Writes the fields of a message in the order of the structure, by the rows of its plan. It takes no memory. Where it says
-/// no, `halt` tells the first place that isn't written.
+/// Writes the fields of a message in the order of the structure, by the rows of its plan. Allocates nothing. If it
+/// returns false, `halt` receives the first place that isn't written.
 pub fn put_message<R: PutValue>(
     rows: &[PlanRow<R>],
     root: &BlockView<'_>,

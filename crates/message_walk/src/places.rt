@@ -11,7 +11,7 @@ ghost use Rattle.message_walk.specs.Rows.{entries_seen, value_seen};
 
 use flyweight_view::{BlockView, EntriesView};
 
-/// Whether the block has a field of that number.
+/// Whether the block has a field with this number.
 #[inline(always)]
 pub(crate) fn has_field(block: &BlockView<'_>, number: usize) -> bool
     ensures { result ≡ nat_lt number (length block.now.fields) }
@@ -20,7 +20,7 @@ pub(crate) fn has_field(block: &BlockView<'_>, number: usize) -> bool
     number < count
 }
 
-/// The data of that number, none where it is absent.
+/// The data with this number, or `None` if it is absent.
 #[tactic(auto, using(crate::proofs::Nth::data_seen))]
 pub(crate) fn data_at<'a>(block: &BlockView<'a>, number: usize) -> Option<&'a [u8]>
     ensures { number < length block.now.parts
@@ -33,7 +33,7 @@ pub(crate) fn data_at<'a>(block: &BlockView<'a>, number: usize) -> Option<&'a [u
     block.data(number)
 }
 
-/// The entries of the group of that number, none where it is absent.
+/// The entries of the group with this number, or `None` if it is absent.
 #[tactic(auto, using(crate::proofs::Nth::group_seen_at))]
 pub(crate) fn entries_at<'a>(block: &BlockView<'a>, number: usize) -> Option<EntriesView<'a>>
     ensures { (group : Group) → slice_get block.now.groups number ≡ Some group
@@ -57,7 +57,7 @@ pub(crate) fn first<R>(rows: &[R]) -> &R
     &rows[0]
 }
 
-/// The rows from one on.
+/// The rows from row `n` on.
 #[inline(always)]
 #[tactic(auto, using(std::proofs::lemmas::List::take_rest))]
 pub(crate) fn rest_from<R>(rows: &[R], n: usize) -> &[R]
@@ -67,7 +67,7 @@ pub(crate) fn rest_from<R>(rows: &[R], n: usize) -> &[R]
     &rows[n..]
 }
 
-/// The rows before one.
+/// The rows before row `n`.
 #[inline(always)]
 pub(crate) fn front<R>(rows: &[R], n: usize) -> &[R]
     requires { n ≤ length rows.now }

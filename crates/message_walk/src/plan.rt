@@ -3,11 +3,11 @@ use crate::Lead;
 /// What is at a place of a level.
 #[derive(Drop)]
 pub enum Part<R> {
-    /// A field, and how its values are spelled.
+    /// A field, and how its values are written.
     Field(R),
-    /// Data: with a length field as it is, and with none as a text.
+    /// Data: raw if it has a length field, otherwise as a text.
     Data(Option<Lead>),
-    /// A group, and how many rows after this one are those of its entries.
+    /// A group, and how many of the rows after this one belong to its entries.
     Group(usize),
 }
 

@@ -21,18 +21,18 @@ use tagvalue_codec::FixWriter;
 #[derive(Clone, Copy, Debug, PartialEq, Eq, Drop)]
 pub enum Put {
     Written,
-    /// The value gives no field.
+    /// The value has no field.
     Nothing,
-    /// It has no text, or no room: the halt says why.
+    /// It has no text, or there is no room: the halt says why.
     Refused,
 }
 
-/// How the values of a field are spelled.
+/// How the values of a field are written.
 pub trait PutValue {
-    /// Whether it spells values as a rule does.
+    /// Whether it writes values by this rule.
     ghost spells: { Self → Rule → Type 0 };
 
-    /// Writes the field of the value of field `number` of a block, if it gives one. It needs a field in range.
+    /// Writes the field of the value of field `number` of a block, if the value has one. Requires a field in range.
     fn put(
         &self,
         lead: &Lead,
@@ -49,7 +49,7 @@ pub trait PutValue {
             → IsPut lists out.old lead.now (text_by rule (field_of block.now number)) (record { put = result; draft = out.new; halt = halt.new }) };
 }
 
-/// Writes a field of that text.
+/// Writes a field with this text.
 #[inline(always)]
 pub fn put_text(lead: &Lead, text: &[u8], out: &mut FixWriter, halt: &mut Halt) -> Put
     requires open { out.old.phase ≡ Open }
@@ -68,7 +68,7 @@ pub fn put_text(lead: &Lead, text: &[u8], out: &mut FixWriter, halt: &mut Halt) 
     }
 }
 
-/// Writes a length field and the data field of those bytes.
+/// Writes a length field and the data field with these bytes.
 pub(crate) fn put_data_text(
     length_lead: &Lead,
     lead: &Lead,

@@ -1,10 +1,10 @@
-// The way to a place.
+// The path to a place.
 ghost use Rattle.std.specs.Prelude.{◌≡◌, [], map};
 ghost use Rattle.message_walk.specs.Ways.{pushed, way_of};
 
 use std::marker::Model;
 
-/// A step of the way to a place.
+/// A step of the path to a place.
 #[derive(Clone, Copy, Debug, PartialEq, Eq)]
 pub enum WayStep {
     /// A part, by its tag.
@@ -13,11 +13,11 @@ pub enum WayStep {
     Entry(usize),
 }
 
-/// How many steps of a way are kept. A message's groups nest six deep, and so no way has more than 13.
+/// How many steps of a path are kept. The groups of a message nest six deep, so no path has more than 13.
 const MOST_STEPS: usize = 20;
 
-/// The way to a place, of which the last steps are kept. They are at the end of the array, since each level adds its own in
-/// front on the way out.
+/// The path to a place, of which the last steps are kept. They are at the end of the array, since each level prepends
+/// its own on the way out.
 #[derive(Drop)]
 pub struct Trail {
     steps: [WayStep; 20],
@@ -37,7 +37,7 @@ impl Model for Trail {
 }
 
 impl Trail {
-    /// No step.
+    /// Creates an empty trail.
     #[tactic(auto, using(crate::proofs::Trails::no_steps))]
     pub fn new() -> Trail
         ensures { result ≡ [] }
@@ -56,14 +56,14 @@ impl Trail {
         &self.steps[self.start..]
     }
 
-    /// Forgets all steps.
+    /// Removes all steps.
     pub fn clear(&mut self)
         ensures { self.new ≡ [] }
     {
         self.start = MOST_STEPS;
     }
 
-    /// Adds a step in front, if there is room.
+    /// Prepends a step, if there is room.
     #[tactic(auto, using(crate::proofs::Trails::step_in_front, crate::proofs::Trails::no_room))]
     pub fn push_front(&mut self, step: WayStep)
         ensures { self.new ≡ pushed (way_of step) self.old }

@@ -23,8 +23,8 @@ use crate::trail::WayStep;
 use flyweight_view::{BlockView, EntriesView};
 use tagvalue_codec::FixWriter;
 
-/// Writes the fields of a block by the rows of its plan. Where it says no, `halt` tells the first place that isn't written,
-/// and the fields before it are written.
+/// Writes the fields of a block by the rows of its plan. If it returns false, `halt` receives the first place that
+/// isn't written, and the fields before it are written.
 #[cycle(walk)]
 pub fn put_rows<R: PutValue>(
     rows: &[PlanRow<R>],
@@ -61,7 +61,7 @@ pub fn put_rows<R: PutValue>(
     true
 }
 
-/// How many rows are those of a group's entries; none where it is no group.
+/// How many rows belong to a group's entries, or `None` if it isn't a group.
 #[inline(always)]
 fn size_of<R>(part: &Part<R>) -> Option<usize>
     ensures { result ≡ size_of part.now }
@@ -73,7 +73,7 @@ fn size_of<R>(part: &Part<R>) -> Option<usize>
     }
 }
 
-/// Writes the field of a field or data, if its value gives one.
+/// Writes the field of a field or data, if its value has one.
 fn put_row<R: PutValue>(
     row: &PlanRow<R>,
     block: &BlockView<'_>,
@@ -96,7 +96,7 @@ fn put_row<R: PutValue>(
     }
 }
 
-/// The same, and what became of it. It leaves a group alone.
+/// The same, but returns what became of the field. Groups are left out.
 #[inline(always)]
 fn put_slot<R: PutValue>(
     row: &PlanRow<R>,
@@ -233,7 +233,7 @@ fn put_entry<R: PutValue>(
     }
 }
 
-/// Tells that an entry doesn't begin with its delimiter.
+/// Records that an entry doesn't begin with its delimiter.
 fn undelimited(halt: &mut Halt) -> bool
     ensures refused { result ≡ false }
     ensures halt { halt.new ≡ undelimited_here }

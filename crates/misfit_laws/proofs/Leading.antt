@@ -40,7 +40,7 @@ element_leads l i steps leads first = mapped _ (path_from false in_nothing steps
 
 -- ---- the places of parts
 
--- these parts stand behind i others
+-- these parts stand after i others
 abbrev pub Behind : List NamedPart → ℕ → List NamedPart → Type 0
 Behind all i parts = (j k : ℕ) (p : NamedPart) → j ≡ i + k → slice_get parts k ≡ Some p → slice_get all j ≡ Some p
 

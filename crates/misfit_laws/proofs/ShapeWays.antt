@@ -1,4 +1,4 @@
--- A misfit of a message's shape is no want of room, and its path leads to a part. A block without one has the parts of its level.
+-- A misfit of a message's shape is not a lack of room, and its path leads to a part. A block without one has the parts of its level.
 use Rattle.std.proofs.Common.{◌≡◌, ℕ, suc, ◌+◌, Bool, true, false, cond, List, [], ◌∷◌, length, Option, Some, None, pos, refl, sym, ap, ◌∙◌, subst, arith}
 use Rattle.std.specs.Prelude.{◌&&◌, ◌==◌, ◌^◌, ◌<◌, nat_lt, map}
 use Rattle.std.proofs.lemmas.Bool.Decides.{Decides-eqb, nat_tests}
@@ -58,7 +58,7 @@ told_shape inside true true false m h = bad inside
 
 -- ---- levels
 
--- the data of a level stand behind so many fields and groups
+-- the data of a level stand after so many fields and groups
 pub data_behind : (level : Level) (groups : ℕ) → length (out-Level level).groups ≡ groups →
     Behind (level_parts level) (length (out-Level level).fields + groups) (map data_part (out-Level level).parts)
 data_behind level groups many = subst (λ m. Behind (level_parts level) (length (out-Level level).fields + m) (map data_part (out-Level level).parts)) many (data_stand level)

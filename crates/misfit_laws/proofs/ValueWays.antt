@@ -1,4 +1,4 @@
--- The misfit of a value is no want of room, and its path leads to a part of the value.
+-- The misfit of a value is not a lack of room, and its path leads to a part of the value.
 use Rattle.std.proofs.Common.{◌≡◌, ℕ, suc, Bool, true, false, cond, List, [], ◌∷◌, length, Option, Some, None, ℤ, pos, refl}
 use Rattle.std.specs.Prelude.{⊤, ◌==◌, ◌&&◌, ◌^◌, not, nat_le, nat_lt, find, map}
 use Rattle.sbe_types.specs.declared.kind.Kind.{Kind, Leaf, Enum, Set, Const, Comp', Row_of-Member, end_of-Member, more_of-Member, items-the_row-Member}
@@ -23,7 +23,7 @@ use Rattle.sbe_wire.specs.Misfit.{Misfit, misfit_here, misfit_in, or_else, unles
 use Rattle.layout_tables.specs.Paths.{Inside, in_kind, in_nothing, NamedPart, field_part, member_part, parts_inside}
 use Rattle.misfit_laws.proofs.Leading.{Leads, LeadsBy, here, part_leads, element_leads, Behind, first_is, next_are, all_are}
 
--- no misfit, or one that is no want of room and whose path leads on from the place
+-- no misfit, or one that is not a lack of room and whose path leads on from the place
 abbrev pub Told : Inside → Option Misfit → Type 0
 Told inside None = ⊤
 Told inside (Some m) = (is_full m.code ≡ false) × Leads inside m.path

@@ -109,7 +109,7 @@ facts_list schema (n ∷ ns) blocks kinds lengths =
 
 -- ---- bytes that are counted, or a misfit
 
--- so many bytes within the limit; or a misfit, and if it is want of room, it tells a number close behind the limit
+-- so many bytes within the limit; or a misfit, and if it is lack of room, it tells a number just above the limit
 abbrev Near : ℕ → Taken → Type 0
 Near limit (Ok n) = n ≤ limit
 Near limit (Err m) = m.code ≡ code.Full → IsWanted limit m.detail

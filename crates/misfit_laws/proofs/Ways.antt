@@ -1,4 +1,4 @@
--- The path of a message's misfit leads to a part of its template, and want of room has no path.
+-- The path of a message's misfit leads to a part of its template, and lack of room has no path.
 use Rattle.std.proofs.Common.{◌≡◌, ◌⊎◌, inl, inr, ℕ, suc, ◌+◌, Bool, true, false, true≢false, cond, List, [], ◌∷◌, length, Option, Some, None, Ok, Err, pos, refl, sym, ap, ◌∙◌, subst}
 use Rattle.std.specs.Prelude.{⊤, ◌==◌, nat_le, map, is_some, slice_get, codes}
 use Rattle.std.specs.Option.{option_and_then, IsSome}
@@ -37,7 +37,7 @@ use Rattle.misfit_laws.proofs.ShapeWays.{bad, block_told, data_behind, shape_of,
 
 -- ---- bytes that are counted, or a misfit
 
--- the path of a misfit leads on from the place, and that of want of room is empty
+-- the path of a misfit leads on from the place, and that of lack of room is empty
 abbrev pub Way : Inside → Misfit → Type 0
 Way inside m = (is_full m.code ≡ true → m.path ≡ []) × Leads inside m.path
 

@@ -1,4 +1,5 @@
--- What is known of the first misfit of a message: where its path leads, and which numbers want of room is told with. Own profile.
+-- What is known of the first misfit of a message: where its path leads, and which number a body over the limit is
+-- reported with. Own profile.
 use Rattle.std.specs.Prelude.{◌≡◌, ◌<◌, ◌+◌, ◌^◌, ℕ, ℤ, pos, [], Some, slice_get}
 use Rattle.std.specs.Option.{IsSome}
 use Rattle.sbe_types.specs.declared.schema.WireSchema.{WireSchema}
@@ -16,28 +17,28 @@ MisfitsHaveWays =
     (schema : WireSchema) (m : Msg) (limit : ℕ) (why : Misfit) → IsChecked schema → IsSome (slice_get schema.messages m.template) → misfit schema m limit ≡ Some why
     → IsPathOf schema m.template why.path
 
--- ---- want of room
+-- ---- a body over the limit
 
--- A part has less bytes than this: a header with a block, a dimension, or data with its length.
+-- A part has fewer bytes than this: a header with a block, a dimension, or data with its length.
 abbrev pub part_bound : ℕ
 part_bound = 2 ^ 33
 
--- So many bytes are wanted: more than the limit, by less than a part may have.
+-- The detail is a number of bytes that is above the limit, by less than a part can have.
 pub record IsWanted (limit : ℕ) (detail : ℤ) : Type 0 where
   pub bytes : ℕ
   pub told : detail ≡ pos bytes
   pub over : limit < bytes
   pub near : bytes < limit + part_bound
 
--- want of room has no path
+-- the misfit of a body over the limit has no path
 abbrev pub WantIsOfAll : Type 0
 WantIsOfAll = (schema : WireSchema) (m : Msg) (limit : ℕ) (why : Misfit) → IsChecked schema → misfit schema m limit ≡ Some why → why.code ≡ Full → why.path ≡ []
 
--- its number is that of the bytes up to the end of the first part that passes the limit
+-- its detail is the number of bytes up to the end of the first part that exceeds the limit
 abbrev pub WantIsNear : Type 0
 WantIsNear = (schema : WireSchema) (m : Msg) (limit : ℕ) (why : Misfit) → IsChecked schema → misfit schema m limit ≡ Some why → why.code ≡ Full → IsWanted limit why.detail
 
--- where the limit is a number of 64 bits, it is below 2^65
+-- if the limit is a number of 64 bits, the detail is below 2^65
 abbrev pub WantIsSmall : Type 0
 WantIsSmall =
     (schema : WireSchema) (m : Msg) (limit : ℕ) (why : Misfit) → IsChecked schema → limit < 2 ^ 64 → misfit schema m limit ≡ Some why → why.code ≡ Full

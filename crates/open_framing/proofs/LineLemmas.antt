@@ -96,7 +96,7 @@ lines_more stream input line lines end is cut =
       ends = cut.ends ∙ ap (λ k. (last_of k cut.rest).1) (sym goes_on);
     }
 
--- a line end stands behind bytes that have none
+-- a line end stands after bytes that have none
 end_behind : (plain line back more : List ℕ) → AllByRecursion (λ b. b ≢ line_end) plain → plain ++ back ≡ line ++ line_end ∷ more → length plain ≤ length line
 end_behind [] line back more none e = omega arith
 end_behind (b ∷ plain) [] back more none e = let first : b ≡ line_end = cc in absurd (none.0 first)

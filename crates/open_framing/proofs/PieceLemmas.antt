@@ -28,7 +28,7 @@ none_left : {X : Type 0} {G : List ℕ → Type 0} {P : X → Type 0} {b : X →
 none_left {X} {G} {P} {b} {first} reads bytes short =
     (bytes, record { whole = refl; each = tt; longest = λ x more piece e. let some = reads.filled x piece in absurd (omega (arith, ap length e, length-append (b x) more)) })
 
--- one piece and then what is found behind it
+-- one piece and then what is found after it
 one_more : {X : Type 0} {G : List ℕ → Type 0} {P : X → Type 0} {b : X → List ℕ} {first : List ℕ → Option X} → FindsPieces G P b first →
     (n : ℕ) (later : List ℕ → List X) → ((bytes : List ℕ) → G bytes → length bytes ≤ n → Found P b bytes (later bytes)) →
     (bytes : List ℕ) → G bytes → length bytes ≤ suc n → (o : Option X) → first bytes ≡ o → Found P b bytes (then_pieces b later bytes o)
@@ -77,6 +77,6 @@ pieces_once {X} {G} {P} {b} {first} reads bytes (x ∷ xs) (y ∷ ys) r s c d =
     let rest = pieces_once reads (joined b xs ++ r) xs ys r s (record { whole = refl; each = c.each.1; longest = c.longest }) (record { whole = later; each = d.each.1; longest = d.longest }) in
     (let more : xs ≡ ys = rest.0 in cc, rest.1)
 
--- whether a stream goes on behind the input doesn't hang on what stands at its front
+-- whether a stream goes on after the input doesn't hang on what stands at its front
 pub more_behind : (front stream : List ℕ) (input : ℕ) → nat_lt (length front + input) (length (front ++ stream)) ≡ nat_lt input (length stream)
 more_behind front stream input = let all = length-append front stream in grind (arith, nat_tests, all)

@@ -21,27 +21,27 @@ pub record Item : Type 0 where
 abbrev pub frame_of : Item → List ℕ
 frame_of item = frame item.encoding item.body
 
--- Its length fits the head and the limit, and its encoding type is one of the three.
+-- The length of the frame fits the head and the limit, and its encoding type is one of the three.
 pub record IsFrame (limit : ℕ) (item : Item) : Type 0 where
   pub fits : length item.body + HEAD_BYTES < 256 ^ 4
   pub within : length item.body + HEAD_BYTES ≤ limit
   pub known : IsTrue (is_encoding item.encoding)
 
--- how a cut ends: with nothing left, inside a frame of which so many bytes are there, at a head that is
--- at fault, or at the limit of the input
+-- how a cut ends: with nothing left, inside a frame of which this many bytes are there, at a faulty head, or at the
+-- limit of the input
 pub data CutEnd : Type 0 where
   End : CutEnd
   EndInside : ℕ → CutEnd
   HeadFault : HeadErr → CutEnd
   InputLimit : CutEnd
 
--- the end where the rest has no head that is at fault, and where the stream goes on or not
+-- the end where the rest has no faulty head, by whether the stream goes on
 abbrev pub end_inside : Bool → List ℕ → CutEnd
 end_inside true rest = InputLimit
 end_inside false [] = End
 end_inside false (b ∷ rest) = EndInside (length (b ∷ rest))
 
--- the end by the head at the front of the rest: one that is short is no fault
+-- the end by the head at the front of the rest; a head that is cut short is not a fault
 abbrev pub end_by : Result Head HeadErr → Bool → List ℕ → CutEnd
 end_by (Ok head) goes_on rest = end_inside goes_on rest
 end_by (Err HeadShort) goes_on rest = end_inside goes_on rest
@@ -53,13 +53,14 @@ end_by (Err (Encoding n)) goes_on rest = HeadFault (Encoding n)
 abbrev pub end_of : ℕ → Bool → List ℕ → CutEnd
 end_of limit goes_on rest = end_by (head_of rest limit) goes_on rest
 
--- The first `input` bytes of the stream are these items' frames, as many as there are, and a rest, at which the cut ends so.
+-- The first `input` bytes of the stream are the frames of these items, as many as there are, and a rest, at which the
+-- cut has this end.
 pub record Cut (stream : List ℕ) (limit input : ℕ) (items : List Item) (end : CutEnd) : Type 0 where
   pub rest : List ℕ
   pub pieces : Pieces (IsFrame limit) frame_of (take input stream) items rest
   pub ends : end ≡ end_of limit (nat_lt input (length stream)) rest
 
--- the item of a frame with this head, where all of it is there
+-- the item of a frame with this head, if all of its bytes are there
 abbrev pub item_by : List ℕ → Result Head HeadErr → Option Item
 item_by bytes (Err fault) = None
 item_by bytes (Ok head) = if nat_le head.length (length bytes) then Some (record { encoding = head.encoding; body = drop HEAD_BYTES (take head.length bytes) }) else None

@@ -1,5 +1,5 @@
--- The head of a frame. From SOFH 1.0, Framing header. Own profile: the byte order, that the length counts the head too, and
--- the three encoding types.
+-- The head of a frame. From SOFH 1.0, Framing header. Own profile: the byte order, that the length counts the head too,
+-- and the three encoding types.
 use Rattle.std.specs.Prelude.{ℕ, nat_lt, ◌==◌, Bool, ◌||◌, if◌then◌else◌, Result, Ok, Err, List, length, take, drop}
 pub use Rattle.byte_digits.specs.Digits.{IsBytes}
 use Rattle.byte_digits.specs.Digits.{number_high_first}
@@ -12,7 +12,7 @@ use Rattle.open_framing.specs.declared.head.HeadErr.TheVariants.{HeadShort, Leng
 abbrev pub length_in : List ℕ → ℕ
 length_in bytes = number_high_first (take 4 bytes)
 
--- Encoding_Type: the two bytes behind them
+-- Encoding_Type: the two bytes after them
 abbrev pub encoding_in : List ℕ → ℕ
 encoding_in bytes = number_high_first (take 2 (drop 4 bytes))
 
@@ -20,7 +20,7 @@ encoding_in bytes = number_high_first (take 2 (drop 4 bytes))
 abbrev pub is_encoding : ℕ → Bool
 is_encoding n = n == SBE_BIG || n == SBE_LITTLE || n == TAG_VALUE
 
--- the head that these two numbers make, or the first fault of them
+-- the head that these two numbers make, or its first fault
 abbrev pub judged : ℕ → ℕ → ℕ → Result Head HeadErr
 judged size encoding limit =
     if nat_lt size HEAD_BYTES then Err (LengthShort size)

@@ -4,19 +4,19 @@ use Rattle.std.specs.List.{AllByRecursion}
 use Rattle.open_framing.specs.declared.line.TheConstants.{LONGEST_LINE, LINE_END}
 use Rattle.open_framing.specs.Pieces.{Pieces, pieces_in, rest_of}
 
--- the bytes that a line may have
+-- the most bytes of a line
 abbrev pub longest_line : ℕ
 longest_line = LONGEST_LINE
 
--- the byte behind a line
+-- the byte after a line
 abbrev pub line_end : ℕ
 line_end = LINE_END
 
--- a line with the byte behind it
+-- a line and the byte after it
 abbrev pub ended : List ℕ → List ℕ
 ended line = line ++ line_end ∷ []
 
--- It is within the limit, and has no line end in it.
+-- The line is within the limit, and doesn't contain a line end.
 pub record IsLine (line : List ℕ) : Type 0 where
   pub within : length line ≤ longest_line
   pub plain : AllByRecursion (λ b. b ≢ line_end) line
@@ -27,7 +27,7 @@ pub data LineEnd : Type 0 where
   LineOver : LineEnd
   InputLimit : LineEnd
 
--- the line without a line end that the rest gives, if any, and the end, where the stream goes on or not
+-- the line without a line end that the rest is, if any, and the end, by whether the stream goes on
 abbrev pub last_of : Bool → List ℕ → List (List ℕ) × LineEnd
 last_of goes_on rest =
     if nat_lt longest_line (length rest) then ([], LineOver)
@@ -35,7 +35,8 @@ last_of goes_on rest =
     else if length rest == 0 then ([], End)
     else (rest ∷ [], End)
 
--- The first `input` bytes of the stream are ended lines, as many as there are, and a rest. They are followed by what the rest gives.
+-- The first `input` bytes of the stream are ended lines, as many as there are, and a rest. The lines are these and the
+-- one that the rest gives, if any.
 pub record Lines (stream : List ℕ) (input : ℕ) (lines : List (List ℕ)) (end : LineEnd) : Type 0 where
   pub before : List (List ℕ)
   pub rest : List ℕ
@@ -53,7 +54,7 @@ abbrev pub before_end : List ℕ → Option (List ℕ)
 before_end [] = None
 before_end (b ∷ bytes) = if b == line_end then Some [] else with_byte b (before_end bytes)
 
--- a line that is within the limit
+-- the line, if it is within the limit
 abbrev pub if_within : Option (List ℕ) → Option (List ℕ)
 if_within None = None
 if_within (Some line) = if nat_le (length line) longest_line then Some line else None

@@ -1,4 +1,4 @@
--- Streams that the laws are computed on. Own profile.
+-- Streams on which the laws are computed. Own profile.
 use Rattle.std.specs.Prelude.{ℕ, List, [], ◌∷◌, ◌++◌, take}
 use Rattle.open_framing.specs.declared.head.TheConstants.{SBE_LITTLE}
 use Rattle.open_framing.specs.Frames.{Item}
@@ -7,19 +7,19 @@ use Rattle.open_framing.specs.Frames.{Item}
 abbrev pub ping : List ℕ
 ping = 0x06 ∷ 0x00 ∷ 0x01 ∷ 0x00 ∷ 0x07 ∷ 0x00 ∷ 0x00 ∷ 0x00 ∷ 0x02 ∷ 0x01 ∷ 0x00 ∷ 0x00 ∷ 0x00 ∷ 0x80 ∷ []
 
--- its item in little-endian order
+-- the item of that message in little-endian order
 abbrev pub ping_item : Item
 ping_item = record { encoding = SBE_LITTLE; body = ping }
 
--- the frame of it: 20 bytes
+-- the frame of that item: 20 bytes
 abbrev pub ping_frame : List ℕ
 ping_frame = 0x00 ∷ 0x00 ∷ 0x00 ∷ 0x14 ∷ 0xeb ∷ 0x50 ∷ ping
 
--- all of it but the last byte
+-- the frame without its last byte
 abbrev pub ping_begun : List ℕ
 ping_begun = take 19 ping_frame
 
--- two of them, and the first three bytes of a third
+-- two such frames, and the first three bytes of a third
 abbrev pub pings : List ℕ
 pings = ping_frame ++ ping_frame ++ take 3 ping_frame
 
@@ -31,6 +31,6 @@ short_head = 0x00 ∷ 0x00 ∷ 0x00 ∷ 0x05 ∷ 0xeb ∷ 0x50 ∷ []
 abbrev pub long_head : List ℕ
 long_head = 0x00 ∷ 0x01 ∷ 0x00 ∷ 0x01 ∷ 0xeb ∷ 0x50 ∷ []
 
--- a head of an encoding type that is not there
+-- a head with an unknown encoding type
 abbrev pub strange_head : List ℕ
 strange_head = 0x00 ∷ 0x00 ∷ 0x00 ∷ 0x06 ∷ 0xf5 ∷ 0x00 ∷ []

@@ -5,7 +5,7 @@ ghost use Rattle.open_framing.specs.Heads.{head_of, judged};
 use byteorder::{BigEndian, ByteOrder};
 use thiserror::Error;
 
-/// How many bytes a head has: four for the length, two for the encoding type.
+/// The size of a head in bytes: four for the length, two for the encoding type.
 pub const HEAD_BYTES: usize = 6;
 
 /// The encoding type of SBE 1.0 in big-endian order. The number is this project's profile.
@@ -20,23 +20,23 @@ pub const TAG_VALUE: u16 = 0xf000;
 /// The head of a frame, in the terms of the Simple Open Framing Header 1.0.
 #[derive(Clone, Copy, Debug, PartialEq, Eq)]
 pub struct Head {
-    /// The standard's Message_Length: the bytes of the whole frame. That it counts the head's own
-    /// six bytes is this project's profile.
+    /// The standard's Message_Length: the size of the whole frame in bytes. This project's profile counts the head's
+    /// own six bytes too.
     pub length: u32,
     /// The standard's Encoding_Type.
     pub encoding: u16,
 }
 
-/// Why bytes begin no frame: the first of these that holds.
+/// Why bytes don't begin a frame: the first of these that applies.
 #[derive(Clone, Copy, Debug, PartialEq, Eq, Drop, Error)]
 pub enum HeadErr {
-    /// Fewer than six bytes are there.
+    /// There are fewer than six bytes.
     #[error("a frame's head has six bytes")]
     HeadShort,
-    /// This length doesn't count the head itself.
+    /// This length is too small to include the head itself.
     #[error("a frame of {0} bytes is shorter than its head")]
     LengthShort(u32),
-    /// This length is above the limit.
+    /// This length exceeds the limit.
     #[error("a frame of {0} bytes is above the limit")]
     LengthOver(u32),
     /// This encoding type is none of the three.
@@ -44,12 +44,12 @@ pub enum HeadErr {
     Encoding(u16),
 }
 
-/// Reads the head of a frame of at most `limit` bytes. Both numbers are big-endian, which is this
-/// project's profile. Bytes behind the head aren't looked at.
+/// Reads the head of a frame of at most `limit` bytes. Both numbers are big-endian, which is this project's profile.
+/// Bytes after the head are ignored.
 ///
 /// # Errors
 ///
-/// Each variant of [`HeadErr`], in their order, exactly where it is the first that holds.
+/// Each variant of [`HeadErr`], checked in the order of the enum: the first one that applies.
 pub fn read_head(bytes: &[u8], limit: usize) -> Result<Head, HeadErr>
     ensures { result ≡ head_of bytes.now limit }
 {
@@ -70,7 +70,7 @@ pub fn read_head(bytes: &[u8], limit: usize) -> Result<Head, HeadErr>
     }
 }
 
-/// Writes the six bytes of a head, as [`read_head`] reads them. The two numbers aren't judged.
+/// Writes the six bytes of a head, as [`read_head`] reads them. The two numbers aren't checked.
 pub fn put_head(head: &Head, out: &mut [u8; 6])
     ensures bytes { out.new ≡ digits_high_first 4 head.now.length ++ digits_high_first 2 head.now.encoding }
     ensures back { (limit : ℕ) → head_of out.new limit ≡ judged head.now.length head.now.encoding limit }

@@ -1,7 +1,7 @@
-//! The heads of frames, and what it means to cut a stream into frames or lines.
+//! The heads of frames, and the definitions of how a stream is cut into frames or lines.
 //!
-//! The FIX Simple Open Framing Header 1.0 puts a message length and an encoding type before each
-//! message, so that a reader can tell where a message ends and how to read it.
+//! The FIX Simple Open Framing Header 1.0 puts a message length and an encoding type before each message, so that a
+//! reader knows where a message ends and how to read it.
 #![tactic(auto)]
 
 mod head;

@@ -1,4 +1,4 @@
--- The data fields of a mapping, with the fields that tell their lengths.
+-- The data fields of a mapping, with the fields that give their lengths.
 use Rattle.std.specs.Prelude.{Bool, ◌||◌, not, if◌then◌else◌, List, codes, filter_map, Option, None, option_map}
 use Rattle.std.specs.List.{list_any}
 use Rattle.std.specs.Str.{bytes_eq}
@@ -7,13 +7,13 @@ use Rattle.map_types.specs.declared.tree.FieldEl.{FieldEl}
 use Rattle.map_types.specs.Trees.{Members}
 use Rattle.tagvalue_codec.specs.declared.data_tags.Pair.{Pair}
 
--- a field of the datatype data that has a lengthId; a code set called data hides the datatype
+-- the pair of a field of the datatype data that has a lengthId; a code set named data hides the datatype
 abbrev pub data_pair : Bool → FieldEl → Option Pair
 data_pair hidden f =
     if hidden || not (bytes_eq f.type_name (codes "data")) then None
     else option_map (λ length. record { length_tag = length; tag = f.id }) f.length_id
 
--- It is called data.
+-- The code set is named data.
 abbrev pub hides_data : CodeSetEl → Bool
 hides_data s = bytes_eq s.name (codes "data")
 

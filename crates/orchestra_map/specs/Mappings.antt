@@ -13,7 +13,7 @@ use Rattle.map_elements.specs.Repositories.{repository_of}
 use Rattle.map_rules.specs.Verdicts.{Refusal, Verdict}
 use Rattle.map_rules.specs.Rules.{verdict}
 
--- The code of what is wrong with an element, an attribute or the file.
+-- The code for the cause of a refusal in an element, an attribute or the file.
 abbrev pub code_of : Cause → MCode
 code_of cause.Xml = code.Xml
 code_of cause.NotJson = code.NotJson
@@ -26,12 +26,12 @@ code_of cause.Limit = code.Limit
 abbrev pub Mapping : Type 0
 Mapping = Result Repository Refusal
 
--- a repository whose members keep their rules
+-- a repository, if its members keep their rules
 abbrev pub kept : Repository → Verdict → Mapping
 kept repository (Ok x) = Ok repository
 kept repository (Err e) = Err e
 
--- of what was read: first its elements, then the rules of its members
+-- the mapping of what was read: its elements are checked first, then the rules of its members
 abbrev pub judged : Reading Repository → Mapping
 judged (Ok repository) = kept repository (verdict (members_of repository))
 judged (Err e) = Err (record { code = code_of e.cause; path = e.path })
@@ -40,7 +40,7 @@ judged (Err e) = Err (record { code = code_of e.cause; path = e.path })
 abbrev pub map_of : List ℕ → Mapping
 map_of bytes = judged (repository_of bytes)
 
--- what was answered is the mapping, unless memory ran out
+-- the answer is the mapping, unless it is out of memory
 abbrev pub Answers : Result Repository MapErr → Mapping → Type 0
 Answers (Ok repository) mapping = mapping ≡ Ok repository
 Answers (Err Memory) mapping = ⊤

@@ -10,11 +10,11 @@ use map_types::{CodeSetEl, FieldEl, Repository};
 use std::alloc::Global;
 use tagvalue_codec::{DataTags, Pair};
 
-/// The pairs of length tag and data tag of a mapping: its fields of type `data` that have a `lengthId`.
+/// The pairs of a length tag and a data tag of a mapping: its fields of type `data` that have a `lengthId`.
 ///
 /// # Errors
 ///
-/// Out of memory.
+/// If memory runs out.
 pub fn data_tags(alloc: Global, repository: &Repository) -> Result<DataTags, NoMem>
     ensures { IfOk result (λ tags. tags ≡ pairs_of (members_of repository.now)) }
 {

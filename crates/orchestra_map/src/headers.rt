@@ -13,12 +13,12 @@ use reference_graph::{Link, TagSet};
 use std::alloc::Global;
 use structure_tags::tag_set;
 
-/// The tags of the header: 8, 9, 35, 10 and all that the components named `StandardHeader` have. They
-/// are in no message's own fields, wherever they stand.
+/// The tags of the header: 8, 9, 35, 10 and all those of the components named `StandardHeader`. They don't belong to
+/// any message's own fields, wherever they occur.
 ///
 /// # Errors
 ///
-/// Out of memory.
+/// If memory runs out.
 pub fn header_tags(alloc: Global, repository: &Repository) -> Result<TagSet, NoMem>
     requires { IsKept repository.now }
     ensures { IfOk result (λ tags. HasHeaderTags (members_of repository.now) tags) }
@@ -37,7 +37,7 @@ pub fn header_tags(alloc: Global, repository: &Repository) -> Result<TagSet, NoM
     )
 }
 
-/// The same, where all members are gathered.
+/// The same, when all members are gathered.
 fn tags_by(
     alloc: Global,
     fields: &[&FieldEl],

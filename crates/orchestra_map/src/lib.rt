@@ -1,5 +1,5 @@
-//! Mapping files: FIX Orchestra repositories in JSON. One is read and judged whole, or refused with the
-//! first rule that it breaks.
+//! Mapping files: FIX Orchestra repositories in JSON. A file is read and checked as a whole, or refused with the first
+//! rule that it breaks.
 #![tactic(auto)]
 
 mod data_fields;

@@ -10,9 +10,9 @@ use map_rules::judge;
 use map_types::{MCode, MapErr, Repository};
 use std::alloc::Global;
 
-/// The repository of a mapping file, or the first refusal with its path: M01 to M04 and the size of the
-/// file by a JSON pointer, then the rules of its members by list and position. docs/profile.md says what
-/// a file may hold, under "Mapping files".
+/// The repository of a mapping file, or the first refusal with its path: a JSON pointer for M01 to M04 and for the size
+/// of the file, then the list and position of a member for the rules. docs/profile.md describes under "Mapping files"
+/// what a file may contain.
 ///
 /// # Errors
 ///

@@ -15,7 +15,7 @@ data_at [] j h = absurd (omega arith)
 data_at (part ∷ parts) zero h = refl
 data_at (part ∷ parts) (suc j) h = data_at parts j (omega arith)
 
--- behind the fields and groups stand the data parts
+-- after the fields and groups stand the data parts
 pub data_inside : (level : Level) (i : ℕ) → i < length (level_parts level) → length (out-Level level).fields ≤ i → length (out-Level level).groups ≤ i - length (out-Level level).fields →
     option_map (λ (p : NamedPart). p.inside) (slice_get (level_parts level) i) ≡ Some in_nothing
 data_inside level i within fields groups =

@@ -45,7 +45,7 @@ path_within schema template steps some = within schema.messages template some
     within (l ∷ ls) zero h = omega arith
     within (l ∷ ls) (suc t) h = let rest = within ls t h in omega (arith, rest)
 
--- the text of one step, and then that of the steps behind it
+-- the text of one step, and then that of the steps after it
 abbrev behind : List Step → Option Stepped → Option (List ℕ)
 behind steps o = option_and_then (λ (s : Stepped). option_map (λ rest. s.text ++ rest) (path_from false s.inside steps)) o
 

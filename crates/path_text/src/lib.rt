@@ -1,4 +1,4 @@
-//! The texts of paths: the way to a part of a message, as it is printed.
+//! The texts of paths: the path to a part of a message, as it is printed.
 #![tactic(auto)]
 
 mod paths;

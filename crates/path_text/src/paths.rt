@@ -11,7 +11,7 @@ use printers::Printer;
 use sbe_base::Sink;
 use sbe_types::{Kind, Level, Member, Path, Step};
 
-/// Where a path has come to.
+/// What a path leads to.
 #[derive(Clone, Copy)]
 enum Place<'a> {
     /// A message's root, or an entry of a group.
@@ -20,12 +20,11 @@ enum Place<'a> {
     Group(&'a Level),
     /// A field, or a composite's member.
     Kind(&'a Kind),
-    /// What has no parts.
+    /// Something without parts.
     Nothing,
 }
 
-/// The name of part `i` of a level, where its fields count first, then its groups, then its data. It needs a part
-/// in range.
+/// The name of part `i` of a level: first its fields, then its groups, then its data. Requires a part in range.
 fn level_name(level: &Level, i: usize) -> &[u8]
     requires { i < length (level_parts level.now) }
     ensures { option_map (λ p. p.name) (slice_get (level_parts level.now) i) ≡ Some result.now }
@@ -71,7 +70,7 @@ fn put_index<O: Sink>(printer: &mut Printer<'_, O>, i: u32)
     printer.put(b"]");
 }
 
-/// Prints a name, and before it a dot unless it is the first.
+/// Prints a name, preceded by a dot unless it is the first.
 fn put_name<O: Sink>(printer: &mut Printer<'_, O>, first: bool, name: &[u8])
     ensures { Prints O.state printer.old printer.new (dot first ++ name.now) }
 {
@@ -81,7 +80,7 @@ fn put_name<O: Sink>(printer: &mut Printer<'_, O>, first: bool, name: &[u8])
     printer.put(name);
 }
 
-/// Member `i` of a composite. It needs a member in range.
+/// Member `i` of a composite. Requires a member in range.
 fn member_of(kind: &Kind, i: usize) -> &Member
     requires { i < length (kind_parts kind.now) }
     ensures { slice_get (kind_parts kind.now) i ≡ Some (member_part result.now) }
@@ -92,7 +91,7 @@ fn member_of(kind: &Kind, i: usize) -> &Member
     }
 }
 
-/// The name of part `i` of a place. It needs a part in range.
+/// The name of part `i` of a place. Requires a part in range.
 fn part_name<'a>(place: Place<'a>, i: usize) -> &'a [u8]
     requires { i < length (parts_inside (inside_of place)) }
     ensures { option_map (λ p. p.name) (slice_get (parts_inside (inside_of place.entry)) i) ≡ Some result.now }
@@ -104,7 +103,7 @@ fn part_name<'a>(place: Place<'a>, i: usize) -> &'a [u8]
     }
 }
 
-/// What is inside part `i` of a place. It needs a part in range.
+/// What is inside part `i` of a place. Requires a part in range.
 fn part_inside<'a>(place: Place<'a>, i: usize) -> Place<'a>
     requires { i < length (parts_inside (inside_of place)) }
     ensures { option_map (λ p. p.inside) (slice_get (parts_inside (inside_of place.entry)) i) ≡ Some (inside_of result) }
@@ -116,7 +115,7 @@ fn part_inside<'a>(place: Place<'a>, i: usize) -> Place<'a>
     }
 }
 
-/// Where a step leads. It needs a step that leads somewhere.
+/// Where a step leads. Requires a step that leads somewhere.
 fn place_behind<'a>(place: Place<'a>, step: Step) -> Place<'a>
     requires { IsSome (stepped true (inside_of place) step) }
     ensures { (first : Bool) → option_map (λ s. s.inside) (stepped first (inside_of place.entry) step) ≡ Some (inside_of result) }
@@ -131,7 +130,7 @@ fn place_behind<'a>(place: Place<'a>, step: Step) -> Place<'a>
     }
 }
 
-/// Prints the text of a step. It needs a step that leads somewhere.
+/// Prints the text of a step. Requires a step that leads somewhere.
 fn put_step<O: Sink>(printer: &mut Printer<'_, O>, first: bool, place: Place<'_>, step: Step)
     requires { IsSome (stepped first (inside_of place) step) }
     ensures { Prints O.state printer.old printer.new (step_text (stepped first (inside_of place.entry) step)) }
@@ -142,7 +141,8 @@ fn put_step<O: Sink>(printer: &mut Printer<'_, O>, first: bool, place: Place<'_>
     }
 }
 
-/// Prints the text of a path, as `legs[2].subs[0].price.mantissa`. It takes no memory. It needs a path of that template.
+/// Prints the text of a path, such as `legs[2].subs[0].price.mantissa`. Allocates nothing. Requires a path of this
+/// template.
 pub fn put_path<O: Sink>(
     printer: &mut Printer<'_, O>,
     layout: &Layout,

@@ -1,4 +1,4 @@
--- What a level has of a tag, and the rows that go in front of those of a plan. Own profile.
+-- What a level has for a tag, and the rows that precede those of a plan. Own profile.
 use Rattle.std.specs.Prelude.{◌≡◌, ℕ, Bool, true, false, List, [], ◌∷◌, ◌++◌, map, length, Option, Some, None, ⊤}
 use Rattle.std.specs.Borrow.{Bor}
 use Rattle.structure_rows.specs.declared.row.PlaceRow.{PlaceRow}
@@ -40,19 +40,19 @@ pub record HasIds (level : Level) (ids : LevelIds) : Type 0 where
 abbrev pub field_slot_with : ℕ → ℕ → Rule → Slot
 field_slot_with tag i rule = record { tag = tag; place = in_fields i; rule = rule }
 
--- the slot of a data, by its rule
+-- the slot of a data part, by its rule
 abbrev pub data_slot_with : ℕ → ℕ → Rule → Slot
 data_slot_with tag i rule = record { tag = tag; place = in_data i; rule = rule }
 
--- the slot of a field of that kind, if the table has a rule for it
+-- the slot of a field with this kind, if the table has a rule for it
 abbrev pub field_slot_by : Mapping → ℕ → ℕ → Kind → Option Slot
 field_slot_by m tag i kind = and_then (rule_of kind (datatype_of m tag)) (λ rule. Some (field_slot_with tag i rule))
 
--- the same of a data
+-- the same for a data part
 abbrev pub data_slot_by : Mapping → ℕ → ℕ → DataField → Option Slot
 data_slot_by m tag i d = and_then (data_rule d (datatype_of m tag)) (λ rule. Some (data_slot_with tag i rule))
 
--- what was found is the slot, if there is one; of one that can't be made nothing is said
+-- what was found is the slot, if there is one; nothing is required of one that can't be made
 abbrev pub IsFound : {R : Type 0} → (R → Rule → Type 0) → TagLists → Option Slot → FoundRow R → Type 0
 IsFound follows lists o found.Nothing = o ≡ None
 IsFound follows lists o (found.Row r) =
@@ -65,23 +65,23 @@ found_rows found.Nothing = Some []
 found_rows (found.Row r) = Some (r ∷ [])
 found_rows found.Unmade = None
 
--- ---- rows in front of others
+-- ---- rows before others
 
--- in front of the rows of one plan they make the rows of another
+-- with these rows before them, the rows of one plan become the rows of another
 pub record Goes {R : Type 0} (follows : R → Rule → Type 0) (lists : TagLists) (whole rest : Plan) (rows : List (PlanRow R)) : Type 0 where
   pub front : (others : List (PlanRow R)) → AreRows follows lists rest others → AreRows follows lists whole (rows ++ others)
 
--- the rows of parts that are put before a plan, whatever it is
+-- the rows are those of parts that are put before a plan, whatever it is
 abbrev pub AreFront : {R : Type 0} → (R → Rule → Type 0) → TagLists → (Plan → Plan) → List (PlanRow R) → Type 0
 AreFront follows lists before rows = (p : Plan) → Goes follows lists (before p) p rows
 
 -- ---- groups
 
--- the group of a tag, by the places of its entries, before the rest of a plan
+-- the group with this tag, by the places of its entries, before the rest of a plan
 abbrev pub group_front : Mapping → ℕ → Structure → Level → Plan → Plan
 group_front m tag inner level rest = group_before (group_of tag 0 (groups_in level)) tag inner (λ below. plan_of m inner below) rest
 
--- the row of a group and those of its entries
+-- the rows are that of a group and those of its entries
 pub record AreGroupRows {R : Type 0} (lists : TagLists) (tag number : ℕ) (entries rows : List (PlanRow R)) : Type 0 where
   pub own : PlanRow R
   pub whole : rows ≡ own ∷ entries
@@ -90,7 +90,7 @@ pub record AreGroupRows {R : Type 0} (lists : TagLists) (tag number : ℕ) (entr
   pub size : size_of own.part ≡ Some (length entries)
   pub unpaired : length_in tag lists.lengths ≡ None
 
--- how many places a group's entries have
+-- how many rows of places a group's entries have
 abbrev pub own_length : Option (Bor (List PlaceRow)) → ℕ
 own_length None = 0
 own_length (Some places) = length places.now

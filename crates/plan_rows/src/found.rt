@@ -1,12 +1,12 @@
 use message_walk::PlanRow;
 
-/// What a level has of a tag.
+/// What a level has for a tag.
 #[derive(Drop)]
 pub(crate) enum Found<R> {
-    /// No such field or data.
+    /// There is no such field or data.
     Nothing,
     Row(PlanRow<R>),
-    /// One whose row can't be made: its tag is none of an application's field, or its rule is at odds with the length fields of
-    /// the mapping.
+    /// There is one, but its row can't be made: its tag can't be that of an application's field, or its rule
+    /// contradicts the length fields of the mapping.
     Unmade,
 }

@@ -1,4 +1,4 @@
-// What a group's rows need.
+// What the rows of a group need.
 ghost use Rattle.std.specs.Prelude.{◌≡◌, ◌∷◌, ℕ, is_some, codes, IfOk, IfSome};
 ghost use Rattle.sbe_wire.specs.Named.{spot_named};
 ghost use Rattle.reference_graph.specs.Expansion.{Structure};
@@ -16,7 +16,7 @@ use sbe_types::{Kind, Member};
 use std::alloc::Global;
 use structure_rows::PlaceRow;
 
-/// Whether the first place is a field's.
+/// Whether the first place is that of a field.
 pub(crate) fn begins_with_field(places: &[PlaceRow]) -> bool
     ensures { (s : Structure) → places.now ≡ rows_of s → result ≡ is_some (delimiter_of s) }
 {
@@ -47,7 +47,8 @@ fn is_leaf(kind: &Kind) -> bool
     }
 }
 
-/// The row of group `number`, and then those of its entries. The tag of its count is that of no data with a length field.
+/// The row of group `number`, followed by those of its entries. The tag of its count isn't that of data with a length
+/// field.
 pub(crate) fn with_group<R: RuleRow>(
     alloc: Global,
     tags: &TagTable,
@@ -72,7 +73,7 @@ pub(crate) fn with_group<R: RuleRow>(
     Ok(Some(in_front(alloc, row, entries)?))
 }
 
-/// A row and then others.
+/// A row, followed by others.
 fn in_front<R: RuleRow>(
     alloc: Global,
     row: PlanRow<R>,

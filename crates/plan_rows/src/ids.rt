@@ -6,7 +6,7 @@ use lists::{List, NoMem};
 use sbe_types::{DataField, Field, Group, Level};
 use std::alloc::Global;
 
-/// The fields, data and groups of a level, each found by its id.
+/// The fields, data and groups of a level, found by id.
 #[derive(Drop)]
 pub(crate) struct LevelIds {
     pub fields: IdTable,
@@ -15,7 +15,7 @@ pub(crate) struct LevelIds {
 }
 
 impl LevelIds {
-    /// Those of a level.
+    /// Creates the tables of a level.
     pub(crate) fn new(alloc: Global, level: &Level) -> Result<LevelIds, NoMem>
         ensures { IfOk result (HasIds level.now) }
     {

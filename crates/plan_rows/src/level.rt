@@ -24,13 +24,13 @@ use sbe_types::Level;
 use std::alloc::Global;
 use structure_rows::PlaceRow;
 
-/// The rows of a level's plan, by the places of a mapped structure; none where one of them can't be made, as those of a mapping in
-/// order that covers the template always can. Linear in the parts of the level and in the places, but for what a rule's codes
-/// take.
+/// The rows of a level's plan, in the order of the places of a mapped structure. `None` if one of them can't be made;
+/// this doesn't happen for a valid mapping that covers the template. Linear in the parts of the level and in the
+/// places, apart from what a rule's codes take.
 ///
 /// # Errors
 ///
-/// Out of memory.
+/// If memory runs out.
 #[cycle(rows)]
 pub fn level_rows<R: RuleRow>(
     alloc: Global,
@@ -64,7 +64,7 @@ fn put_rows<R: RuleRow>(rows: &mut Vec<PlanRow<R>>, more: Vec<PlanRow<R>>) -> Re
     Ok(())
 }
 
-/// The rows of a place, which is a group's where it has the places of its entries.
+/// The rows of a place. It is a group's if it has the places of its entries.
 #[cycle(rows)]
 fn place_rows<R: RuleRow>(
     alloc: Global,
@@ -86,8 +86,8 @@ fn place_rows<R: RuleRow>(
     }
 }
 
-/// The rows of the group whose count has a tag, if the level has one that is a plan's: its count is in its dimension, and its
-/// entries begin with a field. `places` are those of its entries.
+/// The rows of the group whose count has this tag, if the level has one that a plan can have: its count is in its
+/// dimension, and its entries begin with a field. `places` are those of its entries.
 #[cycle(rows)]
 #[tactic(auto, using(crate::proofs::Finding::group_order))]
 fn group_rows<R: RuleRow>(
@@ -119,7 +119,7 @@ fn group_rows<R: RuleRow>(
     }
 }
 
-/// The rows of a field or data: its own, if there is one.
+/// The row of a field or data, if there is one.
 fn single_row<R: RuleRow>(alloc: Global, found: Found<R>) -> Result<Option<Vec<PlanRow<R>>>, NoMem>
     ensures { IfOk result (λ made. option_map (λ rows. rows.items) made ≡ found_rows found) }
 {

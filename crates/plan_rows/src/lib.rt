@@ -1,5 +1,5 @@
-//! The rows of a template's plan: one for each place of a mapped structure that the template has, in the structure's order.
-//! Those of a group's entries follow the group's own.
+//! The rows of a template's plan: one for each place of a mapped structure that the template has, in the structure's
+//! order. Those of a group's entries follow the group's own.
 #![tactic(auto)]
 
 mod found;

@@ -9,17 +9,17 @@ use lists::NoMem;
 use std::alloc::Global;
 use value_texts::ValueText;
 
-/// What a row has of the rule of its field: how the field's values are translated.
+/// What a row stores of the rule of its field: how the field's values are translated.
 pub trait RuleRow: Drop {
-    /// Whether it translates values as a rule does.
+    /// Whether it translates values by this rule.
     ghost follows_rule: { Self → Rule → Type 0 };
 
-    /// That of a rule. None for data, whose rows need no more than their part, and where the rule's codes aren't those of a
-    /// mapping in order.
+    /// Creates it from a rule. `None` for data, whose rows need only their part, and if the rule's codes aren't those
+    /// of a valid mapping.
     ///
     /// # Errors
     ///
-    /// Out of memory.
+    /// If memory runs out.
     fn of_rule(alloc: Global, rule: FieldRule) -> Result<Option<Self>, NoMem>
         ensures { IfOk result (λ made. IfSome made (λ row. (names : List AnyNamed) → follows_rule row (rule_with names rule))) };
 }

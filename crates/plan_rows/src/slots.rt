@@ -25,7 +25,7 @@ use message_walk::{Lead, Part, PlanRow};
 use sbe_types::{DataField, Kind, Level};
 use std::alloc::Global;
 
-/// The row of the field or data of a tag, if the level has one.
+/// The row of the field or data with this tag, if the level has one.
 pub(crate) fn slot_row<R: RuleRow>(
     alloc: Global,
     tables: &Tables,
@@ -80,7 +80,7 @@ fn field_row<R: RuleRow>(
     }
 }
 
-/// The row of field `number` by its rule. Its tag is that of no data with a length field.
+/// The row of field `number`, given its rule. Its tag isn't that of data with a length field.
 fn ruled_field<R: RuleRow>(
     alloc: Global,
     tags: &TagTable,
@@ -127,7 +127,7 @@ fn data_row<R: RuleRow>(tables: &Tables, tag: u32, number: usize, part: &DataFie
     }
 }
 
-/// The row of data `number` by its rule.
+/// The row of data `number`, given its rule.
 fn ruled_data<R: RuleRow>(tags: &TagTable, tag: u32, number: usize, rule: &FieldRule) -> Found<R>
     ensures { (lists : TagLists) → HaveSameTags tags.now lists
         → IsFound R.follows_rule lists (Some (data_slot_with tag number (rule_with [] rule.now))) result }
@@ -139,7 +139,7 @@ fn ruled_data<R: RuleRow>(tags: &TagTable, tag: u32, number: usize, rule: &Field
     }
 }
 
-/// The row of data as it is, which has a length field.
+/// The row of raw data, which has a length field.
 fn raw_row<R: RuleRow>(tags: &TagTable, tag: u32, number: usize) -> Found<R>
     ensures { (lists : TagLists) (leaf : Leaf) → HaveSameTags tags.now lists
         → IsFound R.follows_rule lists (Some (data_slot_with tag number (raw_data leaf))) result }
@@ -160,7 +160,7 @@ fn raw_row<R: RuleRow>(tags: &TagTable, tag: u32, number: usize) -> Found<R>
     }
 }
 
-/// The row of data as a text, which has no length field.
+/// The row of data that is a text, which has no length field.
 fn passage_row<R: RuleRow>(tags: &TagTable, tag: u32, number: usize) -> Found<R>
     ensures { (lists : TagLists) (leaf : Leaf) → HaveSameTags tags.now lists
         → IsFound R.follows_rule lists (Some (data_slot_with tag number (text_data leaf))) result }

@@ -8,9 +8,9 @@ use flyweight_view::validate;
 use line_draft::{BodyDraft, draft_body};
 use line_match::is_line_of;
 
-/// Writes the body of the message that a line holds, where the line is in the form in which messages are printed; the body
-/// takes the place of what stood in the draft. `false` is inconclusive: the line may be in another form, or its message may
-/// have no body within the limit or within the draft's room. It takes no memory.
+/// Writes the body of the message that a line holds, if the line has the form in which messages are printed. The body
+/// replaces the contents of the draft. `false` is inconclusive: the line may have another form, or its message may have
+/// no body within the limit or within the draft's size. Allocates nothing.
 #[tactic(auto, using(crate::proofs::OwnBodies::within_limit))]
 pub fn body_of_line(
     printed: &PrintedLines,
@@ -32,7 +32,7 @@ pub fn body_of_line(
     is_own_body(printed, line, body)
 }
 
-/// Whether a body is the canonical one of a message, and the line is this message's.
+/// Whether a body is the canonical one of a message, and the line is that message's.
 fn is_own_body(printed: &PrintedLines, line: &[u8], body: &[u8]) -> bool
     ensures { result ≡ true → IsOwnBody printed.now line.now body.now }
 {

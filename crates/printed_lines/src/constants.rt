@@ -1,4 +1,4 @@
-// The constants of a schema are made of bytes, which a contract knows only of what code reads.
+// The constants of a schema consist of bytes. A contract knows this only of constants that code reads.
 
 ghost use Rattle.std.specs.List.{All};
 ghost use Rattle.byte_digits.specs.Digits.{IsBytes};
@@ -7,12 +7,12 @@ ghost use Rattle.printed_lines.specs.ByteConstants.{HasByteConstants, IsByteFiel
 
 use sbe_types::{ConstValue, Field, Group, Kind, Level, Member};
 
-/// What a slice holds are bytes.
+/// The items of a byte slice are bytes.
 pub(crate) fn are_bytes(bytes: &[u8])
     ensures { IsBytes bytes.now }
 {}
 
-/// The text of a constant is made of bytes.
+/// The text of a constant consists of bytes.
 fn constant_has_bytes(constant: &ConstValue)
     ensures { ConstantHasBytes constant.now }
 {
@@ -22,7 +22,7 @@ fn constant_has_bytes(constant: &ConstValue)
     }
 }
 
-/// The constants of a kind are made of bytes.
+/// The constants of a kind consist of bytes.
 #[cycle(kind)]
 #[tactic(auto, using(crate::proofs::ByteRows::comp_has))]
 fn kind_has_bytes(kind: &Kind)

@@ -1,4 +1,4 @@
-// Layouts of which the constants are made of bytes.
+// Layouts whose constants consist of bytes.
 ghost use Rattle.std.specs.Prelude.{◌≡◌};
 ghost use Rattle.std.specs.List.{All};
 ghost use Rattle.printed_lines.specs.ByteConstants.{IsByteLevel};
@@ -7,7 +7,7 @@ use crate::constants::levels_have_bytes;
 use std::marker::Model;
 use tree_json::LineLayout;
 
-/// A layout with the texts of its lines, for lines that are read. To contracts it is the schema.
+/// A layout with the texts of its lines, for reading lines. Contracts see it as the schema.
 #[derive(Drop)]
 pub struct PrintedLines {
     lines: LineLayout,
@@ -28,12 +28,12 @@ impl Model for PrintedLines {
 
     ghost view = { λ printed. printed.lines };
 
-    // A contract knows of a constant's bytes only what code reads: they are read once, where this is made.
+    // A contract knows of a constant's bytes only what code reads, so they are read once, when this is made.
     ghost invariant = { λ printed. All IsByteLevel printed.lines.messages };
 }
 
 impl PrintedLines {
-    /// The lines of a layout.
+    /// Wraps the lines of a layout.
     pub fn new(lines: LineLayout) -> PrintedLines
         ensures { result ≡ lines }
     {

@@ -29,7 +29,7 @@ first_plain o is = (λ e. cc, (λ e. cc, is.plain))
 second_plain : (o : Opening) → IsOpening o → Plain (field_of 57 o.digits)
 second_plain o is = (λ e. cc, (λ e. cc, digits_plain o.digits (size_is o.digits is.size).2))
 
--- behind the SOH of a front
+-- after the SOH of a front
 behind_soh : (front back : List ℕ) → drop (length front + 1) (front ++ soh ∷ back) ≡ back
 behind_soh front back =
     let size : length (front ++ soh ∷ []) ≡ length front + 1 = omega (arith, length-append front (soh ∷ [])) in
@@ -49,7 +49,7 @@ claim_first most value back some plain =
 within_is : (most least : ℕ) (claim : Claim) → least ≤ most → within most least claim ≡ claim
 within_is most least claim low = rw (le-leb least most low) refl
 
--- a whole field 9 behind it
+-- a whole field 9 after it
 claim_second : (most : ℕ) (o : Opening) (more : List ℕ) → IsOpening o →
     claim_behind most (length (field_of 56 o.value) + 1) (field_of 57 o.digits ++ soh ∷ more) (Some (field_of 57 o.digits)) ≡ within most (text_size o) (Whole (text_size o))
 claim_second most o more is =
@@ -94,7 +94,7 @@ part_first most bytes more n w none =
     let low : max (length bytes) 3 + 12 ≤ most = omega (arith, w.within, w.counts, opening_size o, some, digits, shorter) in
     ap (claim_by most bytes) none ∙ rw begun (within_is most (max (length bytes) 3 + 12) Open low)
 
--- within field 9, or behind it: what follows field 8 begins as field 9 does
+-- within field 9, or after it: what follows field 8 begins as field 9 does
 part_digits : (most : ℕ) (o : Opening) (behind more back : List ℕ) → IsOpening o → text_size o ≤ most → behind ++ more ≡ field_of 57 o.digits ++ soh ∷ back → before_soh behind ≡ None →
     claim_behind most (length (field_of 56 o.value) + 1) behind None ≡ Open
 part_digits most o behind more back is low e none =

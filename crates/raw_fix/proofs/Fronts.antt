@@ -49,7 +49,7 @@ pub before_soh_told : (bytes front : List ℕ) → before_soh bytes ≡ Some fro
 before_soh_told [] front h = cc
 before_soh_told (b ∷ bytes) front h = stands_by b bytes front (b == soh) refl (before_soh_told bytes) h
 
--- no SOH is in the bytes, and one stands behind the front: so they are a part of it
+-- no SOH is in the bytes, and one stands after the front: so they are a part of it
 none_by : (b : ℕ) (bytes : List ℕ) (o : Option (List ℕ)) → with_byte b o ≡ None → o ≡ None
 none_by b bytes None h = refl
 none_by b bytes (Some f) h = cc

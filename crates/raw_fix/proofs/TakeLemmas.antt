@@ -77,7 +77,7 @@ item_stands texts old next b (taken.Garbled code at many) item none t e =
     subst (Stands texts old next b) same (record { is = garbles.0; fresh = t.2; falls = t.3; whole = t.4 })
 item_stands texts old next b taken.End item none t e = cc
 
--- the same item by the bytes behind it
+-- the same item by the bytes after it
 item_in_front : (texts : Texts) (front stream : List ℕ) (most : ℕ) (item : Item) → IsItem texts (nat_lt (length front + most) (length (front ++ stream))) (take (length front + most) (front ++ stream)) item →
     IsItem texts (nat_lt most (length stream)) (front ++ take most stream) item
 item_in_front texts front stream most item is =

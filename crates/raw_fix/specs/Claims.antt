@@ -1,5 +1,5 @@
--- What the front of some bytes claims to be. From the FIX tag-value encoding, fields 8, 9 and 10. Own profile: a limit, and
--- that field 9 has 1 to 9 digits.
+-- What the front of some bytes claims to be. From the FIX tag-value encoding, fields 8, 9 and 10. Own profile: a limit,
+-- and that field 9 has 1 to 9 digits.
 use Rattle.std.specs.Prelude.{◌≡◌, ◌≢◌, ℕ, ◌+◌, ◌<◌, ◌≤◌, nat_lt, nat_le, max, Bool, true, ◌&&◌, ◌==◌, if◌then◌else◌, Option, Some, None, List, [], ◌∷◌, ◌++◌, length, drop}
 use Rattle.std.specs.List.{AllByRecursion}
 use Rattle.std.specs.Str.{all_ascii_digits}
@@ -14,7 +14,7 @@ pub record Opening : Type 0 where
   pub value : List ℕ
   pub digits : List ℕ
 
--- a field of the tag with this one digit
+-- the bytes of a field with this one-digit tag
 abbrev pub field_of : ℕ → List ℕ → List ℕ
 field_of tag value = tag ∷ 61 ∷ value
 
@@ -22,13 +22,13 @@ field_of tag value = tag ∷ 61 ∷ value
 abbrev pub opening_bytes : Opening → List ℕ
 opening_bytes o = field_of 56 o.value ++ soh ∷ (field_of 57 o.digits ++ soh ∷ [])
 
--- a value without SOH, and 1 to 9 digits
+-- at least one byte without SOH, and 1 to 9 digits
 pub record IsOpening (o : Opening) : Type 0 where
   pub some : 0 < length o.value
   pub plain : AllByRecursion (λ b. b ≢ soh) o.value
   pub size : is_number o.digits ≡ true
 
--- the bytes of a text that opens so: those of both fields, as many as field 9 says, and the seven of field 10
+-- the length of a text that opens like this: both fields, as many bytes as field 9 says, and the seven of field 10
 abbrev pub text_size : Opening → ℕ
 text_size o = length (opening_bytes o) + digits_value 10 o.digits + 7
 
@@ -41,14 +41,14 @@ pub record IsWhole (most : ℕ) (bytes : List ℕ) (n : ℕ) : Type 0 where
   pub counts : n ≡ text_size opening
   pub within : n ≤ most
 
--- The two fields aren't there yet, and some bytes after these would make them so.
+-- The two fields aren't there yet, but bytes that may follow would complete them.
 pub record IsOpen (most : ℕ) (bytes : List ℕ) : Type 0 where
   pub not_yet : (n : ℕ) → IsWhole most bytes n → ⊥
   pub more : List ℕ
   pub size : ℕ
   pub would : IsWhole most (bytes ++ more) size
 
--- No bytes after these make a text begin here.
+-- Whatever follows, no text begins here.
 abbrev pub IsNever : ℕ → List ℕ → Type 0
 IsNever most bytes = (more : List ℕ) (n : ℕ) → IsWhole most (bytes ++ more) n → ⊥
 
@@ -64,29 +64,29 @@ Claims most bytes Never = IsNever most bytes
 abbrev pub before_soh : List ℕ → Option (List ℕ)
 before_soh bytes = before_byte soh bytes
 
--- the bytes are a part of a field of this tag, or its front and more
+-- the bytes are a prefix of a field with this tag, or begin with its tag and `=`
 abbrev pub is_begun : ℕ → List ℕ → Bool
 is_begun tag [] = true
 is_begun tag (a ∷ []) = a == tag
 is_begun tag (a ∷ (e ∷ bytes)) = a == tag && e == 61
 
--- a part of 1 to 9 digits
+-- a prefix of a number of 1 to 9 digits
 abbrev pub is_part : List ℕ → Bool
 is_part digits = nat_le (length digits) 9 && all_ascii_digits digits
 
--- the number that a part of 1 to 9 digits shows
+-- the value of a prefix of a number of 1 to 9 digits
 abbrev pub part_value : List ℕ → Option ℕ
 part_value digits = if is_part digits then Some (digits_value 10 digits) else None
 
--- the number that a part of a field 9 shows
+-- the value of a prefix of a field 9
 abbrev pub field_value : List ℕ → Option ℕ
 field_value bytes = if is_begun 57 bytes then part_value (drop 2 bytes) else None
 
--- a claim that holds if the text has so many bytes at least
+-- the claim, if a text of at least `least` bytes is within the limit
 abbrev pub within : ℕ → ℕ → Claim → Claim
 within most least claim = if nat_le least most then claim else Never
 
--- field 9 with its SOH, or a part of it, after so many bytes
+-- the claim by field 9 with its SOH, or a prefix of it, after `front` bytes
 abbrev pub claim_behind : ℕ → ℕ → List ℕ → Option (List ℕ) → Claim
 claim_behind most front bytes None =
     if is_begun 57 bytes && is_part (drop 2 bytes) then within most (front + max (length bytes) 3 + digits_value 10 (drop 2 bytes) + 8) Open else Never
@@ -95,7 +95,7 @@ claim_behind most front bytes (Some field) =
     then (let n = front + length field + digits_value 10 (drop 2 field) + 8 in within most n (Whole n))
     else Never
 
--- field 8 with its SOH, or a part of it
+-- the claim by field 8 with its SOH, or a prefix of it
 abbrev pub claim_by : ℕ → List ℕ → Option (List ℕ) → Claim
 claim_by most bytes None = if is_begun 56 bytes then within most (max (length bytes) 3 + 12) Open else Never
 claim_by most bytes (Some field) =

@@ -18,40 +18,40 @@ use Rattle.raw_fix.specs.Raw.{Texts}
 abbrev pub is_fix : List Pair → List ℕ → Bool
 is_fix tags bytes = is_ok (text_read tags bytes)
 
--- the texts of these pairs of data tags, of so many bytes at most
+-- the texts with these pairs of data tags, of at most `most` bytes
 abbrev pub fix_texts : List Pair → ℕ → Texts
 fix_texts tags most = record { is_text = is_fix tags; most = most }
 
--- the table holds the fields of the first bytes, if a text stands there, and else none
+-- the table has the fields of the first bytes if they are a text, else none
 abbrev pub HasFields : List Pair → List ℕ → Option ℕ → List FixField → Type 0
 HasFields tags bytes None table = table ≡ []
 HasFields tags bytes (Some n) table = Holds tags (take n bytes) table
 
--- how many bytes the message has that a verdict tells
+-- the length of the message that a verdict gives
 abbrev pub verdict_size : Option Verdict → Option ℕ
 verdict_size None = None
 verdict_size (Some (Says n)) = Some n
 verdict_size (Some (Refuses code)) = None
 
--- how many bytes the message has that a step tells
+-- the length of the message that a step gives
 abbrev pub step_size : Step → Option ℕ
 step_size (step.Message n) = Some n
 step_size (step.Ends run n) = None
 step_size (step.GoesOn run n) = None
 step_size step.More = None
 
--- how many bytes the message has that is settled
+-- the length of the message that is settled
 abbrev pub settled_size : Settled → Option ℕ
 settled_size (settled.Message n) = Some n
 settled_size (settled.Garbled run) = None
 settled_size settled.End = None
 
--- the same, where nothing may be settled
+-- the same if something is settled
 abbrev pub size_if : Option Settled → Option ℕ
 size_if None = None
 size_if (Some s) = settled_size s
 
--- the same, where none may have been taken
+-- the same if an item was taken
 abbrev pub size_of : Result Settled RawErr → Option ℕ
 size_of (Ok s) = settled_size s
 size_of (Err e) = None

@@ -18,17 +18,17 @@ use Rattle.raw_fix.specs.Taking.{Lefts, TakesFrom, ComesBy, Meets}
 use Rattle.raw_fix.specs.Steps.{Whatever}
 use Rattle.raw_fix.specs.Claims.{before_soh}
 
--- the bytes held, those before them that are no message and haven't ended, and whether the source has ended after what is held
+-- the bytes held, the garbled bytes before them that haven't ended, and whether the source has ended after what is held
 pub record ItemState : Type 0 where
   pub held : HeldState
   pub begun : Option Run
   pub met : Bool
 
--- where the first byte is
+-- the offset of the first byte
 abbrev pub item_place : ItemState → ℕ
 item_place s = s.held.taken - length s.held.bytes
 
--- the first bytes have no SOH, and a run of some bytes lies before them
+-- the first `plain` bytes have no SOH, and a run, if one has begun, has at least one byte before them
 pub record AreItems (plain : ℕ) (h : HeldState) (begun : Option Run) : Type 0 where
   pub room : LEAST_FRAME ≤ h.size
   pub within : h.taken ≤ h.limit
@@ -39,14 +39,14 @@ pub record AreItems (plain : ℕ) (h : HeldState) (begun : Option Run) : Type 0 
   pub counts : IfSome begun (λ run. run.length + length h.bytes ≤ h.taken)
   pub some : IfSome begun (λ run. 0 < run.length)
 
--- some first bytes are let go, and nothing else changes of what is held
+-- the first bytes are dropped, and nothing else of what is held changes
 pub record Drops (old new : HeldState) (gone : List ℕ) : Type 0 where
   pub bytes : old.bytes ≡ gone ++ new.bytes
   pub size : new.size ≡ old.size
   pub taken : new.taken ≡ old.taken
   pub limit : new.limit ≡ old.limit
 
--- more bytes are wanted, and have room
+-- more bytes are needed, and there is room for them
 abbrev pub Waits : Texts → ItemState → Type 0
 Waits texts s = (length s.held.bytes < s.held.size) × Stuck texts s.held.bytes s.begun
 
@@ -61,18 +61,18 @@ Settles texts old new None =
     (gone : List ℕ) × Drops old.held new.held gone × Whatever old.held.bytes (item_place old) (λ next. LetsGo texts next gone old.begun new.begun) × Waits texts new
     × (new.met ≡ old.met)
 
--- what is settled where nothing follows
+-- what is settled if nothing follows
 abbrev pub Finishes : Texts → ItemState → ItemState → Settled → Type 0
 Finishes texts old new (settled.Message n) = ⊥
 Finishes texts old new (settled.Garbled run) =
     (gone : List ℕ) × Drops old.held new.held gone × (new.begun ≡ None) × Garbles texts (record { place = item_place old; bytes = old.held.bytes; goes_on = false }) gone old.begun run × (new.met ≡ old.met)
 Finishes texts old new settled.End = (old.begun ≡ None) × (old.held.bytes ≡ []) × (new ≡ old)
 
--- the texts that this buffer is for: a frame less its head
+-- the texts of this buffer: at most a frame less its head
 abbrev pub texts_of : List Pair → ItemState → Texts
 texts_of tags s = fix_texts tags (s.held.size - HEAD_BYTES)
 
--- what is shown of it, where the first bytes are the text taken last
+-- the state that the items show, where the first `text` bytes are the last text taken
 abbrev pub raw_shown : ℕ → ItemState → Option RawEnded → RawState
 raw_shown text s end = record {
   held = drop text s.held.bytes;
@@ -85,7 +85,7 @@ raw_shown text s end = record {
   ended = end;
 }
 
--- the answer
+-- the answer by what was settled
 abbrev pub raw_told : Result Settled RawErr → Result RawTaken RawErr
 raw_told (Ok (settled.Message n)) = Ok taken.Message
 raw_told (Ok (settled.Garbled run)) = Ok (taken.Garbled run.code run.at run.length)
@@ -111,18 +111,18 @@ pub record Nexts (texts : Texts) (old new : ItemState) (lefts : Lefts) (result :
   pub size : new.held.size ≡ old.held.size
   pub limit : new.held.limit ≡ old.held.limit
 
--- the text is held
+-- the text is among the bytes held
 abbrev pub TextFits : ItemState → Result Settled RawErr → Type 0
 TextFits s (Ok (settled.Message n)) = n ≤ length s.held.bytes
 TextFits s (Ok (settled.Garbled run)) = ⊤
 TextFits s (Ok settled.End) = ⊤
 TextFits s (Err e) = ⊤
 
--- a stream that nothing was taken of
+-- a stream of which nothing was taken
 abbrev pub raw_opened : ℕ → ℕ → RawState
 raw_opened frame input = record { held = []; text = []; taken = 0; most = frame - HEAD_BYTES; input = input; run = None; met = false; ended = None }
 
--- The first bytes are the text taken last, and none are where the stream has ended.
+-- The first bytes are the last text taken; there is none once the stream has ended.
 pub record IsRawStream (text : ℕ) (held : HeldState) (end : Option RawEnded) : Type 0 where
   pub fits : text ≤ length held.bytes
   pub ended : (e : RawEnded) → end ≡ Some e → text ≡ 0

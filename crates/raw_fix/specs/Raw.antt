@@ -1,4 +1,4 @@
--- A stream of tag-value texts without heads, and of bytes that are none. Own profile.
+-- A stream of tag-value texts without heads, and of bytes between them that aren't texts. Own profile.
 use Rattle.std.specs.Prelude.{◌≡◌, ◌≢◌, ℕ, ◌<◌, ◌≤◌, ◌⊎◌, nat_lt, nat_le, Bool, true, false, ◌&&◌, ◌==◌, if◌then◌else◌, Option, Some, None, List, [], ◌∷◌, ◌++◌, length, take}
 use Rattle.std.specs.List.{flat_map}
 use Rattle.raw_fix.specs.declared.code.PCode.{PCode}
@@ -11,42 +11,42 @@ use Rattle.open_framing.specs.Lines.{with_byte}
 use Rattle.raw_fix.specs.Claims.{Opening, IsOpening, opening_bytes, text_size, IsWhole, IsOpen, IsNever, claim_of}
 use Rattle.raw_fix.specs.Turns.{InTurn, turns_in}
 
--- which bytes are a text, and how many a text may have
+-- which bytes are a text, and the most bytes of a text
 pub record Texts : Type 0 where
   pub is_text : List ℕ → Bool
   pub most : ℕ
 
--- `8=FIX`, where the search goes on after bytes that are no text
+-- `8=FIX`, where the search continues after bytes that aren't a text
 abbrev pub mark : List ℕ
 mark = 56 ∷ 61 ∷ 70 ∷ 73 ∷ 88 ∷ []
 
--- a message, or bytes that are none
+-- a message, or garbled bytes and why
 pub data Kind : Type 0 where
   Message : Kind
   Garbled : PCode → Kind
 
--- what is at a place, and its bytes
+-- what is at an offset, and its bytes
 pub record Item : Type 0 where
   pub kind : Kind
   pub bytes : List ℕ
 
--- ---- how far bytes that are no text go
+-- ---- how far bytes that aren't a text extend
 
--- no mark in these bytes
+-- the bytes don't contain a mark
 abbrev pub NoMark : List ℕ → Type 0
 NoMark bytes = (front more : List ℕ) → bytes ≢ front ++ mark ++ more
 
--- these bytes come before the first mark
+-- these bytes precede the first mark
 pub record BeforeMark (bytes front : List ℕ) : Type 0 where
   pub more : List ℕ
   pub whole : bytes ≡ front ++ mark ++ more
   pub first : (f m : List ℕ) → bytes ≡ f ++ mark ++ m → length front ≤ length f
 
--- bytes that are no text go on to the next mark, or to the end where there is none and the stream doesn't go on
+-- bytes that aren't a text extend to the next mark, or to the end if there is none and the stream doesn't go on
 abbrev pub RunsOn : Bool → List ℕ → List ℕ → Type 0
 RunsOn goes_on bytes front = BeforeMark bytes front ⊎ ((goes_on ≡ false) × (front ≡ bytes) × NoMark bytes)
 
--- from one byte on, and then as far as they go
+-- one byte, and then as far as bytes that aren't a text extend
 pub record IsRun (goes_on : Bool) (bytes run : List ℕ) : Type 0 where
   pub byte : ℕ
   pub behind : List ℕ
@@ -55,13 +55,13 @@ pub record IsRun (goes_on : Bool) (bytes run : List ℕ) : Type 0 where
   pub runs : run ≡ byte ∷ front
   pub ends : RunsOn goes_on behind front
 
--- ---- the item at a place
+-- ---- the item at an offset
 
--- a text that is begun here isn't whole yet
+-- a text begins here but isn't complete yet, or may begin here
 abbrev pub Undecided : ℕ → List ℕ → Type 0
 Undecided most bytes = IsOpen most bytes ⊎ ((n : ℕ) × IsWhole most bytes n × (length bytes < n))
 
--- The bytes from here to the end of the input are no message, for this reason.
+-- The bytes from here to the end of the input don't begin with a message, for this reason.
 abbrev pub IsGarbled : Texts → Bool → List ℕ → PCode → Type 0
 IsGarbled texts goes_on bytes code.Prefix = IsNever texts.most bytes
 IsGarbled texts goes_on bytes code.Text = (n : ℕ) × IsWhole texts.most bytes n × (n ≤ length bytes) × (texts.is_text (take n bytes) ≡ false)
@@ -75,12 +75,12 @@ pub record IsMessage (texts : Texts) (bytes text : List ℕ) : Type 0 where
   pub front : text ≡ take size bytes
   pub holds : texts.is_text (take size bytes) ≡ true
 
--- what these bytes are to those from their place on
+-- what these bytes are, given all the bytes from their offset on
 abbrev pub IsItemOf : Texts → Bool → List ℕ → List ℕ → Kind → Type 0
 IsItemOf texts goes_on bytes item Message = IsMessage texts bytes item
 IsItemOf texts goes_on bytes item (Garbled code) = IsGarbled texts goes_on bytes code × IsRun goes_on bytes item
 
--- the item at the front of the bytes from a place to the end of the input, after which the stream goes on or not
+-- the item at the front of the bytes from an offset to the end of the input; `goes_on`: the stream goes on after them
 abbrev pub IsItem : Texts → Bool → List ℕ → Item → Type 0
 IsItem texts goes_on bytes item = IsItemOf texts goes_on bytes item.bytes item.kind
 
@@ -95,7 +95,7 @@ pub data RawEnd : Type 0 where
   End : RawEnd
   InputLimit : RawEnd
 
--- the end at a rest: nothing of it is left, or the stream goes on and nothing here is settled
+-- the end at a rest: nothing is left, or the stream goes on and no item is settled here
 abbrev pub EndsAt : Texts → Bool → List ℕ → RawEnd → Type 0
 EndsAt texts goes_on rest End = (goes_on ≡ false) × (rest ≡ [])
 EndsAt texts goes_on rest InputLimit = (goes_on ≡ true) × ((item : Item) → IsItem texts goes_on rest item → ⊥)
@@ -108,7 +108,7 @@ pub record Raw (texts : Texts) (stream : List ℕ) (input : ℕ) (items : List I
 
 -- ---- streams of texts
 
--- It opens with fields 8 and 9, and has as many bytes as they count.
+-- It begins with fields 8 and 9, and has as many bytes as they count.
 pub record IsSized (text : List ℕ) : Type 0 where
   pub opening : Opening
   pub more : List ℕ
@@ -125,19 +125,20 @@ pub record IsText (texts : Texts) (text : List ℕ) : Type 0 where
   pub holds : texts.is_text text ≡ true
   pub within : length text ≤ texts.most
 
--- it is a message
+-- an item that is a message
 abbrev pub message : List ℕ → Item
 message text = record { kind = Message; bytes = text }
 
--- it is no message, since no text begins here
+-- an item of bytes at which no text begins
 abbrev pub prefix : List ℕ → Item
 prefix bytes = record { kind = Garbled code.Prefix; bytes = bytes }
 
--- texts one after another
+-- texts, concatenated
 abbrev pub joined : List (List ℕ) → List ℕ
 joined texts = flat_map (λ text. text) texts
 
--- Bytes in front of others in which no text begins: they don't begin with 8, no mark begins in them, and one comes after them.
+-- Bytes before others, in which no text begins: they don't begin with 8, no mark begins in them, and at least one byte
+-- follows them.
 pub record IsGarbage (front back : List ℕ) : Type 0 where
   pub byte : ℕ
   pub others : List ℕ
@@ -160,7 +161,7 @@ abbrev pub before_mark : List ℕ → Option (List ℕ)
 before_mark [] = None
 before_mark (b ∷ bytes) = if begins_with mark (b ∷ bytes) then Some [] else with_byte b (before_mark bytes)
 
--- the verdict where more bytes are wanted
+-- the verdict if more bytes are needed
 abbrev pub verdict_short : Bool → Option Verdict
 verdict_short true = None
 verdict_short false = Some (Refuses code.Ends)
@@ -178,7 +179,7 @@ run_by goes_on behind (Some front) = Some front
 run_by true behind None = None
 run_by false behind None = Some behind
 
--- bytes from one on that are no text
+-- bytes from the first on that aren't a text
 abbrev pub run_of : Bool → List ℕ → Option (List ℕ)
 run_of goes_on [] = None
 run_of goes_on (b ∷ behind) = with_byte b (run_by goes_on behind (before_mark behind))

@@ -1,4 +1,4 @@
--- Items that are taken of a source one after another. Own profile.
+-- Items taken one by one from a source. Own profile.
 use Rattle.std.specs.Prelude.{◌≡◌, ◌<◌, ◌≤◌, ℕ, ◌+◌, ◌-◌, nat_lt, Bool, true, Option, Some, None, Result, Ok, Err, List, [], ◌∷◌, ◌++◌, length, take}
 use Rattle.raw_fix.specs.declared.taken.Run.{Run}
 use Rattle.raw_fix.specs.declared.taken.RawEnded.{RawEnded}
@@ -9,9 +9,9 @@ use Rattle.raw_fix.specs.declared.taken.RawErr.{RawErr}
 use Rattle.raw_fix.specs.declared.taken.RawErr.TheVariants as err
 use Rattle.raw_fix.specs.Raw.{Texts, mark, NoMark, Undecided, Garbled, Item, IsItem, IsGarbled, RunsOn, Raw, RawEnd, End, InputLimit, message}
 
--- the bytes held after the last item, the text taken last, how many bytes were taken, the most bytes of a text and of the
--- input, bytes that are no message and haven't ended, whether the source has ended after the bytes held, and the answer that
--- stays
+-- the bytes held after the last item, the last text taken, how many bytes were taken, the most bytes of a text and of
+-- the input, garbled bytes that haven't ended, whether the source has ended after the bytes held, and the answer that
+-- stays, if it was reached
 pub record RawState : Type 0 where
   pub held : List ℕ
   pub text : List ℕ
@@ -22,34 +22,34 @@ pub record RawState : Type 0 where
   pub met : Bool
   pub ended : Option RawEnded
 
--- the most bytes of the stream that is left
+-- the most bytes that the stream may still have
 abbrev pub room : RawState → ℕ
 room s = s.input + length s.held - s.taken
 
--- What is held was taken, and no more was than may be.
+-- What is held was taken, and no more was taken than may be.
 pub record IsCounted (s : RawState) : Type 0 where
   pub there : length s.held ≤ s.taken
   pub within : s.taken ≤ s.input
 
--- the place of the first byte that is held
+-- the offset of the first byte that is held
 abbrev pub place : RawState → ℕ
 place s = s.taken - length s.held
 
--- what a stream still has of the input, from which place on, and whether it goes on after the input
+-- what a stream still has of the input, from which offset on, and whether it goes on after the input
 pub record Ahead : Type 0 where
   pub place : ℕ
   pub bytes : List ℕ
   pub goes_on : Bool
 
--- of this stream, which is what is held and what comes
+-- what this stream still has: what is held and what follows
 abbrev pub ahead : List ℕ → RawState → Ahead
 ahead stream s = record { place = place s; bytes = take (room s) stream; goes_on = nat_lt (room s) (length stream) }
 
--- no mark begins in the first bytes
+-- no mark begins in the first n bytes
 abbrev pub NoneBefore : List ℕ → ℕ → Type 0
 NoneBefore bytes n = (f m : List ℕ) → bytes ≡ f ++ mark ++ m → n ≤ length f
 
--- These first bytes are part of a run, of its first byte on: no mark begins after that one.
+-- These first bytes are part of a run from its first byte on: no mark begins after that byte.
 pub record BeginsRun (bytes gone : List ℕ) : Type 0 where
   pub byte : ℕ
   pub behind : List ℕ
@@ -58,24 +58,24 @@ pub record BeginsRun (bytes gone : List ℕ) : Type 0 where
   pub runs : gone ≡ byte ∷ front
   pub none : NoneBefore behind (length front)
 
--- these bytes are a garbled item, or the rest of the one that hasn't ended; it is told so
+-- these bytes are a garbled item, or the rest of the one that hasn't ended, and `run` reports it
 abbrev pub Garbles : Texts → Ahead → List ℕ → Option Run → Run → Type 0
 Garbles texts next front None run = IsItem texts next.goes_on next.bytes (record { kind = Garbled run.code; bytes = front }) × (run.at ≡ next.place) × (run.length ≡ length front)
 Garbles texts next front (Some begun) run = RunsOn next.goes_on next.bytes front × (run ≡ record begun { length = begun.length + length front })
 
--- these bytes are let go: none, or those of a garbled item that hasn't ended
+-- these bytes are dropped: none, or those of a garbled item that hasn't ended
 abbrev pub LetsGo : Texts → Ahead → List ℕ → Option Run → Option Run → Type 0
 LetsGo texts next gone None None = gone ≡ []
 LetsGo texts next gone None (Some run) = IsGarbled texts next.goes_on next.bytes run.code × BeginsRun next.bytes gone × (run.at ≡ next.place) × (run.length ≡ length gone)
 LetsGo texts next gone (Some begun) None = ⊥
 LetsGo texts next gone (Some begun) (Some run) = NoneBefore next.bytes (length gone) × (run ≡ record begun { length = begun.length + length gone })
 
--- nothing is settled by the bytes that are held: a text may begin here, or what has begun goes on
+-- the bytes held settle nothing: a text may begin here, or the run that has begun goes on
 abbrev pub Stuck : Texts → List ℕ → Option Run → Type 0
 Stuck texts bytes None = Undecided texts.most bytes
 Stuck texts bytes (Some run) = NoMark bytes
 
--- nothing is settled by all that may be taken
+-- all the bytes that may be taken settle nothing
 abbrev pub Unsettled : Texts → List ℕ → ℕ → Option Run → Type 0
 Unsettled texts stream room None = Raw texts stream room [] InputLimit
 Unsettled texts stream room (Some run) = (nat_lt room (length stream) ≡ true) × NoMark (take room stream)
@@ -85,8 +85,8 @@ pub record RawBetween : Type 0 where
   pub stream : List ℕ
   pub left : List ℕ
 
--- The stream is what was held and what the source had left. Its items go on with this answer. At the limit and at a fault
--- the bytes of a garbled item that hasn't ended may have been let go.
+-- The stream is what was held and what the source had left. Its items go on with this answer. At the limit and at a
+-- fault, bytes of a garbled item that hasn't ended may have been dropped.
 abbrev pub TakesBy : Texts → RawState → RawState → RawBetween → Result RawTaken RawErr → Type 0
 TakesBy texts old new b (Ok taken.Message) =
     (old.run ≡ None) × (new.run ≡ None) × IsItem texts (ahead b.stream old).goes_on (ahead b.stream old).bytes (message new.text)
@@ -99,23 +99,24 @@ TakesBy texts old new b (Err err.InputLimit) = Unsettled texts b.stream (room ol
 TakesBy texts old new b (Err err.ReadFault) =
     (gone : List ℕ) × LetsGo texts (ahead b.stream old) gone old.run new.run × (room old ≡ length gone + room new) × (b.stream ≡ gone ++ (new.held ++ b.left))
 
--- how many bytes of a garbled item were let go
+-- how many bytes of a garbled item were dropped
 abbrev pub so_far : Option Run → ℕ
 so_far None = 0
 so_far (Some run) = run.length
 
--- the most bytes of the stream from the next item on, or from the first byte of the one that hasn't ended
+-- the most bytes that the stream may still have, from the next item on, or from the first byte of the one that hasn't
+-- ended
 abbrev pub item_room : RawState → ℕ
 item_room s = room s + so_far s.run
 
--- An item takes its bytes off the room, whether the source tells them or not. No other answer changes it.
+-- An item takes its bytes off the room, whether or not the source is modelled. No other answer changes the room.
 abbrev pub RawFalls : RawState → RawState → Result RawTaken RawErr → Type 0
 RawFalls old new (Ok taken.Message) = item_room old ≡ length new.text + item_room new
 RawFalls old new (Ok (taken.Garbled code at many)) = item_room old ≡ many + item_room new
 RawFalls old new (Ok taken.End) = item_room new ≡ item_room old
 RawFalls old new (Err e) = item_room new ≡ item_room old
 
--- What is held then. After a fault and at the limit the bytes that are held settle no item.
+-- What is held after an answer. After a fault and at the limit, the bytes held settle no item.
 abbrev pub RawHeldBy : Texts → RawState → Result RawTaken RawErr → Type 0
 RawHeldBy texts new (Ok taken.Message) = (new.run ≡ None) × (0 < length new.text) × (length new.text ≤ texts.most)
 RawHeldBy texts new (Ok (taken.Garbled code at many)) = (new.run ≡ None) × (0 < many)
@@ -123,9 +124,9 @@ RawHeldBy texts new (Ok taken.End) = (new.run ≡ None) × (new.held ≡ [])
 RawHeldBy texts new (Err err.InputLimit) = Stuck texts new.held new.run × (new.taken ≡ new.input)
 RawHeldBy texts new (Err err.ReadFault) = Stuck texts new.held new.run
 
--- ---- what is taken one after another
+-- ---- what is taken in order
 
--- the item that an answer tells of a stream
+-- the item of a stream that an answer reports
 abbrev pub told_item : List ℕ → RawState → RawTaken → Option Item
 told_item stream new taken.Message = Some (message new.text)
 told_item stream new (taken.Garbled code at many) = Some (record { kind = Garbled code; bytes = take many stream })
@@ -138,7 +139,7 @@ TakesItems texts (item ∷ items) old new b =
     (told : RawTaken) × (next : RawState) × (left' : List ℕ) × TakesBy texts old next (record { stream = b.stream; left = left' }) (Ok told) × (told_item b.stream next told ≡ Some item)
     × TakesItems texts items next new (record { stream = next.held ++ left'; left = b.left })
 
--- the end of the items at which a stream ends so
+-- the end of the items of a stream that ends like this
 abbrev pub raw_end : RawEnded → RawEnd
 raw_end ended.End = End
 raw_end ended.Limit = InputLimit

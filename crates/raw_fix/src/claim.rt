@@ -3,12 +3,12 @@ ghost use Rattle.raw_fix.specs.Claims.{before_soh, claim_behind, claim_of, is_be
 
 use crate::soh::find_soh;
 
-/// What the front of some bytes is, as far as fields 8 and 9 tell.
+/// What is at the front of some bytes, as far as fields 8 and 9 say.
 #[derive(Clone, Copy, Debug, PartialEq, Eq)]
 pub(crate) enum Claim {
-    /// A text of so many bytes is begun here.
+    /// A text of this many bytes begins here.
     Whole(usize),
-    /// More bytes are wanted for both fields.
+    /// More bytes are needed for both fields.
     Open,
     /// No text begins here, whatever follows.
     Never,
@@ -22,8 +22,8 @@ const SIZE: u8 = b'9';
 /// The most digits of a length.
 const MOST_DIGITS: usize = 9;
 
-/// What the bytes claim, where a text has `most` bytes at most. The first `plain` bytes are known to have no SOH, and
-/// aren't looked at again.
+/// What the bytes claim, given that a text has at most `most` bytes. The first `plain` bytes are known to contain no
+/// SOH, and aren't searched again.
 #[tactic(auto, unfolding(crate::specs::Claims::claim_of))]
 pub(crate) fn read_claim(bytes: &[u8], most: usize, plain: usize) -> Claim
     requires within { plain ≤ length bytes.now }
@@ -48,7 +48,7 @@ pub(crate) fn read_claim(bytes: &[u8], most: usize, plain: usize) -> Claim
     }
 }
 
-/// What the bytes after so many of a field 8 claim.
+/// What the bytes claim after the first `front` of them, which are a field 8.
 fn claim_size(bytes: &[u8], most: usize, front: usize) -> Claim
     requires { front + length bytes.now < 2 ^ 63 }
     ensures { result ≡ claim_behind most front bytes.now (before_soh bytes.now) }
@@ -68,7 +68,7 @@ fn claim_size(bytes: &[u8], most: usize, front: usize) -> Claim
     }
 }
 
-/// The number that the digits of a field 9 show, or of a part of it.
+/// The number in the digits of a field 9, or of a part of it.
 fn part_of_field(bytes: &[u8]) -> Option<usize>
     ensures value { result ≡ field_value bytes.now }
     ensures small { IfSome result (λ n. n < 1_000_000_000) }
@@ -82,7 +82,7 @@ fn part_of_field(bytes: &[u8]) -> Option<usize>
     part_of_digits(&bytes[2..])
 }
 
-/// The number that up to nine digits show; 0 where there are none.
+/// The number in up to nine digits, or 0 if there are none.
 fn part_of_digits(bytes: &[u8]) -> Option<usize>
     ensures value { result ≡ part_value bytes.now }
     ensures small { IfSome result (λ n. n < 1_000_000_000) }
@@ -100,7 +100,7 @@ fn part_of_digits(bytes: &[u8]) -> Option<usize>
     Some(number)
 }
 
-/// Whether the bytes are a part of a field with this one digit for a tag, or its front and more.
+/// Whether the bytes are a prefix of a field whose tag is this one digit, or begin with one.
 fn is_begun(tag: u8, bytes: &[u8]) -> bool
     ensures { result ≡ begun_in tag bytes.now }
 {
@@ -111,7 +111,7 @@ fn is_begun(tag: u8, bytes: &[u8]) -> bool
     }
 }
 
-/// The claim where a text of at least so many bytes is within the limit, and else none.
+/// The claim, if a text of at least `least` bytes is within the limit; otherwise that no text begins here.
 fn within(most: usize, least: usize, claim: Claim) -> Claim
     ensures { result ≡ within_of most least claim }
 {

@@ -22,25 +22,25 @@ use std::alloc::Global;
 use std::marker::Model;
 use tagvalue_codec::{DataTags, FieldTable};
 
-/// The least limit of a frame that a stream is opened with.
+/// The lowest limit of a frame with which a stream can be opened.
 pub const LEAST_FRAME: usize = 64;
 
-/// What is settled of a stream's front.
+/// What is decided about the front of a stream.
 #[derive(Clone, Copy, Debug, PartialEq, Eq)]
 pub(crate) enum Settled {
-    /// The first bytes that are held, so many, are a message.
+    /// The first bytes that are held, this many, are a message.
     Message(usize),
-    /// These bytes are none. They have been let go.
+    /// These bytes aren't a message. They have been released.
     Garbled(Run),
     /// Nothing is left.
     End,
 }
 
-/// The bytes of a stream from the next item on, or from a place in one that is no message and hasn't ended.
+/// The bytes of a stream from the next item on, or from a place inside one that isn't a message and hasn't ended.
 #[derive(Drop)]
 pub(crate) struct Items {
     bytes: Window,
-    /// How many of the first bytes have no SOH.
+    /// How many of the first bytes are known to contain no SOH.
     plain: usize,
     begun: Option<Run>,
     /// The source has ended after these bytes, and isn't read again.
@@ -58,7 +58,7 @@ impl Model for Items {
 }
 
 impl Items {
-    /// Nothing is held yet, and there is room for `size` bytes.
+    /// Creates it empty, with room for `size` bytes.
     pub(crate) fn new(alloc: Global, size: usize, limit: u64) -> Result<Items, NoMem>
         requires { LEAST_FRAME ≤ size }
         ensures { IfOk result (λ items. items ≡ record { held = none_held size limit; begun = None; met = false }) }
@@ -85,7 +85,7 @@ impl Items {
         self.bytes.as_slice()
     }
 
-    /// Lets the first bytes go.
+    /// Releases the first bytes.
     pub(crate) fn let_go(&mut self, n: usize)
         requires { n ≤ length self.old.held.bytes }
         ensures { self.new ≡ record { held = let_go_of n self.old.held; begun = self.old.begun; met = self.old.met } }
@@ -94,7 +94,7 @@ impl Items {
         self.plain = self.plain.saturating_sub(n);
     }
 
-    /// Where the bytes stand, and what is known of them.
+    /// The position of the bytes, and what is known of them.
     fn known(&self) -> Known
         ensures at { result.at + length self.now.held.bytes ≡ self.now.held.taken }
         ensures begun { result.begun ≡ self.now.begun }
@@ -116,7 +116,7 @@ impl Items {
         }
     }
 
-    /// Reads once after the bytes.
+    /// Reads once to the place after the bytes.
     fn read<I: Source>(&mut self, input: &mut I) -> Result<(), Dry>
         requires { length self.old.held.bytes < self.old.held.size }
         ensures reads { Reads self.old.held self.new.held ((I.state input.old).told) ((I.state input.new).told) result }
@@ -128,7 +128,7 @@ impl Items {
         self.bytes.more(input, size)
     }
 
-    /// What the bytes that are held settle, some of which there are.
+    /// What the bytes that are held decide. There is at least one.
     fn step(&self, tags: &DataTags, table: &mut FieldTable) -> Step
         requires some { 0 < length self.now.held.bytes }
         requires empty { table.old ≡ [] }
@@ -139,8 +139,8 @@ impl Items {
         next_step(self.bytes.as_slice(), known, tags, table)
     }
 
-    /// Settles what is at the front of the bytes that are held, if they settle it. What is settled to be no message
-    /// is let go.
+    /// Decides what is at the front of the bytes that are held, if they are enough. Bytes that aren't a message are
+    /// released.
     fn settle(&mut self, tags: &DataTags, table: &mut FieldTable) -> Option<Settled>
         requires empty { table.old ≡ [] }
         ensures settles { Settles (texts_of tags.now self.old) self.old self.new result }
@@ -167,7 +167,7 @@ impl Items {
         }
     }
 
-    /// Lets the first bytes go, with which those that are no message end.
+    /// Releases the first bytes, with which a run of bytes that aren't a message ends.
     fn end_run(&mut self, n: usize)
         requires { n ≤ length self.old.held.bytes }
         ensures { self.new ≡ record { held = let_go_of n self.old.held; begun = None; met = self.old.met } }
@@ -176,7 +176,7 @@ impl Items {
         self.begun = None;
     }
 
-    /// Lets the first bytes go, which are no message and haven't ended.
+    /// Releases the first bytes, which aren't a message and haven't ended.
     fn go_on(&mut self, run: Run, n: usize)
         requires within { n ≤ length self.old.held.bytes }
         requires counts { run.length + length self.old.held.bytes ≤ self.old.held.taken + n }
@@ -187,21 +187,21 @@ impl Items {
         self.begun = Some(run);
     }
 
-    /// Notes how many of the first bytes have no SOH, so that none of them is looked at again.
+    /// Records how many of the first bytes contain no SOH, so that they aren't searched again.
     fn look(&mut self)
         ensures { self.new ≡ self.old }
     {
         self.plain = plain_front(self.bytes.as_slice(), self.plain);
     }
 
-    /// Notes that nothing follows the bytes, so that the source isn't read again.
+    /// Records that nothing follows the bytes, so that the source isn't read again.
     fn meet_end(&mut self)
         ensures { self.new ≡ record self.old { met = true } }
     {
         self.met = true;
     }
 
-    /// Settles what is at the front where nothing follows the bytes that are held.
+    /// Decides what is at the front when nothing follows the bytes that are held.
     fn finish(&mut self) -> Settled
         ensures none { settled_size result ≡ None }
         ensures finishes { (texts : Texts) → Waits texts self.old → Finishes texts self.old self.new result }
@@ -227,7 +227,7 @@ impl Items {
         }
     }
 
-    /// Settles the next item. It reads only where the bytes that are held settle none, and not after the source's end.
+    /// Decides the next item. Reads only if the bytes that are held don't decide it, and never after the source's end.
     pub(crate) fn next<I: Source>(
         &mut self,
         input: &mut I,
@@ -264,7 +264,7 @@ impl Items {
     }
 }
 
-/// How many of the first bytes have no SOH: of `plain` it is known.
+/// How many of the first bytes contain no SOH; for the first `plain` this is known.
 fn plain_front(bytes: &[u8], plain: usize) -> usize
     requires within { plain ≤ length bytes.now }
     requires none { before_soh (take plain bytes.now) ≡ None }
@@ -277,7 +277,7 @@ fn plain_front(bytes: &[u8], plain: usize) -> usize
     }
 }
 
-/// How far bytes that are no message go, of which nothing follows.
+/// How far bytes that aren't a message extend, when nothing follows them.
 fn last_run(bytes: &[u8]) -> usize
     requires { 0 < length bytes.now }
     ensures within { result ≤ length bytes.now }

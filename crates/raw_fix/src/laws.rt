@@ -1,5 +1,5 @@
-//! Laws of the definitions, as functions without a body: a stream has one list of items, the readers find it, what is
-//! taken one after another are these items, and what the list is of streams of texts.
+//! Laws of the definitions, stated as functions without a body: a stream has one list of items, the readers find it,
+//! the items taken one after another are that list, and what the list is for streams of texts.
 
 ghost use Rattle.std.specs.Prelude.{◌≡◌, ◌≤◌, ◌∷◌, ◌++◌, ◌+◌, ℕ, List, true, None, Result, Err, [], length, take};
 ghost use Rattle.std.specs.Prelude.{map, nat_lt, codes};
@@ -31,7 +31,7 @@ pub fn claim_found()
     ensures { (most : ℕ) (bytes : List ℕ) → Claims most bytes (claim_of most bytes) }
 {}
 
-/// A text that is begun, and a place where none can begin, stay so whatever follows.
+/// Once a text begins, or none can begin, this stays so whatever follows.
 pub fn claims_stay()
     ensures whole { (most : ℕ) (bytes more : List ℕ) (n : ℕ) → IsWhole most bytes n → IsWhole most (bytes ++ more) n }
     ensures never { (most : ℕ) (bytes more : List ℕ) → IsNever most bytes → IsNever most (bytes ++ more) }
@@ -49,14 +49,14 @@ pub fn raw_found()
         → let raw = raw_of texts stream input in Raw texts stream input raw.0 raw.1 }
 {}
 
-/// An item in front of a stream is one more item, and the items after it are those of the stream.
+/// With an item in front of it, a stream has one more item, followed by the items of the stream.
 pub fn raw_goes_on()
     ensures { (texts : Texts) (stream : List ℕ) (input : ℕ) (item : Item) (items : List Item) (end : RawEnd)
         → IsItem texts (nat_lt input (length stream)) (item_bytes item ++ take input stream) item → Raw texts stream input items end
         → Raw texts (item_bytes item ++ stream) (length (item_bytes item) + input) (item ∷ items) end }
 {}
 
-/// Where a stream ends with all of it read, the items' bytes one after another are the stream.
+/// If a stream ends and all of it was read, the items' bytes one after another are the stream.
 pub fn raw_is_whole()
     ensures { (texts : Texts) (stream : List ℕ) (input : ℕ) (items : List Item)
         → Raw texts stream input items End → stream ≡ flat_map item_bytes items }
@@ -84,7 +84,7 @@ pub fn takes_are_the_items()
         → Raw texts b.stream (room old) items (raw_end end) }
 {}
 
-/// A take that a read fault cut off, and the one after it, are one take.
+/// A take that was cut off by a read fault, and the next take, are together one take.
 pub fn faults_change_nothing()
     ensures { (texts : Texts) (old mid new : RawState) (stream left later : List ℕ) (answer : Result RawTaken RawErr)
         → IsCounted old → IsCounted mid → mid.input ≡ old.input
@@ -93,7 +93,7 @@ pub fn faults_change_nothing()
         → TakesBy texts old new (record { stream = stream; left = later }) answer }
 {}
 
-/// The texts that are looked for are those of some fields, and each has as many bytes as it says.
+/// The texts that are searched for consist of fields, and each has as many bytes as it states.
 pub fn texts_have_fields()
     ensures fields { (tags : List Pair) (most : ℕ) (text : List ℕ) → (fix_texts tags most).is_text text ≡ true
         → (fields : List Field) × FixText tags fields text }
@@ -109,7 +109,7 @@ pub fn text_rows()
     ensures limit { raw_of only_heartbeat heartbeat 10 ≡ ([], InputLimit) }
 {}
 
-/// Garbage, a text with a wrong sum, and one in order after them.
+/// Garbage, a text with a wrong sum, and a valid one after them.
 pub fn garbage_row()
     ensures { raw_of only_heartbeat (codes "xx" ++ broken ++ heartbeat) 16_777_216
         ≡ (garbled code.Prefix (codes "xx") ∷ garbled code.Text broken ∷ message heartbeat ∷ [], End) }

@@ -3,19 +3,19 @@ ghost use Rattle.raw_fix.specs.Places.{Marks};
 
 use memchr::memmem;
 
-/// Where the search for a text goes on after bytes that are none.
+/// Where the search for a text resumes after bytes that aren't one.
 pub const MARK: &[u8; 5] = b"8=FIX";
 
-/// What a search for a mark tells.
+/// The result of a search for a mark.
 #[derive(Clone, Copy, Debug, PartialEq, Eq)]
 pub(crate) enum Marked {
-    /// The first mark comes after so many bytes.
+    /// The first mark follows this many bytes.
     At(usize),
-    /// None is there, and none begins in so many bytes, whatever follows.
+    /// There is none, and none begins within this many bytes, whatever follows.
     NotIn(usize),
 }
 
-/// Where the first mark is, or how many bytes can be let go.
+/// Where the first mark is, or how many bytes can be released.
 pub(crate) fn next_mark(bytes: &[u8]) -> Marked
     ensures { Marks bytes.now result }
 {

@@ -7,7 +7,7 @@ use memchr::memchr;
 /// The byte that ends a field.
 pub(crate) const SOH: u8 = 1;
 
-/// Where the first SOH is. The first `plain` bytes have none.
+/// The position of the first SOH. The first `plain` bytes contain none.
 pub(crate) fn find_soh(bytes: &[u8], plain: usize) -> Option<usize>
     requires within { plain ≤ length bytes.now }
     requires none { before_soh (take plain bytes.now) ≡ None }

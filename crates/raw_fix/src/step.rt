@@ -8,33 +8,33 @@ use crate::taken::Run;
 use crate::verdict::{Verdict, judge};
 use tagvalue_codec::{DataTags, FieldTable};
 
-/// What the bytes that are held settle.
+/// What the bytes that are held decide.
 #[derive(Clone, Copy, Debug, PartialEq, Eq)]
 pub(crate) enum Step {
-    /// The first bytes, so many, are a message.
+    /// The first bytes, this many, are a message.
     Message(usize),
-    /// The first bytes, so many, end these that are none.
+    /// The first bytes, this many, are the end of a run that isn't a message.
     Ends(Run, usize),
-    /// The first bytes, so many, can be let go: these are no message, and go on.
+    /// The first bytes, this many, can be released: they belong to a run that isn't a message and goes on.
     GoesOn(Run, usize),
-    /// Nothing before more bytes come.
+    /// Nothing until more bytes arrive.
     More,
 }
 
-/// Where the bytes that are held are in the input, and what is known of them.
+/// The position of the held bytes in the input, and what is known of them.
 #[derive(Clone, Copy, Debug, PartialEq, Eq)]
 pub(crate) struct Known {
-    /// How many bytes of the input come before them.
+    /// How many bytes of the input precede them.
     pub(crate) at: u64,
-    /// The bytes before them that are no message, and haven't ended.
+    /// The preceding bytes that aren't a message and haven't ended.
     pub(crate) begun: Option<Run>,
-    /// How many of the first ones have no SOH.
+    /// How many of the first ones are known to contain no SOH.
     pub(crate) plain: usize,
     /// The most bytes that a text may have.
     pub(crate) most: usize,
 }
 
-/// What the bytes that are held settle. The table holds the fields of a message.
+/// What the bytes that are held decide. The table then holds the fields of a message.
 pub(crate) fn next_step(held: &[u8], known: Known, tags: &DataTags, table: &mut FieldTable) -> Step
     requires some { 0 < length held.now }
     requires within { known.plain ≤ length held.now }
@@ -62,7 +62,7 @@ pub(crate) fn next_step(held: &[u8], known: Known, tags: &DataTags, table: &mut 
     }
 }
 
-/// Bytes that are no message go on with these, the first `front` of them and then up to a mark.
+/// A run of bytes that aren't a message continues with these: the first `front` of them, and then up to a mark.
 fn run_on(held: &[u8], front: usize, run: Run) -> Step
     requires within { front ≤ length held.now }
     requires room { run.length + length held.now < 2 ^ 64 }

@@ -12,11 +12,11 @@ use std::alloc::Global;
 use std::marker::Model;
 use tagvalue_codec::{DataTags, FieldTable};
 
-/// The tag-value texts of a source, taken one after another, with the bytes between them that are no text.
+/// The tag-value texts of a source, taken one by one, and the bytes between them that aren't a text.
 ///
-/// A text is found by its BodyLength and its CheckSum. What comes are the items of the source's bytes, whatever pieces
-/// the source gives them in. The stream reads ahead into its own buffer; it reads only where the bytes that it holds
-/// settle no item.
+/// A text is found by its BodyLength and its CheckSum. The items are those of the source's bytes, whatever the sizes of
+/// the pieces in which the source gives them. The stream reads ahead into its own buffer; it reads only if the bytes
+/// that it holds don't decide the next item.
 #[derive(Drop)]
 pub struct RawStream {
     items: Items,
@@ -37,12 +37,12 @@ impl Model for RawStream {
 }
 
 impl RawStream {
-    /// A stream that nothing was taken of, with memory for a frame of `limits.frame` bytes, and for an input of
-    /// `limits.input` bytes at most. A text has at most the bytes of a frame without its head.
+    /// A stream from which nothing was taken yet. It allocates memory for a frame of `limits.frame` bytes, and accepts
+    /// an input of at most `limits.input` bytes. A text may have at most as many bytes as a frame without its head.
     ///
     /// # Errors
     ///
-    /// Out of memory.
+    /// If memory runs out.
     pub fn open(alloc: Global, limits: Limits) -> Result<RawStream, NoMem>
         requires low { LEAST_FRAME ≤ limits.frame }
         requires high { limits.frame ≤ LONGEST_FRAME }
@@ -55,15 +55,15 @@ impl RawStream {
         })
     }
 
-    /// Takes the next item, and lets the text before it go. It takes no memory.
+    /// Takes the next item and releases the previous text. Allocates nothing.
     ///
-    /// After a message the table holds its fields, and after any other answer it is empty. Once the answer was the end
-    /// or the limit of the input, each later call gives the same answer and reads nothing. Once a read has found the end of
-    /// the source, none follows: what is held is all that is left.
+    /// After a message the table holds its fields, and after any other answer it is empty. After the end or the limit
+    /// of the input, each later call gives the same answer and reads nothing. Once a read has found the end of the
+    /// source, there are no more reads: the bytes that are held are all that is left.
     ///
     /// # Errors
     ///
-    /// Each variant of [`RawErr`]. After [`RawErr::ReadFault`] the bytes that were taken stay, or are counted where no
+    /// Each variant of [`RawErr`]. After [`RawErr::ReadFault`] the bytes that were taken are kept, or counted if no
     /// message can begin in them, and the next call goes on after them.
     pub fn take<I: Source>(
         &mut self,
@@ -109,15 +109,15 @@ impl RawStream {
         }
     }
 
-    /// The text of the message that was taken last, and no bytes where the last answer was none.
+    /// The text of the message that was taken last. Empty if the last call took no message.
     pub fn text(&self) -> &[u8]
         ensures { result.now ≡ self.now.text }
     {
         &self.items.as_slice()[..self.text]
     }
 
-    /// How many bytes were taken in all, those that were read ahead too. The one byte that shows that an input is above
-    /// its limit isn't counted.
+    /// How many bytes were taken in all, including those that were read ahead. The one byte that shows that an input
+    /// exceeds its limit isn't counted.
     pub fn taken(&self) -> u64
         ensures { result ≡ self.now.taken }
     {
@@ -125,7 +125,7 @@ impl RawStream {
     }
 }
 
-/// The answer at an end.
+/// The answer at and after an end.
 fn told(ended: RawEnded) -> Result<RawTaken, RawErr>
     ensures { result ≡ ended_told ended }
 {

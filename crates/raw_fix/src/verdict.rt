@@ -11,14 +11,14 @@ use tagvalue_codec::{DataTags, FieldTable, read_fix};
 /// What is at the front of some bytes.
 #[derive(Clone, Copy, Debug, PartialEq, Eq)]
 pub(crate) enum Verdict {
-    /// A message of so many bytes.
+    /// A message of this many bytes.
     Says(usize),
-    /// No message, for this reason.
+    /// Not a message, for this reason.
     Refuses(PCode),
 }
 
-/// What is at the front of the bytes, if no bytes after them change it. The first `plain` bytes have no SOH. The
-/// table holds the fields of a message.
+/// What is at the front of the bytes, if bytes after them can't change it. The first `plain` bytes contain no SOH. The
+/// table then holds the fields of a message.
 pub(crate) fn judge(
     bytes: &[u8],
     most: usize,
@@ -47,7 +47,7 @@ pub(crate) fn judge(
     }
 }
 
-/// Whether the bytes are a text, all of them. The table holds its fields then.
+/// Whether the bytes as a whole are a text. If so, the table holds its fields.
 #[tactic(auto, using(crate::proofs::FieldLemmas::is_read, crate::proofs::FieldLemmas::is_refused))]
 fn is_text(bytes: &[u8], tags: &DataTags, table: &mut FieldTable) -> bool
     ensures same { result ≡ is_fix tags.now bytes.now }
@@ -60,7 +60,7 @@ fn is_text(bytes: &[u8], tags: &DataTags, table: &mut FieldTable) -> bool
     }
 }
 
-/// Drops all fields of the table: no bytes are no text, and a text that is refused leaves none.
+/// Removes all fields of the table: empty bytes aren't a text, and a text that is refused leaves no fields.
 #[tactic(auto, using(crate::proofs::FieldLemmas::none_left))]
 pub(crate) fn drop_fields(tags: &DataTags, table: &mut FieldTable)
     ensures { table.new ≡ [] }

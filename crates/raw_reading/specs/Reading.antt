@@ -24,27 +24,29 @@ abbrev pub end_of : RawEnd → PieceEnd
 end_of End = ends.End
 end_of InputLimit = ends.InputLimit
 
--- The stream, within so many bytes of it, is these pieces, and ends so.
+-- The stream, within its first n bytes, is these pieces, and has this end.
 abbrev pub SplitsRaw : Texts → ℕ → List ℕ → List Piece → PieceEnd → Type 0
 SplitsRaw texts n stream pieces end =
     (items : List Item) × (last : RawEnd) × Raw texts stream n items last × (pieces ≡ map piece_of items) × (end ≡ end_of last)
 
--- the items' bytes one after another
+-- the bytes of the items, concatenated
 abbrev pub items_bytes : List Item → List ℕ
 items_bytes items = flat_map item_bytes items
 
--- These bytes are the items, and then those that are held: in a stream that goes on after them, or that ends with them.
+-- These bytes are those of the items, and then those that are held, in a stream that goes on after them, or that ends
+-- with them.
 abbrev pub Shows : Texts → Bool → List Item → List ℕ → Type 0
 Shows texts is_all items held = InTurn (IsItem texts (not is_all)) item_bytes (items_bytes items ++ held) items held
 
--- a stream, within so many bytes of it, what was taken of it after some pieces, and all that follows these
+-- a stream of which at most `most` bytes count, what was taken of it after some pieces, and everything that follows the
+-- pieces
 pub record Span : Type 0 where
   pub most : ℕ
   pub ahead : Ahead
   pub stream : List ℕ
   pub rest : List ℕ
 
--- The stream begins with these pieces: they are the items that the bytes show which were taken.
+-- The stream begins with these pieces: they are the items that the bytes taken show.
 pub record BeginsRaw (texts : Texts) (span : Span) (pieces : List Piece) : Type 0 where
   pub items : List Item
   pub pieces_are : pieces ≡ map piece_of items
@@ -55,7 +57,7 @@ pub record BeginsRaw (texts : Texts) (span : Span) (pieces : List Piece) : Type 
   pub within : length (items_bytes items ++ span.ahead.held) ≤ span.most
   pub all : span.ahead.is_all ≡ true → left ≡ []
 
--- These pieces are the items of a stream that goes on after the bytes, and these settle no further one.
+-- These pieces are the items of a stream that goes on after the bytes, which settle no further item.
 pub record HoldsRaw (texts : Texts) (bytes : List ℕ) (pieces : List Piece) : Type 0 where
   pub items : List Item
   pub pieces_are : pieces ≡ map piece_of items
@@ -67,7 +69,7 @@ pub record HoldsRaw (texts : Texts) (bytes : List ℕ) (pieces : List Piece) : T
 abbrev pub SuitsRaw : Piece → Type 0
 SuitsRaw piece = (item : Item) × (piece ≡ piece_of item)
 
--- How such a stream is read.
+-- How a stream of tag-value texts without heads is read.
 abbrev pub raw_reading : Texts → OtherReading
 raw_reading texts = record {
   Splits = SplitsRaw texts;

@@ -1,4 +1,4 @@
--- What a stream of texts without heads is answered. Own profile.
+-- What is answered for a stream of texts without heads. Own profile.
 use Rattle.std.specs.Prelude.{◌≡◌, ℕ, ◌-◌, true, List, [], length, codes, decimal, Some, Result, Ok, Err}
 use Rattle.sbe_base.specs.declared.status.Limits.{Limits}
 use Rattle.sbe_base.specs.declared.status.Status.{Status}
@@ -23,21 +23,21 @@ use Rattle.raw_reading.proofs.IsRawReading.{raw_is_reading}
 
 -- ---- the reply
 
--- the code of bytes that are no message
+-- the code of garbled bytes
 abbrev pub code_text : PCode → List ℕ
 code_text Prefix = codes "P01"
 code_text Ends = codes "P02"
 code_text Text = codes "P03"
 
--- bytes that are no message, at this place of the input and so many
+-- the refusal of this many garbled bytes at this offset of the input
 abbrev pub garbled_at : PCode → ℕ → ℕ → RefusedItem
 garbled_at code at many = record { code = code_text code; offset = Some at; path = []; detail = decimal many }
 
--- the frame of a text
+-- the reply with the frame of a text
 abbrev pub framed : List ℕ → Reply
 framed text = record { output = frame TAG_VALUE text; notes = []; verdict = Answered }
 
--- so many bytes, after those that are counted, are no message
+-- the reply that notes this many garbled bytes after those that are counted
 abbrev pub noted : Kept → PCode → ℕ → Reply
 noted kept code many = record { output = []; notes = refused_line kept.items (garbled_at code kept.bytes many); verdict = Refused }
 
@@ -54,15 +54,15 @@ IsRawReply kept piece reply = (item : Item) × (piece ≡ piece_of item) × (rep
 abbrev pub texts_in : List Pair → Limits → Texts
 texts_in tags limits = fix_texts tags (limits.frame - HEAD_BYTES)
 
--- how such a stream is read
+-- how a stream of texts is read
 abbrev pub by_items : List Pair → Limits → Reading
 by_items tags limits = Others (raw_reading (texts_in tags limits)) (raw_is_reading (texts_in tags limits)) limits.input
 
--- What is taken of the input and answered. It takes no memory.
+-- What is taken from the input and answered. It takes no memory.
 abbrev pub by_texts : List Pair → Limits → Answering
 by_texts tags limits = record { reading = by_items tags limits; IsReply = IsRawReply; spares = true; last = no_line }
 
--- what becomes of an item whose answer is written so
+-- the verdict on an item whose answer was written, or the status of a failed write
 abbrev pub put_so : Result (Unit {0}) WriteFault → Verdict → Result Verdict Status
 put_so (Ok done) verdict = Ok verdict
 put_so (Err e) verdict = Err status.WriteFault

@@ -7,11 +7,12 @@ use Rattle.command_steps.specs.Replies.{most_parts}
 use Rattle.command_steps.specs.declared.kept.Kept.{Kept}
 use Rattle.raw_fix.specs.Stream.{RawState, IsCounted, room}
 
--- what a stream knows after the last item
+-- what a stream knows of its input after the last item
 abbrev pub raw_ahead : RawState → Ahead
 raw_ahead stream = record { held = stream.held; met_end = false; is_all = stream.met }
 
--- Before its end a stream has no item begun, what was taken of it is counted, and no number is above it.
+-- Before its end a stream has no unfinished item, what was taken from it is counted, and the counts are within the
+-- bounds for it.
 pub record StandsRaw (limits : Limits) (stream : RawState) (kept : Kept) : Type 0 where
   pub runs : stream.ended ≡ None
   pub whole : stream.run ≡ None

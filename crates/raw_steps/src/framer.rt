@@ -17,7 +17,7 @@ use std::alloc::Global;
 use std::marker::Model;
 use tagvalue_codec::{DataTags, FieldTable};
 
-/// Cuts a stream of tag-value messages into frames, by pairs of data tags.
+/// Cuts a stream of tag-value messages into frames, given pairs of data tags.
 #[derive(Drop)]
 pub struct RawFramer {
     tags: DataTags,
@@ -35,11 +35,11 @@ impl Model for RawFramer {
 }
 
 impl RawFramer {
-    /// Takes all memory that the answers to items need.
+    /// Allocates all memory that the answers to items need.
     ///
     /// # Errors
     ///
-    /// Out of memory.
+    /// If memory runs out.
     pub fn new(alloc: Global, tags: DataTags) -> Result<RawFramer, NoMem>
         ensures { IfOk result (λ framer. framer ≡ tags) }
     {
@@ -51,7 +51,7 @@ impl RawFramer {
         })
     }
 
-    /// Takes the next item of a stream. It takes no memory.
+    /// Takes the next item of a stream. Allocates nothing.
     pub(crate) fn take<I: Source>(
         &mut self,
         stream: &mut RawStream,
@@ -67,7 +67,7 @@ impl RawFramer {
         stream.take(input, &self.tags, &mut self.table)
     }
 
-    /// Writes the frame of a text. It takes no memory.
+    /// Writes the frame of a text. Allocates nothing.
     pub(crate) fn answer<O: Sink>(&mut self, text: &[u8], output: &mut O) -> Result<Verdict, Status>
         requires { length text.now < 2 ^ 24 }
         ensures same { self.new ≡ self.old }
@@ -83,7 +83,7 @@ impl RawFramer {
         )
     }
 
-    /// Notes an item that is no message. It takes no memory.
+    /// Notes an item that isn't a message. Allocates nothing.
     pub(crate) fn note<N: Sink>(
         &mut self,
         kept: &Kept,
@@ -109,7 +109,7 @@ impl RawFramer {
     }
 }
 
-/// What becomes of an item whose answer is written so.
+/// What becomes of an item after its answer was written.
 fn verdict_of(put: Result<(), WriteFault>, verdict: Verdict) -> Result<Verdict, Status>
     ensures told { result ≡ put_so put verdict }
     ensures wants { Wants true result }

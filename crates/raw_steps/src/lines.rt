@@ -40,14 +40,14 @@ fn put_frame<O: Sink>(printer: &mut Printer<'_, O>, text: &[u8])
     printer.put(text);
 }
 
-/// Where bytes that are no message are in the input, and how many they are.
+/// Where bytes that aren't a message are in the input, and how many they are.
 #[derive(Clone, Copy, Debug, PartialEq, Eq)]
 pub struct Place {
     pub at: u64,
     pub length: u64,
 }
 
-/// Writes the line of an item that is no message.
+/// Writes the line of an item that isn't a message.
 pub fn note_garbled<N: Sink>(
     sink: &mut N,
     item: u64,
@@ -62,7 +62,7 @@ pub fn note_garbled<N: Sink>(
     printer.finish()
 }
 
-/// Prints the line of an item that is no message.
+/// Prints the line of an item that isn't a message.
 fn put_garbled<N: Sink>(printer: &mut Printer<'_, N>, item: u64, code: PCode, place: Place)
     ensures { Prints N.state printer.old printer.new (refused_line item (garbled_at code place.at place.length)) }
 {
@@ -78,7 +78,7 @@ fn put_detail<N: Sink>(printer: &mut Printer<'_, N>, length: u64)
     put_refused_number(printer, &(length as i128));
 }
 
-/// The code of bytes that are no message, as it is printed.
+/// The code of bytes that aren't a message, as it is printed.
 fn code_name(code: PCode) -> &'static str
     ensures { result.now ≡ code_text code }
 {

@@ -38,7 +38,7 @@ impl RawWork {
         })
     }
 
-    /// Takes the next item, and writes its answer; or notes what ends the items, and answers the status of the run.
+    /// Takes the next item and writes its answer; or notes what ends the items, and returns the status of the run.
     #[inline(always)]
     pub fn answer_next<I: Source, O: Sink, N: Sink>(
         &mut self,

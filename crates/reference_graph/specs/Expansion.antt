@@ -1,22 +1,22 @@
--- A structure that is put together: its places one after another, with what stands inside groups.
+-- The structure that references make: its places in order, with those inside groups.
 use Rattle.std.specs.Prelude.{ℕ, suc, max, List, [], ◌∷◌, ◌++◌, Option, Some, None}
 use Rattle.reference_graph.specs.declared.graph.Link.{Link}
 use Rattle.reference_graph.specs.declared.graph.Node.{Node}
 use Rattle.reference_graph.specs.Graphs.{Fold, fold}
 
--- places in order: none, a field and then more, or a group by its count with what its entries have, and then more
+-- places in order: none; a field and then more; or a group by its count, with the places of its entries, and then more
 pub data Structure : Type 0 where
   ended : Structure
   plain : ℕ → Structure → Structure
   counted : ℕ → Structure → Structure → Structure
 
--- some places after others
+-- some places followed by others
 abbrev pub followed_by : Structure → Structure → Structure
 followed_by ended more = more
 followed_by (plain tag rest) more = plain tag (followed_by rest more)
 followed_by (counted tag inner rest) more = counted tag inner (followed_by rest more)
 
--- What a node has, as a group or in its place.
+-- What is inside a node, as a group if it is one.
 abbrev pub counted_structure : Option ℕ → Structure → Structure
 counted_structure None inner = inner
 counted_structure (Some tag) inner = counted tag inner ended
@@ -35,7 +35,7 @@ structure_tags ended = []
 structure_tags (plain tag rest) = tag ∷ structure_tags rest
 structure_tags (counted tag inner rest) = tag ∷ (structure_tags inner ++ structure_tags rest)
 
--- How deep groups are nested in places.
+-- How deeply the groups of places are nested.
 abbrev pub structure_depth : Structure → ℕ
 structure_depth ended = 0
 structure_depth (plain tag rest) = structure_depth rest

@@ -1,52 +1,52 @@
--- Nodes that refer to one another: what is folded over the parts of a structure, and chains of references.
+-- Nodes that refer to one another: folds over the parts of a structure, and chains of references.
 use Rattle.std.specs.Prelude.{◌≡◌, ℕ, zero, suc, Bool, false, List, [], ◌∷◌, length, is_some, Option, Some, None, slice_get}
 use Rattle.std.specs.List.{list_any}
 use Rattle.reference_graph.specs.declared.graph.Link.{Link}
 use Rattle.reference_graph.specs.declared.graph.Link.TheVariants.{Field, To}
 use Rattle.reference_graph.specs.declared.graph.Node.{Node}
 
--- ---- what is folded over the parts of a structure
+-- ---- folds over the parts of a structure
 
--- of nothing, of a field, of what a node has (with the tag of its count, if it is a group), and of two parts one after
--- the other
+-- the results for nothing, for a field, for what is inside a node (with the tag of its count, if it is a group), and
+-- for two parts one after the other
 pub record Fold (X : Type 0) : Type 0 where
   pub empty : X
   pub field : ℕ → X
   pub node : Option ℕ → X → X
   pub join : X → X → X
 
--- Of a node that was looked for.
+-- The result for a node, or for nothing if it wasn't found.
 abbrev pub of_node : {X : Type 0} → Fold X → (List Link → X) → Option Node → X
 of_node R inner None = R.empty
 of_node R inner (Some node) = R.node node.count (inner node.links)
 
--- of what one link leads to
+-- the result for what one link leads to
 abbrev pub of_link : {X : Type 0} → Fold X → List Node → (List Link → X) → Link → X
 of_link R graph inner (Field tag) = R.field tag
 of_link R graph inner (To i) = of_node R inner (slice_get graph i)
 
--- of links, one after another
+-- the result for links, in order
 abbrev pub of_links : {X : Type 0} → Fold X → (Link → X) → List Link → X
 of_links R one [] = R.empty
 of_links R one (l ∷ ls) = R.join (one l) (of_links R one ls)
 
--- of a structure, through so many names
+-- the result for a structure, through at most n names
 abbrev pub folded : {X : Type 0} → Fold X → ℕ → List Node → List Link → X
 folded R zero graph links = R.empty
 folded R (suc n) graph links = of_links R (of_link R graph (folded R n graph)) links
 
--- of a structure. Where chains of references end, none has more names than there are nodes
+-- the result for a structure; if chains of references end, none has more names than there are nodes
 abbrev pub fold : {X : Type 0} → Fold X → List Node → List Link → X
 fold R graph links = folded R (suc (length graph)) graph links
 
 -- ---- chains of references
 
--- The links of a node that was looked for.
+-- The links of a node; none if it wasn't found.
 abbrev pub links_in : Option Node → List Link
 links_in None = []
 links_in (Some node) = node.links
 
--- The links of the node at a place.
+-- The links of the node with an index.
 abbrev pub links_at : List Node → ℕ → List Link
 links_at graph i = links_in (slice_get graph i)
 
@@ -65,7 +65,7 @@ abbrev pub goes_on : ℕ → List Node → Link → Bool
 goes_on zero graph link = leads_on graph link
 goes_on (suc n) graph link = list_any (goes_on n graph) (links_after graph link)
 
--- a chain of more nodes than there are has one of them twice
+-- a chain of references doesn't end: one with more nodes than there are has one of them twice
 abbrev pub is_endless : List Node → List Link → Bool
 is_endless graph links = list_any (goes_on (length graph) graph) links
 

@@ -6,22 +6,22 @@ use crate::numbers::{numbered_nodes, tags_in};
 use lists::NoMem;
 use std::alloc::Global;
 
-/// How many numbers one pass looks at.
+/// How many numbers one pass handles.
 pub const WIDTH: u32 = 128;
 
-/// The highest number, so that passes are at most 128. Tags without a number of their own share 0, and
-/// what has two of those is gone through.
+/// The highest number, so that there are at most 128 passes. Tags without a number of their own share 0, and a
+/// structure that has two of those is searched in full.
 pub const LAST_NUMBER: u32 = 16_383;
 
-/// The most links that all passes together look at. A mapping of 1 MiB whose fields are all declared needs no more.
+/// The most links that all passes together visit. A mapping of 1 MiB whose fields are all declared needs no more.
 const MOST_LOOKS: usize = 2_200_000;
 
-/// For each node a word, unless some tag may be in its structure twice.
+/// For each node a word, unless its structure may have some tag twice.
 pub type Words = Vec<Option<u128>>;
 
-/// Which nodes are known to have no tag twice, each component being looked at once a pass, however
-/// many messages have it. No contract says that all such nodes are found: that takes an order in which
-/// each node comes after those that it refers to.
+/// Which nodes are known to have no tag twice. Each component is visited once per pass, however many messages contain
+/// it. No contract says that all such nodes are found: that requires an order in which each node comes after those that
+/// it refers to.
 pub fn find_distinct(alloc: Global, nodes: &[Node], order: &[usize]) -> Result<Words, NoMem>
     ensures { IfOk result (λ words. AreDistinct nodes.now words.items) }
 {
@@ -32,7 +32,7 @@ pub fn find_distinct(alloc: Global, nodes: &[Node], order: &[usize]) -> Result<W
     Ok(words)
 }
 
-/// The last number that is given, for so many tags and links. A pass looks at each link.
+/// The last number that is given out, for this many tags and links. A pass visits each link.
 fn last_number(tags: u32, links: usize) -> u32
     ensures { result ≤ LAST_NUMBER }
 {
@@ -40,7 +40,7 @@ fn last_number(tags: u32, links: usize) -> u32
     tags.min(numbers.saturating_sub(1).min(LAST_NUMBER as usize) as u32)
 }
 
-/// Which nodes have no number up to the last twice.
+/// Which nodes have none of the numbers up to the last one twice.
 fn find_clear(alloc: Global, nodes: &[Node], order: &[usize], last: u32) -> Result<Words, NoMem>
     requires { last ≤ LAST_NUMBER }
     ensures { IfOk result (λ words. AreClear nodes.now (last + 1) words.items) }
@@ -54,21 +54,21 @@ fn find_clear(alloc: Global, nodes: &[Node], order: &[usize], last: u32) -> Resu
     Ok(words)
 }
 
-/// Of so many nodes no number was seen.
+/// For `count` nodes, that no number was seen.
 fn all_clear(alloc: Global, count: usize) -> Result<Words, NoMem>
     ensures { IfOk result (λ words. length words.items ≡ count) }
 {
     Ok(vec![in alloc; Some(0); count]?)
 }
 
-/// Of so many nodes nothing is known.
+/// For `count` nodes, that nothing is known.
 fn none_clear(alloc: Global, count: usize) -> Result<Words, NoMem>
     ensures { IfOk result (λ words. words.items ≡ replicate count None) }
 {
     Ok(vec![in alloc; None; count]?)
 }
 
-/// Looks at the numbers from the first on, in the nodes of which all passes before told.
+/// Handles the numbers from `first` on, in the nodes that all previous passes cleared.
 fn pass(
     alloc: Global,
     nodes: &[Node],
@@ -88,7 +88,7 @@ fn pass(
     Ok(words)
 }
 
-/// The same for the node at a place.
+/// The same for the node at an index.
 fn pass_at(nodes: &[Node], i: usize, first: u32, before: &[Option<u128>], words: &mut Words)
     requires within { i < length nodes.now }
     requires before { length before.now ≡ length nodes.now }
@@ -107,7 +107,7 @@ fn word_at(words: &[Option<u128>], i: usize) -> Option<u128>
     words[i]
 }
 
-/// What the words so far tell of a node.
+/// What the words so far say of a node.
 fn node_word(words: &[Option<u128>], first: u32, node: &Node) -> Option<u128>
     ensures { result ≡ node_word words.now first node.now }
 {
@@ -128,7 +128,7 @@ fn count_mark(first: u32, count: Option<u32>) -> u128
     }
 }
 
-/// What they tell of links after those so far.
+/// What they say of links after those so far.
 fn links_word(words: &[Option<u128>], first: u32, so_far: u128, links: &[Link]) -> Option<u128>
     ensures { result ≡ links_word words.now first so_far links.now }
 {
@@ -147,7 +147,7 @@ fn links_word(words: &[Option<u128>], first: u32, so_far: u128, links: &[Link]) 
     Some(all)
 }
 
-/// What they tell of one link.
+/// What they say of one link.
 fn link_word(words: &[Option<u128>], first: u32, link: Link) -> Option<u128>
     ensures { result ≡ link_word words.now first link }
 {
@@ -160,7 +160,7 @@ fn link_word(words: &[Option<u128>], first: u32, link: Link) -> Option<u128>
     }
 }
 
-/// The bit of a number, if this pass looks at it.
+/// The bit of a number, if this pass handles it.
 fn mark(first: u32, number: u32) -> u128
     ensures { result ≡ mark first number }
 {

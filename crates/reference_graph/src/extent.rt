@@ -1,10 +1,10 @@
 ghost use Rattle.std.specs.Prelude.{◌≡◌, ◌+◌, ◌<◌, nat_lt, ◌||◌};
 ghost use Rattle.reference_graph.specs.Learning.{extent_of, joined, with_count, is_over};
 
-/// The most places, fields and counts, that a structure may have.
+/// The most places, which are fields and counts, that a structure may have.
 pub const PLACE_LIMIT: u32 = 4096;
 
-/// How deep groups may be nested.
+/// How deeply groups may be nested.
 pub const DEPTH_LIMIT: u32 = 6;
 
 /// What is known of a structure. A number above its limit means that number or more.
@@ -12,24 +12,24 @@ pub const DEPTH_LIMIT: u32 = 6;
 pub struct Extent {
     /// How many places it has.
     pub places: u32,
-    /// How deep its groups are nested.
+    /// How deeply its groups are nested.
     pub depth: u32,
 }
 
-/// Of a structure without places.
+/// The extent of a structure without places.
 pub const EMPTY: Extent = Extent {
     places: 0,
     depth: 0,
 };
 
-/// Of a field.
+/// The extent of a field.
 pub const ONE_FIELD: Extent = Extent {
     places: 1,
     depth: 0,
 };
 
 impl Extent {
-    /// Of one structure after another.
+    /// The extent of one structure after another.
     pub fn joined(self, other: Extent) -> Extent
         ensures { result ≡ joined self other }
     {
@@ -42,7 +42,7 @@ impl Extent {
         }
     }
 
-    /// Of a group whose entries have this structure.
+    /// The extent of a group whose entries have this structure.
     pub fn with_count(self) -> Extent
         ensures { result ≡ with_count self }
     {
@@ -52,7 +52,7 @@ impl Extent {
         }
     }
 
-    /// Whether it is over a limit.
+    /// Whether it exceeds a limit.
     pub fn is_over(self) -> bool
         ensures { result ≡ is_over self }
     {

@@ -6,12 +6,12 @@ use crate::graph::{Link, Node};
 use lists::NoMem;
 use std::alloc::Global;
 
-/// For each node what is known of its structure, unless references go on from it without end.
+/// For each node what is known of its structure, or `None` if its references are endless.
 pub type Extents = Vec<Option<Extent>>;
 
-/// What is known of the nodes. A round learns of the nodes all of whose links lead to known ones. The
-/// first goes in this order, and learns all if it is from references to what has them; one that learns
-/// nothing is the last.
+/// What is known of the nodes. A round derives the nodes all of whose links lead to known ones. The first round goes in
+/// this order, and derives all if each node comes after those that it refers to. A round that derives nothing is the
+/// last.
 pub fn find_extents(alloc: Global, nodes: &[Node], order: &[usize]) -> Result<Extents, NoMem>
     ensures { IfOk result (λ extents. HasExtents nodes.now extents.items) }
 {
@@ -21,14 +21,14 @@ pub fn find_extents(alloc: Global, nodes: &[Node], order: &[usize]) -> Result<Ex
     Ok(extents)
 }
 
-/// Of so many nodes nothing is known.
+/// For `count` nodes, that nothing is known.
 fn unknown_extents(alloc: Global, count: usize) -> Result<Extents, NoMem>
     ensures { IfOk result (λ extents. extents.items ≡ replicate count None) }
 {
     Ok(vec![in alloc; None; count]?)
 }
 
-/// Learns of the nodes at these places, one after another.
+/// Derives the nodes at these indices, one after another.
 fn learn_in(nodes: &[Node], order: &[usize], extents: &mut Extents)
     requires { length extents.old.items ≡ length nodes.now }
     ensures { Keeps nodes.now extents.old.items extents.new.items }
@@ -40,7 +40,7 @@ fn learn_in(nodes: &[Node], order: &[usize], extents: &mut Extents)
     }
 }
 
-/// One round. Says whether anything was learned.
+/// One round. Returns whether anything was derived.
 fn learn(nodes: &[Node], extents: &mut Extents) -> bool
     requires { length extents.old.items ≡ length nodes.now }
     ensures { Passes nodes.now extents.old.items (length nodes.now) extents.new.items result }
@@ -54,7 +54,7 @@ fn learn(nodes: &[Node], extents: &mut Extents) -> bool
     learned
 }
 
-/// Learns of the node at a place, unless it is known.
+/// Derives the node at an index, unless it is known.
 fn learn_at(nodes: &[Node], i: usize, extents: &mut Extents) -> bool
     requires long { length extents.old.items ≡ length nodes.now }
     requires within { i < length nodes.now }
@@ -72,7 +72,7 @@ fn learn_at(nodes: &[Node], i: usize, extents: &mut Extents) -> bool
     }
 }
 
-/// What the extents so far tell of a node.
+/// What the extents so far say of a node.
 fn node_extent(extents: &[Option<Extent>], node: &Node) -> Option<Extent>
     ensures { result ≡ node_extent extents.now node.now }
 {
@@ -85,7 +85,7 @@ fn node_extent(extents: &[Option<Extent>], node: &Node) -> Option<Extent>
     }
 }
 
-/// What they tell of links, one after another.
+/// What they say of links, one after another.
 pub fn links_extent(extents: &[Option<Extent>], links: &[Link]) -> Option<Extent>
     ensures { result ≡ links_extent extents.now empty links.now }
 {
@@ -99,7 +99,7 @@ pub fn links_extent(extents: &[Option<Extent>], links: &[Link]) -> Option<Extent
     Some(all)
 }
 
-/// What they tell of one link. One that leads nowhere has no places.
+/// What they say of one link. A link that leads nowhere has no places.
 pub fn looked_up(extents: &[Option<Extent>], link: Link) -> Option<Extent>
     ensures { result ≡ looked_up extents.now link }
 {

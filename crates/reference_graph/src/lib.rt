@@ -1,6 +1,5 @@
-//! Structures that are put together by reference: components, groups and messages name one another,
-//! and a name may be met a great many times in a structure. What is asked of a structure is answered
-//! from what is known of its parts, without putting it together.
+//! Structures built from references: components, groups and messages name one another, and a structure may contain a
+//! name many times. Questions about a structure are answered from what is known of its parts, without expanding it.
 #![tactic(auto)]
 
 mod distinct;

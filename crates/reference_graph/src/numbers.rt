@@ -6,7 +6,7 @@ use crate::tag_set::TagSet;
 use lists::{List, NoMem};
 use std::alloc::Global;
 
-/// The tags of all nodes. No contract says that none is missed: one that is has the number 0.
+/// The tags of all nodes. No contract says that none is missed: a missed one has the number 0.
 pub fn tags_in(alloc: Global, nodes: &[Node]) -> Result<TagSet, NoMem> {
     let mut tags = TagSet::new(alloc);
     for node in nodes {

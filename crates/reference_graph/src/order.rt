@@ -11,9 +11,8 @@ enum Visit {
     Leave(usize),
 }
 
-/// The nodes in an order in which each comes after those that it refers to, if references end. In this
-/// order one round of learning is enough. No contract speaks of the order: it decides the time, and
-/// not what is learned.
+/// The nodes in an order in which each comes after those that it refers to, if references end. In this order one round
+/// of learning is enough. No contract covers the order: it affects the time, and not what is derived.
 pub fn references_first(alloc: Global, nodes: &[Node]) -> Result<Vec<usize>, NoMem> {
     let mut order = Vec::new(alloc);
     let mut entered = vec![in alloc; false; nodes.len()]?;
@@ -28,7 +27,7 @@ pub fn references_first(alloc: Global, nodes: &[Node]) -> Result<Vec<usize>, NoM
     Ok(order)
 }
 
-/// Each node is to be visited.
+/// Every node still has to be visited.
 fn first_visits(alloc: Global, nodes: &[Node]) -> Result<Vec<Visit>, NoMem> {
     let mut visits = Vec::new(alloc);
     for i in 0..nodes.len() {
@@ -42,7 +41,7 @@ fn most_visits(nodes: &[Node]) -> usize {
     count_links(nodes).saturating_add(nodes.len().saturating_mul(2))
 }
 
-/// Visits a node, unless it was visited before: what it refers to is next, and then it is left.
+/// Visits a node, unless it was visited before: what it refers to comes next, and then it is left.
 fn enter(
     nodes: &[Node],
     i: usize,

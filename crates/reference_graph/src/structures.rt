@@ -19,7 +19,7 @@ use std::marker::Model;
 pub struct Structures {
     nodes: List<Node>,
     extents: Extents,
-    /// Which are known to have no tag twice.
+    /// Which nodes are known to have no tag twice.
     distinct: Words,
 }
 
@@ -41,7 +41,7 @@ impl Model for Structures {
 }
 
 impl Structures {
-    /// What is put together of these nodes.
+    /// Builds the structures of these nodes.
     pub fn new(alloc: Global, nodes: List<Node>) -> Result<Structures, NoMem>
         ensures { IfOk result (λ structures. structures ≡ nodes) }
     {
@@ -69,8 +69,8 @@ impl Structures {
         self.nodes.as_slice()
     }
 
-    /// How many places the structure of a node has, a group's count among them; one more than the
-    /// limit where there are more.
+    /// How many places the structure of a node has, including a group's count; one more than the limit if there are
+    /// more.
     pub fn places(&self, i: usize) -> u32
         requires { i < length self.now }
         ensures { (node : Node) → slice_get self.now i ≡ Some node → Ends self.now node.links
@@ -82,7 +82,7 @@ impl Structures {
         }
     }
 
-    /// Whether some chain of references from the node at a place comes to a node twice.
+    /// Whether some chain of references from the node at an index reaches a node twice.
     pub fn is_endless(&self, i: usize) -> bool
         requires { i < length self.now }
         ensures { (node : Node) → slice_get self.now i ≡ Some node → result ≡ is_endless self.now node.links }
@@ -90,7 +90,7 @@ impl Structures {
         self.extents[i].is_none()
     }
 
-    /// Whether its structure is over a limit.
+    /// Whether its structure exceeds a limit.
     pub fn is_over_limit(&self, i: usize) -> bool
         requires { i < length self.now }
         ensures { (node : Node) → slice_get self.now i ≡ Some node → Ends self.now node.links → result ≡ is_over_limit self.now node }
@@ -101,7 +101,7 @@ impl Structures {
         }
     }
 
-    /// Whether a tag stands twice in its structure, counts included.
+    /// Whether a tag occurs twice in its structure, including counts.
     pub fn is_ambiguous(&self, alloc: Global, i: usize) -> Result<bool, NoMem>
         requires within { i < length self.now }
         requires ends { Ends self.now (links_at self.now i) }
@@ -126,7 +126,7 @@ mod tests {
     use crate::graph::Link;
     use std::test::Fail;
 
-    /// So many components, each of which refers twice to the one before; the first has these links.
+    /// `many` components, each of which refers twice to the previous one; the first has these links.
     fn doubled(alloc: Global, many: usize, first: &[Link]) -> Result<List<Node>, NoMem> {
         let mut nodes = List::new(alloc);
         nodes.push(Node {

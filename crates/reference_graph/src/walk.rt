@@ -10,8 +10,8 @@ use crate::tag_set::TagSet;
 use lists::NoMem;
 use std::alloc::Global;
 
-/// Whether some tag stands twice in the structure of these links. What has no tags is passed over, so
-/// a node is entered a second time only where one of its tags is about to be met again.
+/// Whether some tag occurs twice in the structure of these links. Nodes without tags are skipped, so a node is entered
+/// a second time only if one of its tags is about to be found again.
 pub fn has_tag_twice(
     alloc: Global,
     nodes: &[Node],
@@ -38,7 +38,7 @@ pub fn has_tag_twice(
     Ok(false)
 }
 
-/// What a link leads to: the tag that stands in front, if there is one, and the links after it.
+/// What a link leads to: the tag at its front, if there is one, and the links after it.
 fn opened<'a>(
     nodes: &'a [Node],
     extents: &[Option<Extent>],

@@ -1,5 +1,5 @@
-//! What is said of references together, in the plainest words. No code runs here: the statements stand
-//! in `specs/`, and their laws are functions without a body.
+//! What the definitions say of references as a whole, in the plainest words. No code runs here: the statements are in
+//! `specs/`, and their laws are functions without a body.
 #![tactic(auto)]
 
 mod laws;

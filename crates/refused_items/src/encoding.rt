@@ -7,7 +7,7 @@ use json_values::hex_digit;
 use printers::Printer;
 use sbe_base::Sink;
 
-/// Prints the line of an item whose frame is of another encoding type.
+/// Prints the line of an item whose frame has another encoding type.
 #[inline(never)]
 pub fn put_encoding<O: Sink>(printer: &mut Printer<'_, O>, item: u64, encoding: u16)
     ensures { Prints O.state printer.old printer.new (refused_line item (of_encoding encoding)) }

@@ -1,4 +1,4 @@
-//! What begins and ends the line of an item that a command refuses.
+//! The beginning and the end of the line for an item that a command refuses.
 #![tactic(auto)]
 
 mod encoding;

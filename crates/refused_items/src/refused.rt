@@ -24,7 +24,7 @@ pub fn put_refused_front<O: Sink>(
     printer.put(b",\"path\":");
 }
 
-/// Prints a place in the body, or null.
+/// Prints an offset in the body, or null.
 fn put_offset<O: Sink>(printer: &mut Printer<'_, O>, offset: Option<usize>)
     ensures { Prints O.state printer.old printer.new (offset_text offset) }
 {

@@ -6,28 +6,28 @@ use Rattle.regrade.specs.declared.filler.Filler.{Filler}
 use Rattle.regrade.specs.declared.filler.Unfilled.{Unfilled}
 use Rattle.regrade.specs.declared.filler.Unfilled.TheVariants.{NoFill, Memory}
 
--- What is written, and the number of filled parts is counted; or the path of the part that has no fill is kept.
+-- Either the parts are written and the filled ones are counted, or the path of the part without a fill is kept.
 abbrev pub IsFilled : {X : Type 0} → Fills X → ℕ → Filler → Filler → Result X Unfilled → Type 0
 IsFilled told count old new (Ok x) = (told ≡ Ok x) × (new.filled ≡ old.filled + count)
 IsFilled told count old new (Err NoFill) = told ≡ Err new.lack
 IsFilled told count old new (Err Memory) = ⊤
 
--- where a part has no fill, its path has at most so many steps
+-- the path of a part without a fill has at most `most` steps
 abbrev pub IsLow : {X : Type 0} → ℕ → Filler → Result X Unfilled → Type 0
 IsLow most new (Ok x) = ⊤
 IsLow most new (Err NoFill) = length new.lack ≤ most
 IsLow most new (Err Memory) = ⊤
 
--- so many more parts can be counted
+-- `count` more parts can be counted
 abbrev pub HasRoom : ℕ → Filler → Type 0
 HasRoom count filler = filler.filled + count < 2 ^ 64
 
--- the path goes by one more step, where there is one
+-- the path, if there is one, has one more step in front
 abbrev pub IsInside : Step → Unfilled → Filler → Filler → Type 0
 IsInside step NoFill old new = new.lack ≡ step ∷ old.lack
 IsInside step Memory old new = ⊤
 
--- a path that can go by one more step, where there is one
+-- the path, if there is one, may have one more step
 abbrev pub IsShort : Unfilled → Filler → Type 0
 IsShort NoFill filler = length filler.lack < 20
 IsShort Memory filler = ⊤

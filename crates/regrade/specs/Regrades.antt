@@ -19,19 +19,19 @@ HasWay from to = (way : Way) × (way_of from to ≡ Ok way)
 abbrev pub LiesInFrame : WireSchema → Msg → Type 0
 LiesInFrame schema m = (body : List ℕ) × Lays schema m body × (length body ≤ 16_777_216)
 
--- what is to be answered: the rewritten message or why there is none, and its counts
+-- the expected answer: the rewritten message or why there is none, and its counts
 pub record Expected : Type 0 where
   pub told : Result Msg Refusal
   pub dropped : ℕ
   pub filled : ℕ
 
--- the answer is that, unless it ran out of memory
+-- the answer is the expected one, unless it is out of memory
 abbrev pub Answers : Expected → Result Regraded RegradeErr → Type 0
 Answers expected (Ok it) = (expected.told ≡ Ok it.msg) × (it.dropped ≡ expected.dropped) × (it.filled ≡ expected.filled)
 Answers expected (Err NoTemplate) = expected.told ≡ Err why.NoTemplate
 Answers expected (Err (NoFill path)) = expected.told ≡ Err (why.NoFill path)
 Answers expected (Err Memory) = ⊤
 
--- The rewritten message with its counts, or why there is none, unless it ran out of memory.
+-- The rewritten message with its counts, or why there is none, unless it is out of memory.
 abbrev pub Regrades : WireSchema → WireSchema → Msg → Result Regraded RegradeErr → Type 0
 Regrades from to m result = Answers (record { told = regraded from to m; dropped = dropped from to m; filled = filled from to m }) result

@@ -11,7 +11,7 @@ use crate::values::is_absent;
 use lists::List;
 use sbe_types::{Block, DataField, DataVal, Field, Group, GroupVal, Kind, Level, Value};
 
-/// Whether a field is dropped: constants and absent ones aren't.
+/// Whether a field is dropped: constants and absent fields aren't.
 fn drops_field(version: u32, field: &Field, value: &Value) -> bool
     ensures { result ≡ drops_field version field.now value.now }
 {
@@ -37,7 +37,7 @@ fn drops_part(version: u32, part: &DataField, value: &DataVal) -> bool
     }
 }
 
-/// One where the test holds.
+/// 1 if the test holds, otherwise 0.
 fn one_if(test: bool) -> u64
     ensures { result ≡ one_if test }
 {
@@ -90,7 +90,7 @@ fn dropped_groups(version: u32, level: &Level, block: &Block) -> u64
     dropped
 }
 
-/// How many parts are dropped in a group, or one where the group is.
+/// How many parts are dropped in a group, or 1 if the group itself is.
 #[cycle(drop_parts)]
 fn dropped_group(version: u32, group: &Group, value: &GroupVal) -> u64
     requires { dropped_here version group.now value.now < 2 ^ 64 }
@@ -121,7 +121,7 @@ fn dropped_entries(version: u32, level: &Level, entries: &List<Block>) -> u64
     dropped
 }
 
-/// How many parts of a block are there that the earlier version lacks, constants aside.
+/// How many parts of a block are present that the earlier version lacks, except for constants.
 #[cycle(drop_parts)]
 pub(crate) fn dropped_in(version: u32, level: &Level, block: &Block) -> u64
     requires { dropped_count version level.now block.now < 2 ^ 64 }

@@ -14,18 +14,18 @@ pub(crate) enum Unfilled {
     Memory,
 }
 
-/// What is counted while the absent parts of a message are filled.
+/// The state while the absent parts of a message are filled.
 #[derive(Drop)]
 pub(crate) struct Filler {
     pub(crate) alloc: Global,
-    /// How many parts were filled so far, constants aside.
+    /// How many parts were filled so far, except for constants.
     pub(crate) filled: u64,
-    /// The way to the part that has no empty value, once there is one.
+    /// The path to the part that has no empty value, if there is one.
     pub(crate) lack: Trail,
 }
 
 impl Filler {
-    /// Nothing is filled yet.
+    /// The initial state: nothing is filled.
     pub(crate) fn new(alloc: Global) -> Filler
         ensures { result.filled ≡ 0 }
     {
@@ -36,7 +36,7 @@ impl Filler {
         }
     }
 
-    /// The part right here has no empty value.
+    /// Records that the current part has no empty value.
     #[cold]
     pub(crate) fn lacks(&mut self) -> Unfilled
         ensures why { result ≡ Unfilled.NoFill }
@@ -46,7 +46,7 @@ impl Filler {
         Unfilled::NoFill
     }
 
-    /// The part without an empty value lies inside a step.
+    /// Records that the part without an empty value is inside this step.
     #[cold]
     pub(crate) fn inside(&mut self, step: Step, why: Unfilled) -> Unfilled
         requires { IsShort why self.old }

@@ -22,7 +22,7 @@ use sbe_types::{
     GroupVal, GroupValList, Kind, Level, Step, Value, ValueList,
 };
 
-/// The value of a field, or its fill where it is absent.
+/// The value of a field, or its empty value if it is absent.
 fn fill_field(filler: &mut Filler, field: &Field, value: Value) -> Result<Value, Unfilled>
     requires room { HasRoom (one_if (fills_field field.now value)) filler.old }
     ensures filled { IsFilled (field_or_fill field.now value) (one_if (fills_field field.now value)) filler.old filler.new result }
@@ -46,7 +46,7 @@ fn fill_field(filler: &mut Filler, field: &Field, value: Value) -> Result<Value,
     }
 }
 
-/// The bytes of a data part, or none where it is absent and may be empty.
+/// The bytes of a data part, or an empty part if it is absent and may be empty.
 fn fill_part(filler: &mut Filler, part: &DataField, value: DataVal) -> Result<DataVal, Unfilled>
     requires room { HasRoom (one_if (fills_part part.now value)) filler.old }
     ensures filled { IsFilled (part_or_fill part.now value) (one_if (fills_part part.now value)) filler.old filler.new result }
@@ -93,7 +93,7 @@ fn fill_fields(
     Ok(written)
 }
 
-/// The data of a level, of which the first is part `first`.
+/// The data of a level. The first one is part `first`.
 fn fill_parts(
     filler: &mut Filler,
     first: usize,
@@ -156,7 +156,7 @@ fn fill_groups(
     Ok(written)
 }
 
-/// The entries of a group, each filled; no entries where the group is absent and may be empty.
+/// The entries of a group, each filled; or no entries if the group is absent and may be empty.
 #[cycle(fill_parts)]
 fn fill_group(filler: &mut Filler, group: &Group, value: GroupVal) -> Result<GroupVal, Unfilled>
     requires few { HasFewThroughout (out-Group group.now).level }
@@ -182,7 +182,7 @@ fn fill_group(filler: &mut Filler, group: &Group, value: GroupVal) -> Result<Gro
     }
 }
 
-/// The entries of a group. For more of them than a count can say there is no memory.
+/// The entries of a group. If there are more than a count can state, the error is out of memory.
 #[cycle(fill_parts)]
 fn fill_entries(
     filler: &mut Filler,
@@ -213,7 +213,7 @@ fn fill_entries(
     Ok(written)
 }
 
-/// The block with a value for each part of the level, absent ones filled.
+/// The block with a value for each part of the level; absent ones are filled.
 #[cycle(fill_parts)]
 pub(crate) fn fill_block(
     filler: &mut Filler,

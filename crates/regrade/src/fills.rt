@@ -24,7 +24,7 @@ pub(crate) fn fill_of(alloc: Global, kind: &Kind) -> Result<Option<Value>, NoMem
     }
 }
 
-/// The composite with these values of its members.
+/// The composite of these values of its members.
 fn composite_of(values: Option<ValueList>) -> Option<Value>
     ensures { result ≡ composite_of values }
 {
@@ -49,7 +49,7 @@ fn member_fills(alloc: Global, members: &List<Member>) -> Result<Option<ValueLis
     Ok(Some(values))
 }
 
-/// The empty value of an enum: null, where it is optional.
+/// The empty value of an enum: null, if it is optional.
 fn enum_fill(presence: Presence) -> Option<Value>
     ensures { result ≡ if_optional presence (Some value.Null) }
 {
@@ -59,7 +59,7 @@ fn enum_fill(presence: Presence) -> Option<Value>
     }
 }
 
-/// The empty value of a number, a text or an array, where it is optional.
+/// The empty value of a number, a text or an array, if it is optional.
 fn leaf_fill(alloc: Global, leaf: &Leaf) -> Result<Option<Value>, NoMem>
     ensures { IfOk result (λ value. value ≡ if_optional leaf.now.presence (null_of leaf.now leaf.now.shape)) }
 {
@@ -80,7 +80,7 @@ fn null_of(alloc: Global, leaf: &Leaf) -> Result<Option<Value>, NoMem>
     }
 }
 
-/// So many elements that are null.
+/// `count` elements that are null.
 fn nulls(alloc: Global, count: u32) -> Result<ElemList, NoMem>
     ensures { IfOk result (λ elements. elements ≡ replicate count NullElem) }
 {

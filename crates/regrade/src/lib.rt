@@ -1,5 +1,5 @@
-//! Messages of one version of a schema, rewritten to another version: with the parts that the other version has, the missing ones
-//! filled with empty values, and both counted.
+//! Messages of one version of a schema, rewritten in another version: with the parts that the other version has, the
+//! missing ones filled with empty values, and both counted.
 #![tactic(auto)]
 
 mod dropping;

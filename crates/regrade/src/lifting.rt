@@ -1,4 +1,5 @@
-//! Messages of an earlier version, with the parts that a later version has: those that the earlier one lacks are absent.
+//! Messages of an earlier version, with the parts that a later version has: those that the earlier one lacks are
+//! absent.
 
 ghost use Rattle.std.specs.Prelude.{◌≡◌, map, IfOk};
 ghost use Rattle.std.specs.Option.{option_map};
@@ -27,7 +28,7 @@ fn next_value<'a, T>(values: &'a List<T>, next: &mut usize, known: bool) -> Opti
     Some(value)
 }
 
-/// A field's value, which is absent without one.
+/// A field's value, or absent if there is none.
 fn lift_field(alloc: Global, value: Option<&Value>) -> Result<Value, NoMem>
     ensures { IfOk result (λ it. it ≡ some_or NoValue (option_map (λ v. v.now) value.entry)) }
 {
@@ -37,7 +38,7 @@ fn lift_field(alloc: Global, value: Option<&Value>) -> Result<Value, NoMem>
     }
 }
 
-/// A data part, which is absent without bytes.
+/// A data part, or an absent one if there are no bytes.
 fn lift_part(alloc: Global, value: Option<&DataVal>) -> Result<DataVal, NoMem>
     ensures { IfOk result (λ it. it ≡ some_or NoData (option_map (λ v. v.now) value.entry)) }
 {
@@ -106,7 +107,7 @@ fn lift_groups(
     Ok(lifted)
 }
 
-/// A group, which is absent without a value.
+/// A group, or an absent one if there is no value.
 #[cycle(lift)]
 fn lift_group(
     alloc: Global,

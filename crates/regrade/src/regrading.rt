@@ -1,4 +1,4 @@
-//! A message of one version of a schema, rewritten to another version.
+//! A message of one version of a schema, rewritten in another version.
 
 ghost use Rattle.std.specs.Prelude.{◌≡◌, ◌<◌, ◌^◌, Some, IfOk};
 ghost use Rattle.version_laws.specs.Projected.{lifted};
@@ -24,14 +24,14 @@ pub struct Regraded {
     pub msg: Msg,
     /// How many of its parts the other version lacks; a group counts once.
     pub dropped: u64,
-    /// How many parts it lacked and has now, with an empty value; a group counts once.
+    /// How many parts it lacked and now has, with an empty value; a group counts once.
     pub filled: u64,
 }
 
 /// Why a message can't be rewritten.
 #[derive(Drop)]
 pub enum RegradeErr {
-    /// The other schema has no message of that id.
+    /// The other schema has no message with that id.
     NoTemplate,
     /// The message lacks a part of the other version that has no empty value: the path of the first one, in wire order.
     NoFill(Path),
@@ -39,13 +39,14 @@ pub enum RegradeErr {
     Memory,
 }
 
-/// The message in the version of the schema `to`: with the parts that this has, the missing ones filled with empty values.
-/// It needs schemas of which the later extends the earlier one, as `way_of` tells, and a message that lies in a body of `from`.
+/// Rewrites a message in the version of the schema `to`: with the parts that `to` has, the missing ones filled with
+/// empty values. Requires schemas of which the later one extends the earlier one, as `way_of` reports, and a message
+/// that lies in a body of `from`.
 ///
 /// # Errors
 ///
-/// `NoTemplate` exactly where `to` has no message of the id; else `NoFill` exactly where a part has no empty value; `Memory` when
-/// out of memory.
+/// `NoTemplate` exactly if `to` has no message with the id; otherwise `NoFill` exactly if a part has no empty value;
+/// `Memory` if memory runs out.
 pub fn regrade(
     alloc: Global,
     from: &Checked,
@@ -65,7 +66,7 @@ pub fn regrade(
     }
 }
 
-/// The message with the parts that `to` has, absent where it lacks them; none where `to` lacks its template.
+/// The message with the parts that `to` has, absent where it lacks them; or `None` if `to` lacks its template.
 fn moved(alloc: Global, from: &Checked, to: &Checked, msg: &Msg) -> Result<Option<Msg>, NoMem>
     ensures { IfOk result (λ it. it ≡ moved from.now to.now msg.now) }
 {
@@ -79,7 +80,7 @@ fn moved(alloc: Global, from: &Checked, to: &Checked, msg: &Msg) -> Result<Optio
     Ok(Some(moved))
 }
 
-/// The same where `to` is the later schema.
+/// The same, if `to` is the later schema.
 fn lift(alloc: Global, from: &WireSchema, to: &WireSchema, msg: &Msg) -> Result<Option<Msg>, NoMem>
     ensures { IfOk result (λ it. it ≡ lifted from.now to.now msg.now) }
 {
@@ -111,7 +112,7 @@ fn dropped(from: &Checked, to: &Checked, msg: &Msg) -> u64
     dropped_in(to.version(), from.messages().at(msg.template), &msg.block)
 }
 
-/// A message with the parts that `to` has, absent ones filled; so many of its parts were dropped.
+/// A message with the parts that `to` has, absent ones filled. `dropped` parts of the original were dropped.
 fn fill(alloc: Global, to: &Checked, moved: Msg, dropped: u64) -> Result<Regraded, RegradeErr>
     requires { filled_of to.now (Some moved) < 2 ^ 64 }
     ensures { Answers (record { told = filled_in to.now (Some moved); dropped = dropped; filled = filled_of to.now (Some moved) }) result }

@@ -4,7 +4,7 @@ ghost use Rattle.sbe_wire.specs.Faults.{message_named};
 
 use sbe_types::LevelList;
 
-/// The number of the first message of that id, or none exactly where no message has it.
+/// The number of the first message with this id, or `None` exactly if no message has it.
 pub(crate) fn template_of(messages: &LevelList, id: u32) -> Option<usize>
     ensures { result ≡ option_map (λ m. m.0) (message_named 0 id messages.now) }
 {

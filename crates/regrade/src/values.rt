@@ -1,4 +1,4 @@
-//! Values that are absent, and whether no bytes and no entries are admitted.
+//! Absent values, and whether empty data and empty groups are allowed.
 
 ghost use Rattle.std.specs.Prelude.{◌≡◌, codes, pos};
 ghost use Rattle.sbe_types.specs.Shown.{admits};
@@ -26,21 +26,21 @@ pub(crate) fn is_absent(value: &Value) -> bool
     }
 }
 
-/// Whether data may be empty, by its length number.
+/// Whether data may be empty, given its length number.
 pub(crate) fn admits_none(length: &Leaf) -> bool
     ensures { result ≡ admits length.now (pos 0) }
 {
     length.admits(0)
 }
 
-/// Whether a group may be empty, by the members of its dimension.
+/// Whether a group may be empty, given the members of its dimension.
 pub(crate) fn admits_no_entries(dim: &List<Member>) -> bool
     ensures { result ≡ is_admitted dim.now (codes "numInGroup") 0 }
 {
     named_admits_none(dim, "numInGroup".as_bytes())
 }
 
-/// Whether the first member of that name may be 0.
+/// Whether the first member with this name may be 0.
 fn named_admits_none(members: &List<Member>, name: &[u8]) -> bool
     ensures { result ≡ named_admits_none name.now members.now }
 {
@@ -52,7 +52,7 @@ fn named_admits_none(members: &List<Member>, name: &[u8]) -> bool
     false
 }
 
-/// Whether a number of this kind may be 0; only a number has one.
+/// Whether a number of this kind may be 0. Only a number can.
 fn kind_admits_none(kind: &Kind) -> bool
     ensures { result ≡ kind_admits_none kind.now }
 {

@@ -16,11 +16,11 @@ pub enum WayErr {
     Memory,
 }
 
-/// Which of two schemas is the later one, where it extends the earlier one.
+/// Which of two schemas is the later one, if it extends the earlier one.
 ///
 /// # Errors
 ///
-/// `NotAnExtension` exactly where it doesn't, and `Memory` when out of memory.
+/// `NotAnExtension` exactly if it doesn't, and `Memory` if memory runs out.
 pub fn way_of(alloc: Global, from: &Checked, to: &Checked) -> Result<Way, WayErr>
     ensures { GivesWay result (way_of from.now to.now) }
 {
@@ -31,7 +31,7 @@ pub fn way_of(alloc: Global, from: &Checked, to: &Checked) -> Result<Way, WayErr
     }
 }
 
-/// The way, unless the later schema differs.
+/// The direction, unless the later schema differs.
 fn way_by(way: Way, answer: Result<Compat, NoMem>) -> Result<Way, WayErr>
     ensures { GivesUnless result way answer }
 {

@@ -16,7 +16,7 @@ use Rattle.sbe_types.specs.declared.message.DataVal.TheVariants as dataval
 use Rattle.sbe_types.specs.declared.path.Step.{Step}
 use Rattle.sbe_types.specs.Shown.{admits}
 
--- A number or a text is null, and an integer array has all elements null; octets have no null.
+-- The null of a leaf: null for a number or a text, all elements null for an array of integers; octets have none.
 abbrev pub null_of : LeafOf → LeafShape → Option Value
 null_of leaf Number = Some value.Null
 null_of leaf RangedText = Some value.Null
@@ -24,13 +24,13 @@ null_of leaf EncodedText = Some value.Null
 null_of leaf Octets = None
 null_of leaf Numbers = Some (value.Nums (replicate leaf.length elem.Null))
 
--- only where the value may be null
+-- the value, only if the presence is optional
 abbrev pub if_optional : Presence → Option Value → Option Value
 if_optional Required v = None
 if_optional Optional v = v
 if_optional Constant v = None
 
--- one more value in front, where there is one
+-- one more value in front, if there is one
 abbrev pub with_value : Option Value → Option (List Value) → Option (List Value)
 with_value None vs = None
 with_value (Some v) None = None
@@ -50,7 +50,7 @@ unfoldable mutual
   fill (Const c) = Some value.Const
   fill (Comp' n members) = composite_of (fill_members members)
 
-  -- those of a composite's members, if each has one
+  -- the empty values of a composite's members, if each has one
   pub fill_members : {n : _} → Row_of-Member n → Option (List Value)
   fill_members end_of-Member = Some []
   fill_members (more_of-Member name offset kind rest) = with_value (fill kind) (fill_members rest)
@@ -59,17 +59,17 @@ unfoldable mutual
 abbrev pub Fills : Type 0 → Type 0
 Fills X = Result X (List Step)
 
--- a fill, or that the part here has none
+-- a fill, or that this part has none
 abbrev pub fill_or_lack : {V : Type 0} → Option V → Fills V
 fill_or_lack None = Err []
 fill_or_lack (Some v) = Ok v
 
--- the value of a field, or its fill where it is absent
+-- the value of a field, or its fill if it is absent
 abbrev pub field_or_fill : Field → Value → Fills Value
 field_or_fill f value.Absent = fill_or_lack (fill f.kind)
 field_or_fill f v = Ok v
 
--- the bytes of a data part, or none where it is absent and may be empty
+-- the bytes of a data part; empty if it is absent and may be empty
 abbrev pub part_or_fill : DataField → DataVal → Fills DataVal
 part_or_fill p dataval.Absent = fill_or_lack (if admits p.length (pos 0) then Some (dataval.Bytes []) else None)
 part_or_fill p (dataval.Bytes bytes) = Ok (dataval.Bytes bytes)

@@ -13,16 +13,17 @@ use Rattle.regrade_laws.specs.declared.way.Way.TheVariants.{Up, Down}
 use Rattle.regrade_laws.specs.Fill.{Fills}
 use Rattle.regrade_laws.specs.Filled.{filled_block}
 
--- the way, or the path of the first difference
+-- this way, or the path of the first difference
 abbrev pub way_by : Way → Option Difference → Result Way (List ℕ)
 way_by way None = Ok way
 way_by way (Some d) = Err d.path
 
--- The later schema has to extend the earlier one.
+-- The way from one schema to the other, or the path of the first difference if the later one doesn't extend the
+-- earlier.
 abbrev pub way_of : WireSchema → WireSchema → Result Way (List ℕ)
 way_of from to = if nat_le from.version to.version then way_by Up (differ from to) else way_by Down (differ to from)
 
--- m with the parts that the schema `to` has, absent where m lacks them; none where it lacks the template
+-- m with the parts that the schema `to` has, absent where m lacks them; None if `to` lacks the template
 abbrev pub moved : WireSchema → WireSchema → Msg → Option Msg
 moved from to m = if nat_le from.version to.version then lifted from to m else projected to from m
 
@@ -31,7 +32,7 @@ pub data Refusal : Type 0 where
   NoTemplate : Refusal
   NoFill : List Step → Refusal
 
--- m with this block, in that version
+-- m with this block, in this version, or its refusal
 abbrev pub in_version : ℕ → Msg → Fills Block → Result Msg Refusal
 in_version version m (Err path) = Err (NoFill path)
 in_version version m (Ok block) = Ok (record { template = m.template; version = version; block = block })
@@ -41,7 +42,7 @@ abbrev pub filled_by : ℕ → Msg → Option Level → Result Msg Refusal
 filled_by version m None = Err NoTemplate
 filled_by version m (Some level) = in_version version m (filled_block level m.block)
 
--- the same by its template
+-- the same by m's template
 abbrev pub filled_in : WireSchema → Option Msg → Result Msg Refusal
 filled_in to None = Err NoTemplate
 filled_in to (Some m) = filled_by to.version m (slice_get to.messages m.template)

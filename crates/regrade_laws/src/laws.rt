@@ -1,4 +1,4 @@
-//! Laws of messages that are rewritten to another version of their schema. They speak of the definitions alone.
+//! Laws of messages that are rewritten in another version of their schema. They are stated over the definitions only.
 
 ghost use Rattle.std.specs.Prelude.{◌≡◌, ◌<◌, ◌≤◌, ℕ, List, None, Some, Ok, length, slice_get};
 ghost use Rattle.sbe_types.specs.declared.schema.WireSchema.{WireSchema};
@@ -24,21 +24,21 @@ pub fn up_and_back()
         → (m n : Msg) → Fits from m → regraded from to m ≡ Ok n → regraded to from n ≡ Ok m }
 {}
 
-/// What a later message becomes in an earlier version is what this version knows of it, but for the number of the version.
+/// A later message, rewritten in an earlier version, is what that version knows of it, apart from the version number.
 pub fn down_is_projected()
     ensures { (from to : WireSchema) → differ to from ≡ None → IsPlaced from → to.version < from.version
         → (m p : Msg) (body : List ℕ) → Lays from m body → to.version < m.version → projected to from m ≡ Some p
         → regraded from to m ≡ Ok (record { template = p.template; version = to.version; block = p.block }) }
 {}
 
-/// Of a block, at most as many parts are filled as the levels of all its blocks have, and at most as many dropped.
+/// In a block, at most as many parts are filled as the levels of all its blocks have, and at most as many are dropped.
 pub fn counts_are_within()
     ensures filled { (level : Level) (block : Block) → HasFewThroughout level → filled_count level block ≤ most_among (count_in level block) }
     ensures dropped { (version : ℕ) (level : Level) (block : Block) → HasFewThroughout level
         → dropped_count version level block ≤ most_among (count_in level block) }
 {}
 
-/// A message has no more entries in another version of its schema.
+/// A message has no more entries in another version of its schema than it had before.
 pub fn entries_are_no_more()
     ensures up { (from to : WireSchema) → differ from to ≡ None → (i : ℕ) (level : Level) → slice_get from.messages i ≡ Some level
         → (m : ℕ × Level) × (message_named 0 (out-Level level).id to.messages ≡ Some m)
@@ -48,7 +48,8 @@ pub fn entries_are_no_more()
         × ((block : Block) → count_in level (projected_block to.version m.1 block) ≤ count_in m.1 block) }
 {}
 
-/// The counts of a message that lies in a body are at most the parts of a message with as many entries as the body has bytes.
+/// The counts of a message that lies in a body are at most the number of parts of a message with as many entries as the
+/// body has bytes.
 pub fn counts_fit()
     ensures dropped { (from to : WireSchema) (way : Way) → way_of from to ≡ Ok way → IsChecked from → IsChecked to
         → (m : Msg) (body : List ℕ) → Lays from m body → dropped from to m ≤ most_among (length body) }

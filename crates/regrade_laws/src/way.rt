@@ -1,8 +1,8 @@
 /// Which of two versions of a schema is the later one, for a message that is rewritten from one to the other.
 #[derive(Clone, Copy, Debug, PartialEq, Eq)]
 pub enum Way {
-    /// The version that is written; or both have one version.
+    /// The version that is written is later, or both are equal.
     Up,
-    /// The version that is read.
+    /// The version that is read is later.
     Down,
 }

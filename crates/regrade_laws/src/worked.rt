@@ -1,4 +1,4 @@
-//! Rows: pairs of schemas and messages, and what the definitions give for them.
+//! Rows: pairs of schemas and messages, and the results of the definitions for them.
 
 ghost use Rattle.std.specs.Prelude.{◌≡◌, Ok, Err, List, [], ◌∷◌, codes, pos};
 ghost use Rattle.sbe_types.specs.declared.path.Step.TheVariants as way;
@@ -22,7 +22,7 @@ pub fn event_has_no_fill()
     ensures { regraded event0 event2 event_dropped ≡ Err (NoFill (way.Part 2 ∷ [])) }
 {}
 
-/// A group is filled by no entries, and is dropped on the way back.
+/// A group is filled with no entries, and is dropped on the way back.
 pub fn group_is_filled()
     ensures message { regraded one_data one_data1 one_message ≡ Ok one_filled }
     ensures filled { filled one_data one_data1 one_message ≡ 1 }
@@ -30,7 +30,7 @@ pub fn group_is_filled()
     ensures dropped { dropped one_data1 one_data one_filled ≡ 1 }
 {}
 
-/// The ways, and where there is none.
+/// The directions, and a pair that has none.
 pub fn way_rows()
     ensures up { way_of event0 event2 ≡ Ok Up }
     ensures down { way_of event2 event0 ≡ Ok Down }

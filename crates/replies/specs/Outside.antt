@@ -1,4 +1,4 @@
--- What the outside tells at one time.
+-- The objects outside at one time, as they are modelled.
 use Rattle.std.specs.Prelude.{◌≡◌, ℕ, List}
 use Rattle.std.specs.Io.KnownBytes.{Appends}
 use Rattle.sbe_base.specs.Causes.{AppendsPart}
@@ -17,26 +17,26 @@ pub record Streams : Type 0 where
   pub input : Object (List ℕ)
   pub sinks : Sinks
 
--- output and notes together
+-- output and notes
 abbrev pub sinks_of : Object (List ℕ) → Object (List ℕ) → Sinks
 sinks_of output notes = record { output = output; notes = notes }
 
--- Input, output and notes together.
+-- Input, output and notes.
 abbrev pub streams_of : Object (List ℕ) → Object (List ℕ) → Object (List ℕ) → Streams
 streams_of input output notes = record { input = input; sinks = sinks_of output notes }
 
--- output and notes grew by this
+-- output and notes grew by what is written
 pub record Wrote (old new : Sinks) (written : Written) : Type 0 where
   pub output : Appends old.output.told new.output.told written.output
   pub notes : Appends old.notes.told new.notes.told written.notes
 
--- an answer is written in part, the output first
+-- an answer is written in part, its output first, and then a call failed
 pub data Breaks (old new : Sinks) (written : Written) : Type 0 where
   at_output : AppendsPart old.output.told new.output.told written.output → new.notes ≡ old.notes → Failed old.output new.output → Breaks old new written
   at_notes : Appends old.output.told new.output.told written.output → new.output.faults ≡ old.output.faults
       → AppendsPart old.notes.told new.notes.told written.notes → Failed old.notes new.notes → Breaks old new written
 
--- no count changed
+-- no count of faults changed
 pub record Calm (old new : Streams) : Type 0 where
   pub input : new.input.faults ≡ old.input.faults
   pub output : new.sinks.output.faults ≡ old.sinks.output.faults

@@ -1,4 +1,4 @@
--- What is written for one piece of the input, and for several in turn.
+-- What is written for one piece of the input, and for several in order.
 use Rattle.std.specs.Prelude.{ℕ, List, [], ◌++◌}
 use Rattle.replies.specs.declared.verdict.Verdict.{Verdict}
 
@@ -7,20 +7,20 @@ pub record Written : Type 0 where
   pub output : List ℕ
   pub notes : List ℕ
 
--- what one piece is answered, and what became of it
+-- what is answered for one piece, and what became of the piece
 pub record Reply : Type 0 where
   pub output : List ℕ
   pub notes : List ℕ
   pub verdict : Verdict
 
--- Nothing is written.
+-- Nothing written.
 abbrev pub none_written : Written
 none_written = record { output = []; notes = [] }
 
--- What a reply writes.
+-- What is written for a reply.
 abbrev pub written_of : Reply → Written
 written_of reply = record { output = reply.output; notes = reply.notes }
 
--- one and then the other
+-- what is written first, and then more
 abbrev pub then_written : Written → Written → Written
 then_written first more = record { output = first.output ++ more.output; notes = first.notes ++ more.notes }

@@ -16,7 +16,7 @@ pub struct Draft {
 }
 
 impl Draft {
-    /// A draft that holds nothing.
+    /// Creates an empty draft.
     pub fn new(alloc: Global) -> Draft
         ensures output { result.output.items ≡ [] }
         ensures notes { result.notes.items ≡ [] }
@@ -37,7 +37,7 @@ impl Draft {
     }
 }
 
-/// Writes an answer that was put into a draft, or answers the status that the run then ends with.
+/// Writes an answer that was put into a draft, or returns the status with which the run then ends.
 pub fn deliver<O: Sink, N: Sink>(
     put: Result<Verdict, NoMem>,
     draft: &Draft,
@@ -58,7 +58,7 @@ pub fn deliver<O: Sink, N: Sink>(
     }
 }
 
-/// Writes what a draft holds, the output first.
+/// Writes the contents of a draft, the output first.
 fn write_draft<O: Sink, N: Sink>(
     draft: &Draft,
     output: &mut O,

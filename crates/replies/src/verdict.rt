@@ -4,6 +4,6 @@ pub enum Verdict {
     Answered,
     Refused,
     Translated,
-    /// Written anew in another version of its schema: so many of its parts are left out, and so many filled in.
+    /// Rewritten in another version of its schema, with the numbers of parts that were dropped and filled in.
     Regraded { dropped: u64, filled: u64 },
 }

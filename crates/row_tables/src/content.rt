@@ -1,11 +1,11 @@
-//! What a row gives a call.
+//! What a row gives to a call.
 
 use anyhow::{Result, bail};
 use serde_json::Value;
 use std::alloc::Global;
 
-/// The text of what is given: a text itself, `{"repeat": n, "of": text}` so often, an array one after another, and other JSON as
-/// its compact text.
+/// The text of what is given: a text itself, `{"repeat": n, "of": text}` for a repeated one, an array for texts one
+/// after another, and other JSON as its compact text.
 pub(crate) fn text_of(alloc: Global, value: &Value) -> Result<String> {
     if let Some(text) = value.as_str() {
         return Ok(String::from_str(alloc, text)?);

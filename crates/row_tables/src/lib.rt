@@ -1,4 +1,4 @@
-//! Tables of rows that are tests: a row names a call, what it is given, and what must be told of it.
+//! Tables of rows that are tests: a row names a call, what it is given, and the required answer.
 #![tactic(auto)]
 
 mod content;

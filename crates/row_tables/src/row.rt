@@ -5,7 +5,7 @@ use anyhow::{Result, bail};
 use serde_json::Value;
 use std::alloc::Global;
 
-/// A row: a call, what it is given, and what must be told of it.
+/// A row: a call, what it is given, and the required answer.
 #[derive(Drop)]
 pub struct Row {
     name: String,
@@ -15,7 +15,7 @@ pub struct Row {
 }
 
 impl Row {
-    /// Reads a row, one JSON object with `call`, `given`, `wanted` and, where the others don't name it, `name`.
+    /// Reads a row, one JSON object with `call`, `given`, `wanted` and, if those don't name it, `name`.
     pub fn read(alloc: Global, line: &str) -> Result<Row> {
         let value = Value::from_str(alloc, line)?;
         let call = member(alloc, &value, "call")?;
@@ -33,7 +33,7 @@ impl Row {
         })
     }
 
-    /// What the row is called in the answer.
+    /// The name of the row in the output.
     pub fn name(&self) -> &str {
         self.name.as_str()
     }
@@ -43,17 +43,17 @@ impl Row {
         self.call.as_str()
     }
 
-    /// What must be told.
+    /// The required answer.
     pub fn wanted(&self) -> &str {
         self.wanted.as_str()
     }
 
-    /// How much is given.
+    /// How many things are given.
     pub fn len(&self) -> usize {
         self.given.len()
     }
 
-    /// The text that is given at a place.
+    /// The text that is given at an index.
     pub fn text(&self, i: usize) -> Result<&str> {
         match self.given.get(i) {
             Some(text) => Ok(text.as_str()),
@@ -61,18 +61,18 @@ impl Row {
         }
     }
 
-    /// The number that is given at a place.
+    /// The number that is given at an index.
     pub fn number(&self, i: usize) -> Result<i128> {
         Ok(self.text(i)?.parse::<i128>()?)
     }
 
-    /// The place, length or count that is given at a place.
+    /// The offset, length or count that is given at an index.
     pub fn size(&self, i: usize) -> Result<usize> {
         Ok(self.text(i)?.parse::<usize>()?)
     }
 
-    /// The bytes that are given at a place: those that a text spells behind `hex `, with blanks between as one likes, or those of
-    /// the text.
+    /// The bytes that are given at an index: those of the hex digits after `hex `, with any spaces between them, or
+    /// those of the text.
     pub fn bytes(&self, alloc: Global, i: usize) -> Result<Vec<u8>> {
         let text = self.text(i)?;
         match text.strip_prefix("hex ") {
@@ -85,7 +85,7 @@ impl Row {
     }
 }
 
-/// The text of a member that must be there.
+/// The text of a required member.
 fn member(alloc: Global, value: &Value, name: &str) -> Result<String> {
     match value.get(name) {
         Some(found) => text_of(alloc, found),
@@ -104,7 +104,7 @@ fn given_of(alloc: Global, value: &Value) -> Result<Vec<String>> {
     Ok(texts)
 }
 
-/// The call and what it is given, with blanks between.
+/// The call and what it is given, separated by spaces.
 fn name_of(alloc: Global, call: &str, given: &[String]) -> Result<String> {
     let mut name = String::from_str(alloc, call)?;
     for text in given {

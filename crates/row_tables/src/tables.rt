@@ -1,4 +1,4 @@
-//! Tables that are gone through row by row.
+//! Runs tables row by row.
 
 use crate::row::Row;
 use anyhow::Result;
@@ -6,12 +6,12 @@ use std::fs;
 
 /// The calls that rows name.
 pub trait Calls {
-    /// What is told of a row's call; an error where the row names no call, or gives it what it can't take.
+    /// The answer to a row's call. Fails if the row names no call, or gives it something unsuitable.
     fn told(&self, rt: &HostRuntime, row: &Row) -> Result<String>;
 }
 
-/// Goes through the tables that the standard input names, one a line, and prints a line for each row: its name and `same`, or what
-/// was wanted and what was told. An empty line of a table, and one that begins with `#`, is a comment.
+/// Runs the tables that the standard input names, one per line, and prints a line for each row: its name and `same`, or
+/// the required answer and the actual one. An empty line of a table, and one that begins with `#`, is a comment.
 pub fn judge_tables<C: Calls>(rt: &HostRuntime, calls: &C) -> Result<()> {
     for table in rt.lines(rt.alloc()) {
         judge_table(rt, calls, table?.as_str())?;

@@ -1,10 +1,10 @@
-//! Values and bytes as rows spell them.
+//! Values and bytes in the notation of rows.
 
 use anyhow::{Result, bail};
 use sbe_types::{Elem, List, Value};
 use std::alloc::Global;
 
-/// Bytes as rows spell them: the text that they are where each is a printable character, else `hex ` and their digits.
+/// Bytes in the notation of rows: as text if each is a printable character, otherwise `hex ` and their digits.
 pub fn spelled(alloc: Global, bytes: &[u8]) -> Result<String> {
     if bytes.iter().all(|byte| 32 <= *byte && *byte <= 126) {
         return Ok(String::from_utf8_lossy(alloc, bytes)?);
@@ -13,8 +13,9 @@ pub fn spelled(alloc: Global, bytes: &[u8]) -> Result<String> {
     Ok(format!(in alloc; "hex {}", digits.as_str())?)
 }
 
-/// The value that a row spells: `null`, `absent`, `constant`, `members` of a composite without any, or one of the kinds `number`, `enum`, `set`, `text` with its digits in
-/// hex, `run` of elements, of which `-` is null, `pair` of a number and an enum, and what it has.
+/// The value that a row denotes: `null`, `absent`, `constant`, `members` for a composite without any, or one of the
+/// kinds `number`, `enum`, `set`, `text` with its digits in hex, `run` for elements, where `-` is null, `pair` for a
+/// number and an enum, followed by its contents.
 pub fn value_of(alloc: Global, text: &str) -> Result<Value> {
     match text.split_once(' ') {
         Some((kind, words)) => value_with(alloc, kind, words),

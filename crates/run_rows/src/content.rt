@@ -1,14 +1,14 @@
-//! A content: what bytes are made of, as a row says it.
+//! A content: how a row specifies bytes.
 //!
 //! It is a text, an array of contents, or an object:
 //!
-//! - `{"lines": [text, ..]}`: each text, and a newline after it.
-//! - `{"hex": text}`: bytes in hex, in groups with blanks between them.
-//! - `{"file": name, "replace": [[old, new], ..]}`: a file of the folder, in which each old text, which is
-//!   there exactly once, is replaced, one pair after the other.
-//! - `{"frame": content, "encoding": hex}`: a frame with the content as its body; little-endian SBE where
-//!   no encoding is named.
-//! - `{"repeat": number, "of": content}`: the content as often as this.
+//! - `{"lines": [text, ..]}`: each text, followed by a newline.
+//! - `{"hex": text}`: bytes in hex, in groups separated by spaces.
+//! - `{"file": name, "replace": [[old, new], ..]}`: a file of the folder, in which each old text, which must occur
+//!   exactly once, is replaced, one pair after another.
+//! - `{"frame": content, "encoding": hex}`: a frame with the content as its body; little-endian SBE if no encoding is
+//!   given.
+//! - `{"repeat": number, "of": content}`: the content, repeated that many times.
 
 ghost use Rattle.std.specs.Prelude.{◌≡◌, ◌++◌, OnOk, OnErr};
 
@@ -24,16 +24,16 @@ use std::alloc::Global;
 /// The most bytes of a content.
 const CONTENT_LIMIT: usize = 67_108_864;
 
-/// The bytes of a frame's head: its length and its encoding.
+/// The size of a frame's head: its length and its encoding.
 const HEAD_BYTES: usize = 6;
 
-/// The encoding of a frame that names none: little-endian SBE.
+/// The encoding of a frame that states none: little-endian SBE.
 const LITTLE_ENDIAN: [u8; 2] = [0xeb, 0x50];
 
-/// What bytes are made of.
+/// How bytes are specified.
 #[derive(Drop)]
 pub enum Content {
-    /// Bytes that stand in the row.
+    /// Bytes that are in the row itself.
     Bytes(Vec<u8>),
     /// The bytes of a file, in which texts are replaced.
     File {
@@ -45,7 +45,7 @@ pub enum Content {
         encoding: [u8; 2],
         body: Box<Content>,
     },
-    /// A content as often as this.
+    /// A content, repeated that many times.
     Repeated {
         times: usize,
         of: Box<Content>,
@@ -54,14 +54,14 @@ pub enum Content {
     Joined(Vec<Content>),
 }
 
-/// A text of a file, and what stands in its place.
+/// A text of a file, and its replacement.
 #[derive(Drop)]
 pub struct Change {
     old: String,
     new: String,
 }
 
-/// The key that says what a content's object is.
+/// The key that determines the form of a content's object.
 #[derive(Clone, Copy)]
 enum Form {
     Lines,
@@ -90,7 +90,7 @@ impl Form {
         Err(RowErr::NotOfForm("a content", "of lines, hex, file, frame or repeat"))
     }
 
-    /// The key that each such object has.
+    /// The key that each object of this form has.
     fn key(self) -> &'static str {
         match self {
             Form::Lines => "lines",
@@ -119,7 +119,7 @@ impl Content {
         Content::Bytes(Vec::new(alloc))
     }
 
-    /// The content of a key, or no bytes where the key is missing.
+    /// The content of a key, or no bytes if the key is missing.
     pub fn of_key(alloc: Global, members: &Members, key: &str) -> Result<Content, RowErr> {
         match members.get(key) {
             Some(value) => read_content(alloc, value),
@@ -180,7 +180,7 @@ fn read_object(alloc: Global, members: &Members) -> Result<Content, RowErr> {
     }
 }
 
-/// Reads the content of a key that must be there.
+/// Reads the content of a required key.
 #[cycle(read)]
 fn read_inner(alloc: Global, members: &Members, name: &'static str) -> Result<Content, RowErr> {
     for (key, value) in members.iter() {
@@ -201,7 +201,7 @@ fn read_lines(alloc: Global, members: &Members) -> Result<Vec<u8>, RowErr> {
     Ok(bytes)
 }
 
-/// The bytes that groups of hex digits show, with blanks between the groups.
+/// The bytes of groups of hex digits, separated by spaces.
 fn hex_bytes(alloc: Global, text: &str) -> Result<Vec<u8>, RowErr> {
     let mut bytes = Vec::new(alloc);
     for group in text.split_whitespace() {
@@ -213,7 +213,7 @@ fn hex_bytes(alloc: Global, text: &str) -> Result<Vec<u8>, RowErr> {
     Ok(bytes)
 }
 
-/// The encoding that a frame's object names.
+/// The encoding that a frame's object states.
 fn read_encoding(alloc: Global, members: &Members) -> Result<[u8; 2], RowErr> {
     let Some(value) = members.get("encoding") else {
         return Ok(LITTLE_ENDIAN);
@@ -287,7 +287,7 @@ fn put_joined<F: Files + Drop>(
     Ok(())
 }
 
-/// Appends bytes, unless they are too many then.
+/// Appends bytes, unless that would be too many.
 fn put_bytes(bytes: &[u8], out: &mut Vec<u8>) -> Result<(), RowErr>
     ensures ok { OnOk result (out.new.items ≡ out.old.items ++ bytes.now) }
     ensures err { OnErr result (out.new.items ≡ out.old.items) }
@@ -308,7 +308,7 @@ fn put_frame(encoding: &[u8; 2], body: &[u8], out: &mut Vec<u8>) -> Result<(), R
     put_bytes(body, out)
 }
 
-/// Appends bytes as often as this.
+/// Appends bytes, repeated `times` times.
 fn put_repeated(times: usize, bytes: &[u8], out: &mut Vec<u8>) -> Result<(), RowErr> {
     match times.checked_mul(bytes.len()) {
         Some(length) if length <= CONTENT_LIMIT => {}
@@ -342,7 +342,7 @@ fn put_file<F: Files + Drop>(
     put_bytes(text.as_bytes(), out)
 }
 
-/// The text with one part replaced, which must be there exactly once.
+/// The text with one part replaced, which must occur exactly once.
 fn changed(alloc: Global, text: &str, change: &Change) -> Result<String, RowErr> {
     let old = change.old.as_str();
     match text.split_once(old) {

@@ -7,7 +7,7 @@ use std::fmt;
 /// The most bytes of an output that are shown.
 const SHOWN: usize = 300;
 
-/// The bytes that are shown in front of the first that differs.
+/// How many bytes are shown before the first one that differs.
 const IN_FRONT: usize = 60;
 
 /// What differs between a run and its row.
@@ -50,7 +50,7 @@ impl fmt::Display for BothBytes<'_> {
     }
 }
 
-/// The place of the first byte that differs.
+/// The offset of the first byte that differs.
 fn first_difference(a: &[u8], b: &[u8]) -> usize
     ensures { result ≤ length a.now }
 {
@@ -60,7 +60,7 @@ fn first_difference(a: &[u8], b: &[u8]) -> usize
         .count()
 }
 
-/// A part of some bytes, and how many they are.
+/// A part of some bytes, and their total number.
 #[derive(Clone, Copy)]
 struct Excerpt<'a> {
     part: &'a [u8],
@@ -69,7 +69,7 @@ struct Excerpt<'a> {
 }
 
 impl<'a> Excerpt<'a> {
-    /// All bytes where they are few, else the part round a place.
+    /// All bytes if they are few, otherwise the part around an offset.
     fn around(bytes: &'a [u8], at: usize) -> Excerpt<'a> {
         let length = bytes.len();
         if length <= SHOWN {
@@ -102,7 +102,7 @@ impl fmt::Display for Excerpt<'_> {
     }
 }
 
-/// Whether a text has no control characters but newlines.
+/// Whether a text has no control characters except newlines.
 fn is_printable(text: &str) -> bool {
     text.chars().all(|c| c == '\n' || !c.is_control())
 }

@@ -15,7 +15,7 @@ pub struct Folder<F: Files + Drop> {
 }
 
 impl<F: Files + Drop> Folder<F> {
-    /// A folder of these files, of which none is loaded yet.
+    /// A folder with these files, none of which is loaded.
     pub fn new(alloc: Global, files: F) -> Folder<F> {
         Folder {
             alloc,
@@ -33,7 +33,7 @@ impl<F: Files + Drop> Folder<F> {
         }
     }
 
-    /// The bytes of a file, which is loaded where it was not yet.
+    /// The bytes of a file, which is loaded if it wasn't yet.
     pub fn bytes(&mut self, name: &str) -> Result<&[u8], RowErr> {
         if !self.loaded.contains_key(name) {
             let bytes = self.load(name)?;

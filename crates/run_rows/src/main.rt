@@ -1,7 +1,7 @@
-//! Runs the tables of its data: each row is a run of `sbe` over memory, and what it must write.
+//! Runs the tables of its data: each row is a run of `sbe` in memory, and what it must write.
 //!
-//! Its standard input names the tables, a file of its folder a line. It prints a line for each row of
-//! each table, and ends with 1 if any row differs or cannot be read.
+//! Its standard input names the tables, one file of its folder per line. It prints a line for each row of each table,
+//! and exits with 1 if any row differs or can't be read.
 #![tactic(auto)]
 
 mod content;
@@ -26,7 +26,7 @@ fn main(rt: HostRuntime) -> ExitCode {
     }
 }
 
-/// Runs the tables that the standard input names, and answers whether all their rows are the same.
+/// Runs the tables that the standard input names, and returns whether all their rows are the same.
 fn run_tables(rt: &HostRuntime) -> io::Result<bool> {
     let alloc = rt.alloc();
     let names = io::read_to_string(alloc, rt.stdin())?;
@@ -39,7 +39,7 @@ fn run_tables(rt: &HostRuntime) -> io::Result<bool> {
     Ok(all_same)
 }
 
-/// Prints the lines of a report, and answers whether all rows are the same.
+/// Prints the lines of a report, and returns whether all rows are the same.
 fn print_report(rt: &HostRuntime, report: &Report) -> io::Result<bool> {
     rt.print(report.text())?;
     Ok(report.is_same())

@@ -4,7 +4,7 @@ use serde_json::{Map, Value};
 /// The members of a JSON object.
 pub type Members = Map<String, Value>;
 
-/// Refuses a key that is not among the known ones.
+/// Refuses a key that isn't one of the known ones.
 pub fn refuse_unknown(members: &Members, known: &[&str]) -> Result<(), RowErr> {
     for (key, _) in members.iter() {
         if !is_among(key.as_str(), known) {
@@ -18,7 +18,7 @@ fn is_among(key: &str, known: &[&str]) -> bool {
     known.iter().any(|name| *name == key)
 }
 
-/// The value of a key that must be there.
+/// The value of a required key.
 pub fn needed<'a>(members: &'a Members, key: &'static str) -> Result<&'a Value, RowErr> {
     match members.get(key) {
         Some(value) => Ok(value),
@@ -26,12 +26,12 @@ pub fn needed<'a>(members: &'a Members, key: &'static str) -> Result<&'a Value, 
     }
 }
 
-/// The text of a key that must be there.
+/// The text of a required key.
 pub fn needed_text<'a>(members: &'a Members, key: &'static str) -> Result<&'a str, RowErr> {
     text_of(needed(members, key)?, key)
 }
 
-/// The number of a key that must be there.
+/// The number of a required key.
 pub fn needed_number(members: &Members, key: &'static str) -> Result<usize, RowErr> {
     number_of(needed(members, key)?, key)
 }
@@ -52,7 +52,7 @@ pub fn object<'a>(members: &'a Members, key: &'static str) -> Result<Option<&'a 
     }
 }
 
-/// The items of the array of a key that may be missing: none then.
+/// The items of the array of a key, or none if it is missing.
 pub fn items<'a>(members: &'a Members, key: &'static str) -> Result<&'a [Value], RowErr> {
     match members.get(key) {
         Some(value) => items_of(value, key),
@@ -60,7 +60,7 @@ pub fn items<'a>(members: &'a Members, key: &'static str) -> Result<&'a [Value],
     }
 }
 
-/// The text that a value is.
+/// The value as a text.
 pub fn text_of<'a>(value: &'a Value, key: &'static str) -> Result<&'a str, RowErr> {
     match value.as_str() {
         Some(text) => Ok(text),
@@ -68,7 +68,7 @@ pub fn text_of<'a>(value: &'a Value, key: &'static str) -> Result<&'a str, RowEr
     }
 }
 
-/// The number that a value is.
+/// The value as a number.
 pub fn number_of(value: &Value, key: &'static str) -> Result<usize, RowErr> {
     match value.as_u64() {
         Some(number) => Ok(number as usize),
@@ -76,7 +76,7 @@ pub fn number_of(value: &Value, key: &'static str) -> Result<usize, RowErr> {
     }
 }
 
-/// The items of the array that a value is.
+/// The items of the value, which must be an array.
 pub fn items_of<'a>(value: &'a Value, key: &'static str) -> Result<&'a [Value], RowErr> {
     match value.as_array() {
         Some(items) => Ok(items.as_slice()),
@@ -84,7 +84,7 @@ pub fn items_of<'a>(value: &'a Value, key: &'static str) -> Result<&'a [Value], 
     }
 }
 
-/// The members of the object that a value is.
+/// The members of the value, which must be an object.
 fn object_of<'a>(value: &'a Value, key: &'static str) -> Result<&'a Members, RowErr> {
     match value.as_object() {
         Some(members) => Ok(members),

@@ -14,8 +14,8 @@
 //! | `piece` | the most bytes of a read | 7 |
 //! | `pieces` | run with each size from 1 to this one, always with the same end | none |
 //! | `fails` | `source`, `output`, `notes`, `files`: the numbers of the calls that fail, from 1 | none |
-//! | `left` | the bytes that the source still has after the run | not compared |
-//! | `room` | the bytes that the output takes | 65536 |
+//! | `left` | how many bytes the source still has after the run | not compared |
+//! | `room` | how many bytes the output accepts | 65536 |
 
 ghost use Rattle.std.specs.Prelude.{◌<◌, ◌≤◌, IfOk};
 
@@ -37,13 +37,13 @@ const KEYS: [&str; 13] = [
 /// The keys of `fails`.
 const OBJECTS: [&str; 4] = ["source", "output", "notes", "files"];
 
-/// The greatest status of a run.
+/// The highest status of a run.
 const LAST_STATUS: usize = 11;
 
-/// The bytes of a read where a row says nothing of them.
+/// The size of a read in bytes, if a row doesn't state it.
 const USUAL_PIECE: usize = 7;
 
-/// The bytes that the output takes where a row says nothing of them.
+/// How many bytes the output accepts, if a row doesn't state it.
 const USUAL_ROOM: usize = 65_536;
 
 /// A run, and what it must write.
@@ -69,7 +69,7 @@ pub struct NamedContent {
     pub content: Content,
 }
 
-/// The sizes of reads that a row is run with, one after the other.
+/// The sizes of reads with which a row is run, one after another.
 #[derive(Clone, Copy)]
 pub struct Pieces {
     pub least: usize,

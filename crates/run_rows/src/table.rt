@@ -17,7 +17,7 @@ pub struct Report {
 }
 
 impl Report {
-    /// No lines yet.
+    /// Creates it without lines.
     fn new(alloc: Global) -> Report {
         Report {
             lines: String::new(alloc),
@@ -30,17 +30,17 @@ impl Report {
         self.lines.as_str()
     }
 
-    /// Whether each row could be read, and did not differ.
+    /// Whether each row could be read and didn't differ.
     pub fn is_same(&self) -> bool {
         self.same
     }
 }
 
-/// What came of a row.
+/// The result of a row.
 #[derive(Drop)]
 struct Verdict {
     name: String,
-    /// What differs, which is nothing where the row is the same.
+    /// What differs; empty if the row is the same.
     differs: String,
 }
 
@@ -109,7 +109,7 @@ fn put_verdict(
     }
 }
 
-/// Reads the row of a line, whose name must be a new one, and runs it.
+/// Reads the row of a line, whose name must be new, and runs it.
 fn judge_line<F: Files + Drop>(
     alloc: Global,
     folder: &mut Folder<F>,
@@ -132,7 +132,7 @@ fn judge_line<F: Files + Drop>(
     })
 }
 
-/// Runs a row with each size of its pieces, until one differs, and tells what.
+/// Runs a row with each size of its pieces until one differs, and returns the difference.
 fn run_row<F: Files + Drop>(
     alloc: Global,
     folder: &mut Folder<F>,

@@ -5,10 +5,10 @@ use sbe_base::{Files, MemFiles, MemSink, MemSource, NoMem};
 use sbe_cli::run;
 use std::alloc::Global;
 
-/// The bytes that the notes take.
+/// How many bytes the notes accept.
 const NOTES_ROOM: usize = 65_536;
 
-/// The bytes that a row gives its run.
+/// The bytes that a row gives to its run.
 #[derive(Drop)]
 pub struct Given {
     files: Vec<NamedBytes>,
@@ -72,7 +72,7 @@ impl NamedBytes {
 }
 
 impl Wanted {
-    /// What a row wants.
+    /// What a row requires.
     pub fn of<F: Files + Drop>(
         alloc: Global,
         folder: &mut Folder<F>,
@@ -87,7 +87,7 @@ impl Wanted {
     }
 }
 
-/// Runs a row, with reads of at most so many bytes.
+/// Runs a row, with reads of at most `piece` bytes.
 pub fn run_once(alloc: Global, row: &Row, given: &Given, piece: usize) -> Result<Outcome, NoMem> {
     let mut files = files_of(alloc, row, given)?;
     let mut input = MemSource::new(

@@ -10,7 +10,7 @@ named_page word =
     if bytes_eq word (codes "--help") || bytes_eq word (codes "-h") then Some Help
     else (if bytes_eq word (codes "--version") then Some Version else None)
 
--- The page that words ask for: a single word that names one.
+-- The page that words ask for, if they are a single word that names one.
 abbrev pub page_of : List (List ℕ) → Option Page
 page_of [] = None
 page_of (word ∷ []) = named_page word

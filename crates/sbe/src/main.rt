@@ -13,18 +13,18 @@ use std::env;
 use std::io::{BufReader, ErrorKind, Write};
 use std::process::ExitCode;
 
-/// How many bytes of input are read at once, where so many are there. Each such read hands on what is kept of the
-/// output, so the fewer there are the fewer writes are cut short.
+/// The most bytes of input that one read asks for. Before each such read the kept output is written, so with fewer
+/// reads fewer writes are short.
 const READ_AT_ONCE: usize = 262_144;
 
-/// How many bytes of output are kept at most.
+/// The most bytes of output that are kept.
 const KEPT_AT_MOST: usize = 131_072;
 
 fn main(rt: HostRuntime) -> ExitCode {
     ExitCode::from(answer(&rt).code())
 }
 
-/// Answers the words behind the program's name, over the file system and the standard streams.
+/// Runs the arguments after the program's name, over the file system and the standard streams.
 fn answer(rt: &HostRuntime) -> Status {
     let Ok(words) = words_of(rt) else {
         return Status::NoMemory;
@@ -47,7 +47,7 @@ fn print_page<W: Write + Drop>(page: Page, output: &SharedWriter<W>) -> Status {
     }
 }
 
-/// Runs the words. What is kept of the output is handed on before the program waits for input, and before each note.
+/// Runs the arguments. The kept output is written before the program waits for input, and before each note.
 fn run_words<W: Write + Drop>(
     rt: &HostRuntime,
     words: &[String],
@@ -71,7 +71,7 @@ fn run_words<W: Write + Drop>(
     )
 }
 
-/// The words behind the program's name. Words that aren't text are no words of a command, so none are left of them.
+/// The arguments after the program's name. If one isn't text, they can't be a command, so none are returned.
 fn words_of(rt: &HostRuntime) -> Result<Vec<String>, NoMem> {
     let mut words = Vec::new(rt.alloc());
     let args = match env::args(rt) {

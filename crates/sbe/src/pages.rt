@@ -98,7 +98,7 @@ impl Page {
     }
 }
 
-/// The page that words ask for, if they are one of `--help`, `-h` and `--version` alone.
+/// The page that the arguments ask for, if they are just one of `--help`, `-h` and `--version`.
 #[tactic(auto, using(crate::proofs::OneWord::one_word, crate::proofs::OneWord::no_one_word))]
 pub fn page_of(words: &[String]) -> Option<Page>
     ensures { result ≡ page_of (map (λ word. string_bytes word) words.now) }

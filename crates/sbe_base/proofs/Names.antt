@@ -86,7 +86,7 @@ put_over old new name bytes i file told at put same =
       calls = same;
     }
 
--- a file that is put behind files of other names
+-- a file that is put after files of other names
 pub put_behind : (old new : FilesState) (name bytes : List ℕ) → position (named name) old.files ≡ None → new.files ≡ old.files ++ (record { name = name; bytes = bytes }) ∷ [] → new.calls ≡ old.calls → Replaces old new name bytes
 put_behind old new name bytes told put same =
     let fresh : MemFile = record { name = name; bytes = bytes } in

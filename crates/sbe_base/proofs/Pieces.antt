@@ -7,7 +7,7 @@ use Rattle.std.proofs.lemmas.Slice.{between_to_end}
 from_there : (bytes held : List ℕ) (at : ℕ) → held ≡ bytes → take (length held - at) (drop at held) ≡ drop at bytes
 from_there bytes held at same = between_to_end held at (length held) (omega arith) ∙ ap (λ r. drop at r) same
 
--- the bytes left are the piece that was given and the bytes left behind it
+-- the bytes left are the piece that was given and the bytes left after it
 pub piece_then_rest : (bytes held given : List ℕ) (at n : ℕ) → held ≡ bytes → take n given ≡ take n (take (length held - at) (drop at held)) → drop at bytes ≡ take n given ++ drop (at + n) bytes
 piece_then_rest bytes held given at n same taken =
     let front : take n given ≡ take n (drop at bytes) = taken ∙ ap (λ r. take n r) (from_there bytes held at same) in

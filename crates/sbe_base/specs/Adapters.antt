@@ -19,6 +19,6 @@ WrapsBuffer inner source = WrapsReader inner source.source
 abbrev pub WrapsWriter : {W : Type 0} → W → StdSink W → Type 0
 WrapsWriter inner sink = (sink.inner ≡ inner) × (sink.faults ≡ 0)
 
--- the files are those of this runtime; none was asked for, and none has failed
+-- the files are those of this runtime; none was asked for, and no call has failed
 abbrev pub WrapsRuntime : {R File Dir : Type 0} → R → DirFiles R File Dir → Type 0
 WrapsRuntime rt files = (files.rt ≡ rt) × (files.faults ≡ 0) × (files.loads ≡ 0)

@@ -4,7 +4,7 @@ use Rattle.sbe_base.specs.Causes.{Rose}
 use Rattle.sbe_base.specs.declared.files.LoadErr.{LoadErr}
 use Rattle.sbe_base.specs.declared.files.LoadErr.TheVariants.{Failed, Absent, TooLong, Memory}
 
--- what a file of these bytes, or no file, is answered; a failure and want of memory come before all else
+-- the answer for a file of these bytes, or for no file; a failure and out of memory may be answered for any
 abbrev pub LoadsFrom : Option (List ℕ) → ℕ → Result (Unit {0}) LoadErr → List ℕ → Type 0
 LoadsFrom file limit (Ok done) into = (file ≡ Some into) × (length into ≤ limit)
 LoadsFrom file limit (Err Absent) into = file ≡ None
@@ -12,25 +12,25 @@ LoadsFrom file limit (Err TooLong) into = (bytes : List ℕ) × (file ≡ Some b
 LoadsFrom file limit (Err Failed) into = ⊤
 LoadsFrom file limit (Err Memory) into = ⊤
 
--- the same at a name, where the contents are told
+-- the same for the file of a name, if the contents are modelled
 abbrev pub Loads : Option (List ℕ → Option (List ℕ)) → List ℕ → ℕ → Result (Unit {0}) LoadErr → List ℕ → Type 0
 Loads None name limit result into = ⊤
 Loads (Some look) name limit result into = LoadsFrom (look name) limit result into
 
--- the same of all that a reader has left, where that is told
+-- the same for all that a reader has left, if that is modelled
 abbrev pub LoadsRest : Option (List ℕ) → ℕ → Result (Unit {0}) LoadErr → List ℕ → Type 0
 LoadsRest None limit result into = ⊤
 LoadsRest (Some left) limit result into = LoadsFrom (Some left) limit result into
 
--- there is a file, and it has at most so many bytes
+-- there is a file, and it has at most `limit` bytes
 abbrev pub MayLoad : Option (List ℕ) → ℕ → Type 0
 MayLoad file limit = IsSomeAnd file (λ bytes. length bytes ≤ limit)
 
--- a load is out of memory only for a file that may be loaded, where the contents are told
+-- a load is out of memory only for a file that may be loaded, if the contents are modelled
 abbrev pub OutOfMemory : Option (List ℕ → Option (List ℕ)) → List ℕ → ℕ → Result (Unit {0}) LoadErr → Type 0
 OutOfMemory told name limit result = (look : List ℕ → Option (List ℕ)) → told ≡ Some look → result ≡ Err Memory → MayLoad (look name) limit
 
--- the count of faults never falls; it rose at a failure, and every other answer leaves it
+-- The count of faults never falls. It rose at a failure, and any other answer leaves it.
 abbrev pub CausedLoad : ℕ → ℕ → Result (Unit {0}) LoadErr → Type 0
 CausedLoad before now (Err Failed) = (before ≤ now) × Rose before now
 CausedLoad before now (Err Absent) = now ≡ before

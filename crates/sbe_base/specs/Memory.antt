@@ -23,7 +23,7 @@ pub record FilesState : Type 0 where
   pub files : List MemFile
   pub calls : CallLog
 
--- a write of these bytes is to fail: its call is listed, or no byte of some fits
+-- a write of these bytes is meant to fail: its call is listed, or there are bytes and none fits
 abbrev pub WriteFails : SinkState → List ℕ → Type 0
 WriteFails sink bytes = IsListed sink.calls ⊎ ((sink.room ≡ 0) × (0 < length bytes))
 
@@ -31,13 +31,13 @@ WriteFails sink bytes = IsListed sink.calls ⊎ ((sink.room ≡ 0) × (0 < lengt
 abbrev pub found : List ℕ → List MemFile → Option (List ℕ)
 found name files = option_map (λ file. file.bytes) (find (λ file. bytes_eq file.name name) files)
 
--- the name now has these bytes, and all else is as it was
+-- the name now has these bytes, and every other name is as it was
 pub record Replaces (old new : FilesState) (name bytes : List ℕ) : Type 0 where
   pub here : found name new.files ≡ Some bytes
   pub elsewhere : (other : List ℕ) → other ≢ name → found other new.files ≡ found other old.files
   pub calls : new.calls ≡ old.calls
 
--- whether a load is answered by a failure
+-- whether the answer of a load is a failure
 abbrev pub is_failed : Result (Unit {0}) LoadErr → Bool
 is_failed (Err Failed) = true
 is_failed (Err Absent) = false

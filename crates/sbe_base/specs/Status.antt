@@ -1,4 +1,4 @@
--- The number of each status. Own profile.
+-- The exit code of each status. Own profile.
 use Rattle.std.specs.Prelude.{ℕ}
 use Rattle.sbe_base.specs.declared.status.Status.{Status}
 use Rattle.sbe_base.specs.declared.status.Status.TheVariants.{Done, SomeRefused, Usage, SchemaRefused, MapRefused, FramingRefused, FileFault, ReadFault, WriteFault, NoMemory, InputLimit, NoFile}

@@ -1,4 +1,4 @@
--- What a text that is written leaves in a sink. Own profile.
+-- What writing a text leaves in a sink. Own profile.
 use Rattle.std.specs.Prelude.{◌≡◌, ℕ, Bool, true, false, List, Result, Ok, Err}
 use Rattle.std.specs.Io.KnownBytes.{Appends}
 use Rattle.sbe_base.specs.Causes.{AppendsPart}
@@ -10,7 +10,7 @@ pub record WroteAll (old new : Object (List ℕ)) (text : List ℕ) : Type 0 whe
   pub all : Appends old.told new.told text
   pub kept : new.faults ≡ old.faults
 
--- a front of the text is written, and a call failed
+-- a prefix of the text is written, and a call failed
 pub record WrotePart (old new : Object (List ℕ)) (text : List ℕ) : Type 0 where
   pub part : AppendsPart old.told new.told text
   pub failed : Failed old new

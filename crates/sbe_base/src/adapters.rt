@@ -5,8 +5,8 @@ use crate::retry::{read_retried, write_retried};
 use crate::{Failed, Sink, Source};
 use std::io::{BufRead, BufReader, Read, Write};
 
-/// A reader of std, with a count of its failures. It tells what the reader tells. A read that the system interrupted is
-/// made again, and is no failure.
+/// Wraps a std reader and counts its failures. Its contents are those of the reader. A read that the system interrupted
+/// is retried, and doesn't count as a failure.
 #[derive(Drop)]
 pub struct StdSource<R: Read + Drop> {
     inner: R,
@@ -14,7 +14,7 @@ pub struct StdSource<R: Read + Drop> {
 }
 
 impl<R: Read + Drop> StdSource<R> {
-    /// A source of what the reader gives.
+    /// Wraps a reader.
     pub fn new(inner: R) -> StdSource<R>
         ensures { WrapsReader inner result }
     {
@@ -36,7 +36,7 @@ impl<R: Read + Drop> Source for StdSource<R> {
     }
 }
 
-/// A buffered reader of std, with a count of its failures, which lends what is in its buffer. All else is as of a
+/// Wraps a buffered std reader, counts its failures and lends what is in its buffer. Otherwise it is like
 /// [`StdSource`].
 #[derive(Drop)]
 pub struct BufferedSource<R: Read + Drop> {
@@ -44,7 +44,7 @@ pub struct BufferedSource<R: Read + Drop> {
 }
 
 impl<R: Read + Drop> BufferedSource<R> {
-    /// A source of what the reader gives.
+    /// Wraps a buffered reader.
     pub fn new(inner: BufReader<R>) -> BufferedSource<R>
         ensures { WrapsBuffer inner result }
     {
@@ -76,8 +76,8 @@ impl<R: Read + Drop> Source for BufferedSource<R> {
     }
 }
 
-/// A writer of std, with a count of its failures. It tells what the writer tells. A writer that takes nothing of a
-/// piece that isn't empty has failed. A write that the system interrupted is made again, and is no failure.
+/// Wraps a std writer and counts its failures. Its contents are those of the writer. A writer that accepts no byte of a
+/// piece that isn't empty has failed. A write that the system interrupted is retried, and doesn't count as a failure.
 #[derive(Drop)]
 pub struct StdSink<W: Write + Drop> {
     inner: W,
@@ -85,7 +85,7 @@ pub struct StdSink<W: Write + Drop> {
 }
 
 impl<W: Write + Drop> StdSink<W> {
-    /// A sink that hands on to the writer.
+    /// Wraps a writer.
     pub fn new(inner: W) -> StdSink<W>
         ensures { WrapsWriter inner result }
     {

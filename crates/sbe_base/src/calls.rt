@@ -6,7 +6,7 @@ use lists::NoMem;
 use std::alloc::Global;
 use std::marker::Model;
 
-/// The calls of an object in memory.
+/// Counts the calls of an object in memory.
 #[derive(Drop)]
 pub struct Calls {
     failing: Vec<u64>,
@@ -23,7 +23,7 @@ impl Model for Calls {
 }
 
 impl Calls {
-    /// No calls yet, of which those with these numbers are to fail.
+    /// No calls yet. The calls with the numbers in `failing` will fail.
     pub fn new(alloc: Global, failing: &[u64]) -> Result<Calls, NoMem>
         ensures { IfOk result (λ calls. calls ≡ no_calls failing.now) }
     {
@@ -34,8 +34,8 @@ impl Calls {
         })
     }
 
-    /// Counts one more call, and tells whether it is to fail. Behind the last number of 64 bits each call has
-    /// that number.
+    /// Counts one more call, and returns whether it must fail. The count stays at the largest number of 64 bits, so
+    /// each later call has that number.
     pub fn count(&mut self) -> bool
         ensures listed { IsTrue result ↔ IsListed self.old }
         ensures counted { self.new ≡ record self.old { made = next_number self.old } }

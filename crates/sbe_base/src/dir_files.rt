@@ -9,10 +9,10 @@ use std::alloc::Global;
 use std::io::{self, ErrorKind, Read};
 use std::{fs, rt};
 
-/// How many bytes one read asks for at most.
+/// The most bytes that one read asks for.
 const PIECE: usize = 4096;
 
-/// The files of the file system, by their paths, with counts of the loads and of their failures. It tells no contents.
+/// The files of the file system, by path, with counts of loads and of failures. It models no contents.
 #[derive(Drop)]
 pub struct DirFiles<R: rt::Files + Drop> {
     rt: R,
@@ -60,8 +60,8 @@ impl<R: rt::Files + Drop> Files for DirFiles<R> {
     }
 }
 
-/// Appends the bytes of the file that was opened to an empty buffer. It is absent exactly where opening it says that
-/// nothing has its name.
+/// Appends the bytes of the opened file to an empty buffer. The file is absent exactly if opening it reported that no
+/// file has its name.
 fn load_opened<R: Read + Drop>(
     opened: io::Result<R>,
     limit: usize,
@@ -80,7 +80,7 @@ fn load_opened<R: Read + Drop>(
     }
 }
 
-/// Appends all that the reader has, which is too long as soon as one byte more than `limit` came.
+/// Appends everything the reader has. Fails as too long as soon as one byte more than `limit` arrives.
 fn read_whole<R: Read>(reader: &mut R, limit: usize, into: &mut Vec<u8>) -> Result<(), LoadErr>
     requires { into.old.items ≡ [] }
     ensures within { OnOk result (length into.new.items ≤ limit) }
@@ -106,7 +106,7 @@ mod tests {
     use super::*;
     use std::io;
 
-    /// Gives one byte a read, and fails where none are left.
+    /// Gives one byte per read, and fails when none are left.
     #[derive(Drop)]
     struct Torn(u8);
 

@@ -6,33 +6,33 @@ ghost use Rattle.sbe_base.specs.Causes.{one_more};
 use std::alloc::Global;
 use thiserror::Error;
 
-/// Why a file was not loaded.
+/// Why a file wasn't loaded.
 #[derive(Clone, Copy, Debug, PartialEq, Eq, Drop, Error)]
 pub enum LoadErr {
-    /// The call failed. The count of faults rose, or stands at its last value.
+    /// The call failed. The count of faults rose, or is at its largest value.
     #[error("the file could not be read")]
     Failed,
-    /// No file has the name.
+    /// No file has this name.
     #[error("no file has the name")]
     Absent,
     /// The file has more bytes than the limit.
     #[error("the file is too long")]
     TooLong,
-    /// Memory was wanting.
+    /// Out of memory.
     #[error("out of memory")]
     Memory,
 }
 
-/// Where files are.
+/// A place where files are found by name.
 pub trait Files {
-    /// The bytes of the file of each name, where it tells them, and how often it has failed.
+    /// The bytes of the file of each name, if it models them, and the count of faults.
     ghost state: { Self → Object (List ℕ → Option (List ℕ)) };
 
-    /// How many files were asked for. The count stays at the last number of 64 bits.
+    /// The number of files that were asked for. The count stays at the largest number of 64 bits.
     ghost load_count: { Self → ℕ };
 
-    /// Replaces `into` by the bytes of the file of that name, of which there may be at most `limit`.
-    /// After a refusal `into` is empty.
+    /// Replaces `into` by the bytes of the file with this name, of which there may be at most `limit`. After an error
+    /// `into` is empty.
     fn load(
         &mut self,
         alloc: Global,

@@ -1,5 +1,5 @@
-//! The outside of a run: where bytes come from, where they go and where files are, with the faults of each
-//! counted; what a run ends with, and how much it takes in.
+//! The world outside a run: where bytes come from, where they go, and where files are, each with a count of its faults;
+//! how a run ended, and how much it accepts.
 #![tactic(auto)]
 
 mod adapters;

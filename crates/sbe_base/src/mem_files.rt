@@ -17,7 +17,7 @@ pub struct MemFile {
     bytes: Bytes,
 }
 
-/// Files in memory. The calls of `load` whose numbers it was made with fail.
+/// Files in memory. The calls of `load` whose numbers were given to `new` fail.
 #[derive(Drop)]
 pub struct MemFiles {
     alloc: Global,
@@ -34,7 +34,7 @@ impl Model for MemFiles {
 }
 
 impl MemFiles {
-    /// No files. The calls of `load` with these numbers, counted from 1, are to fail.
+    /// Creates it without files. The calls of `load` with these numbers, counted from 1, will fail.
     pub fn new(alloc: Global, failing: &[u64]) -> Result<MemFiles, NoMem>
         ensures files { IfOk result (λ files. files.files ≡ []) }
         ensures calls { IfOk result (λ files. files.calls ≡ no_calls failing.now) }
@@ -46,7 +46,7 @@ impl MemFiles {
         })
     }
 
-    /// Adds the file, or replaces the one of that name. Where memory is wanting, all stays as it was.
+    /// Adds the file, or replaces the one with this name. If memory runs out, nothing changes.
     pub fn put(&mut self, name: &str, bytes: &[u8]) -> Result<(), NoMem>
         ensures ok { OnOk result (Replaces self.old self.new name.now bytes.now) }
         ensures err { OnErr result (self.new ≡ self.old) }
@@ -106,7 +106,7 @@ impl Files for MemFiles {
     }
 }
 
-/// The place of the first file of that name.
+/// The index of the first file with this name.
 fn place_of(files: &[MemFile], name: &[u8]) -> Option<usize>
     ensures { result ≡ position (λ file. bytes_eq file.name name.now) files.now }
 {

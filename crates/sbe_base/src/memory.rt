@@ -11,7 +11,7 @@ use lists::NoMem;
 use std::alloc::Global;
 use std::marker::Model;
 
-/// Bytes in memory, given in pieces. The calls whose numbers it was made with fail.
+/// Bytes in memory, given in pieces. The calls whose numbers were given to `new` fail.
 #[derive(Drop)]
 pub struct MemSource {
     bytes: Vec<u8>,
@@ -32,8 +32,8 @@ impl Model for MemSource {
 }
 
 impl MemSource {
-    /// A source of these bytes, which gives at most `piece` of them a read. The calls of these numbers, counted
-    /// from 1, are to fail.
+    /// A source of these bytes, which gives at most `piece` of them per read. The calls with these numbers, counted
+    /// from 1, will fail.
     pub fn new(
         alloc: Global,
         bytes: &[u8],
@@ -69,7 +69,8 @@ impl Source for MemSource {
         ensures bytes { ReadConsumes (Some self.old.left) (Some self.new.left) result buf.new }
         ensures cause { HasCause self.old.calls.faults self.new.calls.faults result }
 
-        // It fails exactly at the listed calls, and else gives as much as piece, buffer and bytes allow.
+        // It fails exactly at the listed calls; otherwise it gives as much as the piece, the buffer and the bytes
+        // allow.
         ensures fails { IsErr result ↔ IsListed self.old.calls }
         ensures taken { IfOk result (λ n. n ≡ min self.old.piece (min (length buf.old) (length self.old.left))) }
         ensures counted { self.new.calls ≡ one_call self.old.calls (is_err result) }
@@ -85,7 +86,7 @@ impl Source for MemSource {
     }
 }
 
-/// Copies a front of the bytes, of at most so many.
+/// Copies the first bytes, at most `most` of them.
 fn copy_front(from: &[u8], most: usize, buf: &mut [u8]) -> usize
     ensures count { result ≡ min most (min (length buf.old) (length from.now)) }
     ensures bytes { take result buf.new ≡ take result from.now }
@@ -95,7 +96,7 @@ fn copy_front(from: &[u8], most: usize, buf: &mut [u8]) -> usize
     n
 }
 
-/// Room in memory for bytes. The calls whose numbers it was made with fail.
+/// A buffer of a fixed size that bytes are written to. The calls whose numbers were given to `new` fail.
 #[derive(Drop)]
 pub struct MemSink {
     bytes: Vec<u8>,
@@ -115,7 +116,7 @@ impl Model for MemSink {
 }
 
 impl MemSink {
-    /// A sink with memory for `room` bytes. The calls of these numbers, counted from 1, are to fail.
+    /// A sink with memory for `room` bytes. The calls with these numbers, counted from 1, will fail.
     pub fn new(alloc: Global, room: usize, failing: &[u64]) -> Result<MemSink, NoMem>
         ensures held { IfOk result (λ sink. sink.held ≡ []) }
         ensures room { IfOk result (λ sink. sink.room ≡ room) }
@@ -128,7 +129,7 @@ impl MemSink {
         })
     }
 
-    /// The bytes taken so far.
+    /// The bytes written so far.
     pub fn bytes(&self) -> &[u8]
         ensures { result.now ≡ self.now.held }
     {
@@ -145,7 +146,7 @@ impl Sink for MemSink {
         ensures bytes { WriteAppends (Some self.old.held) (Some self.new.held) result bytes.now }
         ensures cause { HasCause self.old.calls.faults self.new.calls.faults result }
 
-        // It fails exactly at the listed calls and where no room is left, and else takes what fits.
+        // It fails exactly at the listed calls and when no room is left; otherwise it accepts what fits.
         ensures fails { IsErr result ↔ WriteFails self.old bytes.now }
         ensures taken { IfOk result (λ n. n ≡ min self.old.room (length bytes.now)) }
         ensures room { length self.new.held + self.new.room ≡ length self.old.held + self.old.room }
@@ -159,7 +160,7 @@ impl Sink for MemSink {
         }
         match self.bytes.extend_from_slice(&bytes[..n]) {
             Ok(()) => {}
-            // The room was taken when the sink was made.
+            // The memory was allocated when the sink was made.
             Err(_) => unreachable!(),
         }
         self.room -= n;

@@ -7,8 +7,8 @@ use std::alloc::Global;
 use std::cell::RefCell;
 use std::io::{self, BufWriter, ErrorKind, Read, Write};
 
-/// A writer behind a buffer. What is written is kept until the buffer is full or it is flushed. Once a write to the
-/// writer has failed, each later write and flush fails.
+/// A writer with a buffer in front of it. Bytes are kept until the buffer is full or is flushed. Once a write to the
+/// inner writer has failed, each later write and flush fails.
 #[derive(Drop)]
 struct KeptWriter<W: Write + Drop> {
     writer: BufWriter<W>,
@@ -39,19 +39,19 @@ impl<W: Write + Drop> Write for KeptWriter<W> {
     }
 }
 
-/// A writer behind a buffer, for several hands. What is written is kept until the buffer is full or someone flushes.
-/// Once a write to the writer has failed, each later write and flush fails.
+/// A buffered writer with several users. Bytes are kept until the buffer is full or a user flushes. Once a write to the
+/// inner writer has failed, each later write and flush fails.
 #[derive(Drop)]
 pub struct SharedWriter<W: Write + Drop> {
     kept: RefCell<KeptWriter<W>>,
 }
 
 impl<W: Write + Drop> SharedWriter<W> {
-    /// A buffer of so many bytes in front of the writer.
+    /// Puts a buffer of `capacity` bytes in front of the writer.
     ///
     /// # Errors
     ///
-    /// Of the kind `OutOfMemory`, for want of memory.
+    /// An error of the kind `OutOfMemory` if memory runs out.
     pub fn new(alloc: Global, capacity: usize, inner: W) -> io::Result<SharedWriter<W>> {
         let writer = BufWriter::with_capacity(alloc, capacity, inner)?;
         Ok(SharedWriter {
@@ -79,8 +79,8 @@ impl<W: Write + Drop> Write for &SharedWriter<W> {
     }
 }
 
-/// A reader or a writer that hands on what a shared writer keeps before it is asked itself. As a reader it goes on where
-/// that fails: the next write to the shared writer, or its last flush, tells of it.
+/// A reader or writer that flushes a shared writer before each of its own calls. A read goes on even if that flush
+/// fails: the next write to the shared writer, or its last flush, reports the failure.
 #[derive(Drop)]
 pub struct FlushFirst<'a, T, W: Write + Drop> {
     inner: T,
@@ -88,7 +88,7 @@ pub struct FlushFirst<'a, T, W: Write + Drop> {
 }
 
 impl<'a, T, W: Write + Drop> FlushFirst<'a, T, W> {
-    /// The reader or writer, asked only once nothing is kept.
+    /// Wraps a reader or writer, so that the shared writer is flushed before each call of it.
     pub fn new(inner: T, output: &'a SharedWriter<W>) -> FlushFirst<'a, T, W>
         ensures { result.inner ≡ inner }
     {
@@ -119,7 +119,7 @@ impl<T: Write, W: Write + Drop> Write for FlushFirst<'_, T, W> {
     }
 }
 
-/// How a run ended, once its output was handed on at the end, or wasn't.
+/// How a run ended, given the result of the last flush of its output.
 pub fn settled(status: Status, flushed: io::Result<()>) -> Status
     ensures ok { OnOk flushed (result ≡ status) }
     ensures err { OnErr flushed (result ≡ Status.WriteFault) }

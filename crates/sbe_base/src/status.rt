@@ -8,25 +8,25 @@ pub enum Status {
     Done,
     /// All items were answered, and some were refused.
     SomeRefused,
-    /// The words are no command.
+    /// The arguments aren't a command.
     Usage,
     /// A schema was refused.
     SchemaRefused,
     /// A mapping was refused.
     MapRefused,
-    /// The input is no row of whole frames or lines.
+    /// The input is not a sequence of whole frames or lines.
     FramingRefused,
-    /// The files failed.
+    /// Loading files failed.
     FileFault,
-    /// The input failed.
+    /// Reading the input failed.
     ReadFault,
-    /// An output failed.
+    /// Writing an output failed.
     WriteFault,
-    /// Memory was wanting.
+    /// Out of memory.
     NoMemory,
     /// The input has more bytes than the limit.
     InputLimit,
-    /// A file of the words is absent.
+    /// A file named in the arguments is absent.
     NoFile,
 }
 
@@ -39,7 +39,7 @@ impl Status {
     }
 }
 
-/// How much a run takes in.
+/// How much a run accepts.
 #[derive(Clone, Copy, Debug, PartialEq, Eq)]
 pub struct Limits {
     /// The most bytes of one frame, its head included.

@@ -49,7 +49,7 @@ module _ (words : List (List ℕ)) (old new : Outside) where
     touched : (code : Status) → Touched words old new code
     touched code = record { untouched = λ x. input; unread = λ x. input }
 
-    -- nothing was done, for want of memory
+    -- nothing was done: out of memory
     pub wanted_early : new.streams.sinks.output ≡ old.streams.sinks.output → new.streams.sinks.notes ≡ old.streams.sinks.notes → Runs words old new status.NoMemory
     wanted_early output notes = runs_wanting words old new (nothing_fronts output notes) (λ reads. same_streams new.streams old.streams input output notes) (touched status.NoMemory)
 

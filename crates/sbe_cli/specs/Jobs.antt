@@ -1,4 +1,4 @@
--- The job of a command: what its files are judged as, and what it then answers.
+-- The job of a command: what its files contain or why they are refused, and what it then answers.
 use Rattle.std.specs.Prelude.{◌≡◌, ℕ, Bool, true, false, List, Option, Some, None, Result, Ok, Err, ⊤}
 use Rattle.sbe_base.specs.declared.status.Limits.{Limits}
 use Rattle.sbe_types.specs.declared.schema.WireSchema.{WireSchema}
@@ -36,7 +36,7 @@ pub data Job : Type 0 where
   Regrade : Regrading → Limits → Job
   RawFrame : List TagPair → Limits → Job
 
--- What each job takes of its input, and what it answers: one line a command.
+-- How each job reads its input, and what it answers: one line for each command.
 abbrev pub answering_of : Job → Answering
 answering_of (Check schema) = by_whole (IsCheckReply schema)
 answering_of (Compat pair) = by_whole (IsCompatReply pair)
@@ -53,7 +53,7 @@ reading_of job = (answering_of job).reading
 
 -- ---- the files
 
--- files that are judged so, and the job that they make
+-- the result of files, and the job that accepted files make
 abbrev pub Makes : {X : Type 0} → (Result X RefusedFile → Type 0) → (X → Job) → Result Job RefusedFile → Type 0
 Makes {X} AreJudged make (Ok job) = (files : X) × AreJudged (Ok files) × (job ≡ make files)
 Makes {X} AreJudged make (Err file) = AreJudged (Err file)
@@ -72,15 +72,15 @@ pub record Commanding : Type 1 where
   pub reads : Bool
   pub spares : Bool
 
--- it takes nothing of the input
+-- a command that takes nothing from the input
 abbrev pub on_files : FilesOf Job → Commanding
 on_files files = record { files = files; reads = false; spares = false }
 
--- it reads the input
+-- a command that reads the input
 abbrev pub on_input : FilesOf Job → Commanding
 on_input files = record { files = files; reads = true; spares = false }
 
--- it reads the input, and takes no memory meanwhile
+-- a command that reads the input, and takes no memory meanwhile
 abbrev pub on_input_sparing : FilesOf Job → Commanding
 on_input_sparing files = record { files = files; reads = true; spares = true }
 
@@ -104,7 +104,7 @@ commanding_by form.RawFrame command = on_input_sparing (making (fixcheck_files (
 abbrev pub commanding_of : Command → Commanding
 commanding_of command = commanding_by command.form command
 
--- what the files of a command are
+-- the files of a command
 abbrev pub files_of : Command → FilesOf Job
 files_of command = (commanding_of command).files
 
@@ -126,17 +126,18 @@ Judges command contents judged = (files_of command).AreJudged contents judged
 abbrev pub IsReady : Command → Job → Type 0
 IsReady command job = (files_of command).AreGood job
 
--- a command has a file in that role
+-- a command has a file in this role
 abbrev pub HasFile : Command → FileRole → Type 0
 HasFile command role = (files_of command).IsRole role
 
 -- ---- the loading
 
--- the job takes something of the input exactly where its command does, and spares memory exactly where its command does
+-- the job takes something from the input exactly if its command does, and takes no memory exactly if its command takes
+-- none
 abbrev pub IsReadAs : Command → Job → Type 0
 IsReadAs command job = (is_read (reading_of job) ≡ reads_input (Some command)) × ((answering_of job).spares ≡ spares_memory (Some command))
 
--- a job that is there reads what its command does
+-- a job, if there is one, reads what its command does
 abbrev pub IsReadSo : Command → Result Job JobStop → Type 0
 IsReadSo command (Ok job) = IsReadAs command job
 IsReadSo command (Err stop) = ⊤

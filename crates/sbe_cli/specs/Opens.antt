@@ -23,15 +23,16 @@ pub record PumpState : Type 0 where
 abbrev pub opened_for : Job → PumpState
 opened_for job = record { job = job; at = opened }
 
--- the files judge the command so, where they tell what they hold
+-- the files of the command are accepted or refused like this, if their contents are modelled
 abbrev pub JudgedAs : Command → Desk → Result Job RefusedFile → Type 0
 JudgedAs command before judged = (contents : List ℕ → Option (List ℕ)) → before.files.told ≡ Some contents → Judges command contents judged
 
--- this is noted, and its status answered
+-- this is noted, and its status answered, or the write failed
 abbrev pub NotesWhy : Unopened → Desk → Desk → Status → Type 0
 NotesWhy why before after code = Told (unopened_line why) (unopened_status why) before.notes after.notes code
 
--- A file is refused, the files failed, or it ran out of memory. The file that is told was the last one that was loaded.
+-- A file is refused, the files failed, or it is out of memory. The file that is reported is the last one that was
+-- loaded.
 pub data Declines (command : Command) (before after : Desk) (code : Status) : Type 0 where
   refuses : (file : RefusedFile) → JudgedAs command before (Err file) → IsLast file.role before.loads after.loads → after.files ≡ before.files
       → NotesWhy (unopened.Refused file) before after code → Declines command before after code
@@ -39,7 +40,7 @@ pub data Declines (command : Command) (before after : Desk) (code : Status) : Ty
       → NotesWhy (unopened.FileFault role) before after code → Declines command before after code
   wants : code ≡ status.NoMemory → after.files ≡ before.files → after.notes ≡ before.notes → Declines command before after code
 
--- The pump of the command's job, or the status that its files are declined with.
+-- The pump of the command's job, or the status for files that are declined.
 abbrev pub Opens : Command → Desk → Desk → Result PumpState Status → Type 0
 Opens command before after (Ok pump) =
     JudgedAs command before (Ok pump.job) × IsReady command pump.job × (pump ≡ opened_for pump.job)

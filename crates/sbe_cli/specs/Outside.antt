@@ -1,11 +1,11 @@
--- All objects of a run at one time: what they tell, and how often a file was loaded.
+-- All objects of a run at one time: what they model, and how often a file was loaded.
 use Rattle.std.specs.Prelude.{◌≡◌, ℕ, List, Option}
 use Rattle.sbe_base.specs.Objects.{Object}
 use Rattle.replies.specs.Outside.{Streams}
 use Rattle.schema_files.specs.Files.{after_loads, loads_up_to}
 use Rattle.schema_files.specs.declared.files.FileRole.{FileRole}
 
--- What the files tell of each name, how often one was loaded, and the streams.
+-- The contents of the files by name, as modelled, how often one was loaded, and the streams.
 pub record Outside : Type 0 where
   pub files : Object (List ℕ → Option (List ℕ))
   pub loads : ℕ
@@ -17,11 +17,11 @@ pub record Desk : Type 0 where
   pub loads : ℕ
   pub notes : Object (List ℕ)
 
--- All objects together.
+-- All objects.
 abbrev pub outside_of : Object (List ℕ → Option (List ℕ)) → ℕ → Streams → Outside
 outside_of files loads streams = record { files = files; loads = loads; streams = streams }
 
--- The files and the notes together.
+-- The files and the notes.
 abbrev pub desk_of : Object (List ℕ → Option (List ℕ)) → ℕ → Object (List ℕ) → Desk
 desk_of files loads notes = record { files = files; loads = loads; notes = notes }
 

@@ -29,7 +29,7 @@ pub record OnJob : Type 0 where
   pub job : Job
   pub feed : Feed
 
--- One line a command.
+-- The job and the feed of each work: one line for each command.
 abbrev pub on_job : Work → OnJob
 on_job (work.Check on) = record { job = jobs.Check on.command; feed = nothing }
 on_job (work.Compat on) = record { job = jobs.Compat on.command; feed = nothing }
@@ -62,7 +62,7 @@ IsSoundFeed (lines limits stream) = IsBounded limits
 IsSoundFeed (items limits stream) = IsBounded limits
 IsSoundFeed nothing = ⊤
 
--- what holds of it before the end
+-- what holds of a feed before the end
 abbrev pub StandsIn : Feed → Kept → Type 0
 StandsIn (frames limits stream) kept = Stands limits stream kept
 StandsIn (lines limits stream) kept = StandsLines limits stream kept

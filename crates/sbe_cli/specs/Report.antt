@@ -10,11 +10,11 @@ use Rattle.command_words.specs.Words.{command_of}
 use Rattle.schema_files.specs.declared.files.RefusedFile.{RefusedFile}
 use Rattle.command_words.specs.declared.words.Command.{Command}
 
--- The pieces of the input are answered in order, and then comes their end.
+-- The pieces of the input are answered in order, and then its end is reported.
 abbrev pub JobReport : Job → List ℕ → Outcome → Type 0
 JobReport job input outcome = PiecesReport (answering_of job) input outcome
 
--- nothing is written but a line in the notes
+-- nothing is written except a line of the notes
 abbrev pub only_noted : List ℕ → Status → Outcome
 only_noted line code = record { output = []; notes = line; status = code }
 
@@ -23,7 +23,7 @@ abbrev pub JudgedReport : Result Job RefusedFile → List ℕ → Outcome → Ty
 JudgedReport (Ok job) input outcome = JobReport job input outcome
 JudgedReport (Err file) input outcome = outcome ≡ only_noted (refusal_line file) (refusal_status file.why)
 
--- The report of a command, or of words that are none.
+-- The report of a command, or of words that aren't one.
 abbrev pub CommandReport : Option Command → (List ℕ → Option (List ℕ)) → List ℕ → Outcome → Type 0
 CommandReport None contents input outcome = outcome ≡ only_noted usage_line status.Usage
 CommandReport (Some command) contents input outcome = (judged : Result Job RefusedFile) × Judges command contents judged × JudgedReport judged input outcome

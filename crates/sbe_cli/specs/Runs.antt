@@ -29,12 +29,12 @@ use Rattle.command_words.specs.declared.words.Command.{Command}
 abbrev pub desk : Outside → Desk
 desk outside = record { files = outside.files; loads = outside.loads; notes = outside.streams.sinks.notes }
 
--- the files and the input tell what they hold
+-- the contents of the files and the input are modelled
 pub record Known (old : Outside) (contents : List ℕ → Option (List ℕ)) (input : List ℕ) : Type 0 where
   pub files : old.files.told ≡ Some contents
   pub source : old.streams.input.told ≡ Some input
 
--- it holds of what the files and the input hold, where they tell it
+-- P holds of the contents of the files and of the input, if they are modelled
 abbrev pub WhenKnown : Outside → ((List ℕ → Option (List ℕ)) → List ℕ → Type 0) → Type 0
 WhenKnown old P = (contents : List ℕ → Option (List ℕ)) (input : List ℕ) → Known old contents input → P contents input
 
@@ -42,11 +42,11 @@ WhenKnown old P = (contents : List ℕ → Option (List ℕ)) (input : List ℕ)
 abbrev pub GivesOutput : Outside → Outside → List ℕ → Type 0
 GivesOutput old new bytes = Appends old.streams.sinks.output.told new.streams.sinks.output.told bytes
 
--- a front of these bytes went to the output
+-- a prefix of these bytes went to the output
 abbrev pub GivesOutputPart : Outside → Outside → List ℕ → Type 0
 GivesOutputPart old new bytes = AppendsPart old.streams.sinks.output.told new.streams.sinks.output.told bytes
 
--- a front of these bytes went to the notes
+-- a prefix of these bytes went to the notes
 abbrev pub GivesNotesPart : Outside → Outside → List ℕ → Type 0
 GivesNotesPart old new bytes = AppendsPart old.streams.sinks.notes.told new.streams.sinks.notes.told bytes
 
@@ -54,7 +54,7 @@ GivesNotesPart old new bytes = AppendsPart old.streams.sinks.notes.told new.stre
 abbrev pub GaveInput : Outside → Outside → List ℕ → Type 0
 GaveInput old new taken = Consumes old.streams.input.told new.streams.input.told taken
 
--- nothing of the input is left
+-- nothing is left of the input
 abbrev pub LeavesNothing : Outside → Outside → Type 0
 LeavesNothing old new = (input : List ℕ) → old.streams.input.told ≡ Some input → new.streams.input.told ≡ Some []
 
@@ -95,18 +95,18 @@ pub record AllAnswered (words : List (List ℕ)) (contents : List ℕ → Option
   pub kept : Kept
   pub replies : Replies (answering_of job) none_kept pieces written kept
 
--- the line of an input that failed after so many bytes
+-- the line of an input that failed after these bytes
 abbrev pub read_line : List ℕ → List ℕ
 read_line taken = stop_line (stop.ReadFault (length taken))
 
--- The source gave some bytes and failed. All whole pieces of them are answered, and the fault's line is noted.
+-- The source gave some bytes and failed. All whole pieces of them are answered, and the fault is noted.
 abbrev pub StandsAtRead : List (List ℕ) → Outside → Outside → (List ℕ → Option (List ℕ)) → Type 0
 StandsAtRead words old new contents =
     (taken : List ℕ) × (written : Written) × GaveInput old new taken × AllAnswered words contents taken written
     × Wrote old.streams.sinks new.streams.sinks (record { output = written.output; notes = written.notes ++ read_line taken })
 
--- A write of the answer to the last of these pieces failed. The others' answers are written, and nothing after it was taken, but for what was read
--- ahead of lines.
+-- A write of the answer to the last of these pieces failed. The answers to the others are written, and nothing after
+-- the last was taken, except what was read ahead of lines.
 pub record AtReply (words : List (List ℕ)) (contents : List ℕ → Option (List ℕ)) (input : List ℕ) (old new : Streams) : Type 0 where
   pub job : Job
   pub is_job : IsJob words contents job
@@ -126,7 +126,8 @@ pub record AtReply (words : List (List ℕ)) (contents : List ℕ → Option (Li
   pub whole : Wrote old.sinks mid written
   pub part : Breaks mid new.sinks (written_of reply)
 
--- Where a write failed: at an answer; at the last line of the report, after all answers; at the line of a fault of the input, or of the files.
+-- Where a write failed: at an answer; at the last line of the report, after all answers; at the line of a fault of the
+-- input, or of the files.
 pub data StandsAtWrite (words : List (List ℕ)) (old new : Outside) (contents : List ℕ → Option (List ℕ)) (input : List ℕ) : Type 0 where
   at_reply : AtReply words contents input old.streams new.streams → StandsAtWrite words old new contents input
   at_end : (outcome : Outcome) → Report words contents input outcome → GivesOutput old new outcome.output
@@ -136,29 +137,30 @@ pub data StandsAtWrite (words : List (List ℕ)) (old new : Outside) (contents :
   at_file : (role : FileRole) → NamesLoaded words old new role → new.streams.input ≡ old.streams.input → new.streams.sinks.output ≡ old.streams.sinks.output
       → GivesNotesPart old new (unopened_line (unopened.FileFault role)) → StandsAtWrite words old new contents input
 
--- The files failed at the file of the words that was loaded last: nothing was read or written but the fault's line.
+-- The files failed at the file that was loaded last, which the words name: nothing was read, and only the fault is
+-- noted.
 pub record StandsAtFile (words : List (List ℕ)) (old new : Outside) : Type 0 where
   pub role : FileRole
   pub named : NamesLoaded words old new role
   pub input : new.streams.input ≡ old.streams.input
   pub wrote : Wrote old.streams.sinks new.streams.sinks (record { output = []; notes = unopened_line (unopened.FileFault role) })
 
--- ---- fronts
+-- ---- prefixes
 
--- A line that tells a fault of the files, or of the input after the bytes that it gave. That object failed.
+-- A line that reports a fault of the files, or of the input after the bytes that it gave. That object failed.
 abbrev pub IsFaultLine : List (List ℕ) → Outside → Outside → List ℕ → Type 0
 IsFaultLine words old new line =
     (Failed old.files new.files × ((role : FileRole) × NamesLoaded words old new role × (line ≡ unopened_line (unopened.FileFault role))))
     ⊎ (Failed old.streams.input new.streams.input × ((taken : List ℕ) × GaveInput old new taken × (line ≡ read_line taken)))
 
--- notes grew by a front of these, or by a front of them and a front of such a line
+-- the notes grew by a prefix of these, or by a prefix of them and a prefix of such a line
 abbrev pub NotesPart : List (List ℕ) → Outside → Outside → List ℕ → Type 0
 NotesPart words old new notes =
     GivesNotesPart old new notes
     ⊎ ((front : List ℕ) × (back : List ℕ) × (line : List ℕ) × (notes ≡ front ++ back) × IsFaultLine words old new line
     × GivesNotesPart old new (front ++ line))
 
--- Output and notes grew by fronts of the report's.
+-- Output and notes grew by prefixes of the report's.
 abbrev pub Fronts : List (List ℕ) → Outside → Outside → Type 0
 Fronts words old new =
     (contents : List ℕ → Option (List ℕ)) (input : List ℕ) (outcome : Outcome) → Known old contents input → Report words contents input outcome →
@@ -170,28 +172,29 @@ Fronts words old new =
 abbrev pub HasRead : Status → Type 0
 HasRead code = (code ≡ status.Done) ⊎ (code ≡ status.SomeRefused)
 
--- What the words, and the outside before and after, say of the status.
+-- What the words, and the outside before and after, determine of the status.
 pub record Runs (words : List (List ℕ)) (old new : Outside) (code : Status) : Type 0 where
-  -- nothing outside cut the run short: all is as in the report, no call failed, and nothing is left where all of the input was answered
+  -- nothing outside cut the run short: everything is as in the report, no call failed, and nothing is left if all of
+  -- the input was answered
   pub report : IsReported code → Reports words old new code
   pub calm : IsReported code → (new.files.faults ≡ old.files.faults) × Calm old.streams new.streams
   pub read : reads_input (command_of words) ≡ true → HasRead code → LeavesNothing old new
-  -- a fault is answered only where that object failed
+  -- a fault is answered only if that object failed
   pub file_fault : code ≡ status.FileFault → Failed old.files new.files
   pub read_fault : code ≡ status.ReadFault → Failed old.streams.input new.streams.input
   pub write_fault : code ≡ status.WriteFault → SinkFailed old new
-  -- what is written then
+  -- what is written after a fault
   pub file_stands : code ≡ status.FileFault → StandsAtFile words old new
   pub read_stands : code ≡ status.ReadFault → WhenKnown old (λ contents input. StandsAtRead words old new contents)
   pub write_stands : code ≡ status.WriteFault → WhenKnown old (λ contents input. StandsAtWrite words old new contents input)
   pub fronts : Fronts words old new
-  -- where the words are a command that spares memory, it runs out of memory only before anything was read or written
+  -- if the words are a command that takes no memory, it is out of memory only before anything was read or written
   pub memory : spares_memory (command_of words) ≡ true → code ≡ status.NoMemory → new.streams ≡ old.streams
-  -- the source is as it was where the words are no command that reads it, or the run ended before its items
+  -- the source is as it was if the words aren't a command that reads it, or the run ended before its items
   pub untouched : reads_input (command_of words) ≡ false → new.streams.input ≡ old.streams.input
   pub unread : (IsStepStatus code → ⊥) → new.streams.input ≡ old.streams.input
 
--- What a command promises of the outside before and after it: its pump isn't opened, or it is, and drains.
+-- What a command promises of the outside before and after it: its pump isn't opened, or it is opened and drains.
 abbrev pub CarriesOut : Command → Outside → Outside → Status → Type 0
 CarriesOut command old new code =
     (Declines command (desk old) (desk new) code × (new.streams.input ≡ old.streams.input) × (new.streams.sinks.output ≡ old.streams.sinks.output))

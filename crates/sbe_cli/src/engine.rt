@@ -14,7 +14,7 @@ use command_words::{Command, WordsErr, read_words};
 use sbe_base::{Files, Sink, Source, Status};
 use std::alloc::Global;
 
-/// Runs the command that the words say.
+/// Runs the command that the arguments give.
 pub fn run<F: Files, I: Source, O: Sink, N: Sink>(
     alloc: Global,
     words: &[String],
@@ -37,7 +37,7 @@ pub fn run<F: Files, I: Source, O: Sink, N: Sink>(
     }
 }
 
-/// Opens the command's pump, and lets it run.
+/// Opens the command's pump, and runs it to its end.
 fn carry_out<F: Files, I: Source, O: Sink, N: Sink>(
     alloc: Global,
     command: Command,
@@ -60,7 +60,7 @@ fn carry_out<F: Files, I: Source, O: Sink, N: Sink>(
     }
 }
 
-/// Lets a pump run until it has ended.
+/// Runs a pump until it has ended.
 fn drain<I: Source, O: Sink, N: Sink>(
     pump: &mut Pump,
     input: &mut I,

@@ -66,12 +66,12 @@ impl Model for Pump {
 }
 
 impl Pump {
-    /// Loads and judges the files of a command, and takes all buffers.
+    /// Loads and checks the files of a command, and allocates all buffers.
     ///
     /// # Errors
     ///
-    /// The status that the command ends with: a file is absent or refused, the files or the notes failed, or it ran out of
-    /// memory. Its line is noted.
+    /// The status with which the command ends: a file is absent or refused, loading files or writing notes failed, or
+    /// it ran out of memory. Its line is noted.
     pub fn open<F: Files, N: Sink>(
         alloc: Global,
         command: Command,
@@ -92,8 +92,9 @@ impl Pump {
         }
     }
 
-    /// Answers the next item of the input, or ends. What an item gives is written before a byte after it is asked
-    /// for; lines and items are read ahead inside their buffer. A pump that has ended gives the same answer again, and reads and writes nothing.
+    /// Answers the next item of the input, or ends. The answer to an item is written before a byte after it is asked
+    /// for; lines and items are read ahead within their buffer. A pump that has ended gives the same answer again, and reads and
+    /// writes nothing.
     pub fn step<I: Source, O: Sink, N: Sink>(
         &mut self,
         input: &mut I,
@@ -120,7 +121,7 @@ impl Pump {
 }
 
 impl Work {
-    /// The work of a command, whose files are loaded and judged. Nothing is done yet.
+    /// The work of a command, whose files are loaded and checked. Nothing has been done yet.
     fn open<F: Files>(alloc: Global, command: Command, files: &mut F) -> Result<Work, JobStop>
         requires { HasLimits command }
         ensures kept { (F.state files.new).told ≡ (F.state files.old).told }
@@ -186,7 +187,7 @@ impl Work {
         }
     }
 
-    /// Answers the next item, or answers the status of the run that ends here.
+    /// Answers the next item, or returns the status of the run that ends here.
     #[inline(always)]
     fn answer_next<I: Source, O: Sink, N: Sink>(
         &mut self,

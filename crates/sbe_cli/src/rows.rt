@@ -22,17 +22,17 @@ ghost use Rattle.build_command.specs.Builds.{Building};
 ghost use Rattle.sbe_cli.specs.Rows.{so_far, only_output, two_pieces, ping_line, six_lines, two_way, one_way, other_kind, refused_second, refused_xml};
 ghost use Rattle.sbe_cli.specs.Rows.{usage, absent, absent_old, ends_inside, over_limit, over_line, three_lines};
 
-/// No words are no command.
+/// Without arguments there is no command.
 pub fn no_words()
     ensures { (contents : List ℕ → Option (List ℕ)) (input : List ℕ) → Report [] contents input (only_noted usage status.Usage) }
 {}
 
-/// No file has the name.
+/// No file has this name.
 pub fn no_file()
     ensures { (input : List ℕ) → Report (codes "dump" ∷ codes "ping.json" ∷ []) (λ name. None) input (only_noted absent status.NoFile) }
 {}
 
-/// Two frames of 20 bytes, of which the second isn't little-endian.
+/// Two frames of 20 bytes. The second one isn't little-endian.
 pub fn two_frames()
     ensures { (limits : Limits) → AreInOrder (alone schema7) → Replies (answering_of (Dump (alone schema7) limits)) none_kept two_pieces
         (record { output = ping_line ++ refused_second; notes = [] }) (so_far 2 1 40) }
@@ -58,13 +58,13 @@ pub fn is_no_extension()
     ensures { (input : List ℕ) → JobReport (Compat (record { older = schema7; newer = ping_wide })) input (only_output other_kind status.SomeRefused) }
 {}
 
-/// Neither file of a comparison is there.
+/// Neither file of a comparison exists.
 pub fn no_files()
     ensures { (input : List ℕ) → Report (codes "compat" ∷ codes "a.json" ∷ codes "b.json" ∷ []) (λ name. None) input
         (only_noted absent_old status.NoFile) }
 {}
 
-/// The older file is judged whole before the newer.
+/// The older file is checked as a whole before the newer one.
 pub fn first_refusal()
     ensures older { (why later : FileRefusal) → two_judged (Err why) (Err later) ≡ Err (refused_as role.Old why) }
     ensures newer { (schema : WireSchema) (why : FileRefusal) → two_judged (Ok schema) (Err why) ≡ Err (refused_as role.New why) }

@@ -12,16 +12,16 @@ use schema_files::{FileRole, RefusedFile, put_refusal, put_role, refusal_status}
 /// Why a run ends before its items.
 #[derive(Debug, Drop)]
 pub enum Unopened {
-    /// The words are no command.
+    /// The arguments aren't a command.
     Usage,
     /// The file in this role couldn't be read.
     FileFault(FileRole),
-    /// A file isn't taken.
+    /// A file isn't accepted.
     Refused(RefusedFile),
 }
 
 impl Unopened {
-    /// The status that it ends the run with.
+    /// The status with which it ends the run.
     pub fn status(&self) -> Status
         ensures { result ≡ unopened_status self.now }
     {
@@ -33,7 +33,7 @@ impl Unopened {
     }
 }
 
-/// Notes why the run ends, and answers its status. It takes no memory.
+/// Notes why the run ends, and returns its status. Allocates nothing.
 #[inline(never)]
 pub fn tell<N: Sink>(why: &Unopened, notes: &mut N) -> Status
     ensures { Told (unopened_line why.now) (unopened_status why.now) (N.state notes.old) (N.state notes.new) result }
@@ -44,7 +44,7 @@ pub fn tell<N: Sink>(why: &Unopened, notes: &mut N) -> Status
     }
 }
 
-/// Writes the line that it is noted by.
+/// Writes the line that notes it.
 fn note<N: Sink>(why: &Unopened, notes: &mut N) -> Result<(), WriteFault>
     ensures { Writes (N.state notes.old) (N.state notes.new) (unopened_line why.now) result }
 {
@@ -54,7 +54,7 @@ fn note<N: Sink>(why: &Unopened, notes: &mut N) -> Result<(), WriteFault>
     printer.finish()
 }
 
-/// Prints the line that it is noted by.
+/// Prints the line that notes it.
 fn put_unopened<N: Sink>(printer: &mut Printer<'_, N>, why: &Unopened)
     ensures { Prints N.state printer.old printer.new (unopened_line why.now) }
 {

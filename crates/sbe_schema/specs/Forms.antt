@@ -21,7 +21,7 @@ use Rattle.sbe_schema.specs.declared.element_name.ElementName.TheVariants as ele
 
 -- ---- names
 
--- Within the limit of a name.
+-- The name is within its limit.
 abbrev pub is_short : List ℕ → Bool
 is_short s = nat_le (length s) NAME_LIMIT
 
@@ -29,13 +29,13 @@ is_short s = nat_le (length s) NAME_LIMIT
 abbrev pub name_in : List ℕ → Reading (List ℕ)
 name_in s = if is_name s then (if is_short s then Ok s else refuse Limit) else refuse BadAttribute
 
--- a name; one whose only fault is its length breaks a limit
+-- a name; one that is only too long exceeds a limit
 abbrev pub a_name : Data → Reading (List ℕ)
 a_name d = do
   s ← text d
   name_in s
 
--- The byte between the two names of a valueRef.
+-- The byte is the dot between the two names of a valueRef.
 abbrev pub is_dot : ℕ → Bool
 is_dot c = nat_eq c 46
 
@@ -111,7 +111,7 @@ a_byte_order d = do
 
 -- ---- numbers with limits
 
--- how many primitives an array has
+-- the number of primitives of an array
 abbrev pub a_length : Data → Reading ℕ
 a_length = limited LENGTH_LIMIT
 
@@ -121,7 +121,7 @@ a_place = limited PLACE_LIMIT
 
 -- ---- elements
 
--- the element of a name without prefix
+-- the element with this name, without prefix
 abbrev pub element_of : List ℕ → ElementName
 element_of name =
     if bytes_eq name (codes "messageSchema") then element.MessageSchema

@@ -1,4 +1,4 @@
--- The elements of messages (SBE 1.0, "Message schema: message"), judged in the same order as types.
+-- The elements of messages (SBE 1.0, "Message schema: message"), checked in the same order as types.
 use Rattle.std.specs.Prelude.{ℕ, List, [], codes, Ok}
 use Rattle.serde_json.specs.Data.{Data}
 use Rattle.json_elements.specs.declared.refusal.Cause.TheVariants.{Shape}
@@ -35,7 +35,7 @@ field_from d = do
 
 -- ---- data: name, id, type, sinceVersion (0); no children
 
--- A data.
+-- A data part.
 abbrev pub data_from : Data → Reading DataEl
 data_from d = do
   children ← content d
@@ -49,7 +49,7 @@ data_from d = do
 -- ---- group: name, id, dimensionType (groupSizeEncoding), sinceVersion (0); blockLength may be missing;
 -- field, group, data
 
--- a group, whose parts are read as this
+-- a group, with what is read of its parts
 abbrev pub group_from : Data → Reading (List PartItem) → Reading GroupEl
 group_from d read = do
   children ← content d
@@ -69,7 +69,7 @@ group_from d read = do
     children = parts;
   }))
 
--- a part of that name, whose own parts are read as this
+-- a part with this name, with what is read of its own parts
 abbrev pub part_child : ElementName → Data → Reading (List PartItem) → Reading PartItem
 part_child element.Field d read = inside (codes "field") (field_from d) >>= (λ x. Ok (part.Field x))
 part_child element.Group d read = inside (codes "group") (group_from d read) >>= (λ x. Ok (part.Group x))
@@ -80,7 +80,7 @@ part_child _ d read = refuse Shape
 abbrev pub by_part : List ℕ → Data → Reading (List PartItem) → Reading PartItem
 by_part name = part_child (element_of name)
 
--- A part of a level, with all that is inside it.
+-- A part of a level, with everything inside it.
 abbrev pub part_of : Data → Reading PartItem
 part_of = tree by_part
 

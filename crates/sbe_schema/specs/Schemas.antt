@@ -38,7 +38,7 @@ types_child _ d = refuse Shape
 abbrev pub declared : Data → Reading TypesItem
 declared = named (λ name. types_child (element_of name))
 
--- a types element, where so many types more may be declared
+-- a types element, where at most `room` more types may be declared
 abbrev pub types_from : ℕ → Data → Reading TypesEl
 types_from room d = do
   children ← content d
@@ -49,13 +49,13 @@ types_from room d = do
 -- ---- messageSchema: id, version (0), package (empty), byteOrder (littleEndian), headerType (messageHeader);
 -- types, message
 
--- a child of that name, where so many types more may be declared
+-- a child with this name, where at most `room` more types may be declared
 abbrev pub schema_child : ℕ → ElementName → Data → Reading SchemaItem
 schema_child room element.Types d = inside (codes "types") (types_from room d) >>= (λ x. Ok (part.Types x))
 schema_child room element.Message d = inside (codes "message") (message_from d) >>= (λ x. Ok (part.Message x))
 schema_child room _ d = refuse Shape
 
--- A child of messageSchema, where so many more types may be declared.
+-- A child of messageSchema, where at most `room` more types may be declared.
 abbrev pub outer_part : ℕ → Data → Reading SchemaItem
 outer_part room = named (λ name. schema_child room (element_of name))
 
@@ -64,7 +64,7 @@ abbrev pub declares : SchemaItem → ℕ
 declares (part.Types types) = length types.children
 declares (part.Message message) = 0
 
--- the children from position i on, where so many types more may be declared
+-- the children from index i on, where at most `room` more types may be declared
 abbrev pub outer_parts : ℕ → ℕ → Items → Reading (List SchemaItem)
 outer_parts room i no_items = Ok []
 outer_parts room i (item d ds) = do
@@ -77,7 +77,7 @@ abbrev pub one_if_message : ElementName → ℕ
 one_if_message element.Message = 1
 one_if_message _ = 0
 
--- The same for an element, if it is one.
+-- 1 for a message element, and 0 for anything else.
 abbrev pub message_count_in : Option (List ℕ × Data) → ℕ
 message_count_in None = 0
 message_count_in (Some p) = one_if_message (element_of p.0)
@@ -113,7 +113,7 @@ schema_of bytes = do
   d ← value_of bytes
   named (λ name. root (element_of name)) d
 
--- what was answered is what is read, unless memory ran out
+-- the answer is what is read, unless it is out of memory
 abbrev pub Answers : Result Schema SchemaErr → Reading Schema → Type 0
 Answers (Ok schema) read = read ≡ Ok schema
 Answers (Err Memory) read = ⊤

@@ -1,5 +1,5 @@
--- The elements that declare types (SBE 1.0, "Message schema: types"). Each is judged in this order: its
--- shape, its attributes in the order of the table, how many children it has, and its children.
+-- The elements that declare types (SBE 1.0, "Message schema: types"). Each is checked in this order: its shape, its
+-- attributes in the order of the table, the number of its children, and its children.
 use Rattle.std.specs.Prelude.{ℕ, List, codes, Option, None, Ok}
 use Rattle.serde_json.specs.Data.{Data}
 use Rattle.json_elements.specs.declared.refusal.Cause.TheVariants.{Shape}
@@ -23,7 +23,7 @@ use Rattle.sbe_schema.specs.declared.types.Standing.TheVariants.{Declared, Membe
 use Rattle.sbe_types.specs.declared.limits.TheConstants.{MEMBER_LIMIT, VALUE_LIMIT}
 use Rattle.sbe_schema.specs.Forms.{a_name, a_value_ref, a_primitive, a_presence, a_length, a_place, element_of}
 
--- ---- what a member of a composite has besides
+-- ---- what a member of a composite has in addition
 
 -- offset: may be missing
 abbrev pub offset_from : Standing → Data → Reading (Option ℕ)
@@ -148,7 +148,7 @@ set_from standing d = do
 
 -- ---- composite: name; type, enum, set, composite, ref
 
--- a composite, whose members are read as this
+-- a composite, with what is read of its members
 abbrev pub composite_from : Standing → Data → Reading (List MemberItem) → Reading CompositeEl
 composite_from standing d read = do
   children ← content d
@@ -159,7 +159,7 @@ composite_from standing d read = do
   members ← read
   Ok (roll-CompositeEl (record { name = name; offset = offset; since_version = since_version; children = members }))
 
--- a member of that name, whose own members are read as this
+-- a member with this name, with what is read of its own members
 abbrev pub composite_child : ElementName → Data → Reading (List MemberItem) → Reading MemberItem
 composite_child element.Type d read = inside (codes "type") (type_from Member d) >>= (λ x. Ok (member.Type x))
 composite_child element.Enum d read = inside (codes "enum") (enum_from Member d) >>= (λ x. Ok (member.Enum x))
@@ -172,6 +172,6 @@ composite_child _ d read = refuse Shape
 abbrev pub by_member : List ℕ → Data → Reading (List MemberItem) → Reading MemberItem
 by_member name = composite_child (element_of name)
 
--- A member of a composite, with all that is inside it.
+-- A member of a composite, with everything inside it.
 abbrev pub member_of : Data → Reading MemberItem
 member_of = tree by_member

@@ -1,7 +1,7 @@
 ghost use Rattle.std.specs.Prelude.{◌≡◌};
 ghost use Rattle.sbe_schema.specs.Forms.{element_of};
 
-/// What an element is called.
+/// The name of an element.
 #[derive(Clone, Copy, Debug, PartialEq, Eq)]
 pub enum ElementName {
     MessageSchema,
@@ -17,12 +17,12 @@ pub enum ElementName {
     Field,
     Group,
     Data,
-    /// No element of a schema.
+    /// Not an element of a schema.
     Other,
 }
 
 impl ElementName {
-    /// The element of a name without its prefix.
+    /// The element with this name, which has no prefix.
     pub fn of(name: &str) -> ElementName
         ensures { result ≡ element_of name.now }
     {

@@ -157,7 +157,7 @@ impl Form for OrderWord {
     }
 }
 
-/// How many primitives an array has.
+/// The number of primitives in an array.
 pub enum ArrayLength {}
 
 impl Form for ArrayLength {

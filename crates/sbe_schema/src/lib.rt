@@ -1,5 +1,5 @@
-//! Schema files: reads a file, the elements and attributes of SBE 1.0 as JSON, into a tree, or
-//! names the first fault with its place.
+//! Schema files: reads a file, which holds the elements and attributes of SBE 1.0 as JSON, into a tree, or reports the
+//! first fault with its place.
 #![tactic(auto)]
 
 mod element_name;

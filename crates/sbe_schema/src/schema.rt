@@ -22,8 +22,8 @@ use lists::{List, Text};
 use sbe_types::{MESSAGE_LIMIT, Order, Schema, SchemaItem, TYPE_LIMIT, TypesEl, TypesItem};
 use std::alloc::Global;
 
-/// The tree of a schema file, or the first refusal with its place, as a JSON pointer. What a file
-/// may hold is told in docs/profile.md under "Schema files".
+/// The tree of a schema file, or the first refusal with its place as a JSON pointer. docs/profile.md describes under
+/// "Schema files" what a file may contain.
 #[tactic(auto, using(crate::proofs::SchemaInForm::file_yields))]
 pub fn read_schema(alloc: Global, bytes: &[u8]) -> Result<Schema, SchemaErr>
     ensures reads { Answers result (schema_of bytes.now) }
@@ -186,7 +186,7 @@ fn read_named_outer(
     }
 }
 
-/// A `types` element, where `room` types more may be declared.
+/// A `types` element, in which at most `room` more types may be declared.
 fn read_types(alloc: Global, room: usize, element: &Json<'_>) -> Result<TypesEl, ElementErr>
     ensures { Gives result (types_from room (data_of element.now)) }
 {

@@ -18,7 +18,7 @@ use sbe_types::{
 };
 use std::alloc::Global;
 
-/// Where a type stands.
+/// Where a type occurs.
 #[derive(Clone, Copy, Debug, PartialEq, Eq)]
 pub enum Standing {
     /// In a `types` element.

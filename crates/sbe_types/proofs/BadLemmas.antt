@@ -39,7 +39,7 @@ text_from leaf n [] = None
 text_from leaf n (x ∷ b) =
     if x == 0 then None else (if admits leaf (pos x) then text_from leaf (n + 1) b else bad_byte n x)
 
--- the same behind n bytes
+-- the same after n bytes
 abbrev stopped_from : LeafOf → ℕ → List ℕ → Option LeafFault
 stopped_from leaf n b = let text = take_while (is_text_byte leaf) b in stopped_at (n + length text) (drop (length text) b)
 

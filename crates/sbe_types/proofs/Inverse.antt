@@ -69,7 +69,7 @@ has_told : (order : Order) (k : ℕ) (o : Option ℕ) (bytes : List ℕ) → has
 has_told order k None bytes h = cc
 has_told order k (Some m) bytes h = (m, refl, cc)
 
--- the unsigned number behind a primitive's bytes
+-- the unsigned number after a primitive's bytes
 behind : (order : Order) (p : Primitive) (n : ℤ) (bytes : List ℕ) → bytes_of order p n ≡ Some bytes →
     (m : ℕ) × (bytes ≡ digits_in order (prim_width p) m) × (m < 256 ^ prim_width p) × (signed_if (is_signed p) (256 ^ prim_width p) m ≡ n)
 behind order p n bytes h =

@@ -20,7 +20,7 @@ pub passes : (p : ℕ → Bool) (b : List ℕ) → list_all p (take_while p b) �
 passes p [] = refl
 passes p (x ∷ xs) = passes_at p x xs (p x) refl (passes p xs)
 
--- the first element behind the front, if there is one, fails
+-- the first element after the front, if there is one, fails
 abbrev pub Stops : (ℕ → Bool) → List ℕ → Type 0
 Stops p [] = Unit {0}
 Stops p (x ∷ xs) = p x ≡ false

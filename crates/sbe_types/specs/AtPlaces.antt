@@ -1,4 +1,4 @@
--- The members of a composite, each by its number. From SBE 1.0, Field encoding.
+-- The members of a composite by number. From SBE 1.0, Field encoding.
 use Rattle.std.specs.Prelude.{◌≡◌, ℕ, Bool, Option, Some, None, List, length, slice_get}
 use Rattle.sbe_types.specs.declared.kind.Order.{Order}
 use Rattle.sbe_types.specs.declared.kind.Kind.{Kind, Leaf, Enum, Set, Const, Comp', items-the_row-Member}
@@ -16,14 +16,14 @@ members_of (Set p names) = None
 members_of (Const c) = None
 members_of (Comp' n members) = Some (items-the_row-Member _ members)
 
--- as many values as members, and each member's value is shown by the bytes at its place
+-- there are as many values as members, and the bytes at each member's offset show its value
 abbrev pub EachMemberShows : Order → Bool → List Member → List Value → List ℕ → Type 0
 EachMemberShows order known members values b =
     (length values ≡ length members)
     × ((i : ℕ) (m : Member) (v : Value) → slice_get members i ≡ Some m → slice_get values i ≡ Some v
     → Shows order known m.kind v (bytes_at (member_place 0 members i) (width m.kind) b))
 
--- the bytes are as many as the members end at, and each member shows its value
+-- the bytes end where the members do, and each member shows its value
 abbrev pub ShowsMembers : Order → Bool → List Member → Value → List ℕ → Type 0
 ShowsMembers order known members v b =
     (length b ≡ members_end 0 members) × ((values : List Value) × (v ≡ value.Comp values) × EachMemberShows order known members values b)

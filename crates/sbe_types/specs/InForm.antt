@@ -1,5 +1,5 @@
--- What the tree of a schema is like, whoever read it: its names have their form, and its numbers and lists keep their
--- limits. From SBE 1.0, "Message schema"; the limits are own profile.
+-- What holds of the tree of a schema, whoever read it: its names have their form, and its numbers and lists are within
+-- their limits. From SBE 1.0, "Message schema"; the limits are own profile.
 use Rattle.std.specs.Prelude.{◌≡◌, ℕ, suc, ◌&&◌, ◌||◌, ◌==◌, ◌≤◌, nat_le, nat_lt, Bool, true, List, length, slice_index, Option, Some, None, ⊤}
 use Rattle.std.specs.List.{AllByRecursion, list_all}
 use Rattle.sbe_types.specs.declared.limits.TheConstants.{NAME_LIMIT, LENGTH_LIMIT, PLACE_LIMIT, MEMBER_LIMIT, VALUE_LIMIT, PART_LIMIT}
@@ -22,11 +22,11 @@ use Rattle.sbe_types.specs.declared.tree.Schema.{Schema}
 
 -- ---- names and numbers
 
--- A byte that a name may begin with: an ASCII letter or `_`.
+-- A byte with which a name may begin: an ASCII letter or `_`.
 abbrev pub is_letter : ℕ → Bool
 is_letter c = (nat_le 65 c && nat_le c 90) || (nat_le 97 c && nat_le c 122) || (c == 95)
 
--- A byte that a name may go on with: an ASCII letter, a digit or `_`.
+-- A byte that may follow in a name: an ASCII letter, a digit or `_`.
 abbrev pub is_name_byte : ℕ → Bool
 is_name_byte c = is_letter c || (nat_le 48 c && nat_le c 57)
 
@@ -39,7 +39,7 @@ pub record IsName (name : List ℕ) : Type 0 where
   pub form : is_name name ≡ true
   pub short : length name ≤ NAME_LIMIT
 
--- An offset or a length of a block, if it is stated, keeps its limit.
+-- An offset or a block length, if it is stated, is within its limit.
 abbrev pub IsWithin : Option ℕ → Type 0
 IsWithin None = ⊤
 IsWithin (Some place) = place ≤ PLACE_LIMIT
@@ -70,13 +70,13 @@ pub record IsRefInForm (r : RefEl) : Type 0 where
   pub name : IsName r.name
   pub place : IsWithin r.offset
 
--- How many members there are.
+-- The number of members.
 abbrev pub count_members : {n : _} → Row_of-MemberItem n → ℕ
 count_members end_of-MemberItem = 0
 count_members (more_of-MemberItem m rest) = suc (count_members rest)
 
 abbrev mutual
-  -- A member of a composite, with those inside it.
+  -- A member of a composite, and those inside it.
   pub IsMemberInForm : MemberItem → Type 0
   IsMemberInForm (member.Type t) = IsTypeInForm t
   IsMemberInForm (member.Enum e) = IsEnumInForm e
@@ -84,7 +84,7 @@ abbrev mutual
   IsMemberInForm (member.Ref r) = IsRefInForm r
   IsMemberInForm (member.Composite' name offset since n row) = IsName name × IsWithin offset × (count_members row ≤ MEMBER_LIMIT) × AreMembersInForm row
 
-  -- Members of a composite, one after another.
+  -- The members of a composite.
   pub AreMembersInForm : {n : _} → Row_of-MemberItem n → Type 0
   AreMembersInForm end_of-MemberItem = ⊤
   AreMembersInForm (more_of-MemberItem m rest) = IsMemberInForm m × AreMembersInForm rest
@@ -109,19 +109,19 @@ pub record IsFieldInForm (f : FieldEl) : Type 0 where
   pub name : IsName f.name
   pub place : IsWithin f.offset
 
--- How many parts there are.
+-- The number of parts.
 abbrev pub count_parts : {n : _} → Row_of-PartItem n → ℕ
 count_parts end_of-PartItem = 0
 count_parts (more_of-PartItem p rest) = suc (count_parts rest)
 
 abbrev mutual
-  -- A part of a level, with those inside it.
+  -- A part of a level, and those inside it.
   pub IsPartInForm : PartItem → Type 0
   IsPartInForm (part.Field f) = IsFieldInForm f
   IsPartInForm (part.Data d) = IsName d.name
   IsPartInForm (part.Group' name id dimension since block n row) = IsName name × IsWithin block × (count_parts row ≤ PART_LIMIT) × ArePartsInForm row
 
-  -- Parts of a level, one after another.
+  -- The parts of a level.
   pub ArePartsInForm : {n : _} → Row_of-PartItem n → Type 0
   ArePartsInForm end_of-PartItem = ⊤
   ArePartsInForm (more_of-PartItem p rest) = IsPartInForm p × ArePartsInForm rest
@@ -140,6 +140,6 @@ abbrev pub IsChildInForm : SchemaItem → Type 0
 IsChildInForm (child.Types el) = AllByRecursion IsDeclaredInForm el.children
 IsChildInForm (child.Message m) = IsMessageInForm m
 
--- A schema of which all declared types and messages are in form.
+-- A schema whose declared types and messages are all in form.
 abbrev pub IsInForm : Schema → Type 0
 IsInForm schema = AllByRecursion IsChildInForm schema.children

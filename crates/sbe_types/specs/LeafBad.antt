@@ -1,4 +1,4 @@
--- Where the bytes of a leaf first show nothing. From SBE 1.0, Field encoding.
+-- The first part of a leaf's bytes that shows no value. From SBE 1.0, Field encoding.
 use Rattle.std.specs.Prelude.{ℕ, zero, suc, ◌==◌, Bool, true, false, if◌then◌else◌, Option, Some, None, List, [], ◌∷◌, length, take, drop, take_while, ℤ, pos}
 use Rattle.std.specs.Option.{option_or}
 use Rattle.sbe_types.specs.declared.kind.Order.{Order}
@@ -12,24 +12,24 @@ use Rattle.sbe_types.specs.Numbers.{number_of, prim_width}
 use Rattle.sbe_types.specs.Shown.{shown, shown_element}
 use Rattle.sbe_types.specs.Shows.{is_text_byte}
 
--- the fault of a number at a place, where it shows nothing
+-- the fault of the number at index `at`, if it shows no value
 abbrev pub unshown : {X : Type 0} → ℕ → ℤ → Option X → Option LeafFault
 unshown at n (Some x) = None
 unshown at n None = Some (record { cause = Range; at = at; number = n })
 
--- the first of n elements, counted from i, that shows nothing
+-- the fault of the first of n elements, counted from i, that shows no value
 abbrev pub elements_bad : Order → LeafOf → ℕ → ℕ → List ℕ → Option LeafFault
 elements_bad order leaf i zero b = None
 elements_bad order leaf i (suc n) b =
     let number = number_of order leaf.prim (take (prim_width leaf.prim) b) in
     option_or (unshown i number (shown_element leaf number)) (elements_bad order leaf (suc i) n (drop (prim_width leaf.prim) b))
 
--- the byte behind n good bytes of a text, if there is one and it is no 00
+-- the byte after n good bytes of a text, if there is one and it isn't a 00
 abbrev pub stopped_at : ℕ → List ℕ → Option LeafFault
 stopped_at n [] = None
 stopped_at n (b ∷ after) = if b == 0 then None else Some (record { cause = TextByte; at = n; number = pos b })
 
--- the first byte before the first 00 that may not stand in the text
+-- the first byte before the first 00 that the text may not contain
 abbrev pub text_bad : LeafOf → List ℕ → Option LeafFault
 text_bad leaf b = let text = take_while (is_text_byte leaf) b in stopped_at (length text) (drop (length text) b)
 
@@ -41,11 +41,11 @@ shape_bad order EncodedText leaf b = text_bad leaf b
 shape_bad order Octets leaf b = elements_bad order leaf 0 leaf.length b
 shape_bad order Numbers leaf b = elements_bad order leaf 0 leaf.length b
 
--- the first element or byte of a leaf's bytes that shows nothing; none where they show a value
+-- the first element or byte of a leaf's bytes that shows no value; none if they show a value
 abbrev pub leaf_bad : Order → LeafOf → List ℕ → Option LeafFault
 leaf_bad order leaf b = shape_bad order leaf.shape leaf b
 
--- what a yes or no tells, with the fault that was left
+-- the result that `true` or `false` and the fault slot encode
 abbrev pub told : Bool → LeafFault → Option LeafFault
 told true fault = None
 told false fault = Some fault

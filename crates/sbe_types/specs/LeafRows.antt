@@ -15,7 +15,7 @@ four = record { prim = Char; length = 4; shape = RangedText; presence = Required
 abbrev pub two : LeafOf
 two = record { prim = U16; length = 2; shape = Numbers; presence = Required; null = pos 65535; low = pos 0; high = pos 1000 }
 
--- a text with a byte behind its end
+-- a text with a byte after its end
 abbrev pub ended_bytes : List ℕ
 ended_bytes = 65 ∷ 0 ∷ 255 ∷ 1 ∷ []
 

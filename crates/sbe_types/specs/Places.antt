@@ -1,4 +1,4 @@
--- Widths, and the places of parts in a block or composite. Constants take no bytes and are passed over. From SBE 1.0,
+-- Widths, and the offsets of parts in a block or composite. Constants take no bytes and are skipped. From SBE 1.0,
 -- Message structure, and for widths Field encoding.
 use Rattle.std.specs.Prelude.{ℕ, zero, suc, ◌+◌, ◌*◌, Bool, true, false, if◌then◌else◌, Option, Some, None, unwrap_or, List, [], ◌∷◌, take, drop}
 use Rattle.sbe_types.specs.declared.kind.Kind.{Kind, Leaf, Enum, Set, Const, Comp', Row_of-Member, end_of-Member, more_of-Member}
@@ -14,7 +14,7 @@ is_const (Enum l names) = false
 is_const (Set p names) = false
 is_const (Comp' n members) = false
 
--- where a part begins when the parts before it end at e: at its stated offset, or right there
+-- the offset of a part after parts that end at e: its stated offset, or e
 abbrev pub begin_of : ℕ → Option ℕ → ℕ
 begin_of e offset = unwrap_or offset e
 
@@ -32,37 +32,37 @@ abbrev mutual
   row_end e end_of-Member = e
   row_end e (more_of-Member name offset kind rest) = row_end (if is_const kind then e else begin_of e offset + width kind) rest
 
--- the end of the parts so far when one more is added
+-- the end of the parts when one more is added
 abbrev pub end_past : ℕ → Option ℕ → Kind → ℕ
 end_past e offset kind = if is_const kind then e else begin_of e offset + width kind
 
--- the end of a list of members behind members that end at e
+-- the end of a list of members after members that end at e
 abbrev pub members_end : ℕ → List Member → ℕ
 members_end e [] = e
 members_end e (m ∷ ms) = members_end (end_past e m.offset m.kind) ms
 
--- the end of fields behind fields that end at e
+-- the end of fields after fields that end at e
 abbrev pub fields_end : ℕ → List Field → ℕ
 fields_end e [] = e
 fields_end e (f ∷ fs) = fields_end (end_past e f.offset f.kind) fs
 
--- the place of a part behind parts that end at e; a constant has none
+-- the offset of a part after parts that end at e; a constant has none
 abbrev pub place_of : ℕ → Option ℕ → Kind → Option ℕ
 place_of e offset kind = if is_const kind then None else Some (begin_of e offset)
 
--- the place of a composite's member i, where the members before the first end at e
+-- the offset of a composite's member i, where the members before the first end at e
 abbrev pub member_place : ℕ → List Member → ℕ → Option ℕ
 member_place e [] i = None
 member_place e (m ∷ ms) zero = place_of e m.offset m.kind
 member_place e (m ∷ ms) (suc i) = member_place (end_past e m.offset m.kind) ms i
 
--- the place of a level's field i, where the fields before the first end at e
+-- the offset of a level's field i, where the fields before the first end at e
 abbrev pub field_place : ℕ → List Field → ℕ → Option ℕ
 field_place e [] i = None
 field_place e (f ∷ fs) zero = place_of e f.offset f.kind
 field_place e (f ∷ fs) (suc i) = field_place (end_past e f.offset f.kind) fs i
 
--- the n bytes at a place; without a place there are none
+-- the n bytes at an offset; none without an offset
 abbrev pub bytes_at : Option ℕ → ℕ → List ℕ → List ℕ
 bytes_at None n b = []
 bytes_at (Some place) n b = take n (drop place b)

@@ -23,7 +23,7 @@ is_optional Optional = true
 is_optional Required = false
 is_optional Constant = false
 
--- the leaf is an array of uint8 without a stated range
+-- the leaf is an array of uint8 without a stated range: its bytes are octets
 abbrev pub is_octets : LeafShape → Bool
 is_octets Octets = true
 is_octets Number = false
@@ -31,11 +31,11 @@ is_octets RangedText = false
 is_octets EncodedText = false
 is_octets Numbers = false
 
--- the number lies in the leaf's range
+-- the number is within the leaf's range
 abbrev pub admits : LeafOf → ℤ → Bool
 admits leaf n = int_le leaf.low n && int_le n leaf.high
 
--- the leaf is optional and no octets, and the number is its null
+-- the leaf is optional and not octets, and the number is its null
 abbrev pub is_null : LeafOf → ℤ → Bool
 is_null leaf n = (is_optional leaf.presence && not (is_octets leaf.shape)) && int_eq n leaf.null
 
@@ -43,7 +43,7 @@ is_null leaf n = (is_optional leaf.presence && not (is_octets leaf.shape)) && in
 abbrev pub shown_element : LeafOf → ℤ → Option Elem
 shown_element leaf n = if is_null leaf n then Some elem.Null else (if admits leaf n then Some (elem.Num n) else None)
 
--- the value of a single number: null, also where the null lies in the range, or a number in the range
+-- the value of a single number: null, even where the null is within the range, or a number in the range
 abbrev pub shown_number : LeafOf → ℤ → Option Value
 shown_number leaf n = if is_null leaf n then Some value.Null else (if admits leaf n then Some (value.Num n) else None)
 
@@ -56,16 +56,16 @@ abbrev pub shown_enum : LeafOf → List Named → Bool → ℤ → Option Value
 shown_enum leaf names known n =
     if is_null leaf n then Some value.Null else (if is_listed names n || not known then Some (value.Enum n) else None)
 
--- of the bits below k, each that n has is listed
+-- each bit below k that n has set is listed
 abbrev pub has_listed_bits : List Named → ℕ → ℕ → Bool
 has_listed_bits names zero n = true
 has_listed_bits names (suc k) n = has_listed_bits names k n && (bit_at n k == 0 || is_listed names (pos k))
 
--- a set whose bits are listed, or any set in a message of a later version than the schema's; no set is null
+-- a set whose bits are listed, or any set in a message of a later version than the schema's; a set is never null
 abbrev pub shown_set : List Named → Bool → ℕ → Option Value
 shown_set names known n = if has_listed_bits names 64 n || not known then Some (value.Set n) else None
 
--- the value that one number shows, or none
+-- the value that one number shows, if it shows one
 abbrev pub shown : Kind → Bool → ℤ → Option Value
 shown (Leaf l) known n = shown_number l n
 shown (Enum l names) known n = shown_enum l names known n

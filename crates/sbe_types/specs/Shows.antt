@@ -1,6 +1,6 @@
--- Which value the bytes of a kind show. From SBE 1.0, Field encoding. Own profile: any byte may stand in a text with a
--- character encoding, what stands behind the first 00 of a text is anything, an empty text may be null, and an array is
--- judged element by element.
+-- Which value the bytes of a kind show. From SBE 1.0, Field encoding. Own profile: a text with a character encoding may
+-- have any byte, what follows the first 00 of a text is arbitrary, an empty text may be null, and an array is checked
+-- element by element.
 use Rattle.std.specs.Prelude.{◌≡◌, ◌≤◌, ℕ, ◌+◌, Bool, true, false, not, ◌&&◌, ◌==◌, if◌then◌else◌, Some, List, [], ◌∷◌, ◌++◌, length, take, drop, IsTrue, pos, ⊤}
 use Rattle.std.specs.List.{list_all}
 use Rattle.sbe_types.specs.declared.kind.Order.{Order}
@@ -20,7 +20,7 @@ abbrev pub is_empty : List ℕ → Bool
 is_empty [] = true
 is_empty (b ∷ bs) = false
 
--- the leaf is a text without a character encoding, whose bytes lie in its range
+-- the leaf is a text without a character encoding, whose bytes are within its range
 abbrev pub is_ranged : LeafShape → Bool
 is_ranged RangedText = true
 is_ranged Number = false
@@ -28,25 +28,25 @@ is_ranged EncodedText = false
 is_ranged Octets = false
 is_ranged Numbers = false
 
--- a byte that may stand in a text: not 00, and in the range where there is no character encoding
+-- a byte that a text may contain: not 00, and within the range if there is no character encoding
 abbrev pub is_text_byte : LeafOf → ℕ → Bool
 is_text_byte leaf b = not (b == 0) && (if is_ranged leaf.shape then admits leaf (pos b) else true)
 
--- what may stand behind a text: nothing, or a 00 and anything
+-- what may follow a text: nothing, or a 00 and anything
 abbrev pub EndsText : List ℕ → Type 0
 EndsText [] = ⊤
 EndsText (b ∷ bs) = b ≡ 0
 
--- the value of a text: null where it is empty and the leaf optional
+-- the value of a text: null if it is empty and the leaf is optional
 abbrev pub text_value : LeafOf → List ℕ → Value
 text_value leaf text = if is_optional leaf.presence && is_empty text then value.Null else value.Text text
 
--- a text of good bytes, and what may stand behind it
+-- a text of good bytes, and what may follow it
 abbrev pub ShowsText : LeafOf → Value → List ℕ → Type 0
 ShowsText leaf v b =
     (text : List ℕ) × (after : List ℕ) × (b ≡ text ++ after) × EndsText after × IsTrue (list_all (is_text_byte leaf) text) × (v ≡ text_value leaf text)
 
--- the elements of an array, in order, and nothing behind them
+-- the elements of an array, in order, and nothing after them
 abbrev pub ShowsElements : Order → LeafOf → List Elem → List ℕ → Type 0
 ShowsElements order leaf [] b = b ≡ []
 ShowsElements order leaf (e ∷ es) b =
@@ -74,7 +74,7 @@ abbrev mutual
   Shows order known (Const c) v b = (b ≡ []) × (v ≡ value.Const)
   Shows order known (Comp' n members) v b = (length b ≡ width (Comp' n members)) × ((vs : List Value) × (v ≡ value.Comp vs) × MembersShow order known 0 members vs b)
 
-  -- each member's value is shown by the bytes at its place
+  -- the bytes at each member's offset show its value
   pub MembersShow : Order → Bool → ℕ → {n : _} → Row_of-Member n → List Value → List ℕ → Type 0
   MembersShow order known e end_of-Member [] b = ⊤
   MembersShow order known e end_of-Member (v ∷ vs) b = ⊥

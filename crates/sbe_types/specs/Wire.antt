@@ -1,5 +1,5 @@
--- The bytes of a value, and which values fit their kind. From SBE 1.0, Field encoding. Own profile: the zeros behind a text
--- and between members.
+-- The bytes of a value, and which values fit their kind. From SBE 1.0, Field encoding. Own profile: the zeros after a
+-- text and between members.
 use Rattle.std.specs.Prelude.{◌≡◌, ℕ, ◌+◌, ◌-◌, true, ◌==◌, if◌then◌else◌, Option, Some, None, List, [], ◌∷◌, ◌++◌, length, replicate, pos}
 use Rattle.sbe_types.specs.declared.kind.Order.{Order}
 use Rattle.sbe_types.specs.declared.kind.LeafShape.{LeafShape}
@@ -15,27 +15,27 @@ use Rattle.sbe_types.specs.Numbers.{bytes_of}
 use Rattle.sbe_types.specs.Places.{width, is_const, begin_of}
 use Rattle.sbe_types.specs.Shows.{Shows}
 
--- two pieces of bytes, one after another, where both are there
+-- two byte strings concatenated, if both are there
 abbrev pub both : Option (List ℕ) → Option (List ℕ) → Option (List ℕ)
 both None y = None
 both (Some x) None = None
 both (Some x) (Some y) = Some (x ++ y)
 
--- the text, and zeros up to the width
+-- the text, padded with zeros to the width
 abbrev pub padded : ℕ → List ℕ → List ℕ
 padded n text = text ++ replicate (n - length text) 0
 
--- the bytes of an element; null has the bytes of the null
+-- the bytes of an element; null has the bytes of the leaf's null
 abbrev pub element_bytes : Order → LeafOf → Elem → Option (List ℕ)
 element_bytes order leaf (elem.Num n) = bytes_of order leaf.prim n
 element_bytes order leaf elem.Null = bytes_of order leaf.prim leaf.null
 
--- the bytes of elements, one after another, where each has some
+-- the bytes of elements, concatenated, if each has bytes
 abbrev pub elements_bytes : Order → LeafOf → List Elem → Option (List ℕ)
 elements_bytes order leaf [] = Some []
 elements_bytes order leaf (e ∷ es) = both (element_bytes order leaf e) (elements_bytes order leaf es)
 
--- the bytes of a single number; null has the bytes of the null
+-- the bytes of a single number; null has the bytes of the leaf's null
 abbrev pub number_bytes : Order → LeafOf → Value → Option (List ℕ)
 number_bytes order leaf (value.Num n) = bytes_of order leaf.prim n
 number_bytes order leaf value.Null = bytes_of order leaf.prim leaf.null
@@ -47,7 +47,7 @@ number_bytes order leaf (value.Comp' n row) = None
 number_bytes order leaf value.Const = None
 number_bytes order leaf value.Absent = None
 
--- the text with 00 up to the end of its array; null is all 00
+-- the text, padded with 00 to the end of its array; null is all 00
 abbrev pub text_bytes : LeafOf → Value → Option (List ℕ)
 text_bytes leaf (value.Text text) = Some (padded (width (Leaf leaf)) text)
 text_bytes leaf value.Null = Some (padded (width (Leaf leaf)) [])
@@ -59,7 +59,7 @@ text_bytes leaf (value.Comp' n row) = None
 text_bytes leaf value.Const = None
 text_bytes leaf value.Absent = None
 
--- the bytes of the elements, where there are as many as the array is long
+-- the bytes of the elements, if there are as many as the array is long
 abbrev pub array_bytes : Order → LeafOf → Value → Option (List ℕ)
 array_bytes order leaf (value.Nums elements) = if length elements == leaf.length then elements_bytes order leaf elements else None
 array_bytes order leaf (value.Num n) = None
@@ -79,7 +79,7 @@ leaf_bytes order EncodedText leaf v = text_bytes leaf v
 leaf_bytes order Octets leaf v = array_bytes order leaf v
 leaf_bytes order Numbers leaf v = array_bytes order leaf v
 
--- the bytes of the number of an enum; null has the bytes of the null
+-- the bytes of the number of an enum; null has the bytes of the leaf's null
 abbrev pub enum_bytes : Order → LeafOf → Value → Option (List ℕ)
 enum_bytes order leaf (value.Enum n) = bytes_of order leaf.prim n
 enum_bytes order leaf value.Null = bytes_of order leaf.prim leaf.null
@@ -103,7 +103,7 @@ set_bytes order prim (value.Comp' n row) = None
 set_bytes order prim value.Const = None
 set_bytes order prim value.Absent = None
 
--- no bytes
+-- the bytes of a constant, which are empty
 abbrev pub const_bytes : Value → Option (List ℕ)
 const_bytes value.Const = Some []
 const_bytes (value.Num n) = None
@@ -128,7 +128,7 @@ member_values value.Const = None
 member_values value.Absent = None
 
 abbrev mutual
-  -- the bytes of a value, if it has some: a value of another kind has none
+  -- the bytes of a value, if it has any: a value of another kind has none
   pub wire_bytes : Order → Kind → Value → Option (List ℕ)
   wire_bytes order (Leaf l) v = leaf_bytes order l.shape l v
   wire_bytes order (Enum l names) v = enum_bytes order l v
@@ -136,7 +136,7 @@ abbrev mutual
   wire_bytes order (Const c) v = const_bytes v
   wire_bytes order (Comp' n members) v = row_bytes order 0 members (member_values v)
 
-  -- the bytes of members behind members that end at e: each at its place, and 00 where none stands
+  -- the bytes of members after members that end at e: each at its offset, with 00 in the gaps
   pub row_bytes : Order → ℕ → {n : _} → Row_of-Member n → Option (List Value) → Option (List ℕ)
   row_bytes order e row None = None
   row_bytes order e end_of-Member (Some []) = Some []
@@ -146,6 +146,6 @@ abbrev mutual
       both (both (Some (replicate (if is_const kind then 0 else begin_of e offset - e) 0)) (wire_bytes order kind v))
       (row_bytes order (if is_const kind then e else begin_of e offset + width kind) rest (Some vs))
 
--- the value has bytes, as many as its kind is wide, that show it at the schema's own version
+-- the value has bytes, as many as its kind is wide, and they show it at the schema's own version
 abbrev pub FitsKind : Order → Kind → Value → Type 0
 FitsKind order kind v = (bytes : List ℕ) × (wire_bytes order kind v ≡ Some bytes) × (length bytes ≡ width kind) × Shows order true kind v bytes

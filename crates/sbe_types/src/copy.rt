@@ -8,7 +8,7 @@ use lists::{List, NoMem, Text};
 use std::alloc::Global;
 
 impl Named {
-    /// An equal one.
+    /// Makes an equal copy.
     pub fn copy(&self, alloc: Global) -> Result<Named, NoMem>
         ensures { IfOk result (λ it. it ≡ self.now) }
     {
@@ -21,7 +21,7 @@ impl Named {
 }
 
 impl ConstValue {
-    /// An equal one.
+    /// Makes an equal copy.
     pub fn copy(&self, alloc: Global) -> Result<ConstValue, NoMem>
         ensures { IfOk result (λ it. it ≡ self.now) }
     {
@@ -34,7 +34,7 @@ impl ConstValue {
 }
 
 impl Kind {
-    /// An equal kind.
+    /// Makes an equal kind.
     #[cycle(kind)]
     pub fn copy(&self, alloc: Global) -> Result<Kind, NoMem>
         ensures { IfOk result (λ it. it ≡ self.now) }
@@ -50,7 +50,7 @@ impl Kind {
 }
 
 impl Member {
-    /// An equal member.
+    /// Makes an equal member.
     pub fn copy(&self, alloc: Global) -> Result<Member, NoMem>
         ensures { IfOk result (λ it. it ≡ self.now) }
     {
@@ -98,7 +98,7 @@ fn copied_names(alloc: Global, names: &NamedList) -> Result<NamedList, NoMem>
 }
 
 impl Field {
-    /// An equal field.
+    /// Makes an equal field.
     pub fn copy(&self, alloc: Global) -> Result<Field, NoMem>
         ensures { IfOk result (λ it. it ≡ self.now) }
     {
@@ -115,7 +115,7 @@ impl Field {
 }
 
 impl DataField {
-    /// An equal data part.
+    /// Makes an equal data part.
     pub fn copy(&self, alloc: Global) -> Result<DataField, NoMem>
         ensures { IfOk result (λ it. it ≡ self.now) }
     {
@@ -130,7 +130,7 @@ impl DataField {
 }
 
 impl Level {
-    /// An equal level.
+    /// Makes an equal level.
     #[cycle(level)]
     pub fn copy(&self, alloc: Global) -> Result<Level, NoMem>
         ensures { IfOk result (λ it. it ≡ self.now) }
@@ -197,7 +197,7 @@ fn copied_levels(alloc: Global, levels: &LevelList) -> Result<LevelList, NoMem>
 }
 
 impl WireSchema {
-    /// An equal schema.
+    /// Makes an equal schema.
     pub fn copy(&self, alloc: Global) -> Result<WireSchema, NoMem>
         ensures { IfOk result (λ it. it ≡ self.now) }
     {

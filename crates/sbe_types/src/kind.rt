@@ -3,8 +3,8 @@ ghost use Rattle.sbe_types.specs.Numbers.{prim_width};
 
 use lists::{Bytes, List, Text};
 
-/// A primitive type: a character, or a signed or unsigned integer of one to eight bytes
-/// (SBE 1.0, "Encoding: primitive data types").
+/// A primitive type: a character, or a signed or unsigned integer of one to eight bytes (SBE 1.0, "Encoding: primitive
+/// data types").
 #[derive(Clone, Copy, Debug, PartialEq, Eq)]
 pub enum Primitive {
     Char,
@@ -22,7 +22,7 @@ pub enum Primitive {
 pub type Prim = Primitive;
 
 impl Primitive {
-    /// How many bytes one takes.
+    /// How many bytes a primitive takes.
     pub fn width(self) -> usize
         ensures value { result ≡ prim_width self }
         ensures small { result ≤ 8 }
@@ -51,22 +51,22 @@ pub enum Presence {
     Constant,
 }
 
-/// How the primitives of a leaf are read.
+/// How the primitives of a leaf are interpreted.
 #[derive(Clone, Copy, Debug, PartialEq, Eq)]
 pub enum LeafShape {
     /// One number.
     Number,
-    /// A char array without a character encoding: each byte of the text lies in the range.
+    /// A char array without a character encoding: each byte of the text is within the range.
     RangedText,
-    /// A char array with a character encoding: any byte but 00 may stand.
+    /// A char array with a character encoding: any byte but 00 is allowed.
     EncodedText,
     /// A uint8 array without a stated range: bytes from 0 to 255, none of them null.
     Octets,
-    /// Any other integer array, judged element by element.
+    /// Any other integer array, checked element by element.
     Numbers,
 }
 
-/// One primitive, or an array of them, with its range and null.
+/// A primitive, or an array of them, with its range and null.
 #[derive(Clone, Copy, Debug, PartialEq, Eq)]
 pub struct Leaf {
     pub prim: Prim,
@@ -96,7 +96,7 @@ pub enum ConstValue {
     Code(Prim, Named),
 }
 
-/// What a field or a composite's member is.
+/// The kind of a field or of a composite's member.
 #[cycle(kind)]
 #[derive(Drop)]
 pub enum Kind {

@@ -1,4 +1,4 @@
-//! Laws of the definitions, as functions without a body.
+//! Laws of the definitions, stated as functions without a body.
 
 ghost use Rattle.std.specs.Prelude.{◌≡◌, ◌↔◌, ℕ, ℤ, Bool, List, Some, None, length};
 ghost use Rattle.byte_digits.specs.Digits.{IsBytes};
@@ -17,32 +17,33 @@ ghost use Rattle.sbe_types.specs.Places.{width, members_end};
 ghost use Rattle.sbe_types.specs.Shows.{Shows};
 ghost use Rattle.sbe_types.specs.Numbers.{number_of, bytes_of, prim_width};
 
-/// The bytes of a number show that number, and are as many as the primitive takes.
+/// The bytes of a number encode that number, and are as many as the primitive takes.
 pub fn bytes_show_their_number()
     ensures number { (order : Order) (prim : Primitive) (n : ℤ) (bytes : List ℕ) → bytes_of order prim n ≡ Some bytes → number_of order prim bytes ≡ n }
     ensures width { (order : Order) (prim : Primitive) (n : ℤ) (bytes : List ℕ) → bytes_of order prim n ≡ Some bytes → (length bytes ≡ prim_width prim) × IsBytes bytes }
 {}
 
-/// As many bytes as a primitive takes are the bytes of the number that they show.
+/// Bytes, as many as a primitive takes, are the bytes of the number that they encode.
 pub fn number_has_its_bytes()
     ensures { (order : Order) (prim : Primitive) (bytes : List ℕ) → length bytes ≡ prim_width prim → IsBytes bytes
         → bytes_of order prim (number_of order prim bytes) ≡ Some bytes }
 {}
 
-/// A composite shows its value where each member shows its own at its place, and ends where they end.
+/// A composite has its value exactly if each member has its own at its place, and it ends where the members end.
 pub fn members_show_at_their_places()
     ensures shown { (order : Order) (known : Bool) (kind : Kind) (members : List Member) (v : Value) (b : List ℕ)
         → members_of kind ≡ Some members → Shows order known kind v b ↔ ShowsMembers order known members v b }
     ensures width { (kind : Kind) (members : List Member) → members_of kind ≡ Some members → width kind ≡ members_end 0 members }
 {}
 
-/// As many bytes as a leaf takes have no fault exactly where they show a value of it.
+/// Bytes, as many as a leaf takes, have no fault exactly if they encode a value of it.
 pub fn no_fault_shows_a_value()
     ensures { (order : Order) (known : Bool) (leaf : LeafOf) (b : List ℕ) → length b ≡ width (Leaf leaf)
         → (leaf_bad order leaf b ≡ None) ↔ ((v : Value) × Shows order known (Leaf leaf) v b) }
 {}
 
-/// On worked rows: what stands behind a text's end is no fault, a byte outside its range is, and so is a number outside its.
+/// On worked examples: what follows the end of a text is no fault; a byte outside its range is, and so is a number
+/// outside its range.
 pub fn faults_of_worked_leaves()
     ensures ended { leaf_bad Little four ended_bytes ≡ None }
     ensures broken { leaf_bad Little four broken_bytes ≡ broken_fault }

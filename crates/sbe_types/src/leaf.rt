@@ -11,27 +11,27 @@ ghost use Rattle.std.specs.Prelude.{◌*◌, true};
 
 use crate::{Leaf, LeafShape, Order, Presence, get_num};
 
-/// Why bytes show no value of a leaf.
+/// Why bytes aren't a value of a leaf.
 #[derive(Clone, Copy, Debug, PartialEq, Eq)]
 pub enum LeafCause {
     /// A number is neither in the range nor the null.
     Range,
-    /// A byte may not stand in the text.
+    /// The text contains a byte that isn't allowed.
     TextByte,
 }
 
-/// The first element or byte of a leaf that shows nothing.
+/// The first element or byte of a leaf that is at fault.
 #[derive(Clone, Copy, Debug, PartialEq, Eq)]
 pub struct LeafFault {
     pub cause: LeafCause,
-    /// The element's number, counted from 0, or the byte's place in the bytes.
+    /// The element's number, counted from 0, or the byte's offset in the leaf.
     pub at: usize,
-    /// The number that the element has, or the byte.
+    /// The number that the element holds, or the byte.
     pub number: i128,
 }
 
 impl Leaf {
-    /// Whether the number lies in the range.
+    /// Whether the number is within the range.
     pub fn admits(&self, number: i128) -> bool
         ensures { result ≡ admits self.now number }
     {
@@ -50,8 +50,8 @@ impl Leaf {
     }
 }
 
-/// Whether the bytes of a leaf show a value (SBE 1.0, "Field encoding"); if not, the first element or byte
-/// that shows nothing. It needs as many bytes as the leaf takes.
+/// Checks that the bytes of a leaf are a value (SBE 1.0, "Field encoding"). Otherwise returns the first element or byte
+/// at fault. `bytes` must have the width of the leaf.
 pub fn leaf_reads(order: Order, leaf: &Leaf, bytes: &[u8]) -> Result<(), LeafFault>
     requires wide { length bytes.now ≡ width (LeafKind leaf.now) }
     requires single { leaf.now.shape ≡ Number → leaf.now.length ≡ 1 }
@@ -69,7 +69,7 @@ pub fn leaf_reads(order: Order, leaf: &Leaf, bytes: &[u8]) -> Result<(), LeafFau
     }
 }
 
-/// The same, with the fault left in `out` where it answers no.
+/// Like [`leaf_reads`], with the fault written to `out` if it returns false.
 #[tactic(auto, using(crate::proofs::BadLemmas::encoded_good))]
 pub fn leaf_judge(order: Order, leaf: &Leaf, bytes: &[u8], out: &mut LeafFault) -> bool
     requires wide { length bytes.now ≡ width (LeafKind leaf.now) }
@@ -84,7 +84,7 @@ pub fn leaf_judge(order: Order, leaf: &Leaf, bytes: &[u8], out: &mut LeafFault) 
     }
 }
 
-/// A single number.
+/// Checks a single number.
 fn judge_number(order: Order, leaf: &Leaf, bytes: &[u8], out: &mut LeafFault) -> bool
     requires { length bytes.now ≡ prim_width leaf.now.prim }
     ensures { let number = number_of order leaf.now.prim bytes.now in told result out.new ≡ unshown 0 number (shown_number leaf.now number) }
@@ -101,7 +101,7 @@ fn judge_number(order: Order, leaf: &Leaf, bytes: &[u8], out: &mut LeafFault) ->
     false
 }
 
-/// A text whose bytes lie in the range, up to the first 00.
+/// Checks a text: its bytes are within the range, up to the first 00.
 #[tactic(auto, using(crate::proofs::BadLemmas::text_start))]
 fn judge_text(leaf: &Leaf, bytes: &[u8], out: &mut LeafFault) -> bool
     requires { is_ranged leaf.now.shape ≡ true }
@@ -124,7 +124,7 @@ fn judge_text(leaf: &Leaf, bytes: &[u8], out: &mut LeafFault) -> bool
     true
 }
 
-/// An array, element by element.
+/// Checks an array, element by element.
 #[tactic(auto, using(crate::proofs::BadLemmas::room, crate::proofs::BadLemmas::left, crate::proofs::BadLemmas::elements_more, crate::proofs::BadLemmas::elements_end))]
 fn judge_elements(order: Order, leaf: &Leaf, bytes: &[u8], out: &mut LeafFault) -> bool
     requires { length bytes.now ≡ prim_width leaf.now.prim * leaf.now.length }
@@ -141,7 +141,7 @@ fn judge_elements(order: Order, leaf: &Leaf, bytes: &[u8], out: &mut LeafFault) 
     true
 }
 
-/// Element `at` of an array.
+/// Checks element `at` of an array.
 fn judge_element(order: Order, leaf: &Leaf, at: usize, bytes: &[u8], out: &mut LeafFault) -> bool
     requires { length bytes.now ≡ prim_width leaf.now.prim }
     ensures { let number = number_of order leaf.now.prim bytes.now in told result out.new ≡ unshown at number (shown_element leaf.now number) }

@@ -1,5 +1,4 @@
-//! The types of schemas, before and after they are checked, and of messages, and the numbers that
-//! bytes show.
+//! The types of schemas, before and after checking, and of messages, and the numbers that bytes encode.
 #![tactic(auto)]
 
 mod copy;

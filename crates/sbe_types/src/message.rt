@@ -23,7 +23,7 @@ pub enum Value {
     Comp(List<Value>),
     /// The value that the schema fixes.
     Const,
-    /// The field isn't there at the message's version.
+    /// The field doesn't exist at the message's version.
     Absent,
 }
 

@@ -5,7 +5,7 @@ use lists::{List, NoMem};
 use std::alloc::Global;
 
 impl Value {
-    /// An equal value.
+    /// Makes an equal value.
     #[cycle(value_copy)]
     pub fn copy(&self, alloc: Global) -> Result<Value, NoMem>
         ensures { IfOk result (λ it. it ≡ self.now) }
@@ -36,7 +36,7 @@ fn copied_values(alloc: Global, values: &List<Value>) -> Result<List<Value>, NoM
 }
 
 impl DataVal {
-    /// An equal data part.
+    /// Makes an equal data part.
     pub fn copy(&self, alloc: Global) -> Result<DataVal, NoMem>
         ensures { IfOk result (λ it. it ≡ self.now) }
     {
@@ -60,7 +60,7 @@ fn copied_data(alloc: Global, parts: &DataValList) -> Result<DataValList, NoMem>
 }
 
 impl Block {
-    /// An equal block.
+    /// Makes an equal block.
     #[cycle(block_copy)]
     pub fn copy(&self, alloc: Global) -> Result<Block, NoMem>
         ensures { IfOk result (λ it. it ≡ self.now) }
@@ -77,7 +77,7 @@ impl Block {
 }
 
 impl GroupVal {
-    /// An equal group.
+    /// Makes an equal group.
     #[cycle(block_copy)]
     pub fn copy(&self, alloc: Global) -> Result<GroupVal, NoMem>
         ensures { IfOk result (λ it. it ≡ self.now) }
@@ -112,7 +112,7 @@ fn copied_entries(alloc: Global, entries: &List<Block>) -> Result<List<Block>, N
 }
 
 impl Msg {
-    /// An equal message.
+    /// Makes an equal message.
     pub fn copy(&self, alloc: Global) -> Result<Msg, NoMem>
         ensures { IfOk result (λ it. it ≡ self.now) }
     {

@@ -4,7 +4,7 @@ ghost use Rattle.sbe_types.specs.Numbers.{number_of, read_as, prim_width};
 use crate::{Order, Prim};
 use byteorder::{BigEndian, ByteOrder, LittleEndian};
 
-/// The number that the bytes of one primitive show, in a byte order. Integers are two's complement.
+/// The number that the bytes of one primitive encode, in this byte order. Integers are in two's complement.
 pub fn get_num(order: Order, prim: Prim, bytes: &[u8]) -> i128
     requires { length bytes.now ≡ prim_width prim }
     ensures { result ≡ number_of order prim bytes.now }

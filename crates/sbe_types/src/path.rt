@@ -5,8 +5,8 @@ use std::marker::Model;
 /// One step of a path, counted from 0.
 #[derive(Clone, Copy, Debug, PartialEq, Eq)]
 pub enum Step {
-    /// A part of a level: its fields first, then its groups, then its data. Below a composite
-    /// field, a member.
+    /// A part of a level: its fields first, then its groups, then its data. Below a composite field, the number of a
+    /// member.
     Part(u32),
     /// An entry of a group.
     Entry(u32),
@@ -14,7 +14,7 @@ pub enum Step {
     Elem(u32),
 }
 
-/// The way from a message's root to one of its parts: up to 20 steps, without memory.
+/// The path from a message's root to one of its parts: up to 20 steps, without allocation.
 #[derive(Drop)]
 pub struct Path {
     steps: [Step; 20],
@@ -33,7 +33,7 @@ impl Model for Path {
 }
 
 impl Path {
-    /// The path without a step: the root.
+    /// The empty path: the root.
     pub fn new() -> Path
         ensures { result ≡ [] }
     {
@@ -43,14 +43,14 @@ impl Path {
         }
     }
 
-    /// How many steps it has.
+    /// The number of steps.
     pub fn len(&self) -> usize
         ensures { result ≡ length self.now }
     {
         self.len
     }
 
-    /// Adds one step at its end.
+    /// Adds a step at the end.
     pub fn push(&mut self, step: Step)
         requires { length self.old < 20 }
         ensures { self.new ≡ self.old ++ step ∷ [] }

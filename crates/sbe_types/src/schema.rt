@@ -1,7 +1,7 @@
 use crate::{Kind, Leaf, Member, MemberList, Order};
 use lists::{List, Text};
 
-/// The message header's members: blockLength, templateId, schemaId and version, in any order.
+/// The members of the message header: blockLength, templateId, schemaId and version, in any order.
 #[derive(Drop)]
 pub struct Header {
     pub members: MemberList,
@@ -12,8 +12,7 @@ pub struct Header {
 pub struct Field {
     pub name: Text,
     pub id: u32,
-    /// The version from which on it stands on the wire: the greatest sinceVersion of itself and
-    /// the groups around it.
+    /// The first version that has it on the wire: the greatest sinceVersion of itself and of the groups around it.
     pub since: u32,
     pub offset: Option<u32>,
     pub kind: Kind,
@@ -21,12 +20,12 @@ pub struct Field {
 
 pub type FieldList = List<Field>;
 
-/// A variable-length data part: a length number, then so many bytes.
+/// A variable-length data part: a length number, then that many bytes.
 #[derive(Drop)]
 pub struct DataField {
     pub name: Text,
     pub id: u32,
-    /// The version from which on it stands on the wire.
+    /// The first version that has it on the wire.
     pub since: u32,
     /// The type of the length number.
     pub length: Leaf,
@@ -49,7 +48,7 @@ pub struct Level {
     pub name: Text,
     pub id: u32,
     pub semantic: Text,
-    /// The version from which on it stands on the wire.
+    /// The first version that has it on the wire.
     pub since: u32,
     /// The block length that is written, in bytes.
     pub block_length: u32,
@@ -62,7 +61,7 @@ pub type GroupList = List<Group>;
 
 pub type LevelList = List<Level>;
 
-/// A checked schema: every type name is resolved. The definitions of the wire speak of this.
+/// A checked schema: every type name is resolved. The definitions of the wire are stated over it.
 #[derive(Drop)]
 pub struct WireSchema {
     pub id: u32,

@@ -1,8 +1,8 @@
 use crate::{Order, Presence, Primitive};
 use lists::{List, Text};
 
-/// What a `primitiveType` says: a character or an integer, or one of the two types of fractions,
-/// which a checked schema has nowhere (SBE 1.0, "Encoding: primitive data types").
+/// The value of a `primitiveType`: a character or an integer, or one of the two floating-point types, which no checked
+/// schema contains (SBE 1.0, "Encoding: primitive data types").
 #[derive(Clone, Copy, Debug, PartialEq, Eq)]
 pub enum PrimitiveType {
     Integral(Primitive),
@@ -17,7 +17,7 @@ pub struct ValueRef {
     pub value_name: Text,
 }
 
-/// A `messageSchema`: a schema as its file has it, before it is checked.
+/// A `messageSchema`: a schema as its file states it, before it is checked.
 #[derive(Drop)]
 pub struct Schema {
     pub id: u32,
@@ -42,8 +42,7 @@ pub struct TypesEl {
     pub children: List<TypesItem>,
 }
 
-/// A declared type. Its `offset` is none and its `since_version` 0, since these are said of the
-/// members of composites alone.
+/// A declared type. Its `offset` is `None` and its `since_version` 0, since only members of composites have them.
 #[derive(Drop)]
 pub enum TypesItem {
     Type(TypeEl),
@@ -67,17 +66,17 @@ pub struct TypeEl {
     pub value_ref: Option<ValueRef>,
     /// The value of a constant.
     pub text: Option<Text>,
-    /// Of a member: where it begins, counted from the composite's first byte.
+    /// For a member: its offset from the composite's first byte.
     pub offset: Option<u32>,
     pub since_version: u32,
 }
 
-/// A `composite`, declared or written inside another.
+/// A `composite`, declared or nested in another.
 #[cycle(composite)]
 #[derive(Drop)]
 pub struct CompositeEl {
     pub name: Text,
-    /// Of a member: where it begins, counted from the first byte of the composite around it.
+    /// For a member: its offset from the first byte of the composite around it.
     pub offset: Option<u32>,
     pub since_version: u32,
     pub children: List<MemberItem>,
@@ -100,7 +99,7 @@ pub struct EnumEl {
     pub name: Text,
     /// The name of the type of its number.
     pub encoding_type: Text,
-    /// Of a member: where it begins, counted from the composite's first byte.
+    /// For a member: its offset from the composite's first byte.
     pub offset: Option<u32>,
     pub since_version: u32,
     pub children: List<ValidValueEl>,
@@ -119,7 +118,7 @@ pub struct SetEl {
     pub name: Text,
     /// The name of the type of its number.
     pub encoding_type: Text,
-    /// Of a member: where it begins, counted from the composite's first byte.
+    /// For a member: its offset from the composite's first byte.
     pub offset: Option<u32>,
     pub since_version: u32,
     pub children: List<ChoiceEl>,
@@ -137,7 +136,7 @@ pub struct ChoiceEl {
 pub struct RefEl {
     pub name: Text,
     pub type_name: Text,
-    /// Where it begins, counted from the composite's first byte.
+    /// Its offset from the composite's first byte.
     pub offset: Option<u32>,
     pub since_version: u32,
 }
@@ -149,7 +148,7 @@ pub struct MessageEl {
     pub id: u32,
     pub semantic_type: Text,
     pub since_version: u32,
-    /// The length of its block in bytes, where the schema states it.
+    /// The length of its block in bytes, if the schema states it.
     pub block_length: Option<u32>,
     pub children: List<PartItem>,
 }
@@ -171,31 +170,31 @@ pub struct FieldEl {
     pub type_name: Text,
     pub since_version: u32,
     pub presence: Option<Presence>,
-    /// Where it begins, counted from the block's first byte.
+    /// Its offset from the block's first byte.
     pub offset: Option<u32>,
     pub value_ref: Option<ValueRef>,
 }
 
-/// A `group`: entries that repeat.
+/// A `group`: repeated entries.
 #[cycle(part)]
 #[derive(Drop)]
 pub struct GroupEl {
     pub name: Text,
     pub id: u32,
-    /// The name of the composite that says how long a block is and how many entries there are.
+    /// The name of the composite that holds the length of a block and the number of entries.
     pub dimension_type: Text,
     pub since_version: u32,
-    /// The length of an entry's block in bytes, where the schema states it.
+    /// The length of an entry's block in bytes, if the schema states it.
     pub block_length: Option<u32>,
     pub children: List<PartItem>,
 }
 
-/// A `data` element: a length, then so many bytes.
+/// A `data` element: a length, then that many bytes.
 #[derive(Drop)]
 pub struct DataEl {
     pub name: Text,
     pub id: u32,
-    /// The name of the composite of the length and the bytes.
+    /// The name of the composite that holds the length and the bytes.
     pub type_name: Text,
     pub since_version: u32,
 }

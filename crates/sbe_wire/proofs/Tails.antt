@@ -34,7 +34,7 @@ module _ (order : Order) (part : DataField) where
   abbrev value_in : List ℕ → Result DataVal Fault
   value_in whole = Ok (dataval.Bytes (drop w whole))
 
-  -- n bytes behind the length number
+  -- n bytes after the length number
   abbrev piece : ℕ → Reader DataVal
   piece n = read_judged (bytes_read (w + n)) value_in
 

@@ -230,7 +230,7 @@ module _ (order : Order) (leaf : LeafOf) where
 
 -- ---- a kind
 
--- the end of members lies behind their beginning
+-- the end of members lies after their beginning
 pub row_grows : {n : _} (row : Row_of-Member n) (e : ℕ) → IsPlacedRow e row → e ≤ row_end e row
 row_grows end_of-Member e h = omega arith
 row_grows (more_of-Member name offset kind rest) e h = past (is_const kind) refl h.0 (row_grows rest _ h.2)

@@ -1,6 +1,7 @@
--- The one canonical body of a message: padding and unused bytes are 00, block lengths are the declared ones. From SBE 1.0,
--- Message structure, Repeating group encoding, and Variable-length data. Own profile: the zeros, and the declared block length
--- of no entry. Some messages that don't fit have bytes here too; only those of a message that fits are its body.
+-- The one canonical body of a message: padding and unused bytes are 00, block lengths are the declared ones. From SBE
+-- 1.0, Message structure, Repeating group encoding, and Variable-length data. Own profile: the zeros, and that a group
+-- without entries has the declared block length. Some messages that don't fit have bytes here too; only those of a
+-- message that fits are its body.
 use Rattle.std.specs.Prelude.{ℕ, ◌-◌, if◌then◌else◌, Option, Some, None, option_map, List, [], ◌∷◌, length, replicate, pos, slice_get, codes}
 use Rattle.std.specs.Str.{bytes_eq}
 use Rattle.sbe_types.specs.declared.kind.Order.{Order}
@@ -32,7 +33,7 @@ number_bytes_in order (Set p names) n = None
 number_bytes_in order (Const c) n = None
 number_bytes_in order (Comp' k members) n = None
 
--- the bytes of members behind members that end at e, each with the number of its name
+-- the bytes of members after members that end at e, each with the number of its name
 abbrev pub named_bytes : Order → (List ℕ → ℕ) → ℕ → List Member → Option (List ℕ)
 named_bytes order numbers e [] = Some []
 named_bytes order numbers e (m ∷ ms) =
@@ -52,7 +53,7 @@ header_numbers schema level name =
 
 -- ---- blocks, groups and data
 
--- the bytes of fields behind fields that end at e: each at its place, and 00 where none stands
+-- the bytes of fields after fields that end at e: each at its offset, with 00 in the gaps
 abbrev pub fields_bytes : Order → ℕ → List Field → List Value → Option (List ℕ)
 fields_bytes order e [] [] = Some []
 fields_bytes order e [] (v ∷ vs) = None
@@ -61,7 +62,7 @@ fields_bytes order e (f ∷ fs) (v ∷ vs) =
     both (both (Some (replicate (if is_const f.kind then 0 else begin_of e f.offset - e) 0)) (wire_bytes order f.kind v))
     (fields_bytes order (end_past e f.offset f.kind) fs vs)
 
--- the fields, and zeros up to the declared block length
+-- the fields, padded with zeros to the declared block length
 abbrev pub block_bytes : Order → ℕ → List Field → List Value → Option (List ℕ)
 block_bytes order block_length fields values = option_map (padded block_length) (fields_bytes order 0 fields values)
 
@@ -70,14 +71,14 @@ abbrev pub part_bytes : Order → DataField → DataVal → Option (List ℕ)
 part_bytes order part dataval.Absent = None
 part_bytes order part (dataval.Bytes bytes) = both (bytes_of order part.length.prim (pos (length bytes))) (Some bytes)
 
--- the data parts of a level, one after another
+-- the data parts of a level, concatenated
 abbrev pub parts_bytes : Order → List DataField → List DataVal → Option (List ℕ)
 parts_bytes order [] [] = Some []
 parts_bytes order [] (v ∷ vs) = None
 parts_bytes order (p ∷ ps) [] = None
 parts_bytes order (p ∷ ps) (v ∷ vs) = both (part_bytes order p v) (parts_bytes order ps vs)
 
--- the bytes of items, one after another
+-- the bytes of items, concatenated
 abbrev pub all_bytes : {X : Type 0} → (X → Option (List ℕ)) → List X → Option (List ℕ)
 all_bytes f [] = Some []
 all_bytes f (x ∷ xs) = both (f x) (all_bytes f xs)
@@ -99,14 +100,15 @@ unfoldable mutual
   tail_bytes order (Level' name id semantic since block_length fields _ groups parts) block =
       both (groups_bytes order groups (out-Block block).groups) (parts_bytes order parts (out-Block block).parts)
 
-  -- the groups of a level, one after another
+  -- the groups of a level, concatenated
   pub groups_bytes : Order → {n : _} → Row_of-Group n → List GroupVal → Option (List ℕ)
   groups_bytes order end_of-Group [] = Some []
   groups_bytes order end_of-Group (v ∷ vs) = None
   groups_bytes order (more_of-Group g rest) [] = None
   groups_bytes order (more_of-Group g rest) (v ∷ vs) = both (group_bytes order g v) (groups_bytes order rest vs)
 
-  -- the dimension with the declared block length, for no entry too, and then each entry's block and tail
+  -- the dimension with the declared block length, even without entries, and then the block, groups and data of each
+  -- entry
   pub group_bytes : Order → Group → GroupVal → Option (List ℕ)
   group_bytes order (Group' dim level) v =
       entries_bytes order dim (out-Level level).block_length

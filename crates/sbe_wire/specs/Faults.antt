@@ -1,5 +1,5 @@
--- The first fault of a body: its code, the part, the byte and a number. The standard leaves to each reader what it does with
--- a bad body. Own profile.
+-- The first fault of a body: its code, the part, the byte and a number. The standard leaves to each reader what to do
+-- with a bad body. Own profile.
 use Rattle.std.specs.Prelude.{◌≡◌, ◌≢◌, ◌⊎◌, ◌<◌, ◌≤◌, ℕ, zero, suc, ◌+◌, Bool, true, false, not, ◌&&◌, ◌==◌, if◌then◌else◌, Option, Some, None, List, [], ◌∷◌, ◌++◌, length, take, drop, IsTrue, ℤ, pos, codes}
 use Rattle.std.specs.List.{list_all}
 use Rattle.sbe_types.specs.declared.kind.Order.{Order}
@@ -28,14 +28,14 @@ use Rattle.sbe_wire.specs.Versions.{acting, is_alive, floor, mode_of, BlockForm,
 use Rattle.sbe_wire.specs.Named.{number_named, place_named, is_admitted}
 use Rattle.sbe_wire.specs.Lays.{FieldLays, BlockLays, DataLays, DimensionLays, EntryLays, TailLays, GroupsLay, GroupLays, HeaderLays}
 
--- the offset counts from the first byte of what is judged, and the path begins there
+-- the offset counts from the first byte of the part that is checked, and the path begins at that part
 pub record Fault : Type 0 where
   pub code : FCode
   pub path : List Step
   pub offset : ℕ
   pub detail : ℤ
 
--- the same fault behind n more bytes
+-- the same fault after n more bytes
 abbrev pub shifted : ℕ → Fault → Fault
 shifted n f = record { code = f.code; path = f.path; offset = n + f.offset; detail = f.detail }
 
@@ -43,19 +43,19 @@ shifted n f = record { code = f.code; path = f.path; offset = n + f.offset; deta
 abbrev pub under : Step → Fault → Fault
 under step f = record { code = f.code; path = step ∷ f.path; offset = f.offset; detail = f.detail }
 
--- a fault right here
+-- a fault of the part itself
 abbrev pub fault_at : FCode → ℕ → ℤ → Fault
 fault_at code offset detail = record { code = code; path = []; offset = offset; detail = detail }
 
--- ---- one after another
+-- ---- sequences
 
--- a fault of the first part, or the first part lies in front and the fault is one of what is behind it
+-- a fault of the first part; or the first part lies in front, and what follows it has the fault
 abbrev pub FaultAfter : {X : Type 0} → (Fault → List ℕ → Type 0) → (X → List ℕ → Type 0) → (X → Fault → List ℕ → Type 0) → Fault → List ℕ → Type 0
 FaultAfter {X} F R G fault b =
     F fault b
     ⊎ ((x : X) × (front : List ℕ) × (back : List ℕ) × (f : Fault) × (b ≡ front ++ back) × R x front × G x f back × (fault ≡ shifted (length front) f))
 
--- the bytes are fewer than the part needs (F05)
+-- there are fewer bytes than the part requires (F05)
 abbrev pub TooShort : ℕ → Fault → List ℕ → Type 0
 TooShort n fault b = (length b < n) × (fault ≡ fault_at code.Truncated 0 (pos n))
 
@@ -63,19 +63,19 @@ TooShort n fault b = (length b < n) × (fault ≡ fault_at code.Truncated 0 (pos
 abbrev pub Under : Step → (Fault → List ℕ → Type 0) → Fault → List ℕ → Type 0
 Under step F fault b = (f : Fault) × F f b × (fault ≡ under step f)
 
--- the first fault of n items that are counted from i
+-- the first fault of n items, counted from i
 abbrev pub TimesFault : {X : Type 0} → (Fault → List ℕ → Type 0) → (X → List ℕ → Type 0) → ℕ → ℕ → Fault → List ℕ → Type 0
 TimesFault F R i zero fault b = ⊥
 TimesFault F R i (suc n) fault b = FaultAfter (Under (way.Entry i) F) R (λ _. TimesFault F R (suc i) n) fault b
 
--- the first fault of parts that are counted from i
+-- the first fault of parts, counted from i
 abbrev pub EachFault : {X Y : Type 0} → (X → Fault → List ℕ → Type 0) → (X → Y → List ℕ → Type 0) → ℕ → List X → Fault → List ℕ → Type 0
 EachFault F R i [] fault b = ⊥
 EachFault F R i (x ∷ xs) fault b = FaultAfter (Under (way.Part i) (F x)) (R x) (λ _. EachFault F R (suc i) xs) fault b
 
 -- ---- a value
 
--- a byte ends no text and may not stand in it
+-- the byte doesn't end a text, and a text may not contain it
 abbrev pub is_bad_byte : LeafOf → ℕ → Bool
 is_bad_byte leaf b = not (b == 0) && not (is_text_byte leaf b)
 
@@ -115,7 +115,7 @@ abbrev mutual
   KindFault order known (Const c) fault b = ⊥
   KindFault order known (Comp' n members) fault b = RowFault order known 0 0 members fault b
 
-  -- the first fault of members that are counted from i, behind members that end at e
+  -- the first fault of members, counted from i, after members that end at e
   pub RowFault : Order → Bool → ℕ → ℕ → {n : _} → Row_of-Member n → Fault → List ℕ → Type 0
   RowFault order known e i end_of-Member fault b = ⊥
   RowFault order known e i (more_of-Member name offset kind rest) fault b =
@@ -125,41 +125,41 @@ abbrev mutual
 
 -- ---- a block
 
--- where a field comes: the end of the fields before it, and how many they are
+-- the position of a field: the end of the fields before it, and how many they are
 pub record Place : Type 0 where
   pub end : ℕ
   pub index : ℕ
 
--- a field that is alive shows no value
+-- a field is alive and shows no value
 abbrev pub FieldFault : Mode → Place → Field → Fault → List ℕ → Type 0
 FieldFault mode place field fault b =
     IsTrue (is_alive mode.version field.since)
     × ((f : Fault) × KindFault mode.order mode.known field.kind f (take (width field.kind) (drop (begin_of place.end field.offset) b))
     × (fault ≡ shifted (begin_of place.end field.offset) (under (way.Part place.index) f)))
 
--- the place after a field
+-- the position after a field
 abbrev pub next_place : Place → Field → Place
 next_place place field = record { end = end_past place.end field.offset field.kind; index = suc place.index }
 
--- the first fault of fields from a place on
+-- the first fault of fields from a position on
 abbrev pub FieldsFault : Mode → Place → List Field → Fault → List ℕ → Type 0
 FieldsFault mode place [] fault b = ⊥
 FieldsFault mode place (field ∷ fields) fault b =
     FieldFault mode place field fault b
     ⊎ ((v : Value) × FieldLays mode place.end field v b × FieldsFault mode (next_place place field) fields fault b)
 
--- a block of k bytes is cut off, or a field of it shows no value
+-- a block of k bytes is cut off, or one of its fields shows no value
 abbrev pub BlockFault : Mode → List Field → ℕ → Fault → List ℕ → Type 0
 BlockFault mode fields k fault b =
     TooShort k fault b ⊎ ((k ≤ length b) × FieldsFault mode (record { end = 0; index = 0 }) fields fault (take k b))
 
 -- ---- data and groups
 
--- the count that a length number at the front of the bytes says
+-- the count of the length number at the front of the bytes
 abbrev pub count_of : Order → DataField → List ℕ → ℕ
 count_of order part b = natural (number_of order part.length.prim (take (prim_width part.length.prim) b))
 
--- the length number is cut off (F05), isn't admitted (F11), or the bytes are cut off (F05)
+-- the length number is cut off (F05) or isn't admitted (F11), or the bytes are cut off (F05)
 abbrev pub DataFault : Order → ℕ → DataField → Fault → List ℕ → Type 0
 DataFault order version part fault b =
     IsTrue (is_alive version part.since)
@@ -168,7 +168,7 @@ DataFault order version part fault b =
     × (((admits part.length (pos (count_of order part b)) ≡ false) × (fault ≡ fault_at code.Length 0 (pos (count_of order part b))))
     ⊎ ((admits part.length (pos (count_of order part b)) ≡ true) × TooShort (prim_width part.length.prim + count_of order part b) fault b))))
 
--- the count isn't admitted (F10), or the block length is below the floor where entries are counted (F04)
+-- the count isn't admitted (F10), or the block length is below the floor and the count isn't 0 (F04)
 abbrev pub DimensionRefused : Order → List Member → ℕ → Fault → List ℕ → Type 0
 DimensionRefused order dim least fault head =
     let block = number_named order dim (codes "blockLength") head in
@@ -183,13 +183,13 @@ DimensionFault order dim least fault b =
     TooShort (members_end 0 dim) fault b
     ⊎ ((members_end 0 dim ≤ length b) × DimensionRefused order dim least fault (take (members_end 0 dim) b))
 
--- a fault of the block, or the block lays out and the tail has a fault
+-- a fault of the block; or the block is in order, and its groups or data have the fault
 abbrev pub EntryFault : (Fault → List ℕ → Type 0) → BlockForm → ℕ → Fault → List ℕ → Type 0
 EntryFault Tail form k fault b =
     BlockFault form.mode form.fields k fault b
     ⊎ ((values : List Value) × (f : Fault) × (k ≤ length b) × BlockLays form.mode form.fields values (take k b) × Tail f (drop k b) × (fault ≡ shifted k f))
 
--- a dimension that lays out and counts no entry, or whose block length reaches the floor
+-- a dimension in order that counts no entries, or whose block length reaches the floor
 abbrev pub DimensionGood : Order → List Member → ℕ → ℕ × ℕ → List ℕ → Type 0
 DimensionGood order dim least d b = DimensionLays order dim d.0 d.1 b × ((d.1 ≡ 0) ⊎ (least ≤ d.0))
 
@@ -200,14 +200,14 @@ abbrev mutual
       FaultAfter (GroupsFault mode (length fields) groups) (GroupsLay mode groups)
       (λ vs. EachFault (DataFault mode.order mode.version) (DataLays mode.order mode.version) (length fields + length vs) parts) fault b
 
-  -- the first fault of groups that are counted from i
+  -- the first fault of groups, counted from i
   pub GroupsFault : Mode → ℕ → {n : _} → Row_of-Group n → Fault → List ℕ → Type 0
   GroupsFault mode i end_of-Group fault b = ⊥
   GroupsFault mode i (more_of-Group g rest) fault b =
       FaultAfter (Under (way.Part i) (GroupFault mode g)) (GroupLays mode g)
       (λ _. GroupsFault mode (suc i) rest) fault b
 
-  -- a fault of the dimension, or the dimension lays out and an entry has a fault
+  -- a fault of the dimension; or the dimension is in order, and an entry has the fault
   pub GroupFault : Mode → Group → Fault → List ℕ → Type 0
   GroupFault mode (Group' dim level) fault b =
       IsTrue (is_alive mode.version (out-Level level).since)
@@ -217,12 +217,12 @@ abbrev mutual
 
 -- ---- a body
 
--- the first message of that id: its number and its root
+-- the first message with this id: its number and its root level
 abbrev pub message_named : ℕ → ℕ → List Level → Option (ℕ × Level)
 message_named i id [] = None
 message_named i id (level ∷ levels) = if (out-Level level).id == id then Some (i, level) else message_named (suc i) id levels
 
--- what a header says: the block length, the message, and the version
+-- what a header gives: the block length, the message, and the version
 pub record Heading : Type 0 where
   pub block : ℕ
   pub template : ℕ
@@ -233,12 +233,12 @@ pub record Heading : Type 0 where
 abbrev pub floor_in : WireSchema → Heading → ℕ
 floor_in schema h = floor (acting schema h.version) (out-Level h.level).fields
 
--- a header of this schema and one of its messages
+-- a header of this schema and of one of its messages
 pub record HeadingLays (schema : WireSchema) (h : Heading) (b : List ℕ) : Type 0 where
   pub numbers : HeaderLays schema h.block (out-Level h.level).id h.version b
   pub message : message_named 0 (out-Level h.level).id schema.messages ≡ Some (h.template, h.level)
 
--- the header is of another schema (F02), of no message (F03), or its block length is below the floor (F04)
+-- the header is of another schema (F02), of no known message (F03), or its block length is below the floor (F04)
 abbrev pub HeadingRefused : WireSchema → Fault → List ℕ → Type 0
 HeadingRefused schema fault head =
     let members = schema.header.members in
@@ -261,11 +261,11 @@ HeadingFault schema fault b =
 abbrev pub HeadingGood : WireSchema → Heading → List ℕ → Type 0
 HeadingGood schema h b = HeadingLays schema h b × (floor_in schema h ≤ h.block)
 
--- bytes stand behind the last part of a message whose version the schema knows (F12)
+-- bytes follow the last part of a message whose version the schema knows (F12)
 abbrev pub TrailingFault : Bool → Fault → List ℕ → Type 0
 TrailingFault known fault b = IsTrue known × (0 < length b) × (fault ≡ fault_at code.Trailing 0 (pos (length b)))
 
--- a fault of the header; else of the root's block, groups and data; else bytes behind them
+-- a fault of the header; else of the root's block, groups or data; else the bytes after them
 abbrev pub FirstFault : WireSchema → Fault → List ℕ → Type 0
 FirstFault schema fault body =
     FaultAfter (HeadingFault schema) (HeadingGood schema)

@@ -17,7 +17,7 @@ use Rattle.sbe_types.specs.Shown.{admits}
 use Rattle.sbe_types.specs.Wire.{FitsKind}
 use Rattle.sbe_wire.specs.Named.{is_admitted}
 
--- as many values as fields, and each fits its kind
+-- there are as many values as fields, and each fits its kind
 abbrev pub FieldsFit : Order → List Field → List Value → Type 0
 FieldsFit order [] [] = ⊤
 FieldsFit order [] (v ∷ vs) = ⊥
@@ -28,14 +28,14 @@ FieldsFit order (f ∷ fs) (v ∷ vs) = FitsKind order f.kind v × FieldsFit ord
 abbrev pub PartFits : DataField → DataVal → Type 0
 PartFits part v = (bytes : List ℕ) × (v ≡ dataval.Bytes bytes) × IsTrue (admits part.length (pos (length bytes)))
 
--- as many data parts as the level has, and each fits
+-- there are as many data parts as the level has, and each fits
 abbrev pub PartsFit : List DataField → List DataVal → Type 0
 PartsFit [] [] = ⊤
 PartsFit [] (v ∷ vs) = ⊥
 PartsFit (p ∷ ps) [] = ⊥
 PartsFit (p ∷ ps) (v ∷ vs) = PartFits p v × PartsFit ps vs
 
--- each entry
+-- each entry fits
 abbrev pub EachFits : {X : Type 0} → (X → Type 0) → List X → Type 0
 EachFits P [] = ⊤
 EachFits P (x ∷ xs) = P x × EachFits P xs
@@ -46,14 +46,14 @@ abbrev mutual
   BlockFits order (Level' name id semantic since block_length fields _ groups parts) block =
       FieldsFit order fields (out-Block block).fields × GroupsFit order groups (out-Block block).groups × PartsFit parts (out-Block block).parts
 
-  -- as many groups as the level has, and each fits
+  -- there are as many groups as the level has, and each fits
   pub GroupsFit : Order → {n : _} → Row_of-Group n → List GroupVal → Type 0
   GroupsFit order end_of-Group [] = ⊤
   GroupsFit order end_of-Group (v ∷ vs) = ⊥
   GroupsFit order (more_of-Group g rest) [] = ⊥
   GroupsFit order (more_of-Group g rest) (v ∷ vs) = GroupFits order g v × GroupsFit order rest vs
 
-  -- the entries are there, their number is admitted, and each fits
+  -- the entries are there, their count is admitted, and each fits
   pub GroupFits : Order → Group → GroupVal → Type 0
   GroupFits order (Group' dim level) v =
       (entries : List Block) × (v ≡ groupval.Entries entries) × IsTrue (is_admitted dim (codes "numInGroup") (length entries))

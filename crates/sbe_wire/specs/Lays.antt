@@ -1,5 +1,5 @@
--- How a message lies in a body. From SBE 1.0, Message structure, Repeating group encoding, Variable-length data, and Schema
--- extension mechanism. Own profile: the floor, and that no bytes are left at a version that the schema knows.
+-- How a message lies in a body. From SBE 1.0, Message structure, Repeating group encoding, Variable-length data, and
+-- Schema extension mechanism. Own profile: the floor, and that no bytes are left at a version that the schema knows.
 use Rattle.std.specs.Prelude.{◌≡◌, ℕ, ◌≤◌, Some, List, [], ◌∷◌, ◌++◌, length, take, drop, IsTrue, pos, ⊤, slice_get, codes}
 use Rattle.std.specs.Bool.{MatchBool}
 use Rattle.sbe_types.specs.declared.kind.Order.{Order}
@@ -25,14 +25,14 @@ use Rattle.sbe_wire.specs.declared.mode.Mode.{Mode}
 use Rattle.sbe_wire.specs.Versions.{is_known, is_alive, floor, mode_of, BlockForm, form_of}
 use Rattle.sbe_wire.specs.Named.{number_named, is_admitted}
 
--- ---- pieces of bytes, one after another
+-- ---- concatenated pieces of bytes
 
--- the bytes are those of the items
+-- the bytes are those of the items, concatenated
 abbrev pub Joined : {X : Type 0} → (X → List ℕ → Type 0) → List X → List ℕ → Type 0
 Joined R [] b = b ≡ []
 Joined R (x ∷ xs) b = (front : List ℕ) × (back : List ℕ) × (b ≡ front ++ back) × R x front × Joined R xs back
 
--- the bytes are those of the pairs
+-- the bytes are those of the pairs, concatenated
 abbrev pub JoinedBoth : {X Y : Type 0} → (X → Y → List ℕ → Type 0) → List X → List Y → List ℕ → Type 0
 JoinedBoth R [] [] b = b ≡ []
 JoinedBoth R [] (y ∷ ys) b = ⊥
@@ -41,12 +41,12 @@ JoinedBoth R (x ∷ xs) (y ∷ ys) b = (front : List ℕ) × (back : List ℕ) �
 
 -- ---- a block
 
--- a field behind fields that end at e: the bytes at its place show its value, or it isn't alive and is absent
+-- a field after fields that end at e: the bytes at its offset show its value, or it isn't alive and is absent
 abbrev pub FieldLays : Mode → ℕ → Field → Value → List ℕ → Type 0
 FieldLays mode e f v b =
     MatchBool (is_alive mode.version f.since) (Shows mode.order mode.known f.kind v (take (width f.kind) (drop (begin_of e f.offset) b))) (v ≡ value.Absent)
 
--- one value for each field, behind fields that end at e
+-- one value for each field, after fields that end at e
 abbrev pub FieldsLay : Mode → ℕ → List Field → List Value → List ℕ → Type 0
 FieldsLay mode e [] [] b = ⊤
 FieldsLay mode e [] (v ∷ vs) b = ⊥
@@ -54,13 +54,13 @@ FieldsLay mode e (f ∷ fs) [] b = ⊥
 FieldsLay mode e (f ∷ fs) (v ∷ vs) b =
     FieldLays mode e f v b × FieldsLay mode (end_past e f.offset f.kind) fs vs b
 
--- the block reaches the floor, and its fields lie in it; what lies behind them is passed over
+-- the block reaches the floor, and its fields lie in it; what follows them is skipped
 abbrev pub BlockLays : Mode → List Field → List Value → List ℕ → Type 0
 BlockLays mode fields values b = (floor mode.version fields ≤ length b) × FieldsLay mode 0 fields values b
 
 -- ---- data and groups
 
--- a length number that is admitted, and so many bytes
+-- a length number that is admitted, and as many bytes as it says
 pub record DataLies (order : Order) (part : DataField) (bytes b : List ℕ) : Type 0 where
   pub before : List ℕ
   pub whole : b ≡ before ++ bytes
@@ -68,21 +68,21 @@ pub record DataLies (order : Order) (part : DataField) (bytes b : List ℕ) : Ty
   pub counts : natural (number_of order part.length.prim before) ≡ length bytes
   pub admitted : IsTrue (admits part.length (pos (length bytes)))
 
--- data that is alive, or absent data without bytes
+-- data that is alive, or absent data, which has no bytes
 abbrev pub DataLays : Order → ℕ → DataField → DataVal → List ℕ → Type 0
 DataLays order version part v b =
     MatchBool (is_alive version part.since)
     ((bytes : List ℕ) × (v ≡ dataval.Bytes bytes) × DataLies order part bytes b)
     ((v ≡ dataval.Absent) × (b ≡ []))
 
--- the dimension says a block length and a count, and the count is admitted
+-- the dimension gives a block length and a count, and the count is admitted
 pub record DimensionLays (order : Order) (dim : List Member) (block count : ℕ) (b : List ℕ) : Type 0 where
   pub wide : length b ≡ members_end 0 dim
   pub says_block : number_named order dim (codes "blockLength") b ≡ block
   pub says_count : number_named order dim (codes "numInGroup") b ≡ count
   pub admitted : IsTrue (is_admitted dim (codes "numInGroup") count)
 
--- a block of k bytes, and then the tail
+-- a block of k bytes, and then the groups and data of the entry
 abbrev pub EntryLays : (Block → List ℕ → Type 0) → BlockForm → ℕ → Block → List ℕ → Type 0
 EntryLays Tail form k entry b =
     (k ≤ length b) × BlockLays form.mode form.fields (out-Block entry).fields (take k b) × Tail entry (drop k b)
@@ -100,7 +100,7 @@ abbrev mutual
       (front : List ℕ) × (back : List ℕ) × (b ≡ front ++ back) × GroupsLay mode groups (out-Block block).groups front
       × JoinedBoth (DataLays mode.order mode.version) parts (out-Block block).parts back
 
-  -- the groups of a level, one after another
+  -- the groups of a level, in order
   pub GroupsLay : Mode → {n : _} → Row_of-Group n → List GroupVal → List ℕ → Type 0
   GroupsLay mode end_of-Group [] b = b ≡ []
   GroupsLay mode end_of-Group (v ∷ vs) b = ⊥
@@ -108,7 +108,7 @@ abbrev mutual
   GroupsLay mode (more_of-Group g rest) (v ∷ vs) b =
       (front : List ℕ) × (back : List ℕ) × (b ≡ front ++ back) × GroupLays mode g v front × GroupsLay mode rest vs back
 
-  -- a group that isn't alive is absent and takes no bytes
+  -- a group that isn't alive is absent and has no bytes
   pub GroupLays : Mode → Group → GroupVal → List ℕ → Type 0
   GroupLays mode (Group' dim level) v b =
       MatchBool (is_alive mode.version (out-Level level).since)
@@ -118,7 +118,7 @@ abbrev mutual
 
 -- ---- a message
 
--- the header's four numbers
+-- the four numbers of the header
 pub record HeaderLays (schema : WireSchema) (block template version : ℕ) (b : List ℕ) : Type 0 where
   pub wide : length b ≡ members_end 0 schema.header.members
   pub says_block : number_named schema.order schema.header.members (codes "blockLength") b ≡ block
@@ -126,7 +126,8 @@ pub record HeaderLays (schema : WireSchema) (block template version : ℕ) (b : 
   pub says_schema : number_named schema.order schema.header.members (codes "schemaId") b ≡ schema.id
   pub says_version : number_named schema.order schema.header.members (codes "version") b ≡ version
 
--- the body is the message: header, block, tail, and a rest that only a later version than the schema's may have
+-- the body is the message: header, block, groups and data, and a rest, which only a version later than the schema's may
+-- have
 abbrev pub Lays : WireSchema → Msg → List ℕ → Type 0
 Lays schema m body =
     (level : Level) × (header : List ℕ) × (block : List ℕ) × (tail : List ℕ) × (rest : List ℕ)

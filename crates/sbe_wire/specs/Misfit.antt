@@ -32,7 +32,7 @@ use Rattle.sbe_wire.specs.declared.codes.NCode.TheVariants as code
 use Rattle.sbe_wire.specs.Named.{is_admitted}
 use Rattle.sbe_wire.specs.Canonical.{entries_in}
 
--- a code, the part, and a number
+-- a code, the path of the part, and a number
 pub record Misfit : Type 0 where
   pub code : NCode
   pub path : List Step
@@ -46,17 +46,17 @@ misfit_here code detail = Some (record { code = code; path = []; detail = detail
 abbrev pub inside_step : Step → Misfit → Misfit
 inside_step step m = record { code = m.code; path = step ∷ m.path; detail = m.detail }
 
--- the same, if there is one
+-- the same inside a step, if there is a misfit
 abbrev pub misfit_in : Step → Option Misfit → Option Misfit
 misfit_in step None = None
 misfit_in step (Some m) = Some (inside_step step m)
 
--- the first of two
+-- the first of two misfits
 abbrev pub or_else : Option Misfit → Option Misfit → Option Misfit
 or_else None m = m
 or_else (Some m) n = Some m
 
--- the misfit, unless the test holds
+-- the misfit, unless the condition holds
 abbrev pub unless : Bool → Option Misfit → Option Misfit
 unless true m = None
 unless false m = m
@@ -67,7 +67,7 @@ unless false m = m
 abbrev pub other_kind : Option Misfit
 other_kind = misfit_here code.Kind (pos 0)
 
--- a number outside the range, or the null by its number (N01)
+-- a number outside the range, or equal to the null (N01)
 abbrev pub number_misfit : LeafOf → Value → Option Misfit
 number_misfit leaf (value.Num n) = unless (admits leaf n && not (is_null leaf n)) (misfit_here code.Range n)
 number_misfit leaf value.Null = unless (is_optional leaf.presence) other_kind
@@ -79,12 +79,12 @@ number_misfit leaf (value.Comp' n row) = other_kind
 number_misfit leaf value.Const = other_kind
 number_misfit leaf value.Absent = other_kind
 
--- a byte that may not stand in a text (N04)
+-- a byte that a text may not contain (N04)
 abbrev pub byte_misfit : Option ℕ → Option Misfit
 byte_misfit None = None
 byte_misfit (Some b) = misfit_here code.TextByte (pos b)
 
--- a text: its length (N01) is judged before its bytes
+-- a text: its length (N01) is checked before its bytes
 abbrev pub text_misfit : LeafOf → Value → Option Misfit
 text_misfit leaf (value.Text text) =
     or_else (unless (nat_le (length text) (width (Leaf leaf)) && not (is_optional leaf.presence && is_empty text)) (misfit_here code.Range (pos (length text))))
@@ -98,17 +98,17 @@ text_misfit leaf (value.Comp' n row) = other_kind
 text_misfit leaf value.Const = other_kind
 text_misfit leaf value.Absent = other_kind
 
--- the same of an element of an array
+-- the same for an element of an array
 abbrev pub element_misfit : LeafOf → Elem → Option Misfit
 element_misfit leaf (elem.Num n) = unless (admits leaf n && not (is_null leaf n)) (misfit_here code.Range n)
 element_misfit leaf elem.Null = unless (is_optional leaf.presence && not (is_octets leaf.shape)) other_kind
 
--- the first one of elements that are counted from i
+-- the first misfit of elements, counted from i
 abbrev pub elements_misfit : LeafOf → ℕ → List Elem → Option Misfit
 elements_misfit leaf i [] = None
 elements_misfit leaf i (e ∷ es) = or_else (misfit_in (way.Elem i) (element_misfit leaf e)) (elements_misfit leaf (suc i) es)
 
--- another number of elements, or the first one of an element
+-- a wrong number of elements, or the first misfit of an element
 abbrev pub array_misfit : LeafOf → Value → Option Misfit
 array_misfit leaf (value.Nums elements) = if length elements == leaf.length then elements_misfit leaf 0 elements else other_kind
 array_misfit leaf (value.Num n) = other_kind
@@ -141,7 +141,7 @@ enum_misfit leaf names (value.Comp' n row) = other_kind
 enum_misfit leaf names value.Const = other_kind
 enum_misfit leaf names value.Absent = other_kind
 
--- a bit that is not listed (N03)
+-- a bit that isn't listed (N03)
 abbrev pub set_misfit : List Named → Value → Option Misfit
 set_misfit names (value.Set n) = unless (nat_lt n (2 ^ 64) && has_listed_bits names 64 n) (misfit_here code.SetUnknown (pos n))
 set_misfit names (value.Num n) = other_kind
@@ -153,7 +153,7 @@ set_misfit names (value.Comp' n row) = other_kind
 set_misfit names value.Const = other_kind
 set_misfit names value.Absent = other_kind
 
--- a constant has no value but its own
+-- a constant has only its own value
 abbrev pub const_misfit : Value → Option Misfit
 const_misfit value.Const = None
 const_misfit (value.Num n) = other_kind
@@ -165,7 +165,7 @@ const_misfit (value.Set n) = other_kind
 const_misfit (value.Comp' n row) = other_kind
 const_misfit value.Absent = other_kind
 
--- as many values as members
+-- there are as many values as members
 abbrev pub same_length : {n : _} → Row_of-Member n → List Value → Bool
 same_length end_of-Member [] = true
 same_length end_of-Member (v ∷ vs) = false
@@ -181,7 +181,7 @@ abbrev mutual
   value_misfit (Const c) v = const_misfit v
   value_misfit (Comp' n members) v = row_misfit 0 members (member_values v)
 
-  -- the first one of members that are counted from i; their number is judged first
+  -- the first misfit of members, counted from i; the number of values is checked first
   pub row_misfit : ℕ → {n : _} → Row_of-Member n → Option (List Value) → Option Misfit
   row_misfit i row None = other_kind
   row_misfit i end_of-Member (Some []) = None
@@ -190,7 +190,7 @@ abbrev mutual
   row_misfit i (more_of-Member name offset kind rest) (Some (v ∷ vs)) =
       if same_length rest vs then or_else (misfit_in (way.Part i) (value_misfit kind v)) (row_misfit (suc i) rest (Some vs)) else other_kind
 
--- the first one of fields that are counted from i
+-- the first misfit of fields, counted from i
 abbrev pub fields_misfit : ℕ → List Field → List Value → Option Misfit
 fields_misfit i (f ∷ fs) (v ∷ vs) = or_else (misfit_in (way.Part i) (value_misfit f.kind v)) (fields_misfit (suc i) fs vs)
 fields_misfit i [] vs = None
@@ -198,7 +198,7 @@ fields_misfit i (f ∷ fs) [] = None
 
 -- ---- the shape: as many values as parts everywhere, and no group or data absent
 
--- another number of parts, or a part that is absent (N09)
+-- a wrong number of parts, or a part that is absent (N09)
 abbrev pub bad_shape : Option Misfit
 bad_shape = misfit_here code.Shape (pos 0)
 
@@ -208,47 +208,47 @@ parts_shape i [] = None
 parts_shape i (dataval.Absent ∷ vs) = misfit_in (way.Part i) bad_shape
 parts_shape i (dataval.Bytes b ∷ vs) = parts_shape (suc i) vs
 
--- the first one of entries that are counted from i
+-- the first misfit of entries, counted from i
 abbrev pub each_misfit : {X : Type 0} → (X → Option Misfit) → ℕ → List X → Option Misfit
 each_misfit f i [] = None
 each_misfit f i (x ∷ xs) = or_else (misfit_in (way.Entry i) (f x)) (each_misfit f (suc i) xs)
 
--- the first one of entries; of more than any count can say, none is looked at
+-- the first misfit of entries; if there are more than any count can give, none is checked
 abbrev pub entries_shape : (Block → Option Misfit) → Option (List Block) → Option Misfit
 entries_shape entry None = bad_shape
 entries_shape entry (Some entries) = if nat_lt (length entries) (2 ^ 32) then each_misfit entry 0 entries else None
 
 unfoldable mutual
-  -- the first one of a level, in wire order
+  -- the first misfit of a level, in wire order
   pub block_shape : Level → Block → Option Misfit
   block_shape (Level' name id semantic since block_length fields k groups parts) block =
       if (length fields == length (out-Block block).fields) && (length (items-the_row-Group _ groups) == length (out-Block block).groups) && (length parts == length (out-Block block).parts)
       then or_else (groups_shape (length fields) groups (out-Block block).groups) (parts_shape (length fields + length (out-Block block).groups) (out-Block block).parts)
       else bad_shape
 
-  -- the first one of groups that are counted from i
+  -- the first misfit of groups, counted from i
   pub groups_shape : ℕ → {n : _} → Row_of-Group n → List GroupVal → Option Misfit
   groups_shape i end_of-Group vs = None
   groups_shape i (more_of-Group g rest) [] = None
   groups_shape i (more_of-Group g rest) (v ∷ vs) = or_else (misfit_in (way.Part i) (group_shape g v)) (groups_shape (suc i) rest vs)
 
-  -- the first one of the entries of a group
+  -- the first misfit of the entries of a group
   pub group_shape : Group → GroupVal → Option Misfit
   group_shape (Group' dim level) v = entries_shape (λ entry. block_shape level entry) (entries_in v)
 
--- ---- the parts in wire order: how many bytes they take behind `before` others, or the first misfit
+-- ---- the parts in wire order: how many bytes they take after `before` others, or the first misfit
 
 -- how many bytes the body has so far, or the first misfit
 abbrev pub Taken : Type 0
 Taken = Result ℕ Misfit
 
--- goes on with the number of bytes; a misfit stays
+-- continues with the number of bytes; a misfit stays
 infixl 10 ◌then◌
 abbrev pub ◌then◌ : Taken → (ℕ → Taken) → Taken
 (Ok n) then f = f n
 (Err m) then f = Err m
 
--- the code is that of want of room
+-- the code is the one for a body over the limit
 abbrev pub is_full : NCode → Bool
 is_full code.Full = true
 is_full code.Range = false
@@ -260,29 +260,29 @@ is_full code.Count = false
 is_full code.Length = false
 is_full code.Shape = false
 
--- the same inside a step; want of room is the whole body's
+-- the same inside a step; a body over the limit has no path
 abbrev pub taken_in : Step → Taken → Taken
 taken_in step (Ok n) = Ok n
 taken_in step (Err m) = Err (if is_full m.code then m else inside_step step m)
 
--- a misfit with a number
+-- a misfit of the part itself, with a number
 abbrev pub refused : NCode → ℕ → Taken
 refused code n = Err (record { code = code; path = []; detail = pos n })
 
--- n bytes more, within the limit (N08)
+-- n more bytes, within the limit (N08)
 abbrev pub take_bytes : ℕ → ℕ → ℕ → Taken
 take_bytes limit before n = if nat_le (before + n) limit then Ok (before + n) else refused code.Full (before + n)
 
--- so many bytes, where there is no misfit
+-- n bytes, if there is no misfit
 abbrev pub passed : ℕ → Option Misfit → Taken
 passed n None = Ok n
 passed n (Some m) = Err m
 
--- a block: its room comes before its fields
+-- a block: its room is checked before its fields
 abbrev pub block_taken : ℕ → ℕ → ℕ → List Field → List Value → Taken
 block_taken limit before n fields values = take_bytes limit before n then (λ after. passed after (fields_misfit 0 fields values))
 
--- data: its length (N07) comes before its room
+-- data: its length (N07) is checked before its room
 abbrev pub part_taken : ℕ → ℕ → DataField → DataVal → Taken
 part_taken limit before part dataval.Absent = Ok before
 part_taken limit before part (dataval.Bytes bytes) =
@@ -294,12 +294,12 @@ parts_taken limit i before (p ∷ ps) (v ∷ vs) = taken_in (way.Part i) (part_t
 parts_taken limit i before [] vs = Ok before
 parts_taken limit i before (p ∷ ps) [] = Ok before
 
--- entries that are counted from i
+-- entries, counted from i
 abbrev pub each_taken : {X : Type 0} → (ℕ → X → Taken) → ℕ → ℕ → List X → Taken
 each_taken f i before [] = Ok before
 each_taken f i before (x ∷ xs) = taken_in (way.Entry i) (f before x) then (λ after. each_taken f (suc i) after xs)
 
--- the entries of a group: their count (N06) comes before the room for the dimension
+-- the entries of a group: their count (N06) is checked before the room for the dimension
 abbrev pub entries_taken : ℕ → ℕ → List Member → (ℕ → Block → Taken) → Option (List Block) → Taken
 entries_taken limit before dim entry None = Ok before
 entries_taken limit before dim entry (Some entries) =
@@ -314,7 +314,7 @@ unfoldable mutual
       groups_taken limit (length fields) before groups (out-Block block).groups
       then (λ after. parts_taken limit (length fields + length (out-Block block).groups) after parts (out-Block block).parts)
 
-  -- groups that are counted from i
+  -- groups, counted from i
   pub groups_taken : ℕ → ℕ → ℕ → {n : _} → Row_of-Group n → List GroupVal → Taken
   groups_taken limit i before end_of-Group vs = Ok before
   groups_taken limit i before (more_of-Group g rest) [] = Ok before
@@ -334,7 +334,7 @@ abbrev pub refusal_of : Taken → Option Misfit
 refusal_of (Ok n) = None
 refusal_of (Err m) = Some m
 
--- the header and the root's block, as one step, and then the tail
+-- the header and the root's block, as one step, and then the groups and data
 abbrev pub root_taken : WireSchema → ℕ → Level → Block → Taken
 root_taken schema limit level block =
     block_taken limit 0 (members_end 0 schema.header.members + (out-Level level).block_length) (out-Level level).fields (out-Block block).fields

@@ -1,6 +1,6 @@
--- The members of the header and of dimensions, which are found by their names. A checked schema has each of them,
--- as an unsigned number; elsewhere a missing member counts as 0 and admits nothing.
--- From SBE 1.0, Message structure and Repeating group encoding.
+-- The members of headers and dimensions, found by name. A checked schema has each of them, as an unsigned number; in
+-- any other a missing member counts as 0 and admits nothing. From SBE 1.0, Message structure and Repeating group
+-- encoding.
 use Rattle.std.specs.Prelude.{ℕ, Bool, false, if◌then◌else◌, Option, Some, None, List, [], ◌∷◌, take, drop, pos}
 use Rattle.std.specs.Option.{option_map_or}
 use Rattle.std.specs.Str.{bytes_eq}
@@ -12,7 +12,7 @@ use Rattle.sbe_types.specs.Numbers.{number_of, natural, prim_width}
 use Rattle.sbe_types.specs.Places.{begin_of, end_past}
 use Rattle.sbe_types.specs.Shown.{admits}
 
--- where a number stands in its composite, and its type
+-- the offset of a number in its composite, and its type
 pub record Spot : Type 0 where
   pub place : ℕ
   pub leaf : LeafOf
@@ -25,7 +25,7 @@ spot_of place (Set p names) = None
 spot_of place (Const c) = None
 spot_of place (Comp' n members) = None
 
--- the member of that name among members behind members that end at e
+-- the member of this name among members after members that end at e
 abbrev pub spot_named : ℕ → List ℕ → List Member → Option Spot
 spot_named e name [] = None
 spot_named e name (m ∷ ms) = if bytes_eq m.name name then spot_of (begin_of e m.offset) m.kind else spot_named (end_past e m.offset m.kind) name ms
@@ -35,10 +35,10 @@ abbrev pub number_named : Order → List Member → List ℕ → List ℕ → �
 number_named order members name bytes =
     option_map_or (λ s. natural (number_of order s.leaf.prim (take (prim_width s.leaf.prim) (drop s.place bytes)))) (spot_named 0 name members) 0
 
--- the place of that member
+-- the offset of that member
 abbrev pub place_named : List Member → List ℕ → ℕ
 place_named members name = option_map_or (λ s. s.place) (spot_named 0 name members) 0
 
--- the number lies in that member's range
+-- the number is within that member's range
 abbrev pub is_admitted : List Member → List ℕ → ℕ → Bool
 is_admitted members name n = option_map_or (λ s. admits s.leaf (pos n)) (spot_named 0 name members) false

@@ -1,5 +1,5 @@
--- What the laws ask of a schema, and the checker sees to: no part begins before the end of the one before it,
--- and no two messages have one id. Own profile.
+-- What the laws require of a schema, and the check ensures: no part begins before the end of the one before it, and no
+-- two messages have the same id. Own profile.
 use Rattle.std.specs.Prelude.{◌≡◌, ℕ, ◌+◌, ◌≤◌, false, if◌then◌else◌, Option, Some, List, [], ◌∷◌, ⊤, slice_get}
 use Rattle.sbe_types.specs.declared.kind.Kind.{Kind, Leaf, Enum, Set, Const, Comp', Row_of-Member, end_of-Member, more_of-Member}
 use Rattle.sbe_types.specs.declared.schema.Field.{Field}
@@ -9,7 +9,7 @@ use Rattle.sbe_types.specs.declared.schema.WireSchema.{WireSchema}
 use Rattle.sbe_types.specs.Places.{width, is_const, begin_of, end_past}
 use Rattle.sbe_wire.specs.Faults.{message_named}
 
--- a part that takes bytes begins at e or behind
+-- a part that takes bytes begins at e or later
 abbrev pub BeginsBehind : ℕ → Option ℕ → Kind → Type 0
 BeginsBehind e offset kind = is_const kind ≡ false → e ≤ begin_of e offset
 
@@ -22,13 +22,13 @@ abbrev mutual
   IsPlacedKind (Const c) = ⊤
   IsPlacedKind (Comp' n members) = IsPlacedRow 0 members
 
-  -- each member begins at the end of those before it, which is e, or behind
+  -- each member begins at the end of those before it, which is e, or later
   pub IsPlacedRow : ℕ → {n : _} → Row_of-Member n → Type 0
   IsPlacedRow e end_of-Member = ⊤
   IsPlacedRow e (more_of-Member name offset kind rest) =
       BeginsBehind e offset kind × IsPlacedKind kind × IsPlacedRow (if is_const kind then e else begin_of e offset + width kind) rest
 
--- each field begins at the end of those before it, which is e, or behind
+-- each field begins at the end of those before it, which is e, or later
 abbrev pub ArePlaced : ℕ → List Field → Type 0
 ArePlaced e [] = ⊤
 ArePlaced e (f ∷ fs) = BeginsBehind e f.offset f.kind × IsPlacedKind f.kind × ArePlaced (end_past e f.offset f.kind) fs
@@ -47,7 +47,7 @@ abbrev mutual
   pub IsPlacedGroup : Group → Type 0
   IsPlacedGroup (Group' dim level) = IsPlacedLevel level
 
--- each message is placed, and is the first of its id
+-- each message is placed, and is the first with its id
 pub record IsPlaced (schema : WireSchema) : Type 0 where
   pub levels : (i : ℕ) (level : Level) → slice_get schema.messages i ≡ Some level → IsPlacedLevel level
   pub ids : (i : ℕ) (level : Level) → slice_get schema.messages i ≡ Some level → message_named 0 (out-Level level).id schema.messages ≡ Some (i, level)

@@ -34,34 +34,34 @@ use Rattle.sbe_wire.specs.Versions.{is_alive, floor, mode_of}
 use Rattle.sbe_wire.specs.Named.{number_named, place_named, is_admitted}
 use Rattle.sbe_wire.specs.Faults.{Fault, shifted, under, fault_at, count_of, message_named, Heading, floor_in}
 
--- ---- readers: the value at the front of some bytes with the bytes behind it, or the first fault
+-- ---- readers: the value at the front of some bytes with the bytes after it, or the first fault
 
--- the value at the front of some bytes and the bytes behind it, or the first fault
+-- the value at the front of some bytes and the bytes after it, or the first fault
 abbrev pub Reader : Type 0 → Type 0
 Reader X = List ℕ → Result (X × List ℕ) Fault
 
--- goes on with a value; a fault stays
+-- continues with a value; a fault stays
 infixl 10 ◌>>=◌
 abbrev pub ◌>>=◌ : {X Y : Type 0} → Result X Fault → (X → Result Y Fault) → Result Y Fault
 (Ok x) >>= f = f x
 (Err e) >>= f = Err e
 
--- the same answer, where a fault lies n bytes further on
+-- the same answer, with a fault n bytes further on
 abbrev pub later : {X : Type 0} → ℕ → Result X Fault → Result X Fault
 later n (Ok x) = Ok x
 later n (Err f) = Err (shifted n f)
 
--- the same answer, where a fault lies inside a step
+-- the same answer, with a fault inside a step
 abbrev pub inside : {X : Type 0} → Step → Result X Fault → Result X Fault
 inside step (Ok x) = Ok x
 inside step (Err f) = Err (under step f)
 
--- what comes of a value that was read from b and of the bytes behind it
+-- the result of a value that was read from b and of the bytes after it
 abbrev pub and_then : {X Y : Type 0} → List ℕ → Result (X × List ℕ) Fault → (X → List ℕ → Result Y Fault) → Result Y Fault
 and_then b (Err f) q = Err f
 and_then b (Ok r) q = later (length b - length r.1) (q r.0 r.1)
 
--- one reader after another
+-- one reader, and then another that is given the value
 abbrev pub then_read : {X Y : Type 0} → Reader X → (X → Reader Y) → Reader Y
 then_read p q b = and_then b (p b) q
 
@@ -69,16 +69,16 @@ then_read p q b = and_then b (p b) q
 abbrev pub nothing : {X : Type 0} → X → Reader X
 nothing x b = Ok (x, b)
 
--- a value that was read, as a judge has it
+-- a value that was read, as a check of it returns it
 abbrev pub and_judged : {X Y : Type 0} → (X → Result Y Fault) → Result (X × List ℕ) Fault → Result (Y × List ℕ) Fault
 and_judged q (Err f) = Err f
 and_judged q (Ok r) = q r.0 >>= (λ y. Ok (y, r.1))
 
--- a reader whose value is judged; a fault lies where the value began
+-- a reader whose value is checked; a fault of the check is where the value began
 abbrev pub read_judged : {X Y : Type 0} → Reader X → (X → Result Y Fault) → Reader Y
 read_judged p q b = and_judged q (p b)
 
--- a reader, and then a judge of all that is left
+-- a reader, and then a check of all that is left
 abbrev pub then_all : {X Y : Type 0} → Reader X → (X → List ℕ → Result Y Fault) → List ℕ → Result Y Fault
 then_all p q b = and_then b (p b) q
 
@@ -86,7 +86,7 @@ then_all p q b = and_then b (p b) q
 abbrev pub bytes_or : Fault → ℕ → Reader (List ℕ)
 bytes_or fault n b = if nat_le n (length b) then Ok (take n b, drop n b) else Err fault
 
--- n bytes, or how many are wanted
+-- n bytes, or a fault with n as its detail (F05)
 abbrev pub bytes_read : ℕ → Reader (List ℕ)
 bytes_read n b = bytes_or (fault_at code.Truncated 0 (pos n)) n b
 
@@ -94,7 +94,7 @@ bytes_read n b = bytes_or (fault_at code.Truncated 0 (pos n)) n b
 abbrev pub read_in : {X : Type 0} → Step → Reader X → Reader X
 read_in step p b = inside step (p b)
 
--- n items, counted from i
+-- n items, counted from i, read one after another
 unfoldable pub times_read : {X : Type 0} → Reader X → ℕ → ℕ → Reader (List X)
 times_read p i zero b = Ok ([], b)
 times_read p i (suc n) b = then_read (read_in (way.Entry i) p) (λ x. then_read (times_read p (suc i) n) (λ xs. nothing (x ∷ xs))) b
@@ -106,16 +106,16 @@ each_read p i (x ∷ xs) b = then_read (read_in (way.Part i) (p x)) (λ y. then_
 
 -- ---- a value, from bytes that are as many as its kind is wide
 
--- the value that a number shows, or the fault with this code
+-- the value that a number shows, or a fault with this code
 abbrev pub number_value : Kind → Bool → FCode → ℤ → Result Value Fault
 number_value kind known code n = ok_or (shown kind known n) (fault_at code 0 n)
 
--- the value of a text, where nothing or a 00 stands behind it
+-- the value of a text, if nothing or a 00 follows it
 abbrev pub text_ended : LeafOf → List ℕ → List ℕ → Result Value Fault
 text_ended leaf text [] = Ok (text_value leaf text)
 text_ended leaf text (b ∷ after) = if b == 0 then Ok (text_value leaf text) else Err (fault_at code.TextByte (length text) (pos b))
 
--- the value of a text: its good bytes, and what stands behind them
+-- the value of a text: its good bytes, and what follows them
 abbrev pub text_read : LeafOf → List ℕ → Result Value Fault
 text_read leaf b = let text = take_while (is_text_byte leaf) b in text_ended leaf text (drop (length text) b)
 
@@ -125,7 +125,7 @@ element_read order leaf b =
     let n = number_of order leaf.prim (take (prim_width leaf.prim) b) in
     ok_or (shown_element leaf n) (fault_at code.Range 0 n)
 
--- n elements, counted from i
+-- n elements of an array, counted from i
 unfoldable pub elements_read : Order → LeafOf → ℕ → ℕ → List ℕ → Result (List Elem) Fault
 elements_read order leaf i zero b = Ok []
 elements_read order leaf i (suc n) b = do
@@ -133,7 +133,7 @@ elements_read order leaf i (suc n) b = do
   es ← later (prim_width leaf.prim) (elements_read order leaf (suc i) n (drop (prim_width leaf.prim) b))
   Ok (e ∷ es)
 
--- an array, as long as it is stated
+-- an array, with as many elements as it states
 abbrev pub array_read : Order → LeafOf → List ℕ → Result Value Fault
 array_read order leaf b = elements_read order leaf 0 leaf.length b >>= (λ es. Ok (value.Nums es))
 
@@ -154,7 +154,7 @@ unfoldable mutual
   value_read order known (Const c) b = Ok value.Const
   value_read order known (Comp' n members) b = row_read order known 0 0 members b >>= (λ vs. Ok (value.Comp vs))
 
-  -- the values of members that are counted from i, behind members that end at e
+  -- the values of members, counted from i, after members that end at e
   pub row_read : Order → Bool → ℕ → ℕ → {n : _} → Row_of-Member n → List ℕ → Result (List Value) Fault
   row_read order known e i end_of-Member b = Ok []
   row_read order known e i (more_of-Member name offset kind rest) b = do
@@ -164,14 +164,14 @@ unfoldable mutual
 
 -- ---- a block
 
--- the value of a field, which is absent where it is not alive
+-- the value of a field, which is absent if the field isn't alive
 abbrev pub field_read : Mode → ℕ → ℕ → Field → List ℕ → Result Value Fault
 field_read mode e i f b =
     if is_alive mode.version f.since
     then later (begin_of e f.offset) (inside (way.Part i) (value_read mode.order mode.known f.kind (take (width f.kind) (drop (begin_of e f.offset) b))))
     else Ok value.Absent
 
--- the values of fields that are counted from i, behind fields that end at e
+-- the values of fields, counted from i, after fields that end at e
 unfoldable pub fields_read : Mode → ℕ → ℕ → List Field → List ℕ → Result (List Value) Fault
 fields_read mode e i [] b = Ok []
 fields_read mode e i (f ∷ fs) b = do
@@ -185,7 +185,7 @@ block_read mode fields k = read_judged (bytes_read k) (fields_read mode 0 0 fiel
 
 -- ---- data and groups
 
--- data of n bytes behind their length number
+-- data of n bytes after their length number
 abbrev pub data_bytes : Order → DataField → ℕ → Reader DataVal
 data_bytes order part n b =
     if admits part.length (pos n)
@@ -199,11 +199,11 @@ data_whole order part b =
     then data_bytes order part (count_of order part b) b
     else Err (fault_at code.Truncated 0 (pos (prim_width part.length.prim)))
 
--- a data part, which is absent where it is not alive
+-- a data part, which is absent if it isn't alive
 abbrev pub data_read : Order → ℕ → DataField → Reader DataVal
 data_read order version part b = if is_alive version part.since then data_whole order part b else Ok (dataval.Absent, b)
 
--- a dimension's block length and count, where the floor of its entries is `least`
+-- the block length and the count of a dimension, where the floor of its entries is `least`
 abbrev pub dimension_of : Order → List Member → ℕ → List ℕ → Result (ℕ × ℕ) Fault
 dimension_of order dim least head =
     let block = number_named order dim (codes "blockLength") head in
@@ -222,11 +222,11 @@ dimension_read order dim least = read_judged (bytes_read (members_end 0 dim)) (d
 abbrev pub Tail : Type 0
 Tail = List GroupVal × List DataVal
 
--- the values of a level: its fields, and its tail
+-- a block with its fields, and its groups and data
 abbrev pub block_of : List Value → Tail → Block
 block_of fields tail = record { fields = fields; groups = tail.0; parts = tail.1 }
 
--- a block of k bytes, and then the tail
+-- a block of k bytes, and then its groups and data
 abbrev pub entry_read : Reader Tail → Mode → List Field → ℕ → Reader Block
 entry_read tail mode fields k =
     then_read (block_read mode fields k) (λ values. then_read tail (λ t. nothing (block_of values t)))
@@ -238,13 +238,13 @@ unfoldable mutual
       then_read (groups_read mode (length fields) groups)
       (λ gs. then_read (each_read (data_read mode.order mode.version) (length fields + length gs) parts) (λ ds. nothing (gs, ds))) b
 
-  -- groups that are counted from i
+  -- groups, counted from i
   pub groups_read : Mode → ℕ → {n : _} → Row_of-Group n → Reader (List GroupVal)
   groups_read mode i end_of-Group b = Ok ([], b)
   groups_read mode i (more_of-Group g rest) b =
       then_read (read_in (way.Part i) (group_read mode g)) (λ v. then_read (groups_read mode (suc i) rest) (λ vs. nothing (v ∷ vs))) b
 
-  -- a group, which is absent where it is not alive
+  -- a group, which is absent if it isn't alive
   pub group_read : Mode → Group → Reader GroupVal
   group_read mode (Group' dim level) b =
       if is_alive mode.version (out-Level level).since
@@ -254,7 +254,7 @@ unfoldable mutual
 
 -- ---- a body
 
--- the n bytes of a header, or how many are there
+-- the n bytes of a header, or a fault with how many are there (F01)
 abbrev pub header_bytes : ℕ → Reader (List ℕ)
 header_bytes n b = bytes_or (fault_at code.ShortHeader 0 (pos (length b))) n b
 
@@ -265,7 +265,7 @@ floor_judged schema h =
     then Err (fault_at code.BlockShort (place_named schema.header.members (codes "blockLength")) (pos h.block))
     else Ok h
 
--- the heading of a message that is there
+-- the heading, if a message has this id
 abbrev pub message_judged : WireSchema → List ℕ → ℕ → Option (ℕ × Level) → Result Heading Fault
 message_judged schema head id None = Err (fault_at code.Template (place_named schema.header.members (codes "templateId")) (pos id))
 message_judged schema head id (Some m) =
@@ -276,7 +276,7 @@ message_judged schema head id (Some m) =
       version = number_named schema.order schema.header.members (codes "version") head;
     })
 
--- what the header says, or why it is refused
+-- what the header gives, or why it is refused
 abbrev pub heading_of : WireSchema → List ℕ → Result Heading Fault
 heading_of schema head =
     let schema_id = number_named schema.order schema.header.members (codes "schemaId") head in
@@ -289,7 +289,7 @@ heading_of schema head =
 abbrev pub heading_read : WireSchema → Reader Heading
 heading_read schema = read_judged (header_bytes (members_end 0 schema.header.members)) (heading_of schema)
 
--- what is left is passed over in a message of a later version than the schema's
+-- the message; what is left is skipped if its version is later than the schema's
 abbrev pub rest_judged : Bool → Msg → List ℕ → Result Msg Fault
 rest_judged known m rest = if known && nat_lt 0 (length rest) then Err (fault_at code.Trailing 0 (pos (length rest))) else Ok m
 
@@ -297,7 +297,7 @@ rest_judged known m rest = if known && nat_lt 0 (length rest) then Err (fault_at
 abbrev pub headed : Heading → Block → Msg
 headed h block = record { template = h.template; version = h.version; block = block }
 
--- the message behind a heading
+-- the message after a heading
 abbrev pub root_read : WireSchema → Heading → List ℕ → Result Msg Fault
 root_read schema h =
     let mode = mode_of schema h.version in

@@ -1,4 +1,4 @@
--- Versions: which parts of a schema stand in a message. From SBE 1.0, Schema extension mechanism; the floor is own profile.
+-- Versions: which parts of a schema a message has. From SBE 1.0, Schema extension mechanism; the floor is own profile.
 use Rattle.std.specs.Prelude.{ℕ, min, nat_le, Bool, true, not, ◌&&◌, if◌then◌else◌, List, [], ◌∷◌}
 use Rattle.sbe_types.specs.declared.kind.Order.{Order}
 use Rattle.sbe_types.specs.declared.schema.Field.{Field}
@@ -23,26 +23,26 @@ mode_of schema w = record { order = schema.order; known = is_known schema w; ver
 abbrev pub own_mode : Order → ℕ → Mode
 own_mode order version = record { order = order; known = true; version = version }
 
--- a part stands on the wire from its effective since on
+-- a part is on the wire from its effective since on
 abbrev pub is_alive : ℕ → ℕ → Bool
 is_alive version since = nat_le since version
 
--- the same behind fields that end at e, where the block must reach so far already
+-- the same after fields that end at e, where the block already has to reach `reached`
 abbrev pub floor_from : ℕ → ℕ → ℕ → List Field → ℕ
 floor_from version e reached [] = reached
 floor_from version e reached (f ∷ fs) =
     floor_from version (end_past e f.offset f.kind)
     (if is_alive version f.since && not (is_const f.kind) then end_past e f.offset f.kind else reached) fs
 
--- the end of the last field that is alive and no constant: a block has at least so many bytes
+-- the end of the last field that is alive and not a constant: the least length of a block
 abbrev pub floor : ℕ → List Field → ℕ
 floor version fields = floor_from version 0 0 fields
 
--- the blocks of a level: how their values are read, and their fields
+-- the form of a level's blocks: how their values are read, and their fields
 pub record BlockForm : Type 0 where
   pub mode : Mode
   pub fields : List Field
 
--- the blocks of this level, whose values are read in that mode
+-- the form of this level's blocks, whose values are read in that mode
 abbrev pub form_of : Mode → Level → BlockForm
 form_of mode level = record { mode = mode; fields = (out-Level level).fields }

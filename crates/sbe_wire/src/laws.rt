@@ -1,5 +1,5 @@
-//! Laws of the definitions, for each schema whose parts don't go back and whose messages differ in
-//! their ids, as the checker sees to.
+//! Laws of the definitions, for every schema whose parts are in ascending order of their places and whose messages have
+//! different ids. The checker ensures both.
 
 ghost use Rattle.std.specs.Prelude.{◌≡◌, ◌⊎◌, ◌↔◌, ◌+◌, ◌≤◌, ℕ, true, List, Some, Ok, Err, length, slice_get};
 ghost use Rattle.std.specs.Bool.{MatchBool};
@@ -17,22 +17,22 @@ ghost use Rattle.sbe_wire.specs.Faults.{Fault, FirstFault};
 ghost use Rattle.sbe_wire.specs.Reading.{message_of};
 ghost use Rattle.sbe_wire.specs.Placed.{ArePlaced, IsPlaced};
 
-/// The message that is computed is the one that lies in the body.
+/// The computed message is the one that lies in the body.
 pub fn computed_message_lies()
     ensures { (schema : WireSchema) → IsPlaced schema → (body : List ℕ) (m : Msg) → (message_of schema body ≡ Ok m) ↔ Lays schema m body }
 {}
 
-/// The fault that is computed is the first one.
+/// The computed fault is the first one.
 pub fn computed_fault_is_first()
     ensures { (schema : WireSchema) → IsPlaced schema → (body : List ℕ) (fault : Fault) → (message_of schema body ≡ Err fault) ↔ FirstFault schema fault body }
 {}
 
-/// A body lies as at most one message.
+/// At most one message lies in a body.
 pub fn at_most_one_message()
     ensures { (schema : WireSchema) → IsPlaced schema → (body : List ℕ) (m n : Msg) → Lays schema m body → Lays schema n body → m ≡ n }
 {}
 
-/// Some message lies in a body, or it has exactly one first fault.
+/// Either a message lies in a body, or the body has exactly one first fault.
 pub fn message_or_one_fault()
     ensures { (schema : WireSchema) → IsPlaced schema → (body : List ℕ) →
         ((m : Msg) × Lays schema m body)
@@ -44,8 +44,8 @@ pub fn no_fault_of_a_message()
     ensures { (schema : WireSchema) → IsPlaced schema → (body : List ℕ) (m : Msg) (fault : Fault) → Lays schema m body → FirstFault schema fault body → ⊥ }
 {}
 
-/// Fields lie in a block where each field that is alive shows its value at its place, and each other
-/// one is absent.
+/// Fields lie in a block exactly if each field that the version has shows its value at its place, and each other one is
+/// absent.
 pub fn fields_lie_at_their_places()
     ensures { (mode : Mode) (fields : List Field) (values : List Value) (b : List ℕ)
         → FieldsLay mode 0 fields values b
@@ -54,7 +54,7 @@ pub fn fields_lie_at_their_places()
         → MatchBool (is_alive mode.version f.since) (Shows mode.order mode.known f.kind v (bytes_at (field_place 0 fields i) (width f.kind) b)) (v ≡ Absent))) }
 {}
 
-/// Each field that is alive ends at the floor or before it, and one of them at the floor, if it isn't 0.
+/// Each field that the version has ends at the floor or before it, and one of them ends at the floor, unless that is 0.
 pub fn floor_is_the_last_end()
     ensures holds { (version : ℕ) (fields : List Field) → ArePlaced 0 fields → (i place : ℕ) (f : Field)
         → slice_get fields i ≡ Some f → is_alive version f.since ≡ true → field_place 0 fields i ≡ Some place

@@ -1,6 +1,6 @@
-//! The definitions of the wire: how a message lies in a body, what can be written, and what the
-//! first fault of a body is. They are stated in `specs/`; the code is the codes that they cite,
-//! and how a body is read.
+//! The definitions of the wire: how a message lies in a body, what can be written, and what the first fault of a body
+//! is. They are stated in `specs/`; the code consists of the codes that they cite, and of the mode in which a body is
+//! read.
 #![tactic(auto)]
 
 mod codes;

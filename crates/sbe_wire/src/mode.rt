@@ -1,11 +1,11 @@
 use sbe_types::Order;
 
-/// How all values of a body are read.
+/// How the values of a body are read.
 #[derive(Clone, Copy)]
 pub struct Mode {
     pub order: Order,
-    /// The schema knows all parts of such a message.
+    /// The schema knows every part of the message.
     pub known: bool,
-    /// The version by which it is read.
+    /// The version at which it is read.
     pub version: u32,
 }

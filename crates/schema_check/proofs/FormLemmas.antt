@@ -7,7 +7,7 @@ use Rattle.sbe_types.specs.Places.{width, is_const, begin_of, place_of, end_past
 use Rattle.schema_rules.specs.Facts.{counted}
 use Rattle.schema_check.specs.Forms.{SameMembers, IsLike, AreLike}
 
--- behind members that end at e
+-- after members that end at e
 record SameFrom (e : ℕ) (ms ns : List Member) : Type 0 where
   names : map (λ m. m.name) ms ≡ map (λ m. m.name) ns
   kinds : map (λ m. m.kind) ms ≡ map (λ m. m.kind) ns

@@ -4,7 +4,7 @@ use Rattle.sbe_types.specs.declared.schema.Level.{Level, roll-Level}
 use Rattle.sbe_types.specs.declared.tree.GroupEl.{GroupEl}
 use Rattle.schema_rules.specs.Resolved.{Within, block_of, list_fields, list_groups, list_data}
 
--- the level of a group's entries, resolved, where it begins with this since
+-- the resolved level of a group's entries, with the since of `within`
 abbrev pub resolved_entries : Within → GroupEl → Level
 resolved_entries within g =
     roll-Level (record {

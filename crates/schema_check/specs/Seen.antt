@@ -1,4 +1,4 @@
--- What is judged of a level, over the list of its parts.
+-- The check of a level, over the list of its parts.
 use Rattle.std.specs.Prelude.{false, Ok, Err}
 use Rattle.sbe_types.specs.declared.tree.GroupEl.{GroupEl}
 use Rattle.schema_rules.specs.declared.codes.PartClass.TheVariants as class
@@ -7,12 +7,12 @@ use Rattle.schema_rules.specs.Judging.{Judged, ◌>>=◌, first_of}
 use Rattle.schema_rules.specs.Kinds.{members_named}
 use Rattle.schema_rules.specs.PartRules.{Scope, PartsBefore, no_part, entries_level, part_rules, dimension_rules, group_rules, parts_judged}
 
--- what is told of a level whose parts were judged
+-- what is known of a level whose parts were checked
 abbrev pub level_of : Judged PartsBefore → Judged LevelFacts
 level_of (Ok parts) = Ok parts.all
 level_of (Err e) = Err e
 
--- a group that is judged, over the list of its parts
+-- the check of a group, over the list of its parts
 abbrev pub group_seen : Scope → PartsBefore → GroupEl → Judged (Unit {0})
 group_seen scope before g = do
   _ ← first_of (dimension_rules scope.types g.dimension_type)

@@ -6,7 +6,7 @@ use crate::forms::is_same_form;
 use sbe_types::{Header, LevelList, Order, WireSchema};
 use std::marker::Model;
 
-/// A schema in order, with every type name resolved. To contracts it is the schema.
+/// A schema that has passed the checker, with every type name resolved. Contracts see it as the schema.
 #[derive(Drop)]
 pub struct Checked {
     schema: WireSchema,
@@ -30,7 +30,7 @@ impl Model for Checked {
 }
 
 impl Checked {
-    /// The schema that was found in order.
+    /// Wraps the schema, which must have every fact of a checked schema.
     pub(crate) fn new(schema: WireSchema) -> Checked
         requires { IsChecked schema }
         ensures { result ≡ schema }
@@ -45,7 +45,7 @@ impl Checked {
         &self.schema.messages
     }
 
-    /// The number by which a message's header names it.
+    /// The id that a message's header carries.
     pub fn id(&self) -> u32
         ensures { result ≡ self.now.id }
     {
@@ -73,7 +73,7 @@ impl Checked {
         &self.schema.header
     }
 
-    /// The schema itself, which is in order.
+    /// The schema itself, which has every fact of a checked schema.
     pub fn schema(&self) -> &WireSchema
         ensures schema { result.now ≡ self.now }
         ensures order { IsChecked self.now }
@@ -81,7 +81,7 @@ impl Checked {
         &self.schema
     }
 
-    /// Whether messages of both begin alike: in the same byte order, with a header of the same form.
+    /// Whether the messages of both begin alike: in the same byte order, with a header of the same form.
     pub fn same_form(&self, other: &Checked) -> bool
         ensures { IsTrue result ↔ SameForm self.now other.now }
     {

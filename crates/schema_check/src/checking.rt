@@ -17,13 +17,12 @@ use std::alloc::Global;
 use type_facts::Declarations;
 use type_kinds::Resolver;
 
-/// Checks a schema whose names and numbers keep their forms, and returns it with every type name
-/// resolved.
+/// Checks a schema whose names and numbers are well-formed, and returns it with every type name resolved.
 ///
 /// # Errors
 ///
-/// `Refused` with the first broken rule of the list of all questions that are asked of the schema, and
-/// the path of the element that breaks it. `Memory` when out of memory.
+/// `Refused` with the first broken rule of the list of all rules that apply to the schema, and the path of the element
+/// that breaks it. `Memory` if memory runs out.
 #[tactic(auto, using(schema_laws::proofs::Questions::answer_is))]
 pub fn check(alloc: Global, schema: Schema) -> Result<Checked, CheckErr>
     requires form { IsInForm schema }

@@ -7,7 +7,7 @@ use sbe_types::{Member, WireSchema};
 use type_facts::past;
 use type_kinds::{fact_of, is_same_kind};
 
-/// Whether messages of both begin alike: in the same byte order, with a header of the same form.
+/// Whether the messages of both begin alike: in the same byte order, with a header of the same form.
 pub fn is_same_form(a: &WireSchema, b: &WireSchema) -> bool
     ensures { IsTrue result ↔ SameForm a.now b.now }
 {
@@ -30,7 +30,7 @@ fn are_same_members(a: &[Member], b: &[Member]) -> bool
     true
 }
 
-/// Whether two members behind members that end at `end` are the same.
+/// Whether two members are the same, when the members before them end at `end`.
 fn is_like(end: u64, a: &Member, b: &Member) -> bool
     ensures { (e : ℕ) → counted end ≡ counted e → (IsTrue result ↔ IsLike e a.now b.now) }
 {

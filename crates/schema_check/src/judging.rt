@@ -10,7 +10,7 @@ use type_check::{behind, judge_types, names_fraction, refuse};
 use type_facts::Declarations;
 use type_kinds::{holds, is_header, members_named};
 
-/// Judges a whole schema: the declared types, the header type and the messages, in this order.
+/// Checks a whole schema: the declared types, the header type and the messages, in this order.
 pub fn judge(
     alloc: Global,
     known: &Declarations,

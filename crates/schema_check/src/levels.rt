@@ -173,7 +173,7 @@ fn resolve_data(
     })
 }
 
-/// The type of the length of a data: the first member of the data's type.
+/// The type of the length of a data part: the first member of the data's type.
 fn length_of(types: &Types, name: &[u8]) -> Leaf
     ensures { result ≡ length_in (members_named types.now name.now) }
 {
@@ -193,7 +193,7 @@ fn length_in(types: &Types, members: &[MemberItem]) -> Leaf
     }
 }
 
-/// What stands where no length is known. A schema in order has none.
+/// A placeholder where no length is known. An accepted schema has none.
 fn no_length() -> Leaf
     ensures { result ≡ no_length }
 {
@@ -260,7 +260,7 @@ fn resolve_group(
     })
 }
 
-/// The level of a group's entries, which begins with this version.
+/// The level of a group's entries, which begins at this version.
 #[cycle(groups)]
 fn resolve_entries(
     alloc: Global,

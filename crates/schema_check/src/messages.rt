@@ -14,7 +14,7 @@ use type_check::{NameTable, behind, refuse};
 use type_facts::{Declarations, Types};
 use type_kinds::holds;
 
-/// Judges the messages in their order, under the members of the header.
+/// Checks the messages in their order, given the members of the header.
 pub fn judge_messages(
     alloc: Global,
     known: &Declarations,
@@ -69,7 +69,7 @@ fn judge_message(
     judge_whole(alloc, known.types(), header, message, all)
 }
 
-/// The rules on a message that are tried before its parts.
+/// Applies the rules for a message that are tried before its parts.
 fn judge_begun(
     alloc: Global,
     version: u32,
@@ -100,7 +100,7 @@ fn is_id_among(ids: &[u32], id: u32) -> bool
     false
 }
 
-/// The rules on a message that are tried after its parts.
+/// Applies the rules for a message that are tried after its parts.
 fn judge_whole(
     alloc: Global,
     types: &Types,

@@ -13,7 +13,7 @@ use type_check::{NameTable, behind, field_fact, judge_field, judge_head, names_f
 use type_facts::{Declarations, Types, past};
 use type_kinds::{holds, is_data, is_dimension, members_named};
 
-/// Of a level without parts.
+/// The facts of a level without parts.
 const NO_PARTS: LevelFacts = LevelFacts {
     last: PartClass::Field,
     reached: 0,
@@ -24,7 +24,7 @@ const NO_PARTS: LevelFacts = LevelFacts {
     alive: false,
 };
 
-/// Judges the parts of a level in their order, and gives what is told of them all.
+/// Checks the parts of a level in their order, and returns what is known of them all.
 #[cycle(parts)]
 pub fn judge_parts(
     alloc: Global,
@@ -81,7 +81,7 @@ fn judge_part(
     }
 }
 
-/// Judges a group with its parts.
+/// Checks a group and its parts.
 #[cycle(parts)]
 fn judge_group(
     alloc: Global,
@@ -122,7 +122,7 @@ fn judge_dimension(alloc: Global, known: &Declarations, name: &[u8]) -> Result<(
     Ok(())
 }
 
-/// The rules on a group that are tried after its parts.
+/// Applies the rules for a group that are tried after its parts.
 fn judge_entries(
     alloc: Global,
     types: &Types,
@@ -148,7 +148,7 @@ fn judge_entries(
     Ok(())
 }
 
-/// Judges a data of a level.
+/// Checks a data part of a level.
 fn judge_data(
     alloc: Global,
     known: &Declarations,
@@ -196,7 +196,7 @@ pub fn block_of(stated: Option<u32>, reached: u64) -> u64
     }
 }
 
-/// Whether the stated block length is below the end of the fields.
+/// Whether the stated block length is less than the end of the fields.
 pub fn is_short(stated: Option<u32>, reached: u64) -> bool
     ensures { result ≡ is_short stated reached }
 {
@@ -223,7 +223,7 @@ fn part_name(part: &PartItem) -> &[u8]
     }
 }
 
-/// What is told of the parts of a level with one more.
+/// What is known of the parts of a level when one more is added.
 fn facts_with(
     known: &Declarations,
     level: LevelScope,

@@ -58,7 +58,7 @@ counter_of (Comp' n row) h = cc
 
 -- ---- the spot of a counter
 
--- the members behind e have a counter of that name
+-- the members after e have a counter of that name
 abbrev HasFrom : ℕ → List ℕ → List Member → Type 0
 HasFrom e name ms = (spot : Spot) × (spot_named e name ms ≡ Some spot) × IsCounter (members_end e ms) spot
 
@@ -92,7 +92,7 @@ both_false : (b c later : Bool) → b ≡ false → later ≡ false → (b && c)
 both_false true c later h k = cc
 both_false false c later h k = k
 
--- no member behind has the name of one before it
+-- no member after has the name of one before it
 none_later : (name : List ℕ) (ms : List Member) → AllByRecursion (λ y. bytes_eq name y ≡ false) (names_of ms) → has_counter ms name ≡ false
 none_later name [] h = refl
 none_later name (m ∷ ms) h = both_false (bytes_eq name m.name) (is_counter (leaf_in m.kind)) (has_counter ms name) h.0 (none_later name ms h.1)
@@ -118,7 +118,7 @@ counter_found name (m ∷ ms) e placed apart h =
 
 -- ---- headers, dimensions and data
 
--- members that lie one behind another, under names that differ
+-- members that lie one after another, under names that differ
 record Parts (ms : List Member) : Type 0 where
   placed : PlacedList 0 ms
   apart : IsDistinct bytes_eq (names_of ms)

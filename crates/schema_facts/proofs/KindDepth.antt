@@ -94,7 +94,7 @@ module _ (types : List TypesItem) (facts facts' : List ℕ → Fact) (kinds kind
     pub fact : facts' name ≡ facts name
     pub kind : kinds' name ≡ kinds name
 
-  -- of members behind others
+  -- of members after others
   pub record SameRow (all : Fact) {n : _} (row : Row_of-MemberItem n) : Type 0 where
     pub fact : row_fact types facts' all row ≡ row_fact types facts all row
     pub kind : row_members types kinds' row ≡ row_members types kinds row

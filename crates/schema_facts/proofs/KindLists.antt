@@ -88,7 +88,7 @@ full_members ms h = let row = row_in (Comp ms) in subst AreFull (items_hidden-th
 
 -- ---- places
 
--- members behind e lie one behind another
+-- members after e lie one after another
 abbrev pub PlacedList : ℕ → List Member → Type 0
 PlacedList e [] = ⊤
 PlacedList e (m ∷ ms) = BeginsBehind e m.offset m.kind × IsPlacedKind m.kind × PlacedList (end_past e m.offset m.kind) ms
@@ -107,7 +107,7 @@ placed_comp ms h = let row = row_in (Comp ms) in placed_row row.0 row.1 0 (subst
 pub placed_members : (ms : List Member) → IsPlacedKind (Comp ms) → PlacedList 0 ms
 placed_members ms h = let row = row_in (Comp ms) in subst (PlacedList 0) (items_hidden-the_row-Member-0 ms) (placed_list row.0 row.1 0 h)
 
--- members behind e end within the largest place
+-- members after e end within the largest place
 abbrev pub NarrowList : ℕ → List Member → Type 0
 NarrowList e [] = ⊤
 NarrowList e (m ∷ ms) = IsNarrow m.kind × EndsWithin e m.offset m.kind × NarrowList (end_past e m.offset m.kind) ms

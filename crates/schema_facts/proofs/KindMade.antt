@@ -43,7 +43,7 @@ none_of : (a b : Bool) → a ≡ false → b ≡ false → a || b ≡ false
 none_of true b h k = h
 none_of false b h k = k
 
--- members behind others of these names
+-- members after others of these names
 record MadeBehind (earlier : List (List ℕ)) (ms : List Member) : Type 0 where
   names : AllByRecursion IsName (names_of ms)
   once : is_twice bytes_eq bytes_eq-Decides earlier (names_of ms) ≡ false

@@ -9,7 +9,7 @@ use Rattle.schema_rules.specs.CompositeRules.{most_leaves, most_composites}
 use Rattle.schema_facts.specs.InOrder.{IsKindInOrder}
 use Rattle.schema_facts.proofs.KindLists.{list_leaves, list_height, leaves_comp, height_comp, PlacedList, placed_members, NarrowList, narrow_members, KindsList, made_members}
 
--- what is asked of members that lie behind e
+-- what is asked of members that lie after e
 record Behind (e : ℕ) (ms : List Member) : Type 0 where
   leaves : list_leaves ms ≤ most_leaves
   height : list_height ms ≤ most_composites

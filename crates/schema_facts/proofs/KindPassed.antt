@@ -101,7 +101,7 @@ member_passed inside before (part.Composite' name offset since n row) h =
 
 -- ---- members
 
--- the first of members, and those behind it
+-- the first of members, and those after it
 pub record PassedRow (inside : Inside) (before after : MembersBefore) (m : MemberItem) {n : _} (rest : Row_of-MemberItem n) : Type 0 where
   pub judged : member_judged inside before m ≡ Ok tt
   pub found : Passed inside before m

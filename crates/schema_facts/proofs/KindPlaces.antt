@@ -1,4 +1,4 @@
--- The parts of an accepted kind lie one behind another, and end within the largest place.
+-- The parts of an accepted kind lie one after another, and end within the largest place.
 use Rattle.std.proofs.Common.{◌≡◌, ℕ, ◌+◌, ◌*◌, ◌≤◌, Bool, true, false, List, [], ◌∷◌, Option, Some, None, refl, sym, subst, ◌∙◌, arith}
 use Rattle.std.specs.Prelude.{◌&&◌, not, nat_lt, if◌then◌else◌}
 use Rattle.std.specs.List.{AllByRecursion}
@@ -29,7 +29,7 @@ use Rattle.schema_facts.proofs.KindLists.{width_comp, PlacedList, placed_comp, N
 use Rattle.schema_facts.proofs.KindOptional.{first_end, first_placed, narrow_first, with_is}
 use Rattle.schema_facts.proofs.FactKinds.{Tells}
 
--- a kind whose parts lie one behind another and end within the largest place
+-- a kind whose parts lie one after another and end within the largest place
 pub record Fits (kind : Kind) : Type 0 where
   pub placed : IsPlacedKind kind
   pub narrow : IsNarrow kind
@@ -60,7 +60,7 @@ narrow_by (m ∷ ms) e placed each h = (
   narrow_by ms (end_past e m.offset m.kind) placed.2 each.1 h,
 )
 
--- members behind e, each of which fits
+-- members after e, each of which fits
 pub record FitsList (e : ℕ) (ms : List Member) : Type 0 where
   pub placed : PlacedList e ms
   pub narrow : AllByRecursion (λ (m : Member). IsNarrow m.kind) ms
@@ -141,7 +141,7 @@ set_found s (Some encoding) = record { placed = tt; narrow = tt; width = prim_sm
 pub set_fits : (types : List TypesItem) (s : SetEl) → Fits (set_kind types s)
 set_fits types s = set_found s (encoding_named types s.encoding_type)
 
--- ---- a member begins behind those before it
+-- ---- a member begins after those before it
 
 reached_is : (r e b : ℕ) → counted r ≡ counted e → b ≤ PLACE_LIMIT → r ≤ b → e ≤ b
 reached_is r e b h small le = omega arith

@@ -49,7 +49,7 @@ types_form (child.Message m ∷ items) h = types_form items h.1
 pub accepted : (tree : Schema) (schema : _) → IsInForm tree → Found tree schema → AreAccepted (declared_types tree)
 accepted tree schema form f = record { judged = f.types; form = types_form tree.children form }
 
--- ---- fields one behind another
+-- ---- fields one after another
 
 fields_placed : (base : Base) (level : LevelScope) → AreAccepted base.types → (before : PartsBefore) (ps : List PartItem) → EachKept (scope_of base level) before ps → AllByRecursion IsPartInForm ps →
     (e : ℕ) → counted before.all.reached ≡ counted e → ArePlaced e (list_fields (within_of base level) ps)

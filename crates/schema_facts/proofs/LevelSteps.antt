@@ -38,7 +38,7 @@ pub both : {B : Type 0} (j : Judged (Unit {0})) (k : Judged B) (b : B) → (j >>
 both (Ok x) k b h = (refl, h)
 both (Err e) k b h = cc
 
--- a judgement behind a name found the same
+-- a judgement after a name found the same
 pub behind_ok : {A : Type 0} (front name : List ℕ) (j : Judged A) (x : A) → behind front name j ≡ Ok x → j ≡ Ok x
 behind_ok front name (Ok y) x h = h
 behind_ok front name (Err e) x h = cc

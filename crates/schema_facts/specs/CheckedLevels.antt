@@ -1,5 +1,5 @@
--- What holds of each level of a checked schema. From SBE 1.0, "Message structure", "Repeating group encoding" and "Schema
--- extension mechanism"; the limits, and that every entry takes a byte, are own profile.
+-- What holds of each level of a checked schema. From SBE 1.0, "Message structure", "Repeating group encoding" and
+-- "Schema extension mechanism"; the limits, and that every entry takes a byte, are own profile.
 use Rattle.std.specs.Prelude.{◌≡◌, ◌≢◌, ℕ, suc, ◌+◌, ◌≤◌, max, true, false, if◌then◌else◌, Option, Some, None, List, [], ◌∷◌, ◌++◌, map, length, unwrap_or, codes, ⊤, AllPairs}
 use Rattle.std.specs.List.{AllByRecursion}
 use Rattle.sbe_types.specs.declared.limits.TheConstants.{PLACE_LIMIT, PART_LIMIT}
@@ -44,29 +44,29 @@ pub record HasNames (level : Level) : Type 0 where
 abbrev pub group_since : Group → ℕ
 group_since g = (out-Level (out-Group g).level).since
 
--- The effective sinces of fields, constants aside.
+-- The effective sinces of fields, without those of constants.
 abbrev pub moving_sinces : List Field → List ℕ
 moving_sinces [] = []
 moving_sinces (f ∷ fs) = if is_const f.kind then moving_sinces fs else f.since ∷ moving_sinces fs
 
--- The effective sinces of the fields, groups and data of a level, constants too.
+-- The effective sinces of the fields, groups and data of a level, with those of constants.
 abbrev pub part_sinces : Level → List ℕ
 part_sinces level =
     map (λ (f : Field). f.since) (out-Level level).fields
     ++ (map group_since (out-Level level).groups ++ map (λ (d : DataField). d.since) (out-Level level).parts)
 
--- None of the numbers is below the one before it, nor the first below `least`.
+-- Each number is at least as large as the one before it, and the first is at least `least`.
 abbrev pub NeverFall : ℕ → List ℕ → Type 0
 NeverFall least [] = ⊤
 NeverFall least (n ∷ ns) = (least ≤ n) × NeverFall n ns
 
--- The since is not below that of its level, and not above the schema's version.
+-- The since is at least that of its level, and at most the schema's version.
 pub record IsSinceWithin (least version since : ℕ) : Type 0 where
   pub behind : least ≤ since
   pub known : since ≤ version
 
--- The sinces of a level's fields, constants aside, never fall, nor do those of its groups or its data, and the level and its
--- parts are in the schema by its version.
+-- The sinces of a level's fields, constants aside, never fall, nor do those of its groups or its data, and neither that
+-- of the level nor that of a part is above the schema's version.
 pub record HasSinces (version : ℕ) (level : Level) : Type 0 where
   pub own : (out-Level level).since ≤ version
   pub within : AllByRecursion (IsSinceWithin (out-Level level).since version) (part_sinces level)
@@ -76,12 +76,12 @@ pub record HasSinces (version : ℕ) (level : Level) : Type 0 where
 
 -- ---- blocks
 
--- The members that count a level's block: those of the dimension, or of the message header before a root.
+-- The members that count a level's block: those of its dimension, or for a root those of the message header.
 abbrev pub counting : List Member → Node → List Member
 counting header node = unwrap_or node.dim header
 
--- The fields of a level end within its block, which reaches the floor of each version and no further than the largest place,
--- and its length has room in its member.
+-- The fields of a level end within its block, which reaches the floor of each version and is at most as long as the
+-- largest offset, and its length fits its member.
 pub record HasBlock (members : List Member) (level : Level) : Type 0 where
   pub whole : fields_end 0 (out-Level level).fields ≤ (out-Level level).block_length
   pub floor : (version : ℕ) → floor version (out-Level level).fields ≤ (out-Level level).block_length
@@ -90,7 +90,7 @@ pub record HasBlock (members : List Member) (level : Level) : Type 0 where
 
 -- ---- entries
 
--- An entry of the level takes at least one byte at each version that has the group; of a root nothing is asked.
+-- An entry of the level takes at least one byte at each version that has the group; nothing is required of a root.
 abbrev pub TakesByte : Node → Type 0
 TakesByte node = takes node.dim where
   takes : Option (List Member) → Type 0
@@ -104,7 +104,7 @@ abbrev pub HasDimensionKind : Option (List Member) → Type 0
 HasDimensionKind None = ⊤
 HasDimensionKind (Some dim) = IsCompositeInOrder (Comp dim)
 
--- The kinds of a level's fields, of the dimension before its entries, and of its data's length numbers are in order.
+-- The kinds of a level's fields, of its dimension, and of its data's length numbers are in order.
 pub record HasKinds (node : Node) : Type 0 where
   pub fields : AllByRecursion (λ (f : Field). IsKindInOrder f.kind) (out-Level node.level).fields
   pub dim : HasDimensionKind node.dim
@@ -112,41 +112,41 @@ pub record HasKinds (node : Node) : Type 0 where
 
 -- ---- dimensions
 
--- A dimension is the numbers blockLength and numInGroup and nothing else.
+-- A dimension is exactly the numbers blockLength and numInGroup.
 abbrev pub IsExact : Option (List Member) → Type 0
 IsExact None = ⊤
 IsExact (Some dim) = is_dimension dim ≡ true
 
 -- ---- data
 
--- The length number of a data is one uint8, uint16 or uint32, and no constant.
+-- The length number of a data part is one uint8, uint16 or uint32, and not a constant.
 pub record IsLength (leaf : Leaf) : Type 0 where
   pub small : IsSmall leaf.prim
   pub single : leaf.length ≡ 1
   pub changes : is_constant leaf.presence ≡ false
 
--- Each data of a level has such a length number.
+-- Each data part of a level has such a length number.
 abbrev pub HasLengths : Level → Type 0
 HasLengths level = AllByRecursion (λ (d : DataField). IsLength d.length) (out-Level level).parts
 
 -- ---- counts
 
--- A level has at most so many fields, groups and data together.
+-- The fields, groups and data of a level together are at most the limit.
 abbrev pub HasFewParts : Level → Type 0
 HasFewParts level = length (out-Level level).fields + length (out-Level level).groups + length (out-Level level).parts ≤ PART_LIMIT
 
 -- ---- nesting
 
 unfoldable mutual
-  -- How many groups of a level lie around one another at most.
+  -- The greatest number of groups below a level that are nested in one another.
   pub groups_deep : Level → ℕ
   groups_deep (Level' name id semantic since block_length fields n groups parts) = row_deep groups
 
-  -- The same of some groups.
+  -- The same for some groups.
   pub row_deep : {n : _} → Row_of-Group n → ℕ
   row_deep end_of-Group = 0
   row_deep (more_of-Group g rest) = max (group_deep g) (row_deep rest)
 
-  -- The same of one group, itself counted.
+  -- The same for one group, including itself.
   pub group_deep : Group → ℕ
   group_deep (Group' dim level) = suc (groups_deep level)

@@ -1,4 +1,4 @@
--- The end of the fields of a level, and a group over the list of its parts.
+-- The end of the fields of a level, and a group, over the list of its parts.
 use Rattle.std.specs.Prelude.{ℕ, List, [], ◌∷◌}
 use Rattle.sbe_types.specs.declared.schema.Group.{Group, roll-Group}
 use Rattle.sbe_types.specs.declared.schema.Level.{roll-Level}
@@ -16,12 +16,12 @@ end_with types e (part.Field f) = past e f.offset (field_fact types f)
 end_with types e (part.Group' name id dimension since length n row) = e
 end_with types e (part.Data d) = e
 
--- the end of the fields behind fields that end at e
+-- the end of the fields after fields that end at e
 abbrev pub parts_end : List TypesItem → ℕ → List PartItem → ℕ
 parts_end types e [] = e
 parts_end types e (p ∷ ps) = parts_end types (end_with types e p) ps
 
--- A group that is resolved, over the list of its parts.
+-- A resolved group, over the list of its parts.
 abbrev pub resolved_group : Within → GroupEl → Group
 resolved_group within g = entries (inside within g.since_version) where
   entries : Within → Group

@@ -1,5 +1,5 @@
--- What layers above may rely on about a kind of a checked schema: its numbers, its names, its places and its size. From
--- SBE 1.0, "Field encoding"; the limits are own profile.
+-- What layers above may rely on about a kind of a checked schema: its numbers, its names, its offsets and its size.
+-- From SBE 1.0, "Field encoding"; the limits are own profile.
 use Rattle.std.specs.Prelude.{◌≡◌, ◌≢◌, ℕ, suc, ◌+◌, ◌*◌, ◌≤◌, ◌<◌, max, int_le, true, false, List, [], ◌∷◌, map, length, ⊤, ℤ, pos, negsuc, AllPairs, Ok}
 use Rattle.std.specs.List.{AllByRecursion}
 use Rattle.sbe_types.specs.declared.limits.TheConstants.{LENGTH_LIMIT, PLACE_LIMIT, MEMBER_LIMIT, VALUE_LIMIT}
@@ -24,7 +24,7 @@ use Rattle.schema_facts.specs.Measured.{IsNarrow, IsSmall}
 
 -- ---- leaves
 
--- The shape of a leaf of so many primitives: a number is one of them; only chars are a text, and only uint8 octets.
+-- The shape of a leaf of n primitives: a number is one of them; only chars are a text, and only uint8 are octets.
 abbrev pub IsShapeOf : LeafShape → Primitive → ℕ → Type 0
 IsShapeOf Number prim n = n ≡ 1
 IsShapeOf RangedText prim n = (prim ≡ Char) × (n ≢ 1)
@@ -32,7 +32,7 @@ IsShapeOf EncodedText prim n = (prim ≡ Char) × (n ≢ 1)
 IsShapeOf Octets prim n = (prim ≡ U8) × (n ≢ 1)
 IsShapeOf Numbers prim n = (prim ≢ Char) × (n ≢ 1)
 
--- A leaf of at least n primitives: its null and its range are numbers of the primitive, its shape fits, and it is no
+-- A leaf of at least n primitives: its null and its range are numbers of the primitive, its shape fits, and it isn't a
 -- constant.
 pub record IsLeafFrom (n : ℕ) (l : LeafOf) : Type 0 where
   pub null : is_number_of l.prim l.null ≡ true
@@ -50,16 +50,16 @@ IsLeafInOrder l = IsLeafFrom 1 l
 
 -- ---- listed values
 
--- a number of the primitive, whatever its range is
+-- a number of the primitive, whatever its range
 abbrev pub IsNumberOf : Primitive → ℤ → Type 0
 IsNumberOf prim n = is_number_of prim n ≡ true
 
--- a bit of a number of so many bytes
+-- a bit of a number of `bytes` bytes
 abbrev pub IsBitOf : ℕ → ℤ → Type 0
 IsBitOf bytes (pos bit) = bit < 8 * bytes
 IsBitOf bytes (negsuc n) = ⊥
 
--- Named numbers, each of which is so: no two have one name, and no two one number.
+-- Named numbers for each of which `IsIn` holds; no two have the same name, and no two the same number.
 pub record AreListed (IsIn : ℤ → Type 0) (values : List Named) : Type 0 where
   pub names : AllByRecursion (λ (v : Named). IsName v.name) values
   pub numbers : AllByRecursion (λ (v : Named). IsIn v.number) values
@@ -88,7 +88,7 @@ pub record IsCodeInOrder (prim : Primitive) (v : Named) : Type 0 where
   pub name : IsName v.name
   pub number : IsNumberOf prim v.number
 
--- a constant's number is one of a primitive
+-- the number of a constant is one of a primitive
 abbrev pub IsConstantInOrder : ConstValue → Type 0
 IsConstantInOrder (value.Num n) = (prim : Primitive) × IsNumberOf prim n
 IsConstantInOrder (value.Text text) = ⊤
@@ -101,8 +101,8 @@ abbrev pub names_in : {n : _} → Row_of-Member n → List (List ℕ)
 names_in end_of-Member = []
 names_in (more_of-Member name offset kind rest) = name ∷ names_in rest
 
--- A composite has no more members than the limit, their names have their form, no two are the same, and the members' kinds are
--- in order.
+-- A composite has at most as many members as the limit, their names have their form, no two are the same, and the kinds
+-- of the members are in order.
 pub record IsCompositeOf (all : List (List ℕ)) (AreKinds : Type 0) : Type 0 where
   pub few : length all ≤ MEMBER_LIMIT
   pub names : AllByRecursion IsName all
@@ -110,7 +110,7 @@ pub record IsCompositeOf (all : List (List ℕ)) (AreKinds : Type 0) : Type 0 wh
   pub kinds : AreKinds
 
 abbrev mutual
-  -- A kind of which each part is in order, and each leaf has at least so many primitives.
+  -- A kind whose parts are in order, and whose leaves each have at least `least` primitives.
   pub IsKindFrom : ℕ → Kind → Type 0
   IsKindFrom least (Leaf l) = IsLeafFrom least l
   IsKindFrom least (Enum l values) = IsEnumInOrder l values
@@ -118,13 +118,13 @@ abbrev mutual
   IsKindFrom least (Const c) = IsConstantInOrder c
   IsKindFrom least (Comp' n members) = IsCompositeOf (names_in members) (AreKindsFrom least members)
 
-  -- the same of the kinds of members
+  -- the same for the kinds of members
   pub AreKindsFrom : ℕ → {n : _} → Row_of-Member n → Type 0
   AreKindsFrom least end_of-Member = ⊤
   AreKindsFrom least (more_of-Member name offset kind rest) = IsKindFrom least kind × AreKindsFrom least rest
 
 abbrev mutual
-  -- how many leaves a kind has: all in it that is no composite, constants too
+  -- how many leaves a kind has: every part that isn't a composite, constants included
   pub leaves : Kind → ℕ
   leaves (Leaf l) = 1
   leaves (Enum l values) = 1
@@ -132,13 +132,13 @@ abbrev mutual
   leaves (Const c) = 1
   leaves (Comp' n members) = leaves_in members
 
-  -- the same of members
+  -- the same for members
   pub leaves_in : {n : _} → Row_of-Member n → ℕ
   leaves_in end_of-Member = 0
   leaves_in (more_of-Member name offset kind rest) = leaves kind + leaves_in rest
 
 abbrev mutual
-  -- how many composites lie inside one another
+  -- how many composites are nested in one another
   pub height : Kind → ℕ
   height (Leaf l) = 0
   height (Enum l values) = 0
@@ -151,7 +151,8 @@ abbrev mutual
   height_of end_of-Member = 0
   height_of (more_of-Member name offset kind rest) = max (height kind) (height_of rest)
 
--- A kind as a whole: its parts lie one behind another, end within the largest place, and keep the limits.
+-- A kind as a whole: each of its parts follows the one before it, they end within the largest offset, and it keeps the
+-- limits.
 pub record IsKindWithin (kind : Kind) : Type 0 where
   pub leaves : leaves kind ≤ most_leaves
   pub height : height kind ≤ most_composites
@@ -159,7 +160,7 @@ pub record IsKindWithin (kind : Kind) : Type 0 where
   pub narrow : IsNarrow kind
   pub width : width kind ≤ PLACE_LIMIT
 
--- A composite; it may have members of length 0, as those of data have one.
+-- A composite; its members may have length 0, as one of a data type has.
 pub record IsCompositeInOrder (kind : Kind) : Type 0 where
   pub parts : IsKindFrom 0 kind
   pub within : IsKindWithin kind
@@ -176,9 +177,9 @@ pub record AreAccepted (types : List TypesItem) : Type 0 where
   pub judged : types_judged types [] types ≡ Ok tt
   pub form : AllByRecursion IsDeclaredInForm types
 
--- ---- what the wire counts by
+-- ---- the counters of the wire
 
--- the length number of a data: one uint8, uint16 or uint32
+-- the length number of a data part: one uint8, uint16 or uint32
 pub record IsLengthInOrder (l : LeafOf) : Type 0 where
   pub leaf : IsLeafInOrder l
   pub single : l.length ≡ 1

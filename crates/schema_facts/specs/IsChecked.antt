@@ -1,4 +1,4 @@
--- What every layer above may rely on of a checked schema, and the law that the checker gives it.
+-- What every layer above may rely on of a checked schema, and the law that the check ensures it.
 use Rattle.std.specs.Prelude.{◌≡◌, ◌≢◌, ◌≤◌, ℕ, true, Ok, Some, map, codes, slice_get, AllPairs}
 use Rattle.std.specs.List.{AllByRecursion}
 use Rattle.sbe_types.specs.declared.kind.Kind.{Comp}
@@ -22,19 +22,20 @@ use Rattle.schema_facts.specs.Measured.{IsMeasured}
 abbrev pub EachLevel : (Node → Type 0) → WireSchema → Type 0
 EachLevel P schema = AllByRecursion P (all_nodes schema)
 
--- No two messages have one name, and no two one id; and their own sinces aren't counted.
+-- No two messages have the same name, and no two the same id; the since of each root level is 0, as a message's own one
+-- isn't counted.
 pub record HasMessages (schema : WireSchema) : Type 0 where
   pub names_differ : AllPairs (λ a b. a ≢ b) (map (λ level. (out-Level level).name) schema.messages)
   pub ids_differ : AllPairs (λ a b. a ≢ b) (map (λ level. (out-Level level).id) schema.messages)
   pub sinces : AllByRecursion (λ level. (out-Level level).since ≡ 0) schema.messages
 
--- The members of the header have room for the id of each message, and for the id and version of the schema.
+-- The members of the header can hold the id of each message, and the id and version of the schema.
 pub record HoldsNumbers (schema : WireSchema) : Type 0 where
   pub ids : AllByRecursion (λ level. holds schema.header.members (codes "templateId") (out-Level level).id ≡ true) schema.messages
   pub id : holds schema.header.members (codes "schemaId") schema.id ≡ true
   pub version : holds schema.header.members (codes "version") schema.version ≡ true
 
--- The header is its four numbers and each dimension its two, and nothing else.
+-- The header is exactly its four numbers, and each dimension exactly its two.
 pub record HasCounters (schema : WireSchema) : Type 0 where
   pub header : is_header schema.header.members ≡ true
   pub dimensions : EachLevel (λ node. IsExact node.dim) schema
@@ -48,11 +49,12 @@ pub record AreKindsInOrder (schema : WireSchema) : Type 0 where
   pub header : IsCompositeInOrder (Comp schema.header.members)
   pub levels : EachLevel HasKinds schema
 
--- Within each level the sinces of fields, of groups and of data never fall, and they keep to the level and to the schema.
+-- Within each level the sinces of fields, of groups and of data never fall, and they are within those of the level and
+-- the schema.
 abbrev pub LevelsHaveSinces : WireSchema → Type 0
 LevelsHaveSinces schema = EachLevel (λ node. HasSinces schema.version node.level) schema
 
--- The fields of each level end within its block, and the member blockLength before it has room for its length.
+-- The fields of each level end within its block, and its length fits the member blockLength of its header or dimension.
 abbrev pub LevelsHaveBlocks : WireSchema → Type 0
 LevelsHaveBlocks schema = EachLevel (λ node. HasBlock (counting schema.header.members node) node.level) schema
 
@@ -60,15 +62,15 @@ LevelsHaveBlocks schema = EachLevel (λ node. HasBlock (counting schema.header.m
 abbrev pub EntriesTakeBytes : WireSchema → Type 0
 EntriesTakeBytes schema = EachLevel TakesByte schema
 
--- Each data has a length number.
+-- Each data part has a length number.
 abbrev pub DataHaveLengths : WireSchema → Type 0
 DataHaveLengths schema = EachLevel (λ node. HasLengths node.level) schema
 
--- No level has more parts than the limit.
+-- Each level has at most as many parts as the limit.
 abbrev pub LevelsHaveFewParts : WireSchema → Type 0
 LevelsHaveFewParts schema = EachLevel (λ node. HasFewParts node.level) schema
 
--- At most six groups lie around one another.
+-- At most six groups are nested in one another.
 abbrev pub GroupsAreShallow : WireSchema → Type 0
 GroupsAreShallow schema = AllByRecursion (λ level. groups_deep level ≤ most_groups) schema.messages
 
@@ -92,10 +94,10 @@ pub record IsChecked (schema : WireSchema) : Type 0 where
 
 -- ---- the laws
 
--- The checked schema of each tree in form is so.
+-- P holds of the checked schema of each tree in form.
 abbrev pub OfChecked : (WireSchema → Type 0) → Type 0
 OfChecked P = (tree : Schema) (schema : WireSchema) → IsInForm tree → checked_of tree ≡ Ok schema → P schema
 
--- The entries of each message take bytes at each version, whatever groups they stand in.
+-- The entries of each message take bytes at each version, whatever groups they are in.
 abbrev pub MessagesTakeBytes : WireSchema → Type 0
 MessagesTakeBytes schema = (version i : ℕ) (level : Level) → slice_get schema.messages i ≡ Some level → TakesBytes version level

@@ -1,4 +1,4 @@
--- Members of a composite in order that the definitions are computed on, and one change of them for each of some facts.
+-- Members of a composite in order on which the definitions are computed, and one change of them for each of some facts.
 use Rattle.std.specs.Prelude.{ℕ, Option, Some, None, List, [], ◌∷◌, pos, negsuc, codes}
 use Rattle.sbe_types.specs.declared.kind.Primitive.{Primitive}
 use Rattle.sbe_types.specs.declared.kind.Primitive.TheVariants.{Char, I8, I32, U8, U16}
@@ -51,7 +51,7 @@ parts_with side flags last = part (codes "side") None side ∷ (part (codes "fla
 abbrev pub order_parts : List Member
 order_parts = parts_with (side_of (named (codes "Sell") 50)) (flags_of (named (codes "Big") 7)) (codes "price")
 
--- two values have one number
+-- two values have the same number
 abbrev pub number_twice : List Member
 number_twice = parts_with (side_of (named (codes "Sell") 49)) (flags_of (named (codes "Big") 7)) (codes "price")
 
@@ -59,11 +59,11 @@ number_twice = parts_with (side_of (named (codes "Sell") 49)) (flags_of (named (
 abbrev pub bit_above : List Member
 bit_above = parts_with (side_of (named (codes "Sell") 50)) (flags_of (named (codes "Big") 8)) (codes "price")
 
--- two members have one name
+-- two members have the same name
 abbrev pub name_twice : List Member
 name_twice = parts_with (side_of (named (codes "Sell") 50)) (flags_of (named (codes "Big") 7)) (codes "side")
 
--- a null that two bytes cannot hold
+-- a null that doesn't fit two bytes
 abbrev pub null_above : Kind
 null_above = Leaf (leaf U16 Optional (pos 65536) (pos 0) (pos 65534))
 

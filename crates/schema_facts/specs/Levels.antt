@@ -1,5 +1,5 @@
--- The levels of a schema by their numbers: a message's root and then the levels of its groups, each followed by those of
--- its own groups; the messages one after another. From SBE 1.0, Message structure; the numbers are own profile.
+-- The levels of a schema by number: a message's root and then the levels of its groups, each followed by those of its
+-- own groups; the messages in order. From SBE 1.0, Message structure; the numbers are own profile.
 use Rattle.std.specs.Prelude.{◌≡◌, ℕ, suc, Option, Some, None, List, [], ◌∷◌, ◌++◌, slice_get, length, take}
 use Rattle.std.specs.Option.{option_map}
 use Rattle.sbe_types.specs.declared.kind.Member.{Member}
@@ -9,7 +9,7 @@ use Rattle.sbe_types.specs.declared.schema.DataField.{DataField}
 use Rattle.sbe_types.specs.declared.schema.Level.{Level, Level', out-Level, Row_of-Group, end_of-Group, more_of-Group}
 use Rattle.sbe_types.specs.declared.schema.WireSchema.{WireSchema}
 
--- a level, the number of its message, and the dimension before its entries; a root has none
+-- a level, the number of its message, and the dimension of its group; a root has none
 pub record Node : Type 0 where
   pub template : ℕ
   pub dim : Option (List Member)
@@ -21,7 +21,7 @@ unfoldable mutual
   nodes t dim (Level' name id semantic since block_length fields n groups parts) =
       record { template = t; dim = dim; level = Level' name id semantic since block_length fields n groups parts } ∷ nodes_below t groups
 
-  -- the levels of groups, one after another
+  -- the levels of a row of groups
   pub nodes_below : ℕ → {n : _} → Row_of-Group n → List Node
   nodes_below t end_of-Group = []
   nodes_below t (more_of-Group g rest) = nodes_of t g ++ nodes_below t rest
@@ -30,16 +30,16 @@ unfoldable mutual
   pub nodes_of : ℕ → Group → List Node
   nodes_of t (Group' dim level) = nodes t (Some dim) level
 
--- the levels of messages of which the first is number t
+-- the levels of messages, of which the first is number t
 abbrev pub nodes_from : ℕ → List Level → List Node
 nodes_from t [] = []
 nodes_from t (level ∷ levels) = nodes t None level ++ nodes_from (suc t) levels
 
--- the levels of a schema, by their numbers
+-- the levels of a schema, by number
 abbrev pub all_nodes : WireSchema → List Node
 all_nodes schema = nodes_from 0 schema.messages
 
--- a level of message t behind a dimension
+-- a level of message t with a dimension
 abbrev pub node : ℕ → Option (List Member) → Level → Node
 node t dim level = record { template = t; dim = dim; level = level }
 
@@ -47,11 +47,11 @@ node t dim level = record { template = t; dim = dim; level = level }
 abbrev pub group_node : ℕ → Group → Node
 group_node t g = node t (Some (out-Group g).dim) (out-Group g).level
 
--- the levels ys stand in xs from place k on
+-- xs has the levels ys from index k on
 abbrev pub Stands : List Node → ℕ → List Node → Type 0
 Stands xs k ys = (front : List Node) × (rest : List Node) × (xs ≡ front ++ (ys ++ rest)) × (length front ≡ k)
 
--- the number of message t's root
+-- the number of the root level of message t
 abbrev pub root_of : WireSchema → ℕ → ℕ
 root_of schema t = length (nodes_from 0 (take t schema.messages))
 

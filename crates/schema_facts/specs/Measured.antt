@@ -1,5 +1,6 @@
--- What a layout asks of a schema, and the checker sees to: no part ends behind the largest offset, and the header and
--- each dimension have their numbers. From SBE 1.0, Message structure and Repeating group encoding; the limit is own profile.
+-- What a layout requires of a schema, and the check ensures: no part ends after the largest offset, and the header and
+-- each dimension have their numbers. From SBE 1.0, Message structure and Repeating group encoding; the limit is own
+-- profile.
 use Rattle.std.specs.Prelude.{◌≡◌, ℕ, ◌+◌, ◌*◌, ◌≤◌, false, if◌then◌else◌, Option, Some, None, List, [], ◌∷◌, ⊤, codes}
 use Rattle.sbe_types.specs.declared.kind.Kind.{Kind, Leaf, Enum, Set, Const, Comp, Comp', Row_of-Member, end_of-Member, more_of-Member}
 use Rattle.sbe_types.specs.declared.limits.TheConstants.{PLACE_LIMIT}
@@ -14,16 +15,16 @@ use Rattle.sbe_types.specs.Places.{width, is_const, begin_of, end_past, members_
 use Rattle.sbe_wire.specs.Named.{Spot, spot_named}
 use Rattle.schema_facts.specs.Levels.{Node, all_nodes}
 
--- no part ends behind this place
+-- the largest offset: no part ends after it
 abbrev pub largest : ℕ
 largest = PLACE_LIMIT
 
--- a part behind parts that end at e does not end behind the largest place
+-- a part after parts that end at e doesn't end after the largest offset
 abbrev pub EndsWithin : ℕ → Option ℕ → Kind → Type 0
 EndsWithin e offset kind = is_const kind ≡ false → begin_of e offset + width kind ≤ largest
 
 abbrev mutual
-  -- a kind and its members end within the largest place
+  -- a kind and its members end within the largest offset
   pub IsNarrow : Kind → Type 0
   IsNarrow (Leaf l) = prim_width l.prim * l.length ≤ largest
   IsNarrow (Enum l names) = ⊤
@@ -31,13 +32,13 @@ abbrev mutual
   IsNarrow (Const c) = ⊤
   IsNarrow (Comp' n members) = IsNarrowRow 0 members
 
-  -- members behind members that end at e do so
+  -- members after members that end at e end within the largest offset
   pub IsNarrowRow : ℕ → {n : _} → Row_of-Member n → Type 0
   IsNarrowRow e end_of-Member = ⊤
   IsNarrowRow e (more_of-Member name offset kind rest) =
       IsNarrow kind × EndsWithin e offset kind × IsNarrowRow (if is_const kind then e else begin_of e offset + width kind) rest
 
--- fields behind fields that end at e end within the largest place
+-- fields after fields that end at e end within the largest offset
 abbrev pub AreNarrowFields : ℕ → List Field → Type 0
 AreNarrowFields e [] = ⊤
 AreNarrowFields e (f ∷ fs) = IsNarrow f.kind × EndsWithin e f.offset f.kind × AreNarrowFields (end_past e f.offset f.kind) fs
@@ -54,12 +55,12 @@ IsSmall I16 = ⊥
 IsSmall I32 = ⊥
 IsSmall I64 = ⊥
 
--- the number stands within so many bytes, and is a small one
+-- the number is within the first `wide` bytes, and is a small one
 pub record IsCounter (wide : ℕ) (spot : Spot) : Type 0 where
   pub small : IsSmall spot.leaf.prim
   pub inside : spot.place + prim_width spot.leaf.prim ≤ wide
 
--- the members have a number of that name
+-- the members have such a number with this name
 abbrev pub HasCounter : List Member → List ℕ → Type 0
 HasCounter members name = (spot : Spot) × (spot_named 0 name members ≡ Some spot) × IsCounter (members_end 0 members) spot
 
@@ -77,22 +78,22 @@ pub record IsHeader (members : List Member) : Type 0 where
   pub schema : HasCounter members (codes "schemaId")
   pub version : HasCounter members (codes "version")
 
--- before a group's entries stands a dimension
+-- a group has a dimension
 abbrev pub HasDimension : Option (List Member) → Type 0
 HasDimension None = ⊤
 HasDimension (Some dim) = IsDimension dim
 
--- what is asked of a level
+-- what is required of a level
 pub record IsMeasuredLevel (node : Node) : Type 0 where
   pub fields : AreNarrowFields 0 (out-Level node.level).fields
   pub dim : HasDimension node.dim
 
--- what is asked of some levels
+-- what is required of some levels
 abbrev pub AreMeasured : List Node → Type 0
 AreMeasured [] = ⊤
 AreMeasured (n ∷ ns) = IsMeasuredLevel n × AreMeasured ns
 
--- what is asked of a schema
+-- what is required of a schema
 pub record IsMeasured (schema : WireSchema) : Type 0 where
   pub header : IsHeader schema.header.members
   pub levels : AreMeasured (all_nodes schema)

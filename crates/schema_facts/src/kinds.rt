@@ -1,4 +1,4 @@
-//! Laws of kinds: what the rules on schemas give of the kinds that names of types stand for.
+//! Laws of kinds: what the rules of schemas imply for the kinds that type names stand for.
 
 ghost use Rattle.std.specs.Prelude.{◌≡◌, ◌≢◌, ◌+◌, ℕ, List, Ok, Some, true, slice_get, map, AllPairs};
 ghost use Rattle.std.specs.List.{AllByRecursion};
@@ -27,7 +27,8 @@ ghost use Rattle.schema_rules.specs.Rows.Schemas.{ping, nul};
 ghost use Rattle.sbe_types.specs.declared.schema.Field.{Field};
 ghost use Rattle.sbe_types.specs.declared.schema.Level.{out-Level};
 
-/// Where a schema's types keep the rules, a field that keeps its own has a kind in order: numbers, names, places and limits.
+/// If a schema's types meet the rules, a field that meets its own has a kind in order: numbers, names, places and
+/// limits.
 pub fn kinds_of_fields_are_in_order()
     ensures judged { (scope : Scope) (before : PartsBefore) (f : FieldEl) → AreAccepted scope.types
         → field_judged scope before f ≡ Ok tt → IsKindInOrder (field_kind scope.types f) }
@@ -35,18 +36,18 @@ pub fn kinds_of_fields_are_in_order()
         → first_of (field_rules types reached f) ≡ Ok tt → IsKindInOrder (field_kind types f) }
 {}
 
-/// Where a schema's types keep the rules, each field's kind keeps the limits as a whole.
+/// If a schema's types meet the rules, each field's kind is within the limits as a whole.
 pub fn kinds_of_fields_keep_limits()
     ensures { (types : List TypesItem) (f : FieldEl) → AreAccepted types → IsKindWithin (field_kind types f) }
 {}
 
-/// Where a schema's types keep the rules, the members that a name stands for are a composite in order.
+/// If a schema's types meet the rules, the members that a name stands for are a composite in order.
 pub fn composites_are_in_order()
     ensures { (types : List TypesItem) (name : List ℕ) → AreAccepted types
         → IsCompositeInOrder (Comp (members_named types name)) }
 {}
 
-/// A header, a dimension or a type of data that keeps the rules has its numbers.
+/// A header, a dimension or a type of data that meets the rules has its numbers.
 pub fn counters_are_found()
     ensures header { (types : List TypesItem) (name : List ℕ) → AreAccepted types
         → is_header (members_named types name) ≡ true → IsHeader (members_named types name) }
@@ -56,8 +57,8 @@ pub fn counters_are_found()
         → is_data (members_named types name) ≡ true → IsLengthInOrder (length_in (members_named types name)) }
 {}
 
-/// What the rules ask of a field's type is so of its kind: whether it is constant, and its width, leaves and height as far as
-/// they are counted.
+/// What the rules ask of a field's type holds of its kind: whether it is constant, and its width, leaves and height as
+/// far as they are counted.
 pub fn facts_are_those_of_kinds()
     ensures fixed { (types : List TypesItem) (f : FieldEl) → (field_fact types f).is_fixed ≡ is_const (field_kind types f) }
     ensures width { (types : List TypesItem) (f : FieldEl) → counted (field_fact types f).width ≡ counted (width (field_kind types f)) }
@@ -65,7 +66,7 @@ pub fn facts_are_those_of_kinds()
     ensures height { (types : List TypesItem) (f : FieldEl) → counted (field_fact types f).height ≡ counted (height (field_kind types f)) }
 {}
 
-/// The same of a name, through as many names.
+/// The same for a name, resolved through equally many names.
 pub fn facts_of_names_are_those_of_kinds()
     ensures fixed { (n : ℕ) (types : List TypesItem) (name : List ℕ)
         → (fact_through n types name).is_fixed ≡ is_const (kind_through n types name) }
@@ -77,8 +78,8 @@ pub fn facts_of_names_are_those_of_kinds()
         → counted (fact_through n types name).height ≡ counted (height (kind_through n types name)) }
 {}
 
-/// Where a schema's types keep the rules, four names reach all that a kind has: more change nothing of what a ref in a composite
-/// names, of a composite's members, and of a field.
+/// If a schema's types meet the rules, four names reach everything in a kind: following more changes nothing in what a
+/// ref in a composite names, in a composite's members, or in a field.
 pub fn more_names_change_nothing()
     ensures refs { (types : List TypesItem) (i n : ℕ) (c : CompositeEl) (name : List ℕ) → AreAccepted types
         → slice_get types i ≡ Some (item.Composite c) → composite_has (bytes_eq name) c ≡ true → kind_through (n + 4) types name ≡ kind_named types name }
@@ -88,7 +89,7 @@ pub fn more_names_change_nothing()
         → found_kind types (kind_through (n + 4) types) (use_of f) (type_named types f.type_name) ≡ field_kind types f }
 {}
 
-/// Each member of a composite in order has a name in form, unlike those of the others, and a kind in order.
+/// Each member of a composite in order has a well-formed name, different from those of the others, and a kind in order.
 pub fn members_of_kinds_are_in_order()
     ensures names { (ms : List Member) → IsKindInOrder (Comp ms) → AllByRecursion IsName (map (λ (m : Member). m.name) ms) }
     ensures differ { (ms : List Member) → IsKindInOrder (Comp ms) → AllPairs (λ a b. a ≢ b) (map (λ (m : Member). m.name) ms) }
@@ -101,14 +102,14 @@ pub fn worked_fields_are_in_order()
     ensures nul { AllByRecursion (λ (f : Field). IsKindInOrder f.kind) (out-Level nul).fields }
 {}
 
-/// Worked types keep the rules, and a field's kind among them is the worked composite.
+/// Worked types meet the rules, and a field's kind among them is the worked composite.
 pub fn worked_types_stand_for_the_composite()
     ensures accepted { AreAccepted row.types }
     ensures rules { first_of (field_rules row.types 0 row.order_field) ≡ Ok tt }
     ensures kind { field_kind row.types row.order_field ≡ Comp row.order_parts }
 {}
 
-/// A worked composite is in order, and a change of it for each of some facts is not.
+/// A worked composite is in order; after a change to one of its facts it isn't.
 pub fn worked_kinds_are_told_apart()
     ensures order { IsKindInOrder (Comp row.order_parts) }
     ensures number { IsKindInOrder (Comp row.number_twice) → ⊥ }

@@ -1,5 +1,5 @@
-//! What holds of every checked schema: the facts that layers above may rely on, and the laws that give them. They are stated in
-//! `specs/`.
+//! What holds of every checked schema: the facts that the layers above may rely on, and the laws that establish them.
+//! They are stated in `specs/`.
 #![tactic(auto)]
 
 pub mod kinds;

@@ -14,7 +14,7 @@ ghost use Rattle.schema_facts.specs.IsChecked.{IsChecked};
 
 use schema_rules::worked::a_schema_in_order_is_accepted;
 
-/// A worked tree is in form.
+/// A worked tree is well-formed.
 pub fn a_worked_tree_is_in_form()
     ensures form { IsInForm tree.in_order }
 {}
@@ -27,7 +27,7 @@ pub fn a_worked_schema_is_checked()
     a_schema_in_order_is_accepted();
 }
 
-/// What the definitions say of the worked schema and of its nested groups.
+/// The definitions, computed on the worked schema and on its nested groups.
 pub fn worked_levels_are_computed()
     ensures levels { length (all_nodes checked) ≡ 7 }
     ensures names { part_names (out-Group legs).level ≡ codes "q" ∷ (codes "subs" ∷ (codes "note" ∷ [])) }
@@ -36,8 +36,8 @@ pub fn worked_levels_are_computed()
     ensures falls { NeverFall 0 (2 ∷ (1 ∷ [])) → ⊥ }
 {}
 
-/// Levels that break a rule have not the facts: entries without bytes, two parts of one name, a block that ends before its
-/// field, a field before its level, and a length number of eight bytes.
+/// Levels that break a rule don't have the facts: entries without bytes, two parts with the same name, a block that
+/// ends before its field, a field before its level, and a length number of eight bytes.
 pub fn levels_that_break_a_rule_are_told()
     ensures entries { TakesByte (node 0 (Some size16) (level (codes "g") 1 0 [] [] [])) → ⊥ }
     ensures names { HasNames (level (codes "M") 1 4 (field (codes "a") 1 uint16 ∷ (field (codes "a") 2 uint16 ∷ [])) [] []) → ⊥ }

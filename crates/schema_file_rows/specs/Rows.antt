@@ -1,4 +1,4 @@
--- Worked files, small ones, and what they hold.
+-- Small worked files, and what they contain.
 use Rattle.std.specs.Prelude.{ℕ, List, [], ◌∷◌, codes, None}
 use Rattle.sbe_types.specs.declared.kind.Order.TheVariants.{Little}
 use Rattle.sbe_types.specs.declared.tree.Schema.{Schema}
@@ -22,7 +22,7 @@ types_file = codes "{\"types\":{}}"
 abbrev pub two_colons_file : List ℕ
 two_colons_file = codes "{\"a:b:messageSchema\":{\"id\":7}}"
 
--- A file whose content is no list.
+-- A file whose content isn't a list.
 abbrev pub null_content_file : List ℕ
 null_content_file = codes "{\"messageSchema\":{\"content\":null}}"
 
@@ -34,7 +34,7 @@ no_id_file = codes "{\"messageSchema\":{}}"
 abbrev pub null_id_file : List ℕ
 null_id_file = codes "{\"messageSchema\":{\"id\":null}}"
 
--- A file with two attributes at fault.
+-- A file with two faulty attributes.
 abbrev pub two_faults_file : List ℕ
 two_faults_file = codes "{\"messageSchema\":{\"id\":7,\"package\":8,\"byteOrder\":9}}"
 
@@ -50,11 +50,11 @@ deep_member_file = codes "{\"messageSchema\":{\"id\":7,\"content\":[{\"types\":{
 abbrev pub deep_part_file : List ℕ
 deep_part_file = codes "{\"messageSchema\":{\"id\":7,\"content\":[{\"message\":{\"name\":\"m\",\"id\":1,\"content\":[{\"group\":{\"name\":\"g\",\"id\":2,\"content\":[{\"ref\":{}}]}}]}}]}}"
 
--- A file that states no more than it must.
+-- A file that states only what it must.
 abbrev pub defaults_file : List ℕ
 defaults_file = codes "{\"x:messageSchema\":{\"id\":\"7\"}}"
 
--- Its tree, with each default filled in.
+-- The tree of that file, with each default filled in.
 abbrev pub defaults_schema : Schema
 defaults_schema = record { id = 7; version = 0; «package» = []; byte_order = Little; header_type = codes "messageHeader"; children = [] }
 
@@ -62,7 +62,7 @@ defaults_schema = record { id = 7; version = 0; «package» = []; byte_order = L
 abbrev pub ping_file : List ℕ
 ping_file = codes "{\"messageSchema\":{\"id\":7,\"content\":[{\"message\":{\"name\":\"Ping\",\"id\":1,\"content\":[{\"field\":{\"name\":\"a\",\"id\":1001,\"type\":\"uint16\"}}]}}]}}"
 
--- The message of it.
+-- The message of that file.
 abbrev pub ping_message : SchemaItem
 ping_message = outer.Message (record {
   name = codes "Ping";
@@ -81,6 +81,6 @@ ping_message = outer.Message (record {
   }) ∷ [];
 })
 
--- The tree of it.
+-- The tree of that file.
 abbrev pub ping_schema : Schema
 ping_schema = record { id = 7; version = 0; «package» = []; byte_order = Little; header_type = codes "messageHeader"; children = ping_message ∷ [] }

@@ -109,7 +109,7 @@ joined_as schemas r file NoMemory is h = tt
 pub not_joined : (told : Option (List ℕ → Option (List ℕ))) (schemas : Schemas) (name : List ℕ) (why : LoadStop) → LoadsChecked told name (Err why) → LoadsJoining told schemas name (Err why)
 not_joined told schemas name why h contents same = joined_as schemas (Err why) (file_schema (contents name)) why refl (h contents same)
 
--- a schema in order is judged behind the others
+-- a schema in order is judged after the others
 pub judged_joined : (told : Option (List ℕ → Option (List ℕ))) (schemas : Schemas) (name : List ℕ) (schema : WireSchema) (r : Result WireSchema FileRefusal) → LoadsChecked told name (Ok schema) →
     JoinsFrom schemas (Ok schema) r → (contents : List ℕ → Option (List ℕ)) → told ≡ Some contents → JoinsFrom schemas (file_schema (contents name)) r
 judged_joined told schemas name schema r h joins contents same = subst (λ f. JoinsFrom schemas f r) (sym (h contents same)) joins
@@ -159,7 +159,7 @@ first_fails_at many (Refused why) = tt
 first_fails_at many Fault = tt
 first_fails_at many NoMemory = tt
 
--- behind the first file the others are judged
+-- after the first file the others are judged
 pub behind_first : (told : Option (List ℕ → Option (List ℕ))) (name : List ℕ) (also : List (List ℕ)) (schema : WireSchema) (r : Result Schemas JobStop) → LoadsChecked told name (Ok schema) → LoadsMore told (alone schema) also r →
     LoadsSchemas told name also r
 behind_first told name also schema (Ok all) h more contents same =

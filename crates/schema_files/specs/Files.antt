@@ -26,38 +26,38 @@ IsRead (Err file.FormDiffers) = ⊤
 IsRead (Err (file.NoMap code path)) = ⊤
 IsRead (Err (file.NotAnExtension path)) = ⊤
 
--- what bytes are judged as, unless it ran out of memory
+-- the answer is the schema in bytes or their refusal, unless it is out of memory
 abbrev pub Reads : Result WireSchema FileRefusal → Result WireSchema LoadStop → Type 0
 Reads judged (Ok schema) = judged ≡ Ok schema
 Reads judged (Err (Refused refusal)) = judged ≡ Err refusal
 Reads judged (Err Fault) = ⊥
 Reads judged (Err NoMemory) = ⊤
 
--- the same of a file, unless the files failed; out of memory only for a file that is read
+-- the same for a file, unless the files failed; out of memory only for a file that is read
 abbrev pub LoadsAs : Result WireSchema FileRefusal → Result WireSchema LoadStop → Type 0
 LoadsAs judged (Ok schema) = judged ≡ Ok schema
 LoadsAs judged (Err (Refused refusal)) = judged ≡ Err refusal
 LoadsAs judged (Err Fault) = ⊤
 LoadsAs judged (Err NoMemory) = IsRead judged
 
--- the same of a name, where the files tell what they hold
+-- the same for a name, if the contents of the files are modelled
 abbrev pub LoadsChecked : Option (List ℕ → Option (List ℕ)) → List ℕ → Result WireSchema LoadStop → Type 0
 LoadsChecked told name result = (contents : List ℕ → Option (List ℕ)) → told ≡ Some contents → LoadsAs (file_schema (contents name)) result
 
--- a fault only where the count rose, and every other answer leaves it
+-- a fault only if the count rose, and any other answer leaves it
 abbrev pub LoadCause : {T : Type 0} → ℕ → ℕ → Result T LoadStop → Type 0
 LoadCause before now (Ok x) = now ≡ before
 LoadCause before now (Err Fault) = (before ≤ now) × Rose before now
 LoadCause before now (Err (Refused refusal)) = now ≡ before
 LoadCause before now (Err NoMemory) = now ≡ before
 
--- the same stop, of a file in that role
+-- the same stop, for a file in this role
 abbrev pub stop_of : FileRole → LoadStop → JobStop
 stop_of role (Refused why) = stop.Refused (refused_as role why)
 stop_of role Fault = stop.Fault role
 stop_of role NoMemory = stop.NoMemory
 
--- a fault of the files only where the count rose, and every other answer leaves it
+-- a fault of the files only if the count rose, and any other answer leaves it
 abbrev pub JobCause : {T : Type 0} → ℕ → ℕ → Result T JobStop → Type 0
 JobCause before now (Ok x) = now ≡ before
 JobCause before now (Err (stop.Fault role)) = (before ≤ now) × Rose before now
@@ -66,7 +66,7 @@ JobCause before now (Err stop.NoMemory) = now ≡ before
 
 -- ---- which file it was
 
--- how many loads of a command it takes up to the file in that role
+-- how many loads a command makes up to the file in this role
 abbrev pub loads_up_to : FileRole → ℕ
 loads_up_to role.Schema = 1
 loads_up_to (role.Also n) = suc n
@@ -76,7 +76,7 @@ loads_up_to role.Map = 1
 loads_up_to role.From = 1
 loads_up_to role.To = 2
 
--- the count of loads after so many more
+-- the count of loads after n more
 abbrev pub after_loads : ℕ → ℕ → ℕ
 after_loads zero before = before
 after_loads (suc n) before = one_more (after_loads n before)
@@ -97,29 +97,29 @@ JoinsAs schemas file (Err (Refused why)) = JoinsFrom schemas file (Err why)
 JoinsAs schemas file (Err Fault) = ⊤
 JoinsAs schemas file (Err NoMemory) = ⊤
 
--- the same of a name, where the files tell what they hold
+-- the same for a name, if the contents of the files are modelled
 abbrev pub LoadsJoining : Option (List ℕ → Option (List ℕ)) → Schemas → List ℕ → Result WireSchema LoadStop → Type 0
 LoadsJoining told schemas name result =
     (contents : List ℕ → Option (List ℕ)) → told ≡ Some contents → JoinsAs schemas (file_schema (contents name)) result
 
--- what files are judged as, unless they failed or it ran out of memory
+-- the answer is the schemas of the files or the refusal, unless the files failed or it is out of memory
 abbrev pub JudgedSo : (Result Schemas RefusedFile → Type 0) → Result Schemas JobStop → Type 0
 JudgedSo Judges (Ok schemas) = Judges (Ok schemas)
 JudgedSo Judges (Err (stop.Refused file)) = Judges (Err file)
 JudgedSo Judges (Err (stop.Fault role)) = ⊤
 JudgedSo Judges (Err stop.NoMemory) = ⊤
 
--- the same of further names after schemas that are taken, where the files tell what they hold
+-- the same for further names after schemas that are accepted, if the contents of the files are modelled
 abbrev pub LoadsMore : Option (List ℕ → Option (List ℕ)) → Schemas → List (List ℕ) → Result Schemas JobStop → Type 0
 LoadsMore told schemas also result =
     (contents : List ℕ → Option (List ℕ)) → told ≡ Some contents → JudgedSo (JudgesMore contents schemas 1 also) result
 
--- the same of all names
+-- the same for all names
 abbrev pub LoadsSchemas : Option (List ℕ → Option (List ℕ)) → List ℕ → List (List ℕ) → Result Schemas JobStop → Type 0
 LoadsSchemas told name also result =
     (contents : List ℕ → Option (List ℕ)) → told ≡ Some contents → JudgedSo (JudgesSchemas contents name also) result
 
--- the file that failed is one of so many further ones, or the first
+-- the file that failed is the first or one of `many` further ones
 abbrev pub FailsAt : ℕ → Result Schemas JobStop → Type 0
 FailsAt many (Ok schemas) = ⊤
 FailsAt many (Err (stop.Refused file)) = ⊤

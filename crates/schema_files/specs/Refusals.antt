@@ -1,4 +1,4 @@
--- How a file that is refused is noted, and the status that the run then ends with.
+-- How a refused file is noted, and the status of the run that ends with it.
 use Rattle.std.specs.Prelude.{ℕ, List, [], ◌++◌, codes, decimal}
 use Rattle.json_elements.specs.declared.refusal.Cause.{Cause}
 use Rattle.json_elements.specs.declared.refusal.Cause.TheVariants as cause
@@ -31,7 +31,7 @@ abbrev pub refused_file : FileRole → List ℕ → List ℕ → List ℕ
 refused_file role code path =
     codes "{\"file\":\"" ++ (role_name role ++ (codes "\",\"refused\":\"" ++ (code ++ (codes "\",\"path\":" ++ (plain_text (text_data path) ++ codes "}\n")))))
 
--- the code of why a file holds no schema
+-- the code for the cause why a file has no schema
 abbrev pub cause_code : Cause → List ℕ
 cause_code cause.Xml = codes "S01"
 cause_code cause.NotJson = codes "S02"
@@ -62,7 +62,7 @@ rule_code rule.Depth = codes "C17"
 rule_code rule.Width = codes "C18"
 rule_code rule.Presence = codes "C19"
 
--- the code of why a file holds no mapping
+-- the code for the reason why a file has no mapping
 abbrev pub map_code : MCode → List ℕ
 map_code mapping.Xml = codes "M01"
 map_code mapping.NotJson = codes "M02"
@@ -75,7 +75,7 @@ map_code mapping.AmbiguousTag = codes "M08"
 map_code mapping.Datatype = codes "M09"
 map_code mapping.Limit = codes "M10"
 
--- The line of a file that is refused.
+-- The line of a refused file.
 abbrev pub why_line : FileRole → FileRefusal → List ℕ
 why_line role file.Absent = codes "{\"absent\":\"" ++ (role_name role ++ codes "\"}\n")
 why_line role file.TooLong = refused_file role (codes "S06") []
@@ -86,11 +86,11 @@ why_line role file.FormDiffers = refused_file role (codes "X02") []
 why_line role (file.NoMap code path) = refused_file role (map_code code) path
 why_line role (file.NotAnExtension path) = refused_file role (codes "G01") path
 
--- the same of a file with its role
+-- the same for a file with its role
 abbrev pub refusal_line : RefusedFile → List ℕ
 refusal_line refused = why_line refused.role refused.why
 
--- The status where a file is refused.
+-- The status after a refused file.
 abbrev pub refusal_status : FileRefusal → Status
 refusal_status file.Absent = status.NoFile
 refusal_status file.TooLong = status.SchemaRefused

@@ -6,7 +6,7 @@ use lists::Text;
 use map_types::MCode;
 use schema_check::CCode;
 
-/// What a file of the words is for.
+/// What a file in the arguments is used for.
 #[derive(Clone, Copy, Debug, PartialEq, Eq)]
 pub enum FileRole {
     /// The schema.
@@ -15,7 +15,7 @@ pub enum FileRole {
     Also(usize),
     /// The older of two schemas.
     Old,
-    /// The newer of them.
+    /// The newer of two schemas.
     New,
     /// The mapping.
     Map,
@@ -25,54 +25,54 @@ pub enum FileRole {
     To,
 }
 
-/// Why a file isn't taken.
+/// Why a file isn't accepted.
 #[derive(Debug, Drop)]
 pub enum FileRefusal {
-    /// No file has the name.
+    /// No file has this name.
     Absent,
-    /// It is above its limit.
+    /// It exceeds its size limit.
     TooLong,
-    /// It holds no schema: why, and where, as a JSON pointer.
+    /// It doesn't hold a schema: why, and where, as a JSON pointer.
     Unread(Cause, Text),
-    /// Its schema isn't in order: the rule that is broken, and the path of the element that breaks it.
+    /// Its schema is refused: the rule that is broken, and the path of the element that breaks it.
     Broken(CCode, Text),
-    /// An earlier schema has its schema's id.
+    /// An earlier schema has the same id as its schema.
     SameId,
-    /// Its messages begin otherwise than those of the first schema.
+    /// Its messages begin differently from those of the first schema.
     FormDiffers,
-    /// It holds no mapping, or one that breaks a rule: why, and where.
+    /// It doesn't hold a mapping, or holds one that breaks a rule: why, and where.
     NoMap(MCode, Text),
     /// Of its schema and that of the messages that are read the later doesn't extend the earlier one: the path of the first difference.
     NotAnExtension(Text),
 }
 
-/// A file that isn't taken.
+/// A file that isn't accepted.
 #[derive(Debug, Drop)]
 pub struct RefusedFile {
     pub role: FileRole,
     pub why: FileRefusal,
 }
 
-/// Why a file's schema isn't there.
+/// Why the schema of a file couldn't be loaded.
 #[derive(Debug, Drop)]
 pub enum LoadStop {
     Refused(FileRefusal),
-    /// The files failed.
+    /// Loading files failed.
     Fault,
     NoMemory,
 }
 
-/// Why a command's job isn't there.
+/// Why a command couldn't be prepared.
 #[derive(Debug, Drop)]
 pub enum JobStop {
     Refused(RefusedFile),
-    /// The files failed at this one.
+    /// Loading this file failed.
     Fault(FileRole),
     NoMemory,
 }
 
 impl LoadStop {
-    /// The same of the file in that role.
+    /// The same for the file in this role.
     pub fn of(self, role: FileRole) -> JobStop
         ensures { result ≡ stop_of role self }
     {

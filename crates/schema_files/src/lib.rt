@@ -1,4 +1,4 @@
-//! The files of schemas: they are loaded and judged in the order of the words; and how a refused file is noted.
+//! The files of schemas: loads and checks them in the order of the arguments, and notes a refused file.
 #![tactic(auto)]
 
 mod files;

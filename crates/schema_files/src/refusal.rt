@@ -29,7 +29,7 @@ pub fn refusal_status(refusal: &FileRefusal) -> Status
     }
 }
 
-/// Prints the line that a refused file is noted by.
+/// Prints the line that notes a refused file.
 pub fn put_refusal<N: Sink>(printer: &mut Printer<'_, N>, file: &RefusedFile)
     ensures { Prints N.state printer.old printer.new (refusal_line file.now) }
 {
@@ -52,7 +52,7 @@ pub fn put_refusal<N: Sink>(printer: &mut Printer<'_, N>, file: &RefusedFile)
     }
 }
 
-/// Prints the name of a file by its role.
+/// Prints the name of a file's role.
 pub fn put_role<N: Sink>(printer: &mut Printer<'_, N>, role: FileRole)
     ensures { Prints N.state printer.old printer.new (role_name role) }
 {
@@ -90,7 +90,7 @@ fn put_refused<N: Sink>(printer: &mut Printer<'_, N>, role: FileRole, code: &str
     printer.put(b"}\n");
 }
 
-/// The code of why a file holds no schema.
+/// The code of why a file doesn't hold a schema.
 fn cause_code(cause: Cause) -> &'static str
     ensures { result.now ≡ cause_code cause }
 {
@@ -104,7 +104,7 @@ fn cause_code(cause: Cause) -> &'static str
     }
 }
 
-/// The code of why a file holds no mapping.
+/// The code of why a file doesn't hold a mapping.
 fn map_code(code: MCode) -> &'static str
     ensures { result.now ≡ map_code code }
 {

@@ -10,7 +10,7 @@ use sbe_schema::{SchemaErr, read_schema};
 use schema_check::{CheckErr, Checked, check};
 use std::alloc::Global;
 
-/// The schema of that file, which is in order.
+/// The schema of this file, loaded and checked.
 pub fn load_checked<F: Files>(alloc: Global, files: &mut F, name: &str) -> Result<Checked, LoadStop>
     ensures kept { (F.state files.new).told ≡ (F.state files.old).told }
     ensures loads { LoadsChecked (F.state files.old).told name.now result }
@@ -27,7 +27,7 @@ pub fn load_checked<F: Files>(alloc: Global, files: &mut F, name: &str) -> Resul
     }
 }
 
-/// The schema that the bytes of a file hold, which is in order.
+/// The schema that the bytes of a file hold, checked.
 fn read_checked(alloc: Global, bytes: &[u8]) -> Result<Checked, LoadStop>
     ensures { Reads (schema_in bytes.now) result }
 {

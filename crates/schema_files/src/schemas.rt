@@ -14,7 +14,7 @@ use schema_check::Checked;
 use std::alloc::Global;
 use tree_json::LineLayout;
 
-/// The schemas of a file and of further ones, loaded and judged in this order.
+/// The schemas of a file and of further ones, loaded and checked in this order.
 pub fn load_schemas<F: Files>(
     alloc: Global,
     name: &str,
@@ -39,7 +39,7 @@ pub fn load_schemas<F: Files>(
     load_also(alloc, &first, schemas, also.as_slice(), files)
 }
 
-/// The same schemas and those of further files, which are counted from 1.
+/// Adds the schemas of further files, which are counted from 1.
 fn load_also<F: Files>(
     alloc: Global,
     first: &Checked,
@@ -69,7 +69,7 @@ fn load_also<F: Files>(
     Ok(all)
 }
 
-/// The schema of a further file, which has an id of its own and the form of the first.
+/// The schema of a further file, which has an id of its own and the form of the first schema.
 fn load_joining<F: Files>(
     alloc: Global,
     first: &Checked,

@@ -56,7 +56,7 @@ first_around front name (q ∷ qs) = by q.broken (first_around front name qs)
     by true h = refl
     by false h = h
 
--- a judgement of some questions, and what stands behind them
+-- a judgement of some questions, and what follows them
 abbrev Tells : {A : Type 0} → Judged A → List Question → A → Type 0
 Tells j qs x = j ≡ (first_broken qs >>= (λ _. Ok x))
 

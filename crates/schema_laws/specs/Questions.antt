@@ -1,5 +1,5 @@
--- All rules that are asked of a schema, one after another in the order of the visit: the declared types, each with its members
--- right behind it, the header type, and the messages, each with its parts. Own profile.
+-- All rules that are asked of a schema, in the order of the visit: the declared types, each with its members right
+-- after it, the header type, and the messages, each with its parts. Own profile.
 use Rattle.std.specs.Prelude.{ℕ, Bool, if◌then◌else◌, false, List, [], ◌∷◌, ◌++◌, codes, Ok, Err}
 use Rattle.sbe_types.specs.declared.kind.Member.{Member}
 use Rattle.sbe_types.specs.declared.tree.CompositeEl.{CompositeEl}
@@ -37,35 +37,35 @@ abbrev pub here : Rules → List Question
 here [] = []
 here (r ∷ rs) = record { code = r.0; path = []; broken = r.1 } ∷ here rs
 
--- A question of an element of that name, seen from the one around it.
+-- A question of an element of that name, with the path from the element around it.
 abbrev pub outer : List ℕ → List ℕ → Question → Question
 outer front name q = record { code = q.code; path = front ++ name ++ q.path; broken = q.broken }
 
--- The questions of an element of that name, seen from the one around it.
+-- The questions of an element of that name, with the paths from the element around it.
 abbrev pub around : List ℕ → List ℕ → List Question → List Question
 around front name [] = []
 around front name (q ∷ qs) = outer front name q ∷ around front name qs
 
 -- ---- declared types
 
--- The rules on a member, before those on the members inside it.
+-- The rules for a member, before those for the members inside it.
 abbrev pub of_entering : Inside → MembersBefore → MemberItem → List Question
 of_entering inside before m =
     here (first_rules inside.types m) ++ (here (member_rules inside.types before m) ++ here (last_rules inside m))
 
--- What stands before a member that comes behind these.
+-- What is before a member that follows these.
 abbrev pub past_row : Inside → MembersBefore → {n : _} → Row_of-MemberItem n → MembersBefore
 past_row inside before end_of-MemberItem = before
 past_row inside before (more_of-MemberItem m rest) = past_row inside (with_one inside.types before m) rest
 
 abbrev mutual
-  -- Of members one after another.
+  -- The questions of a row of members.
   pub of_row : Inside → MembersBefore → {n : _} → Row_of-MemberItem n → List Question
   of_row inside before end_of-MemberItem = []
   of_row inside before (more_of-MemberItem m rest) =
       around (codes ".") (member_name m) (of_member inside before m) ++ of_row inside (with_one inside.types before m) rest
 
-  -- Of one member; a composite's own members are asked before the rules on its width and depth.
+  -- The questions of one member; a composite's own members are asked before the rules for its width and depth.
   pub of_member : Inside → MembersBefore → MemberItem → List Question
   of_member inside before (part.Type t) = of_entering inside before (part.Type t)
   of_member inside before (part.Enum e) = of_entering inside before (part.Enum e)
@@ -75,32 +75,32 @@ abbrev mutual
       of_entering inside before (part.Composite' name offset since n row)
       ++ (of_row (deeper inside) no_member row ++ here (composite_rules inside.around (past_row (deeper inside) no_member row).all))
 
--- What stands behind the members of a list.
+-- What is before a member that follows those of a list.
 abbrev pub past_members : Inside → MembersBefore → List MemberItem → MembersBefore
 past_members inside before [] = before
 past_members inside before (m ∷ ms) = past_members inside (with_one inside.types before m) ms
 
--- Of the members of a list.
+-- The questions of the members of a list.
 abbrev pub of_members : Inside → MembersBefore → List MemberItem → List Question
 of_members inside before [] = []
 of_members inside before (m ∷ ms) =
     around (codes ".") (member_name m) (of_member inside before m) ++ of_members inside (with_one inside.types before m) ms
 
--- Of a declared composite.
+-- The questions of a declared composite.
 abbrev pub of_composite : List TypesItem → CompositeEl → List Question
 of_composite types c =
     here ((rule.Cycle, is_endless types c) ∷ [])
     ++ (of_members (record { types = types; around = 1 }) no_member c.children
     ++ here (composite_rules 0 (past_members (record { types = types; around = 1 }) no_member c.children).all))
 
--- Of a declared type but for its name.
+-- The questions of a declared type, except that of its name.
 abbrev pub of_item : List TypesItem → TypesItem → List Question
 of_item types (item.Type t) = here (type_rules types false t) ++ here (type_constant_rules t)
 of_item types (item.Enum e) = here (enum_rules types e)
 of_item types (item.Set s) = here (set_rules types s)
 of_item types (item.Composite c) = of_composite types c
 
--- Of the declared types in order, each behind the names before it.
+-- The questions of the declared types in order, each after the names before it.
 abbrev pub of_types : List TypesItem → List (List ℕ) → List TypesItem → List Question
 of_types types earlier [] = []
 of_types types earlier (t ∷ ts) =
@@ -109,20 +109,20 @@ of_types types earlier (t ∷ ts) =
 
 -- ---- messages
 
--- Of a field.
+-- The questions of a field.
 abbrev pub of_field : Scope → PartsBefore → FieldEl → List Question
 of_field scope before f =
     here (field_rules scope.types before.all.reached f)
     ++ (here (part_rules scope.level before f.name (field_head scope f))
     ++ here ((rule.Presence, has_bad_presence scope.types f (type_named scope.types f.type_name)) ∷ []))
 
--- Of a data.
+-- The questions of a data part.
 abbrev pub of_data : Scope → PartsBefore → DataEl → List Question
 of_data scope before d =
     here (data_rules scope.types d)
     ++ here (part_rules scope.level before d.name (record { class = class.Data; since = d.since_version; is_fixed = false }))
 
--- What stands before a part that comes behind these.
+-- What is before a part that follows these.
 abbrev pub past_level : Scope → PartsBefore → {n : _} → Row_of-PartItem n → PartsBefore
 past_level scope before end_of-PartItem = before
 past_level scope before (more_of-PartItem p rest) = past_level scope (with_part scope before p) rest
@@ -132,13 +132,13 @@ abbrev pub entries_scope : Scope → ℕ → Scope
 entries_scope scope since = record { types = scope.types; level = entries_level scope.level since }
 
 abbrev mutual
-  -- Of parts one after another.
+  -- The questions of a row of parts.
   pub of_level : Scope → PartsBefore → {n : _} → Row_of-PartItem n → List Question
   of_level scope before end_of-PartItem = []
   of_level scope before (more_of-PartItem p rest) =
       around (codes ".") (part_name p) (of_part scope before p) ++ of_level scope (with_part scope before p) rest
 
-  -- Of one part; a group's own parts are asked before the rules on its block.
+  -- The questions of one part; a group's own parts are asked before the rules for its block.
   pub of_part : Scope → PartsBefore → PartItem → List Question
   of_part scope before (piece.Field f) = of_field scope before f
   of_part scope before (piece.Data d) = of_data scope before d
@@ -148,24 +148,24 @@ abbrev mutual
       ++ (of_level (entries_scope scope since) no_part row
       ++ here (group_rules scope.level.around (members_named scope.types dimension) length (past_level (entries_scope scope since) no_part row).all)))
 
--- What stands behind the parts of a list.
+-- What is before a part that follows those of a list.
 abbrev pub past_parts : Scope → PartsBefore → List PartItem → PartsBefore
 past_parts scope before [] = before
 past_parts scope before (p ∷ ps) = past_parts scope (with_part scope before p) ps
 
--- Of the parts of a list.
+-- The questions of the parts of a list.
 abbrev pub of_parts : Scope → PartsBefore → List PartItem → List Question
 of_parts scope before [] = []
 of_parts scope before (p ∷ ps) =
     around (codes ".") (part_name p) (of_part scope before p) ++ of_parts scope (with_part scope before p) ps
 
--- Of a message; its parts are asked before the rules on its block.
+-- The questions of a message; its parts are asked before the rules for its block.
 abbrev pub of_message : List Member → Scope → MessagesBefore → MessageEl → List Question
 of_message header scope before m =
     here (message_rules scope.level.version before m)
     ++ (of_parts scope no_part m.children ++ here (message_end_rules header m (past_parts scope no_part m.children).all))
 
--- Of the messages in order, each behind those before it.
+-- The questions of the messages in order, each after those before it.
 abbrev pub of_messages : List Member → Scope → MessagesBefore → List MessageEl → List Question
 of_messages header scope before [] = []
 of_messages header scope before (m ∷ ms) =
@@ -173,7 +173,7 @@ of_messages header scope before (m ∷ ms) =
 
 -- ---- the schema
 
--- Of an outline and messages.
+-- The questions of an outline and messages.
 abbrev pub of_outline : Outline → List MessageEl → List Question
 of_outline outline messages =
     of_types outline.types [] outline.types
@@ -184,7 +184,7 @@ of_outline outline messages =
 abbrev pub questions : Schema → List Question
 questions schema = of_outline (outline_of schema) (messages_of schema)
 
--- The first rule that is broken is the answer; where none is, the schema that is stood for.
+-- The refusal of the first rule that is broken; if there is none, this schema.
 abbrev pub judged_by : List Question → WireSchema → Judged WireSchema
 judged_by [] schema = Ok schema
 judged_by (q ∷ qs) schema = if q.broken then Err (refused q.code q.path) else judged_by qs schema

@@ -3,14 +3,14 @@ ghost use Rattle.schema_lines.specs.Counts.{groups_in, groups_with, parts_in, pa
 
 use sbe_types::{Group, Level};
 
-/// How many groups and data parts stand somewhere, at all levels.
+/// The numbers of groups and of data parts, at all levels.
 #[derive(Clone, Copy, Debug, PartialEq, Eq)]
 pub(crate) struct Counts {
     pub groups: u64,
     pub parts: u64,
 }
 
-/// Those of a level; none where 64 bits can't say it.
+/// The counts of a level, or `None` if 64 bits can't hold them.
 #[cycle(count)]
 pub(crate) fn count_level(level: &Level) -> Option<Counts>
     ensures { IfSome result (λ counts. (counts.groups ≡ groups_in level.now) × (counts.parts ≡ parts_in level.now)) }
@@ -47,7 +47,7 @@ fn count_groups(groups: &[Group]) -> Option<Counts>
     Some(counts)
 }
 
-/// The counts with one more group, which has those inside it.
+/// The counts with one more group, which adds those inside it.
 fn one_more(counts: Counts, inner: Counts) -> Option<Counts>
     ensures { IfSome result (λ all. (all.groups ≡ counts.groups + (inner.groups + 1)) × (all.parts ≡ counts.parts + inner.parts)) }
 {

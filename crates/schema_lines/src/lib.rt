@@ -1,4 +1,4 @@
-//! What a schema's check prints: a line of JSON for each message; and texts as JSON.
+//! What the check of a schema prints: a line of JSON for each message. Also texts as JSON.
 #![tactic(auto)]
 
 mod counts;

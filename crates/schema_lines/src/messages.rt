@@ -7,13 +7,13 @@ use crate::text::{put, put_count, put_json_text};
 use lists::NoMem;
 use sbe_types::Level;
 
-/// Appends a line for each message: its name, its id, the length of its block in bytes, and how
-/// many groups and data parts it has at all levels.
+/// Appends a line for each message: its name, its id, the length of its block in bytes, and how many groups and data
+/// parts it has at all levels.
 ///
 /// # Errors
 ///
-/// For want of memory, which more groups or data parts than 64 bits can count would have met
-/// before; a front of the lines may then be appended.
+/// If memory runs out. A prefix of the lines may then have been appended. It also fails if there are more groups or
+/// data parts than 64 bits can count; memory would run out before.
 pub fn put_messages(messages: &[Level], out: &mut Vec<u8>) -> Result<(), NoMem>
     ensures { Puts result out.old.items out.new.items (message_lines messages.now) }
 {

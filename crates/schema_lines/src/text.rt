@@ -8,7 +8,7 @@ use lists::NoMem;
 ///
 /// # Errors
 ///
-/// When out of memory; a front of them may then be appended.
+/// If memory runs out. A prefix of the bytes may then have been appended.
 pub fn put(out: &mut Vec<u8>, bytes: &[u8]) -> Result<(), NoMem>
     ensures { Puts result out.old.items out.new.items bytes.now }
 {
@@ -20,7 +20,7 @@ pub fn put(out: &mut Vec<u8>, bytes: &[u8]) -> Result<(), NoMem>
 ///
 /// # Errors
 ///
-/// When out of memory; a front of them may then be appended.
+/// If memory runs out. A prefix of the digits may then have been appended.
 pub fn put_count(out: &mut Vec<u8>, count: u64) -> Result<(), NoMem>
     ensures { Puts result out.old.items out.new.items (decimal count) }
 {
@@ -28,12 +28,11 @@ pub fn put_count(out: &mut Vec<u8>, count: u64) -> Result<(), NoMem>
     put(out, buffer.format(count).as_bytes())
 }
 
-/// Appends a text of JSON that shows these bytes: between quotes, with `"`, `\` and the bytes
-/// below a space escaped.
+/// Appends a JSON string of these bytes: between quotes, with `"`, `\` and the bytes below a space escaped.
 ///
 /// # Errors
 ///
-/// When out of memory; a front of the text may then be appended.
+/// If memory runs out. A prefix of the text may then have been appended.
 pub fn put_json_text(out: &mut Vec<u8>, text: &[u8]) -> Result<(), NoMem>
     ensures { Puts result out.old.items out.new.items (json_text text.now) }
 {
@@ -65,7 +64,7 @@ fn put_byte(out: &mut Vec<u8>, byte: u8) -> Result<(), NoMem>
     }
 }
 
-/// Appends a byte below a space, by its number in four digits to the base 16.
+/// Appends a byte below a space as its number in four hexadecimal digits.
 fn put_control(out: &mut Vec<u8>, byte: u8) -> Result<(), NoMem>
     ensures { Puts result out.old.items out.new.items (control_text byte) }
 {

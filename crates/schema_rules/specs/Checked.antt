@@ -16,7 +16,7 @@ use Rattle.schema_rules.specs.Kinds.{members_named}
 use Rattle.schema_rules.specs.PartRules.{Scope, no_part, parts_judged, is_short, is_bad_block}
 use Rattle.schema_rules.specs.Resolved.{resolved}
 
--- what the rules on the header type and on messages ask of a schema
+-- what the rules for the header type and for messages need of a schema
 pub record Outline : Type 0 where
   pub types : List TypesItem
   pub header_type : List ℕ
@@ -59,34 +59,33 @@ no_message = record { names = []; ids = [] }
 abbrev pub with_message : MessagesBefore → MessageEl → MessagesBefore
 with_message before m = record { names = before.names ++ m.name ∷ []; ids = before.ids ++ m.id ∷ [] }
 
--- C13 DuplicateName: a message's name or id stands earlier.
--- C15 Since: its sinceVersion is above the schema's version.
+-- C13 DuplicateName: a message's name or id occurs earlier. C15 Since: its sinceVersion is above the schema's version.
 abbrev pub message_rules : ℕ → MessagesBefore → MessageEl → Rules
 message_rules version before m =
     (rule.DuplicateName, is_among before.names m.name || list_any (nat_eq m.id) before.ids)
     ∷ ((rule.Since, nat_lt version m.since_version)
     ∷ [])
 
--- C09 BlockShort: the stated blockLength is below the end of the fields.
--- C18 Width: its block is above 1,048,576, or its id or its block doesn't fit the header.
+-- C09 BlockShort: the stated blockLength is below the end of the fields. C18 Width: its block is above 1,048,576, or
+-- its id or its block doesn't fit the header.
 abbrev pub message_end_rules : List Member → MessageEl → LevelFacts → Rules
 message_end_rules header m all =
     (rule.BlockShort, is_short m.block_length all.reached)
     ∷ ((rule.Width, not (holds header (codes "templateId") m.id) || is_bad_block header (unwrap_or m.block_length all.reached))
     ∷ [])
 
--- a message's parts; its own sinceVersion isn't counted
+-- the scope of a message's parts; the message's own sinceVersion isn't counted
 abbrev pub message_scope : Outline → Scope
 message_scope outline = record { types = outline.types; level = record { version = outline.version; around = 0; since = 0 } }
 
--- One message: its own rules, its parts, and the rules that are tried after them.
+-- One message: its own rules, its parts, and the rules that follow them.
 abbrev pub message_judged : List Member → Scope → MessagesBefore → MessageEl → Judged (Unit {0})
 message_judged header scope before m = do
   _ ← first_of (message_rules scope.level.version before m)
   parts ← parts_judged scope no_part m.children
   first_of (message_end_rules header m parts.all)
 
--- The messages in order, each behind those before it.
+-- The messages in order, each after those before it.
 abbrev pub messages_judged : List Member → Scope → MessagesBefore → List MessageEl → Judged (Unit {0})
 messages_judged header scope before [] = Ok tt
 messages_judged header scope before (m ∷ ms) = do

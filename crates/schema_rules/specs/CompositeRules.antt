@@ -1,4 +1,4 @@
--- The rules on declared types: those on composites and their members, and the visit of both.
+-- The rules for declared types: those for composites and their members, and the visit of both.
 use Rattle.std.specs.Prelude.{ℕ, ◌+◌, ◌==◌, ◌&&◌, ◌||◌, not, min, nat_lt, Bool, true, false, List, [], ◌∷◌, ◌++◌, codes, Option, Some, None, Ok}
 use Rattle.sbe_types.specs.declared.limits.TheConstants.{PLACE_LIMIT}
 use Rattle.sbe_types.specs.declared.tree.CompositeEl.{CompositeEl}
@@ -20,30 +20,30 @@ use Rattle.schema_rules.specs.TypeRules.{type_rules, type_constant_rules, enum_r
 
 -- ---- limits
 
--- the width of a composite, and the length of a block
+-- the greatest width of a composite, and length of a block
 abbrev pub most_bytes : ℕ
 most_bytes = PLACE_LIMIT
 
--- Leaves of a composite in all.
+-- The most leaves of a composite.
 abbrev pub most_leaves : ℕ
 most_leaves = 256
 
--- composites inside one another
+-- the most composites nested in one another
 abbrev pub most_composites : ℕ
 most_composites = 4
 
--- ---- a composite, and what stands before a member of it
+-- ---- a composite, and what is before a member of it
 
 -- the declared types, and how many composites are around; more than five count as five
 pub record Inside : Type 0 where
   pub types : List TypesItem
   pub around : ℕ
 
--- One composite further in.
+-- One more composite around.
 abbrev pub deeper : Inside → Inside
 deeper inside = record { types = inside.types; around = min (inside.around + 1) 5 }
 
--- the names of the members before, and the composite of these members alone
+-- the names of the members before, and the fact of the composite of these members alone
 pub record MembersBefore : Type 0 where
   pub names : List (List ℕ)
   pub all : Fact
@@ -67,12 +67,12 @@ member_since (part.Set s) = s.since_version
 member_since (part.Ref r) = r.since_version
 member_since (part.Composite' name offset since n row) = since
 
--- C08 Offset: its offset lies before the end of the part before it; constants aside.
+-- C08 Offset: its offset is before the end of the part before it, and it isn't a constant.
 abbrev pub begins_early : ℕ → Option ℕ → Fact → Bool
 begins_early reached offset fact = not fact.is_fixed && nat_lt (begin_of reached offset) reached
 
--- C13 DuplicateName: a member's name in its composite stands earlier.
--- C15 Since: its sinceVersion is above 0, as it is a composite member's.
+-- C13 DuplicateName: a member's name occurs earlier in its composite. C15 Since: its sinceVersion is above 0, although
+-- it is a composite member's.
 abbrev pub member_rules : List TypesItem → MembersBefore → MemberItem → Rules
 member_rules types before m =
     (rule.Offset, begins_early before.all.width (member_offset m) (fact_of types m))
@@ -80,18 +80,19 @@ member_rules types before m =
     ∷ ((rule.Since, nat_lt 0 (member_since m))
     ∷ []))
 
--- C02 UnknownType and C03 Float, of the type that a ref names.
+-- C02 UnknownType and C03 Float, for the type that a ref names.
 abbrev pub ref_rules : List TypesItem → RefEl → Rules
 ref_rules types r =
     (rule.UnknownType, is_none (type_named types r.type_name))
     ∷ ((rule.Float, names_fraction types r.type_name)
     ∷ [])
 
--- Composites around a ref to something of a height are too many. A type, an enum and a set have no height.
+-- The composites around a ref and the height of what it names are too many. A type, an enum and a set have no height.
 abbrev pub is_too_high : ℕ → ℕ → Bool
 is_too_high around height = nat_lt 0 height && nat_lt most_composites (around + height)
 
--- C17 Depth, of a ref: it names a composite, and the composites around it and the height of that one are more than four.
+-- C17 Depth, for a ref: it names a composite, and the composites around it and the height of that one are more than
+-- four.
 abbrev pub names_too_high : Inside → RefEl → Bool
 names_too_high inside r = is_too_high inside.around (fact_named inside.types r.type_name).height
 
@@ -103,11 +104,11 @@ is_enum (Some (item.Composite c)) = false
 is_enum (Some (item.Enum e)) = true
 is_enum (Some (item.Set s)) = false
 
--- C19 Presence, of an enum in a composite: it is constant, and no valueRef can stand there.
+-- C19 Presence, for an enum in a composite: it is constant, but a valueRef isn't possible there.
 abbrev pub names_constant_enum : List TypesItem → RefEl → Bool
 names_constant_enum types r = is_enum (type_named types r.type_name) && (fact_named types r.type_name).is_fixed
 
--- before the rules on every member
+-- the rules before those for every member
 abbrev pub first_rules : List TypesItem → MemberItem → Rules
 first_rules types (part.Type t) = type_rules types true t
 first_rules types (part.Enum e) = enum_rules types e
@@ -115,7 +116,7 @@ first_rules types (part.Set s) = set_rules types s
 first_rules types (part.Ref r) = ref_rules types r
 first_rules types (part.Composite' name offset since n row) = []
 
--- and after them
+-- the rules after those for every member
 abbrev pub last_rules : Inside → MemberItem → Rules
 last_rules inside (part.Type t) = type_constant_rules t
 last_rules inside (part.Enum e) = (rule.Presence, (fact_of inside.types (part.Enum e)).is_fixed) ∷ []
@@ -123,8 +124,8 @@ last_rules inside (part.Set s) = []
 last_rules inside (part.Ref r) = (rule.Depth, names_too_high inside r) ∷ ((rule.Presence, names_constant_enum inside.types r) ∷ [])
 last_rules inside (part.Composite' name offset since n row) = []
 
--- C17 Depth: it is written inside others with exactly four composites around it.
--- C18 Width: it is wider than 1,048,576 bytes, or has more than 256 leaves in all.
+-- C17 Depth: it is inside others, with exactly four composites around it. C18 Width: it is wider than 1,048,576 bytes,
+-- or has more than 256 leaves in all.
 abbrev pub composite_rules : ℕ → Fact → Rules
 composite_rules around all =
     (rule.Depth, around == most_composites)
@@ -133,7 +134,7 @@ composite_rules around all =
 
 -- ---- the visit
 
--- A member, before the members inside it.
+-- The rules for a member, before those for the members inside it.
 abbrev pub entered : Inside → MembersBefore → MemberItem → Judged (Unit {0})
 entered inside before m = do
   _ ← first_of (first_rules inside.types m)
@@ -141,14 +142,14 @@ entered inside before m = do
   first_of (last_rules inside m)
 
 abbrev mutual
-  -- a composite's members in order, each with what stands before it
+  -- the members of a composite in order, each with what is before it
   pub row_judged : Inside → MembersBefore → {n : _} → Row_of-MemberItem n → Judged MembersBefore
   row_judged inside before end_of-MemberItem = Ok before
   row_judged inside before (more_of-MemberItem m rest) = do
     _ ← behind (codes ".") (member_name m) (member_judged inside before m)
     row_judged inside (with_one inside.types before m) rest
 
-  -- One member, with those inside it.
+  -- One member, and those inside it.
   pub member_judged : Inside → MembersBefore → MemberItem → Judged (Unit {0})
   member_judged inside before (part.Type t) = entered inside before (part.Type t)
   member_judged inside before (part.Enum e) = entered inside before (part.Enum e)
@@ -159,7 +160,7 @@ abbrev mutual
     members ← row_judged (deeper inside) no_member row
     first_of (composite_rules inside.around members.all)
 
--- A composite's members in order, over their list.
+-- The members of a composite in order, as a list.
 abbrev pub members_judged : Inside → MembersBefore → List MemberItem → Judged MembersBefore
 members_judged inside before [] = Ok before
 members_judged inside before (m ∷ ms) = do
@@ -168,15 +169,15 @@ members_judged inside before (m ∷ ms) = do
 
 -- ---- declared types
 
--- C04 Cycle: a chain of composite members that begins at it meets a composite a second time. It is asked of declared
--- composites, as each chain of one that is written inside another belongs to a chain of that one.
+-- C04 Cycle: a chain of composite members that begins at it meets a composite a second time. Only declared composites
+-- are asked, since each chain of one that is inside another belongs to a chain of that one.
 abbrev pub composite_judged : List TypesItem → CompositeEl → Judged (Unit {0})
 composite_judged types c = do
   _ ← first_of ((rule.Cycle, is_endless types c) ∷ [])
   members ← members_judged (record { types = types; around = 1 }) no_member c.children
   first_of (composite_rules 0 members.all)
 
--- One declared type, with its members.
+-- One declared type, and its members.
 abbrev pub item_judged : List TypesItem → TypesItem → Judged (Unit {0})
 item_judged types (item.Type t) = do
   _ ← first_of (type_rules types false t)
@@ -191,7 +192,7 @@ declared_judged types earlier t = do
   _ ← first_of ((rule.DuplicateType, is_among earlier (name_of t)) ∷ [])
   item_judged types t
 
--- the declared types in order, each behind the names before it
+-- the declared types in order, each after the names before it
 abbrev pub types_judged : List TypesItem → List (List ℕ) → List TypesItem → Judged (Unit {0})
 types_judged types earlier [] = Ok tt
 types_judged types earlier (t ∷ ts) = do

@@ -1,4 +1,5 @@
--- The composites that the wire counts by: the message header, the dimension of a group, and the type of a data.
+-- The composites with the counters of the wire: the message header, the dimension of a group, and the type of a data
+-- part.
 use Rattle.std.specs.Prelude.{ℕ, ◌==◌, ◌&&◌, Bool, true, false, List, [], ◌∷◌, length, codes, Option, Some, None, unwrap_or, pos}
 use Rattle.std.specs.List.{list_any}
 use Rattle.std.specs.Str.{bytes_eq}
@@ -22,7 +23,7 @@ is_counter_primitive I16 = false
 is_counter_primitive I32 = false
 is_counter_primitive I64 = false
 
--- the leaf that a kind is, if it is one
+-- the leaf of a kind, if it is one
 abbrev pub leaf_in : Kind → Option LeafOf
 leaf_in (Leaf l) = Some l
 leaf_in (Enum l names) = None
@@ -65,14 +66,14 @@ is_body_primitive I16 = false
 is_body_primitive I32 = false
 is_body_primitive I64 = false
 
--- a length, and directly behind it bytes of any number, which the length tells
+-- a length, and directly after it as many bytes as it says
 abbrev pub are_length_and_body : Option LeafOf → Option LeafOf → Option ℕ → Bool
 are_length_and_body None body offset = false
 are_length_and_body (Some l) None offset = false
 are_length_and_body (Some l) (Some b) offset =
     is_counter (Some l) && ((is_body_primitive b.prim && b.length == 0) && unwrap_or offset (prim_width l.prim) == prim_width l.prim)
 
--- the type of a data: a length at its front and the bytes directly behind (SBE 1.0, "Variable-length data encoding")
+-- the type of a data part: a length first and the bytes directly after it (SBE 1.0, "Variable-length data encoding")
 abbrev pub is_data : List Member → Bool
 is_data [] = false
 is_data (m ∷ []) = false
@@ -86,6 +87,6 @@ abbrev pub holds_in : Option LeafOf → ℕ → Bool
 holds_in None n = false
 holds_in (Some l) n = is_number_of l.prim (pos n)
 
--- the member of that name can hold the number, whatever its range is
+-- the member of that name can hold the number, whatever its range
 abbrev pub holds : List Member → List ℕ → ℕ → Bool
 holds members name n = list_any (λ m. bytes_eq name m.name && holds_in (leaf_in m.kind) n) members

@@ -1,4 +1,4 @@
--- A judgement is what is found in order, or the first refusal with its path.
+-- The result of a check: a value where everything is in order, or the first refusal with its path.
 use Rattle.std.specs.Prelude.{◌≡◌, ℕ, Bool, if◌then◌else◌, List, [], ◌∷◌, ◌++◌, Result, Ok, Err, ⊤}
 use Rattle.schema_rules.specs.declared.codes.CCode.{CCode}
 use Rattle.schema_rules.specs.declared.codes.CheckErr.{CheckErr}
@@ -9,11 +9,11 @@ pub record Refusal : Type 0 where
   pub code : CCode
   pub path : List ℕ
 
--- What is found in order, or the first refusal.
+-- A value where everything is in order, or the first refusal.
 abbrev pub Judged : Type 0 → Type 0
 Judged X = Result X Refusal
 
--- one judgement after another: a refusal ends it
+-- one check after another; a refusal ends it
 infixl 10 ◌>>=◌
 abbrev pub ◌>>=◌ : {A B : Type 0} → Judged A → (A → Judged B) → Judged B
 (Ok x) >>= f = f x
@@ -23,25 +23,25 @@ abbrev pub ◌>>=◌ : {A B : Type 0} → Judged A → (A → Judged B) → Judg
 abbrev pub refused : CCode → List ℕ → Refusal
 refused code path = record { code = code; path = path }
 
--- a refusal here
+-- a refusal of the element itself
 abbrev pub refuse : {A : Type 0} → CCode → Judged A
 refuse code = Err (refused code [])
 
--- rules by their codes, in number order, each with whether it is broken
+-- rules with their codes, in number order, each with whether it is broken
 abbrev pub Rules : Type 0
 Rules = List (CCode × Bool)
 
--- the first rule that is broken is the answer
+-- the refusal of the first rule that is broken, if there is one
 abbrev pub first_of : Rules → Judged (Unit {0})
 first_of [] = Ok tt
 first_of (r ∷ rs) = if r.1 then refuse r.0 else first_of rs
 
--- a judgement of the element of that name: its name goes in front of the path
+-- the check of the element of this name; its name is put before the path
 abbrev pub behind : {A : Type 0} → List ℕ → List ℕ → Judged A → Judged A
 behind front name (Ok x) = Ok x
 behind front name (Err e) = Err (refused e.code (front ++ name ++ e.path))
 
--- the code answers as the judgement does, or that memory is wanting
+-- the code answers as the check does, or that it is out of memory
 abbrev pub Gives : {X : Type 0} → Result X CheckErr → Judged X → Type 0
 Gives (Ok x) told = told ≡ Ok x
 Gives (Err Memory) told = ⊤

@@ -1,4 +1,4 @@
--- The kind that a type is, where it is used: with its presence, range and null, and with every name resolved.
+-- The kind of a type where it is used: with its presence, range and null, and with every name resolved.
 use Rattle.std.specs.Prelude.{ℕ, zero, suc, ◌==◌, ◌||◌, not, Bool, is_some, if◌then◌else◌, List, [], ◌∷◌, map, Option, Some, None, unwrap_or, option_map, option_and_then, ℤ, pos}
 use Rattle.std.specs.Option.{option_or}
 use Rattle.sbe_types.specs.declared.kind.Primitive.{Primitive}
@@ -32,20 +32,20 @@ use Rattle.schema_rules.specs.Names.{integral, simple_of, declared_as, plain_nam
 
 -- ---- where a type is used
 
--- what a field says beside its type: its own presence and valueRef
+-- what a field states besides its type: its own presence and valueRef
 pub record Use : Type 0 where
   pub presence : Option Presence
   pub value_ref : Option ValueRef
 
--- a declared type, or a member of a composite, says nothing beside
+-- a declared type, or a member of a composite, states nothing besides
 abbrev pub as_declared : Use
 as_declared = record { presence = None; value_ref = None }
 
--- What a field says beside its type.
+-- What a field states besides its type.
 abbrev pub use_of : FieldEl → Use
 use_of f = record { presence = f.presence; value_ref = f.value_ref }
 
--- the presence that holds: the field's, else the type's, else required
+-- the presence that applies: the field's, else the type's, else required
 abbrev pub effective : Option Presence → Option Presence → Presence
 effective own of_type = unwrap_or (option_or own of_type) Required
 
@@ -55,7 +55,7 @@ effective own of_type = unwrap_or (option_or own of_type) Required
 abbrev pub is_unstated : TypeEl → Bool
 is_unstated t = not (is_some t.min_value || is_some t.max_value)
 
--- how an array is read: a text, octets where no range is stated, or numbers
+-- how an array is read: a text, octets if no range is stated, or numbers
 abbrev pub array_shape : Primitive → TypeEl → LeafShape
 array_shape Char t = if is_some t.character_encoding then shape.EncodedText else shape.RangedText
 array_shape U8 t = if is_unstated t then shape.Octets else shape.Numbers
@@ -71,7 +71,7 @@ array_shape U64 t = shape.Numbers
 abbrev pub shape_of : Primitive → TypeEl → LeafShape
 shape_of prim t = if t.length == 1 then shape.Number else array_shape prim t
 
--- the stated range and null, or those of the primitive
+-- the least number that is admitted: the stated one, or that of the primitive
 abbrev pub low_of : Primitive → TypeEl → ℤ
 low_of prim t = unwrap_or t.min_value (numbers_of prim).low
 
@@ -83,18 +83,18 @@ high_of prim t = unwrap_or t.max_value (numbers_of prim).high
 abbrev pub null_of : Primitive → TypeEl → ℤ
 null_of prim t = unwrap_or t.null_value (numbers_of prim).null
 
--- octets are any bytes
+-- the leaf of a type; octets may be any bytes
 abbrev pub leaf_of : Primitive → Presence → TypeEl → LeafOf
 leaf_of prim presence t =
     record { prim = prim; length = t.length; shape = shape_of prim t; presence = presence; null = null_of prim t; low = low_of prim t; high = if is_octets (shape_of prim t) then pos 255 else high_of prim t }
 
--- ---- what an enum or a set is over
+-- ---- the encoding of an enum or a set
 
--- A type as what an enum or a set is over.
+-- A type as the encoding of an enum or a set.
 abbrev pub encoding_of : TypeEl → Option Encoding
 encoding_of t = option_map (λ p. record { leaf = leaf_of p Required t; presence = t.presence }) (integral t.primitive_type)
 
--- a `type` over a primitive that isn't float or double
+-- the encoding that a name stands for: a `type` over a primitive that isn't float or double
 abbrev pub encoding_named : List TypesItem → List ℕ → Option Encoding
 encoding_named types name = option_and_then encoding_of (option_and_then simple_of (type_named types name))
 
@@ -105,11 +105,11 @@ with_presence presence l =
 
 -- ---- values of enums, sets and constants
 
--- what stands where a rule is broken that makes a value or a kind
+-- the value used where a rule is broken, so that there is neither a value nor a kind
 abbrev pub no_value : ConstValue
 no_value = value.Num (pos 0)
 
--- The kind that stands where a type is unknown.
+-- The kind used where a type is unknown.
 abbrev pub unresolved : Kind
 unresolved = Const no_value
 
@@ -136,19 +136,19 @@ abbrev pub code_of : List TypesItem → Option ValueRef → ConstValue
 code_of types None = no_value
 code_of types (Some ref) = code_found types (referred types ref)
 
--- The value of a text: the text over char, else the number that it spells.
+-- The value of a text: the text if it is over char, else the number that it spells.
 abbrev pub text_value : Primitive → Option (List ℕ) → ConstValue
 text_value prim None = no_value
 text_value prim (Some text) = if is_char prim then value.Text text else value.Num (unwrap_or (number_in prim text) (pos 0))
 
--- a constant of a `type`: by the valueRef if there is one, else its text
+-- a constant of a `type`: by the valueRef if there is one, else by its text
 abbrev pub constant_of : List TypesItem → Primitive → TypeEl → Option ValueRef → ConstValue
 constant_of types prim t None = text_value prim t.text
 constant_of types prim t (Some ref) = code_of types (Some ref)
 
 -- ---- kinds
 
--- A type over a primitive, by the presence that holds.
+-- A type over a primitive, by the presence that applies.
 abbrev pub type_over : List TypesItem → Use → TypeEl → Primitive → Presence → Kind
 type_over types own t prim Constant = Const (constant_of types prim t (option_or own.value_ref t.value_ref))
 type_over types own t prim Required = Leaf (leaf_of prim Required t)
@@ -163,7 +163,7 @@ type_in types own t (Some prim) = type_over types own t prim (effective own.pres
 abbrev pub type_kind : List TypesItem → Use → TypeEl → Kind
 type_kind types own t = type_in types own t (integral t.primitive_type)
 
--- An enum over an encoding, by the presence that holds.
+-- An enum over an encoding, by the presence that applies.
 abbrev pub enum_over : List TypesItem → Use → EnumEl → Encoding → Presence → Kind
 enum_over types own e encoding Constant = Const (code_of types own.value_ref)
 enum_over types own e encoding Required = Enum encoding.leaf (map (valid_value encoding.leaf.prim) e.children)
@@ -187,7 +187,7 @@ set_in s (Some encoding) = Set encoding.leaf.prim (map (choice encoding.leaf.pri
 abbrev pub set_kind : List TypesItem → SetEl → Kind
 set_kind types s = set_in s (encoding_named types s.encoding_type)
 
--- a member that is a leaf is optional where the composite's field is
+-- a member that is a leaf is optional in the composite of an optional field
 abbrev pub made_optional : Kind → Kind
 made_optional (Leaf l) = Leaf (with_presence Optional l)
 made_optional (Enum l names) = Enum l names
@@ -195,12 +195,12 @@ made_optional (Set p names) = Set p names
 made_optional (Const c) = Const c
 made_optional (Comp' n row) = Comp' n row
 
--- The members of a composite whose field is optional.
+-- The members of a composite whose field is optional: the first is optional.
 abbrev pub first_optional : List Member → List Member
 first_optional [] = []
 first_optional (m ∷ ms) = record { name = m.name; offset = m.offset; kind = made_optional m.kind } ∷ ms
 
--- a composite by the presence of its field: the null of its first member is how it is left empty
+-- a composite by the presence of its field; the null of its first member means that it is empty
 abbrev pub composite_with : Option Presence → List Member → Kind
 composite_with None members = Comp members
 composite_with (Some Required) members = Comp members
@@ -224,7 +224,7 @@ member_offset (part.Ref r) = r.offset
 member_offset (part.Composite' name offset since n row) = offset
 
 abbrev mutual
-  -- a member's kind, where it is told what kinds names stand for
+  -- the kind of a member, given the kinds of names
   pub member_kind : List TypesItem → (List ℕ → Kind) → MemberItem → Kind
   member_kind types kinds (part.Type t) = type_kind types as_declared t
   member_kind types kinds (part.Enum e) = enum_kind types as_declared e
@@ -232,7 +232,7 @@ abbrev mutual
   member_kind types kinds (part.Ref r) = kinds r.type_name
   member_kind types kinds (part.Composite' name offset since n row) = Comp (row_members types kinds row)
 
-  -- Members with their kinds, one after another.
+  -- Members with their kinds.
   pub row_members : List TypesItem → (List ℕ → Kind) → {n : _} → Row_of-MemberItem n → List Member
   row_members types kinds end_of-MemberItem = []
   row_members types kinds (more_of-MemberItem m rest) =
@@ -242,7 +242,7 @@ abbrev mutual
 abbrev pub members_of : List TypesItem → (List ℕ → Kind) → List MemberItem → List Member
 members_of types kinds = map (λ m. record { name = member_name m; offset = member_offset m; kind = member_kind types kinds m })
 
--- The kind of a declared type, where it is told what kinds names stand for.
+-- The kind of a declared type, given the kinds of names.
 abbrev pub item_kind : List TypesItem → (List ℕ → Kind) → Use → TypesItem → Kind
 item_kind types kinds own (item.Type t) = type_kind types own t
 item_kind types kinds own (item.Enum e) = enum_kind types own e
@@ -262,18 +262,18 @@ plain_kind types (Some (item.Composite c)) = unresolved
 plain_kind types (Some (item.Enum e)) = unresolved
 plain_kind types (Some (item.Set s)) = unresolved
 
--- The kind of a declared type, else of the primitive of that name.
+-- The kind of a declared type, if there is one, else of the primitive of that name.
 abbrev pub kind_or_plain : List TypesItem → Option Kind → List ℕ → Kind
 kind_or_plain types (Some kind) name = kind
 kind_or_plain types None name = plain_kind types (plain_named name)
 
--- the kind that a name stands for, through so many names of declared types
+-- the kind that a name stands for, through at most n names of declared types
 abbrev pub kind_through : ℕ → List TypesItem → List ℕ → Kind
 kind_through zero types name = kind_or_plain types (option_map (λ t. unresolved) (declared_as types name)) name
 kind_through (suc n) types name = kind_or_plain types (option_map (item_kind types (kind_through n types) as_declared) (declared_as types name)) name
 
--- the kind of a member whose type has this name. Four composites may lie inside one another, so three names of composites
--- and one of a type reach all that a member of the outermost has; what is deeper is refused before its kind is asked for
+-- the kind of a member whose type has this name. At most four composites may be nested, so three names of composites
+-- and one of a type reach every member of the outermost; anything deeper is refused before its kind is needed
 unfoldable pub kind_named : List TypesItem → List ℕ → Kind
 kind_named types name = kind_through 4 types name
 
@@ -281,7 +281,7 @@ kind_named types name = kind_through 4 types name
 abbrev pub field_kind : List TypesItem → FieldEl → Kind
 field_kind types f = found_kind types (kind_named types) (use_of f) (type_named types f.type_name)
 
--- the members of the composite that a name stands for; what is no composite has none
+-- the members of the composite that a name stands for; anything but a composite has none
 abbrev pub found_members : List TypesItem → Option TypesItem → List Member
 found_members types None = []
 found_members types (Some (item.Type t)) = []

@@ -29,7 +29,7 @@ types_in (child.Message m) = []
 abbrev pub declared_types : Schema → List TypesItem
 declared_types schema = flat_map types_in schema.children
 
--- The message that a child of the schema is.
+-- The message that a child of the schema is, if it is one.
 abbrev pub messages_in : SchemaItem → List MessageEl
 messages_in (child.Types el) = []
 messages_in (child.Message m) = m ∷ []
@@ -51,12 +51,12 @@ name_of (item.Set s) = s.name
 abbrev pub is_among : List (List ℕ) → List ℕ → Bool
 is_among names name = list_any (bytes_eq name) names
 
--- The place of the first type of that name, counted from i.
+-- The index of the first type of that name, counted from i.
 abbrev pub place_from : ℕ → List ℕ → List TypesItem → Option ℕ
 place_from i name [] = None
 place_from i name (t ∷ ts) = if bytes_eq name (name_of t) then Some i else place_from (i + 1) name ts
 
--- the place of the declared type of that name; where there are two, of the first
+-- the index of the declared type of that name; the first if there are two
 abbrev pub place_of : List ℕ → List TypesItem → Option ℕ
 place_of name types = place_from 0 name types
 
@@ -71,7 +71,7 @@ primitive_words =
     ∷ ((codes "int64", Integral I64) ∷ ((codes "uint8", Integral U8) ∷ ((codes "uint16", Integral U16) ∷ ((codes "uint32", Integral U32)
     ∷ ((codes "uint64", Integral U64) ∷ ((codes "float", Float) ∷ ((codes "double", Double) ∷ []))))))))))
 
--- the type that the name of a primitive stands for where no type of that name is declared
+-- the type that the name of a primitive stands for if no type of that name is declared
 abbrev pub plain_type : List ℕ → PrimitiveType → TypeEl
 plain_type name primitive =
     record { name = name; primitive_type = primitive; length = 1; presence = None; null_value = None; min_value = None; max_value = None; character_encoding = None; value_ref = None; text = None; offset = None; since_version = 0 }
@@ -96,25 +96,25 @@ is_fraction (Integral p) = false
 is_fraction Float = true
 is_fraction Double = true
 
--- The character or integer that a primitive type is.
+-- The character or integer type that a primitive type is, if it is one.
 abbrev pub integral : PrimitiveType → Option Primitive
 integral (Integral p) = Some p
 integral Float = None
 integral Double = None
 
--- float or double, and no type of that name is declared
+-- the name is float or double, and no type of that name is declared
 abbrev pub names_fraction : List TypesItem → List ℕ → Bool
 names_fraction types name =
     is_none (declared_as types name) && (bytes_eq name (codes "float") || bytes_eq name (codes "double"))
 
--- The type that is no composite, enum or set.
+-- The type that isn't a composite, enum or set, if it is one.
 abbrev pub simple_of : TypesItem → Option TypeEl
 simple_of (item.Type t) = Some t
 simple_of (item.Composite c) = None
 simple_of (item.Enum e) = None
 simple_of (item.Set s) = None
 
--- The enum that a type is.
+-- The enum that a type is, if it is one.
 abbrev pub enum_of : TypesItem → Option EnumEl
 enum_of (item.Type t) = None
 enum_of (item.Composite c) = None
@@ -123,12 +123,12 @@ enum_of (item.Set s) = None
 
 -- ---- valueRef
 
--- a valid value, with its enum
+-- a valid value and its enum
 pub record Referred : Type 0 where
   pub enum : EnumEl
   pub value : ValidValueEl
 
--- The valid value of that name, with its enum.
+-- The valid value of that name and its enum.
 abbrev pub referred_in : List ℕ → EnumEl → Option Referred
 referred_in name e = option_map (λ v. record { enum = e; value = v }) (find (λ v. bytes_eq name v.name) e.children)
 

@@ -1,4 +1,4 @@
--- The rules on the parts of a level: fields, groups and data, and the visit of a level with those inside its groups.
+-- The rules for the parts of a level: fields, groups and data, and the visit of a level with those of its groups.
 use Rattle.std.specs.Prelude.{ℕ, ◌+◌, ◌==◌, ◌&&◌, ◌||◌, not, min, max, nat_le, nat_lt, Bool, true, false, is_some, is_none, if◌then◌else◌, List, [], ◌∷◌, ◌++◌, codes, Option, Some, None, unwrap_or, Ok}
 use Rattle.std.specs.Option.{option_or}
 use Rattle.std.specs.Str.{bytes_eq}
@@ -30,9 +30,9 @@ use Rattle.schema_rules.specs.TypeRules.{is_constant, is_bad_constant, is_bad_te
 use Rattle.schema_rules.specs.CompositeRules.{begins_early, most_bytes}
 use Rattle.schema_rules.specs.Counters.{is_dimension, is_data, holds}
 
--- ---- a level, and what stands before a part of it
+-- ---- a level, and what is before a part of it
 
--- groups around one another
+-- the most groups nested in one another
 abbrev pub most_groups : ℕ
 most_groups = 6
 
@@ -41,7 +41,7 @@ pub record Scope : Type 0 where
   pub types : List TypesItem
   pub level : LevelScope
 
--- a part's effective since: the greatest of its own and the groups around it
+-- a part's effective since: the largest of its own and those of the groups around it
 abbrev pub since_in : LevelScope → ℕ → ℕ
 since_in level own = max level.since own
 
@@ -49,7 +49,7 @@ since_in level own = max level.since own
 abbrev pub entries_level : LevelScope → ℕ → LevelScope
 entries_level level own = record { version = level.version; around = min (level.around + 1) 7; since = since_in level own }
 
--- of the parts before: their names, and what is told of them
+-- the parts before: their names, and what is known of them
 pub record PartsBefore : Type 0 where
   pub names : List (List ℕ)
   pub all : LevelFacts
@@ -62,7 +62,7 @@ no_facts = record { last = class.Field; reached = 0; floor = 0; fields_since = 0
 abbrev pub no_part : PartsBefore
 no_part = record { names = []; all = no_facts }
 
--- The parts before, and a field that ends there.
+-- The parts before, and a field that ends at `reached`.
 abbrev pub field_past : LevelScope → LevelFacts → Bool → ℕ → ℕ → LevelFacts
 field_past level all is_fixed own reached =
     record {
@@ -92,7 +92,7 @@ with_group level all own =
       alive = all.alive || nat_le own level.since;
     }
 
--- The parts before, and a data.
+-- The parts before, and a data part.
 abbrev pub with_data : LevelScope → LevelFacts → ℕ → LevelFacts
 with_data level all own =
     record {
@@ -121,7 +121,7 @@ part_name (part.Data d) = d.name
 abbrev pub with_part : Scope → PartsBefore → PartItem → PartsBefore
 with_part scope before p = record { names = before.names ++ part_name p ∷ []; all = facts_with scope before.all p }
 
--- ---- the rules on each part
+-- ---- the rules for each part
 
 -- Fields come first, then groups, then data.
 abbrev pub rank : PartClass → ℕ
@@ -129,20 +129,20 @@ rank class.Field = 0
 rank class.Group = 1
 rank class.Data = 2
 
--- The greatest effective since of the parts of a class.
+-- The largest effective since of the parts of a class.
 abbrev pub greatest_since : LevelFacts → PartClass → ℕ
 greatest_since all class.Field = all.fields_since
 greatest_since all class.Group = all.groups_since
 greatest_since all class.Data = all.data_since
 
--- C15 Since: its sinceVersion is above the schema's version; or, constants aside, its effective since is below that of
--- an earlier part of the same class in its level.
+-- C15 Since: its sinceVersion is above the schema's version; or it isn't a constant, and its effective since is below
+-- that of an earlier part of the same class in its level.
 abbrev pub begins_wrong : LevelScope → LevelFacts → PartHead → Bool
 begins_wrong level all head =
     nat_lt level.version head.since || (not head.is_fixed && nat_lt (since_in level head.since) (greatest_since all head.class))
 
--- C13 DuplicateName: a part's name in its level stands earlier.
--- C14 Order: a field stands after a group or data, or a group after data.
+-- C13 DuplicateName: a part's name occurs earlier in its level. C14 Order: a field follows a group or data, or a group
+-- follows data.
 abbrev pub part_rules : LevelScope → PartsBefore → List ℕ → PartHead → Rules
 part_rules level before name head =
     (rule.DuplicateName, is_among before.names name)
@@ -152,12 +152,12 @@ part_rules level before name head =
 
 -- ---- fields
 
--- its type's text, where the field is constant, isn't a value of the type
+-- the field is constant, and the text of its type isn't a value of the type
 abbrev pub has_bad_text_in : FieldEl → TypeEl → Option Primitive → Bool
 has_bad_text_in f t None = false
 has_bad_text_in f t (Some prim) = is_constant (effective f.presence t.presence) && is_bad_text prim t.text
 
--- The text of the type of a constant field is no value of the type.
+-- The field is constant, and the text of its type isn't a value of the type.
 abbrev pub has_bad_text : FieldEl → Option TypesItem → Bool
 has_bad_text f None = false
 has_bad_text f (Some (item.Type t)) = has_bad_text_in f t (integral t.primitive_type)
@@ -170,25 +170,25 @@ abbrev pub presence_in : Option Encoding → Option Presence
 presence_in None = None
 presence_in (Some e) = e.presence
 
--- a valueRef into another enum, or none
+-- a valueRef into another enum, or no valueRef
 abbrev pub refers_elsewhere : List ℕ → Option ValueRef → Bool
 refers_elsewhere name None = true
 refers_elsewhere name (Some ref) = not (bytes_eq ref.enum_name name)
 
--- A constant enum without a valueRef into it, or one that is not constant with a valueRef.
+-- A constant enum without a valueRef into it, or a valueRef of one that isn't constant.
 abbrev pub is_bad_code : Presence → List ℕ → Option ValueRef → Bool
 is_bad_code Constant name ref = refers_elsewhere name ref
 is_bad_code Required name ref = is_some ref
 is_bad_code Optional name ref = is_some ref
 
--- A constant without a value or with two, or a valueRef of a field that is not constant.
+-- A constant without a value or with two, or a valueRef of a field that isn't constant.
 abbrev pub is_bad_type : FieldEl → TypeEl → Presence → Bool
 is_bad_type f t Constant = is_bad_constant Constant t.text (option_or f.value_ref t.value_ref)
 is_bad_type f t Required = is_some f.value_ref
 is_bad_type f t Optional = is_some f.value_ref
 
--- C19 Presence: constant without a value, or with both text and valueRef; a constant set or composite; a valueRef without
--- constant; a constant enum without a valueRef into it.
+-- C19 Presence: a constant without a value, or with both text and valueRef; a constant set or composite; a valueRef
+-- without constant; a constant enum without a valueRef into it.
 abbrev pub has_bad_presence : List TypesItem → FieldEl → Option TypesItem → Bool
 has_bad_presence types f None = false
 has_bad_presence types f (Some (item.Type t)) = is_bad_type f t (effective f.presence t.presence)
@@ -196,7 +196,7 @@ has_bad_presence types f (Some (item.Enum e)) = is_bad_code (effective f.presenc
 has_bad_presence types f (Some (item.Set s)) = is_constant (effective f.presence None) || is_some f.value_ref
 has_bad_presence types f (Some (item.Composite c)) = is_constant (effective f.presence None) || is_some f.value_ref
 
--- C12 BadData, of a field: its type holds a member of length 0.
+-- C12 BadData, for a field: its type contains a member of length 0.
 abbrev pub field_rules : List TypesItem → ℕ → FieldEl → Rules
 field_rules types reached f =
     (rule.UnknownType, is_none (type_named types f.type_name) || refers_to_none types f.value_ref)
@@ -206,7 +206,7 @@ field_rules types reached f =
     ∷ ((rule.BadData, (field_fact types f).holds_empty)
     ∷ []))))
 
--- What the rules on every part ask of a field.
+-- What the rules for every part need to know of a field.
 abbrev pub field_head : Scope → FieldEl → PartHead
 field_head scope f = record { class = class.Field; since = f.since_version; is_fixed = (field_fact scope.types f).is_fixed }
 
@@ -219,7 +219,7 @@ field_judged scope before f = do
 
 -- ---- data
 
--- C12 BadData: a data's type isn't a composite of `length` and `varData`.
+-- C12 BadData: the type of a data part isn't a composite of `length` and `varData`.
 abbrev pub data_rules : List TypesItem → DataEl → Rules
 data_rules types d =
     (rule.UnknownType, is_none (type_named types d.type_name))
@@ -227,7 +227,7 @@ data_rules types d =
     ∷ ((rule.BadData, not (is_data (members_named types d.type_name)))
     ∷ []))
 
--- One data.
+-- One data part.
 abbrev pub data_judged : Scope → PartsBefore → DataEl → Judged (Unit {0})
 data_judged scope before d = do
   _ ← first_of (data_rules scope.types d)
@@ -248,7 +248,7 @@ abbrev pub is_short : Option ℕ → ℕ → Bool
 is_short None reached = false
 is_short (Some stated) reached = nat_lt stated reached
 
--- a block of so many bytes is too long, or the member blockLength can't hold the number
+-- a block of this length is too long, or the member blockLength can't hold the number
 abbrev pub is_bad_block : List Member → ℕ → Bool
 is_bad_block members block = nat_lt most_bytes block || not (holds members (codes "blockLength") block)
 
@@ -267,14 +267,14 @@ group_rules around dimension stated all =
 -- ---- the visit
 
 abbrev mutual
-  -- the parts of a level in order, each with what stands before it; a group's own parts right after it
+  -- the parts of a level in order, each with what is before it; a group's own parts right after it
   pub level_judged : Scope → PartsBefore → {n : _} → Row_of-PartItem n → Judged PartsBefore
   level_judged scope before end_of-PartItem = Ok before
   level_judged scope before (more_of-PartItem p rest) = do
     _ ← behind (codes ".") (part_name p) (part_judged scope before p)
     level_judged scope (with_part scope before p) rest
 
-  -- One part; a group with the parts inside it.
+  -- One part; for a group, also the parts inside it.
   pub part_judged : Scope → PartsBefore → PartItem → Judged (Unit {0})
   part_judged scope before (part.Field f) = field_judged scope before f
   part_judged scope before (part.Data d) = data_judged scope before d
@@ -284,7 +284,7 @@ abbrev mutual
     parts ← level_judged (record { types = scope.types; level = entries_level scope.level since }) no_part row
     first_of (group_rules scope.level.around (members_named scope.types dimension) length parts.all)
 
--- The parts of a level in order, over their list.
+-- The parts of a level in order, as a list.
 abbrev pub parts_judged : Scope → PartsBefore → List PartItem → Judged PartsBefore
 parts_judged scope before [] = Ok before
 parts_judged scope before (p ∷ ps) = do

@@ -6,7 +6,7 @@ use Rattle.sbe_types.specs.declared.kind.Primitive.{Primitive}
 use Rattle.sbe_types.specs.declared.kind.Primitive.TheVariants.{Char, I8, I16, I32, I64, U8, U16, U32, U64}
 use Rattle.schema_rules.specs.declared.numbers.Numbers.{Numbers}
 
--- the least and the greatest number; the range and the null that hold where the schema states none
+-- the least and the greatest number; the range and the null that apply if the schema states none
 abbrev pub numbers_of : Primitive → Numbers
 numbers_of Char = record { least = pos 0; greatest = pos 255; low = pos 32; high = pos 126; null = pos 0 }
 numbers_of I8 = record { least = negsuc 127; greatest = pos 127; low = negsuc 126; high = pos 127; null = negsuc 127 }
@@ -18,7 +18,7 @@ numbers_of U16 = record { least = pos 0; greatest = pos 65535; low = pos 0; high
 numbers_of U32 = record { least = pos 0; greatest = pos 4294967295; low = pos 0; high = pos 4294967294; null = pos 4294967295 }
 numbers_of U64 = record { least = pos 0; greatest = pos 18446744073709551615; low = pos 0; high = pos 18446744073709551614; null = pos 18446744073709551615 }
 
--- a number of the primitive, whatever its range is
+-- a number of the primitive, whatever its range
 abbrev pub is_number_of : Primitive → ℤ → Bool
 is_number_of prim n = int_le (numbers_of prim).least n && int_le n (numbers_of prim).greatest
 
@@ -34,17 +34,17 @@ is_char U16 = false
 is_char U32 = false
 is_char U64 = false
 
--- ---- numbers as texts: digits behind an optional `-`
+-- ---- numbers as texts: digits after an optional `-`
 
--- What stands behind the sign.
+-- The text after an optional `-`.
 abbrev pub digits_part : List ℕ → List ℕ
 digits_part text = if slice_index text 0 == 45 then drop 1 text else text
 
--- A text of digits behind an optional `-`.
+-- A text of digits after an optional `-`.
 abbrev pub is_whole_text : List ℕ → Bool
 is_whole_text text = nat_lt 0 (length (digits_part text)) && all_ascii_digits (digits_part text)
 
--- the number that a text spells, if it lies between these two
+-- the number that a text spells, if it is between these two
 abbrev pub number_between : ℤ → ℤ → List ℕ → Option ℤ
 number_between least most text =
     if is_whole_text text && (int_le least (signed_digits_value 10 text) && int_le (signed_digits_value 10 text) most)
@@ -54,16 +54,16 @@ number_between least most text =
 abbrev pub number_in : Primitive → List ℕ → Option ℤ
 number_in prim text = number_between (numbers_of prim).least (numbers_of prim).greatest text
 
--- a text of one character, which is the number of its byte
+-- the byte of a text of one character, as a number
 abbrev pub character : List ℕ → Option ℤ
 character [] = None
 character (c ∷ []) = if nat_lt c 256 then Some (pos c) else None
 character (c ∷ (d ∷ cs)) = None
 
--- the number of a valid value: over char its character, else what its text spells
+-- the number of a valid value: its character if it is over char, else the number that its text spells
 abbrev pub value_number : Primitive → List ℕ → Option ℤ
 value_number prim text = if is_char prim then character text else number_in prim text
 
--- the bit of a choice, below the bits of so many bytes
+-- the bit of a choice, if it is one of a number of `width` bytes
 abbrev pub bit_number : ℕ → List ℕ → Option ℤ
 bit_number width text = number_between (pos 0) (pos (8 * width - 1)) text

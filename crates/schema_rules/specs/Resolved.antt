@@ -27,7 +27,7 @@ pub record Within : Type 0 where
   pub types : List TypesItem
   pub since : ℕ
 
--- A level inside another.
+-- The entries of a group with this sinceVersion.
 abbrev pub inside : Within → ℕ → Within
 inside within own = record { types = within.types; since = max within.since own }
 
@@ -36,38 +36,38 @@ abbrev pub resolved_field : Within → FieldEl → Field
 resolved_field within f =
     record { name = f.name; id = f.id; since = max within.since f.since_version; offset = f.offset; kind = field_kind within.types f }
 
--- where a rule is broken that makes the length
+-- the length used where a rule is broken, so that there is none
 abbrev pub no_length : LeafOf
 no_length = record { prim = U8; length = 1; shape = shape.Number; presence = Required; null = pos 255; low = pos 0; high = pos 254 }
 
--- the length of a data is the first member of its type
+-- the length of a data part is the first member of its type
 abbrev pub length_in : List Member → LeafOf
 length_in [] = no_length
 length_in (m ∷ ms) = unwrap_or (leaf_in m.kind) no_length
 
--- A data with its length and its effective since.
+-- A data part with its length and its effective since.
 abbrev pub resolved_data : Within → DataEl → DataField
 resolved_data within d =
     record { name = d.name; id = d.id; since = max within.since d.since_version; length = length_in (members_named within.types d.type_name) }
 
--- A part in front of fields: it is one of them, or none.
+-- A part put before fields, if it is a field.
 abbrev pub with_field : Within → PartItem → List Field → List Field
 with_field within (part.Field f) fields = resolved_field within f ∷ fields
 with_field within (part.Group' name id dimension since length n row) fields = fields
 with_field within (part.Data d) fields = fields
 
--- A part in front of data: it is one of them, or none.
+-- A part put before data, if it is data.
 abbrev pub with_data : Within → PartItem → List DataField → List DataField
 with_data within (part.Field f) parts = parts
 with_data within (part.Group' name id dimension since length n row) parts = parts
 with_data within (part.Data d) parts = resolved_data within d ∷ parts
 
--- The fields of parts one after another.
+-- The fields of a row of parts.
 abbrev pub row_fields : Within → {n : _} → Row_of-PartItem n → List Field
 row_fields within end_of-PartItem = []
 row_fields within (more_of-PartItem p rest) = with_field within p (row_fields within rest)
 
--- The data of parts one after another.
+-- The data of a row of parts.
 abbrev pub row_data : Within → {n : _} → Row_of-PartItem n → List DataField
 row_data within end_of-PartItem = []
 row_data within (more_of-PartItem p rest) = with_data within p (row_data within rest)
@@ -77,12 +77,12 @@ abbrev pub block_of : Option ℕ → List Field → ℕ
 block_of stated fields = unwrap_or stated (fields_end 0 fields)
 
 abbrev mutual
-  -- The groups of parts one after another.
+  -- The groups of a row of parts.
   pub row_groups : Within → {n : _} → Row_of-PartItem n → List Group
   row_groups within end_of-PartItem = []
   row_groups within (more_of-PartItem p rest) = with_group within p (row_groups within rest)
 
-  -- A part in front of groups: it is one of them, or none.
+  -- A part put before groups, if it is a group.
   pub with_group : Within → PartItem → List Group → List Group
   with_group within (part.Field f) groups = groups
   with_group within (part.Data d) groups = groups
@@ -102,7 +102,7 @@ abbrev mutual
       })
       ∷ groups
 
--- the same over lists
+-- The fields of a list of parts.
 abbrev pub list_fields : Within → List PartItem → List Field
 list_fields within [] = []
 list_fields within (p ∷ ps) = with_field within p (list_fields within ps)
@@ -117,7 +117,7 @@ abbrev pub list_groups : Within → List PartItem → List Group
 list_groups within [] = []
 list_groups within (p ∷ ps) = with_group within p (list_groups within ps)
 
--- a message; its own sinceVersion isn't counted
+-- the root level of a message; the message's own sinceVersion isn't counted
 abbrev pub resolved_message : List TypesItem → MessageEl → Level
 resolved_message types m = level_at (record { types = types; since = 0 }) where
   level_at : Within → Level

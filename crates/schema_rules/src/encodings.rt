@@ -1,7 +1,6 @@
 use sbe_types::{Leaf, Presence};
 
-/// A `type` that something is over: the leaf that it is where it is required, and the presence that
-/// it states.
+/// A `type` that an enum or a set is based on: its leaf as if it were required, and the presence that it states.
 #[derive(Clone, Copy, Debug, PartialEq, Eq)]
 pub struct Encoding {
     pub leaf: Leaf,

@@ -1,15 +1,14 @@
-/// What the rules ask of a type where it is used. The numbers count up to 4,294,967,296, which
-/// stands for all that is more.
+/// What the rules need to know of a type where it is used. The numbers saturate at 4,294,967,296.
 #[derive(Clone, Copy, Debug, PartialEq, Eq)]
 pub struct Fact {
     /// It is a constant and takes no bytes.
     pub is_fixed: bool,
     /// How many bytes it takes.
     pub width: u64,
-    /// How many members that are no composites it has in all.
+    /// How many members it has in all that aren't composites.
     pub leaves: u64,
-    /// How many composites lie inside one another, itself counted.
+    /// How deeply composites are nested in it, itself included.
     pub height: u64,
-    /// A member of length 0 lies in it.
+    /// It contains a member of length 0.
     pub holds_empty: bool,
 }

@@ -1,5 +1,5 @@
-//! The rules that a schema has to meet, and the checked schema that one in order stands for. They
-//! are stated in `specs/`; the code is the types that they cite.
+//! The rules that a schema has to meet, and the checked schema that an accepted one stands for. They are stated in
+//! `specs/`; the code consists of the types that they cite.
 #![tactic(auto)]
 
 mod codes;

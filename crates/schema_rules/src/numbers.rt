@@ -3,7 +3,7 @@ ghost use Rattle.schema_rules.specs.Ranges.{numbers_of};
 
 use sbe_types::Prim;
 
-/// The numbers of a primitive, and the range and null that hold where the schema states none.
+/// The numbers that a primitive can hold, and the range and the null that apply if the schema states none.
 #[derive(Clone, Copy, Debug, PartialEq, Eq)]
 pub struct Numbers {
     pub least: i128,

@@ -1,4 +1,4 @@
-//! The rules, computed on worked schemas: one in order, and one change of it for each rule.
+//! The rules, computed on worked schemas: one that is accepted, and one change of it for each rule.
 
 ghost use Rattle.std.specs.Prelude.{◌≡◌, Ok, Err, [], codes};
 ghost use Rattle.schema_rules.specs.declared.codes.CCode.TheVariants as rule;
@@ -7,13 +7,13 @@ ghost use Rattle.schema_rules.specs.Checked.{checked_of};
 ghost use Rattle.schema_rules.specs.Rows.Trees as tree;
 ghost use Rattle.schema_rules.specs.Rows.Schemas.{checked};
 
-/// A schema in order stands for its checked schema.
+/// An accepted schema stands for its checked schema.
 #[tactic(auto, unfolding(crate::specs::Facts::fact_named, crate::specs::Kinds::kind_named))]
 pub fn a_schema_in_order_is_accepted()
     ensures { checked_of tree.in_order ≡ Ok checked }
 {}
 
-/// One change for each rule on declared types and the header.
+/// One change for each rule about declared types and the header.
 #[tactic(auto, unfolding(crate::specs::Facts::fact_named, crate::specs::Kinds::kind_named))]
 pub fn each_rule_on_types_is_asked()
     ensures C01 { checked_of tree.declared_twice ≡ Err (refused rule.DuplicateType (codes "types/messageHeader")) }
@@ -24,7 +24,7 @@ pub fn each_rule_on_types_is_asked()
     ensures C10 { checked_of tree.header_without_version ≡ Err (refused rule.BadHeader (codes "types/messageHeader")) }
 {}
 
-/// One change for each rule on messages and their parts.
+/// One change for each rule about messages and their parts.
 #[tactic(auto, unfolding(crate::specs::Facts::fact_named, crate::specs::Kinds::kind_named))]
 pub fn each_rule_on_parts_is_asked()
     ensures C02 { checked_of tree.unknown_type ≡ Err (refused rule.UnknownType (codes "messages/Ping.a")) }

@@ -18,7 +18,7 @@ use Rattle.command_words.specs.declared.options.TheConstants.{MOST_MESSAGES}
 
 -- ---- sums
 
--- the sums over no message
+-- the sums over no messages
 abbrev pub no_sums : Sums
 no_sums = record { frames = 0; skipped = 0; bytes = 0; byte_sum = 0; altered = 0 }
 
@@ -26,7 +26,7 @@ no_sums = record { frames = 0; skipped = 0; bytes = 0; byte_sum = 0; altered = 0
 abbrev pub one_skipped : Sums
 one_skipped = record { frames = 0; skipped = 1; bytes = 0; byte_sum = 0; altered = 0 }
 
--- each sum and what is added to it
+-- each sum increased
 abbrev pub added : Sums → Sums → Sums
 added sums one = record {
   frames = sums.frames + one.frames;
@@ -36,7 +36,7 @@ added sums one = record {
   altered = sums.altered + one.altered;
 }
 
--- no sum is greater than this number
+-- each sum is at most this number
 pub record AreWithin (most : ℕ) (sums : Sums) : Type 0 where
   pub frames : sums.frames ≤ most
   pub skipped : sums.skipped ≤ most
@@ -64,7 +64,7 @@ body_sums schema index body = record {
   altered = if lies_in schema (altered body index) then 1 else 0;
 }
 
--- A message is skipped where a frame has no room for it, or a count or a length isn't admitted.
+-- A message is skipped if it doesn't fit a frame, or a count or a length isn't admitted.
 abbrev pub skipped_sums : NCode → Sums
 skipped_sums unfit.Full = one_skipped
 skipped_sums unfit.Count = one_skipped
@@ -89,7 +89,7 @@ pub record IsBoundedTrial (trial : Trial) : Type 0 where
   pub high : trial.frame ≤ 16_777_216
   pub count : trial.count ≤ MOST_MESSAGES
 
--- what the message that is drawn adds, if there is one
+-- what a drawn message adds, if there is one
 abbrev pub drawn_sums : WireSchema → Trial → ℕ → Option Msg → Sums
 drawn_sums schema trial index None = no_sums
 drawn_sums schema trial index (Some m) = message_sums schema index m (misfit schema m (trial.frame - HEAD_BYTES))

@@ -1,4 +1,4 @@
--- The command `selftest`: what its file is judged as, and its reply.
+-- The command `selftest`: what its file contains or why it is refused, and its reply.
 use Rattle.std.specs.Prelude.{◌≡◌, ℕ, List, [], Option, Result, Ok, Err, ⊤}
 use Rattle.sbe_types.specs.declared.schema.WireSchema.{WireSchema}
 use Rattle.replies.specs.Reply.{Reply}
@@ -25,10 +25,10 @@ abbrev pub tested_by : Trial → Result WireSchema RefusedFile → Result Testin
 tested_by trial (Ok schema) = Ok (record { schema = schema; trial = trial })
 tested_by trial (Err file) = Err file
 
--- the file of that name is judged so
+-- the file with this name contains this, or is refused
 abbrev pub JudgesSelftest : List ℕ → Trial → (List ℕ → Option (List ℕ)) → Result Testing RefusedFile → Type 0
 JudgesSelftest name trial contents judged = judged ≡ tested_by trial (judged_in role.Schema (file_schema (contents name)))
 
--- The files of `selftest`: the schema alone.
+-- The files of `selftest`: only the schema.
 abbrev pub selftest_files : List ℕ → Trial → FilesOf Testing
 selftest_files name trial = record { AreJudged = JudgesSelftest name trial; IsRole = IsWithin 0; AreGood = λ test. ⊤ }

@@ -5,7 +5,7 @@ ghost use Rattle.open_framing.specs.Frames.{frame};
 
 use open_framing::{HEAD_BYTES, Head, put_head};
 
-/// The greatest byte.
+/// The largest byte.
 pub(crate) const LAST_BYTE: u64 = 255;
 
 /// The sum of bytes as numbers.

@@ -10,7 +10,7 @@ use schema_lines::{put, put_count};
 ///
 /// # Errors
 ///
-/// When out of memory; a front of the line may then be appended.
+/// If memory runs out. A prefix of the line may then have been appended.
 pub(crate) fn put_sums(sums: Sums, output: &mut Vec<u8>) -> Result<(), NoMem>
     ensures { Puts result output.old.items output.new.items (sums_line sums) }
 {

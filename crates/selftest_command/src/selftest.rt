@@ -18,7 +18,7 @@ use schema_files::{FileRole, JobStop, load_checked};
 use std::alloc::Global;
 use std::marker::Model;
 
-/// Draws messages of a schema, and sums up what becomes of them.
+/// Draws messages of a schema, and adds up what becomes of them.
 #[derive(Drop)]
 pub struct Tester {
     alloc: Global,
@@ -44,7 +44,7 @@ impl Model for Tester {
     ghost invariant = { λ test. (test.layout ≡ test.checked) × IsBoundedTrial test.trial };
 }
 
-/// Loads and judges the schema of a selftest.
+/// Loads and checks the schema of a selftest.
 pub fn load_selftest<F: Files>(
     alloc: Global,
     name: &str,
@@ -86,7 +86,7 @@ impl WholeCommand for Tester {
     }
 }
 
-/// Puts the line of a trial's sums.
+/// Appends the line of a trial's sums.
 fn put_trial(
     alloc: Global,
     checked: &Checked,

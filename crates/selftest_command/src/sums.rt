@@ -9,23 +9,23 @@ pub(crate) const MOST_ADDED: u64 = 8_589_934_592;
 /// Sums up to this one leave room for those of one more message.
 pub(crate) const MOST_SUMMED: u64 = 1_152_921_504_606_846_976;
 
-/// What is summed up over messages.
+/// The sums over messages.
 #[derive(Clone, Copy, Debug, PartialEq, Eq)]
 pub struct Sums {
-    /// How many messages were encoded, each in a frame of its own.
+    /// How many messages were encoded, each in its own frame.
     pub frames: u64,
-    /// How many weren't, because a frame has no room for them, or a count or a length isn't admitted.
+    /// How many weren't, because they don't fit a frame, or a count or a length is out of range.
     pub skipped: u64,
-    /// How many bytes all frames have, with their heads.
+    /// How many bytes all frames have, including their heads.
     pub bytes: u64,
     /// The sum of these bytes as numbers.
     pub byte_sum: u64,
-    /// How many frames have a body that still is a message after one byte of it was altered.
+    /// How many frames have a body that is still a message after one byte of it was altered.
     pub altered: u64,
 }
 
 impl Sums {
-    /// The sums over no message.
+    /// The sums over no messages.
     pub(crate) fn none() -> Sums
         ensures { result ≡ no_sums }
     {
@@ -38,7 +38,7 @@ impl Sums {
         }
     }
 
-    /// What a message adds that has this misfit first.
+    /// What a message adds whose first misfit is this one.
     pub(crate) fn of_misfit(code: NCode) -> Sums
         ensures sums { result ≡ skipped_sums code }
         ensures within { AreWithin MOST_ADDED result }

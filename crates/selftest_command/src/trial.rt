@@ -26,13 +26,13 @@ use vectors::{alter, generate};
 pub struct Trial {
     /// The seed that they are drawn from.
     pub seed: u64,
-    /// How many they are.
+    /// The number of messages.
     pub count: u64,
-    /// The most bytes of a frame, its head included.
+    /// The most bytes of a frame, including its head.
     pub frame: usize,
 }
 
-/// What one message after another is put into.
+/// The memory that each message in turn is put into.
 #[derive(Drop)]
 struct TrialSpace {
     /// Its body.
@@ -87,7 +87,7 @@ fn sum_drawn(
     sum_message(layout, index, &message, space)
 }
 
-/// What a message adds, by whether it can be encoded.
+/// What a message adds, depending on whether it can be encoded.
 fn sum_message(
     layout: &Layout,
     index: u64,

@@ -7,7 +7,7 @@ use Rattle.structure_rows.specs.declared.row.PlaceRow.{PlaceRow}
 abbrev pub field_row : ℕ → PlaceRow
 field_row tag = record { tag = tag; entries = None }
 
--- a group, whose entries have so many rows
+-- a group, whose entries have n rows
 abbrev pub group_row : ℕ → ℕ → PlaceRow
 group_row tag n = record { tag = tag; entries = Some n }
 

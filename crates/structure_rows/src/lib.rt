@@ -1,4 +1,4 @@
-//! The structure of a message as rows, one a place, put together of what the message refers to.
+//! The structure of a message as rows, one for each place, built from what the message refers to.
 #![tactic(auto)]
 
 mod row;

@@ -13,12 +13,12 @@ use lists::{List, NoMem};
 use reference_graph::{Link, Node, Structures};
 use std::alloc::Global;
 
-/// The rows of the structure of a message, whose references end and which is within the limits. Nodes
-/// without places are passed over, so each of the others is entered as often as its tags are met.
+/// The rows of the structure of a message, whose references end and which is within the limits. Nodes without places
+/// are skipped, so each of the others is entered as often as its tags are found.
 ///
 /// # Errors
 ///
-/// Out of memory.
+/// If memory runs out.
 pub fn structure_rows(
     alloc: Global,
     structures: &Structures,
@@ -68,7 +68,7 @@ fn opened(structures: &Structures, link: Link) -> (Option<PlaceRow>, &[Link])
     }
 }
 
-/// The same of a node.
+/// The same for a node.
 fn entered<'a>(structures: &Structures, i: usize, node: &'a Node) -> (Option<PlaceRow>, &'a [Link])
     requires here { slice_get structures.now i ≡ Some node.now }
     requires ends { LinkEnds structures.now (To i) }
@@ -82,7 +82,7 @@ fn entered<'a>(structures: &Structures, i: usize, node: &'a Node) -> (Option<Pla
     (group_row(node.count, places), node.links.as_slice())
 }
 
-/// The row of a node that is a group and has so many places.
+/// The row of a node, if it is a group and has this number of places.
 fn group_row(count: Option<u32>, places: u32) -> Option<PlaceRow>
     requires some { 0 < places }
     ensures { result ≡ option_map (λ tag. group_row tag (places - 1)) count }

@@ -10,13 +10,14 @@ use Rattle.reference_graph.specs.Structures.{tags_of}
 abbrev pub is_in : ℕ → List ℕ → Bool
 is_in tag all = list_any (nat_eq tag) all
 
--- a set has the tags of the structure of these links, and no others
+-- a set has exactly the tags of the structure of these links
 abbrev pub HasTags : List Node → List Link → List ℕ → Type 0
 HasTags graph links tags = (tag : ℕ) → is_in tag tags ≡ is_in tag (tags_of graph links)
 
 -- ---- how the code finds them
 
--- what a link leads to: a tag alone; nothing, where it leads nowhere or its node was entered before; or a node, which is then entered
+-- what a link leads to: only a tag; nothing, if it leads nowhere or its node was entered before; or a node, which is
+-- then entered
 pub data Enters (graph : List Node) (old : List Bool) (link : Link) (new : List Bool) (count : Option ℕ) (inner : List Link) : Type 0 where
   a_field : (tag : ℕ) → link ≡ Field tag → count ≡ Some tag → inner ≡ [] → new ≡ old → Enters graph old link new count inner
   passes : (i : ℕ) → link ≡ To i → (slice_get graph i ≡ None) ⊎ (slice_get old i ≡ Some true) → count ≡ None → inner ≡ [] → new ≡ old

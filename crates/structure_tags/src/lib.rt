@@ -1,5 +1,5 @@
-//! The tags of a structure as a set. It takes time by the references that there are, however often a
-//! structure has one of them.
+//! The tags of a structure as a set. The time depends on the number of references, however often a structure contains
+//! one of them.
 #![tactic(auto)]
 
 mod reach;

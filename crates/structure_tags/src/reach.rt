@@ -6,11 +6,11 @@ use lists::NoMem;
 use reference_graph::{Link, Node, TagSet};
 use std::alloc::Global;
 
-/// The tags of the structure of these links, each once.
+/// The tags of the structure of these links, each one once.
 ///
 /// # Errors
 ///
-/// Out of memory.
+/// If memory runs out.
 pub fn tag_set(alloc: Global, nodes: &[Node], links: &[Link]) -> Result<TagSet, NoMem>
     requires ends { Ends nodes.now links.now }
     ensures { IfOk result (λ tags. HasTags nodes.now links.now tags) }
@@ -30,14 +30,14 @@ pub fn tag_set(alloc: Global, nodes: &[Node], links: &[Link]) -> Result<TagSet, 
     Ok(tags)
 }
 
-/// Of so many nodes none was entered.
+/// For `count` nodes, that none was entered.
 fn none_entered(alloc: Global, count: usize) -> Result<Vec<bool>, NoMem>
     ensures { IfOk result (λ entered. entered.items ≡ replicate count false) }
 {
     Ok(vec![in alloc; false; count]?)
 }
 
-/// The tag in front of what a link leads to, and the links after it; nothing where it was entered before.
+/// The tag at the front of what a link leads to, and the links after it; nothing if it was entered before.
 fn enter<'a>(nodes: &'a [Node], entered: &mut Vec<bool>, link: Link) -> (Option<u32>, &'a [Link])
     requires long { length entered.old.items ≡ length nodes.now }
     ensures { Enters nodes.now entered.old.items link entered.new.items result.0 result.1.now }

@@ -7,7 +7,7 @@ use Rattle.tagvalue_codec.specs.declared.write.Full.{Full}
 use Rattle.tagvalue_codec.specs.Fields.{soh, Field, IsTag, field_bytes, tag_bytes}
 use Rattle.tagvalue_codec.specs.Texts.{is_locked, text_over}
 
--- how far a text is, the value after `8=`, and the bytes of the body
+-- the phase of a text, the value after `8=`, the bytes of the body, and the limit
 pub record Draft : Type 0 where
   pub phase : Phase
   pub begin : List ℕ
@@ -22,7 +22,7 @@ idle limit = record { phase = Idle; begin = []; body = []; limit = limit }
 abbrev pub begun : ℕ → List ℕ → List ℕ → Draft
 begun limit begin body = record { phase = Open; begin = begin; body = body; limit = limit }
 
--- the text that was begun, finished
+-- the text that was begun, now finished
 abbrev pub done : Draft → Draft
 done d = record { phase = Done; begin = d.begin; body = d.body; limit = d.limit }
 
@@ -36,29 +36,29 @@ finished_in Done d = text_over d.begin d.body
 abbrev pub finished : Draft → List ℕ
 finished d = finished_in d.phase d
 
--- the text over this value and this body would pass the limit
+-- the text with this value and body would exceed the limit
 pub record IsFull (limit : ℕ) (begin body : List ℕ) (full : Full) : Type 0 where
   pub over : limit < length (text_over begin body)
   pub needed : full.needed ≡ min (length (text_over begin body)) 18446744073709551615
   pub limit_is : full.limit ≡ limit
 
--- some bytes without SOH
+-- at least one byte, and none is SOH
 pub record IsValue (value : List ℕ) : Type 0 where
   pub some : 0 < length value
   pub plain : AllByRecursion (λ b. b ≢ soh) value
 
--- the bytes of a tag that may stand in a body, with its =
+-- the bytes of a tag that is allowed in a body, with its =
 pub record IsReady (bytes : List ℕ) : Type 0 where
   pub tag : ℕ
   pub tagged : IsTag tag
   pub unlocked : is_locked tag ≡ false
   pub bytes_are : bytes ≡ tag_bytes tag
 
--- a field of a tag and a value
+-- a field with this tag and value
 abbrev pub field_of : ℕ → List ℕ → Field
 field_of tag value = record { tag = tag; value = value }
 
--- the field 35 of a type
+-- the field 35 with this type
 abbrev pub typed : List ℕ → Field
 typed msg_type = field_of 35 msg_type
 

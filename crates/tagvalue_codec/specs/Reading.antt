@@ -19,7 +19,7 @@ use Rattle.tagvalue_codec.specs.Texts.{Owed, Free, Owes, is_locked, owed_after, 
 abbrev pub Finder : Type 0 → Type 0
 Finder X = List ℕ → Option (X × List ℕ)
 
--- the tag whose digits go on after those of n
+-- the tag whose digits continue those of n
 abbrev pub tag_after : ℕ → Finder ℕ
 tag_after n [] = None
 tag_after n (c ∷ b) =
@@ -31,12 +31,12 @@ abbrev pub tag_read : Finder ℕ
 tag_read [] = None
 tag_read (c ∷ b) = if nat_lt 48 c && nat_le c 57 then tag_after (c - 48) b else None
 
--- how many bytes stand before the first SOH
+-- how many bytes precede the first SOH
 abbrev pub plain_len : List ℕ → ℕ
 plain_len [] = 0
 plain_len (c ∷ b) = if c == soh then 0 else suc (plain_len b)
 
--- so many bytes, if SOH stands after them
+-- `many` bytes, if SOH follows them
 abbrev pub exact_read : ℕ → Finder (List ℕ)
 exact_read many b = if nat_lt many (length b) && (slice_index b many == soh) then Some (take many b, drop (suc many) b) else None
 
@@ -44,12 +44,12 @@ exact_read many b = if nat_lt many (length b) && (slice_index b many == soh) the
 abbrev pub value_read : Finder (List ℕ)
 value_read b = if nat_lt 0 (plain_len b) then exact_read (plain_len b) b else None
 
--- a field of a tag and the value after it
+-- a field with this tag and the value after it
 abbrev pub with_tag : ℕ → Option (List ℕ × List ℕ) → Option (Field × List ℕ)
 with_tag tag None = None
 with_tag tag (Some v) = Some (record { tag = tag; value = v.0 }, v.1)
 
--- the same where the tag is still to be read
+-- the same if the tag is still to be read
 abbrev pub with_value : Finder (List ℕ) → Option (ℕ × List ℕ) → Option (Field × List ℕ)
 with_value p None = None
 with_value p (Some t) = with_tag t.0 (p t.1)
@@ -58,12 +58,12 @@ with_value p (Some t) = with_tag t.0 (p t.1)
 abbrev pub field_read : Finder Field
 field_read b = with_value value_read (tag_read b)
 
--- a field, if it passes a test
+-- a field, if the test holds
 abbrev pub kept_if : (Field → Bool) → Option (Field × List ℕ) → Option (Field × List ℕ)
 kept_if test None = None
 kept_if test (Some r) = if test r.0 then Some r else None
 
--- a field of this tag
+-- a field with this tag
 abbrev pub tagged_read : ℕ → Finder Field
 tagged_read tag b = kept_if (λ f. f.tag == tag) (field_read b)
 
@@ -75,7 +75,7 @@ size_read b = kept_if (λ f. is_number f.value) (tagged_read 9 b)
 abbrev pub ordinary_read : Finder Field
 ordinary_read b = kept_if (λ f. not (is_locked f.tag)) (field_read b)
 
--- a data field of this tag and of so many bytes
+-- a data field with this tag and a value of `many` bytes
 abbrev pub data_read : ℕ → ℕ → Finder Field
 data_read tag many b = kept_if (λ f. f.tag == tag) (with_value (exact_read many) (tag_read b))
 
@@ -86,22 +86,22 @@ abbrev pub is_tag : ℕ → Option (ℕ × List ℕ) → Bool
 is_tag tag None = false
 is_tag tag (Some t) = t.0 == tag
 
--- 1 to 9 digits, above zero
+-- 1 to 9 digits whose number is above zero
 abbrev pub is_count : List ℕ → Bool
 is_count value = is_number value && nat_lt 0 (digits_value 10 value)
 
--- whether a field with this role may stand before these bytes
+-- whether a field with this role may be before these bytes
 abbrev pub fits_role : Role → Field → List ℕ → Bool
 fits_role Plain f after = true
 fits_role (Length tag) f after = is_count f.value && is_tag tag (tag_read after)
 fits_role Data f after = false
 
--- a field that may stand here, or why not
+-- a field that may be here, or why not
 abbrev pub fitting : List Pair → Option (Field × List ℕ) → Result (Field × List ℕ) TCode
 fitting tags None = Err code.Field
 fitting tags (Some r) = if fits_role (role_of tags r.0.tag) r.0 r.1 then Ok r else Err code.DataLength
 
--- the field that stands here, or why none does
+-- the field that is here, or why there is none
 abbrev pub step : List Pair → Owed → List ℕ → Result (Field × List ℕ) TCode
 step tags Free b = fitting tags (ordinary_read b)
 step tags (Owes tag many) b = ok_or (data_read tag many b) code.DataLength
@@ -115,18 +115,18 @@ abbrev pub with_front : Field → Result (List Field) FixFault → Result (List 
 with_front f (Ok fs) = Ok (f ∷ fs)
 with_front f (Err fault) = Err fault
 
--- what is found after this field, or its fault
+-- what is found after this field, with the field in front, or the fault
 abbrev pub walk_on : ℕ → Result (Field × List ℕ) TCode → (Field → List ℕ → Result (List Field) FixFault) → Result (List Field) FixFault
 walk_on at (Err code) next = Err (fault_at code at)
 walk_on at (Ok r) next = with_front r.0 (next r.0 r.1)
 
--- whether nothing is left
+-- whether nothing is left and nothing is required
 abbrev pub is_over : Owed → List ℕ → Bool
 is_over Free [] = true
 is_over Free (c ∷ b) = false
 is_over (Owes tag many) b = false
 
--- the fields of a body from a place on, where room for so many is left, the last field counted too
+-- the fields of a body from an offset on, with room for this many, including the last one
 unfoldable pub walk : List Pair → ℕ → Owed → ℕ → List ℕ → Result (List Field) FixFault
 walk tags zero owed at b = Err (fault_at code.TooMany at)
 walk tags (suc room) owed at b =
@@ -165,13 +165,13 @@ after_begin tags (Some r) = after_size tags r.0 (size_read r.1)
 unfoldable pub text_read : List Pair → List ℕ → Result (List Field) FixFault
 text_read tags text = after_begin tags (tagged_read 8 text)
 
--- ---- places
+-- ---- offsets
 
--- a field whose tag begins here
+-- a field by its ranges, where its tag begins at offset `at`
 abbrev pub placed_at : ℕ → Field → FixField
 placed_at at f = record { tag = f.tag; at = at; from = at + length (tag_bytes f.tag); to = at + length (tag_bytes f.tag) + length f.value }
 
--- fields one after another, from here on
+-- fields by their ranges, one after another from offset `at` on
 abbrev pub placed : ℕ → List Field → List FixField
 placed at [] = []
 placed at (f ∷ fs) = placed_at at f ∷ placed (at + length (field_bytes f)) fs

@@ -1,4 +1,4 @@
--- How a writer keeps a text: the bytes up to `9=`, and those of the body. Own profile.
+-- How a writer stores a text: the bytes up to `9=`, and those of the body. Own profile.
 use Rattle.std.specs.Prelude.{◌≡◌, ℕ, ◌+◌, ◌≤◌, List, ◌∷◌, ◌++◌, length, take, drop, decimal, ⊤}
 use Rattle.tagvalue_codec.specs.declared.write.Phase.{Phase}
 use Rattle.tagvalue_codec.specs.declared.write.Phase.TheVariants.{Idle, Open, Done}
@@ -10,11 +10,11 @@ pub record Filled : Type 0 where
   pub bytes : List ℕ
   pub limit : ℕ
 
--- what stands before the number after `9=`
+-- everything before the number after `9=`
 abbrev pub head_bytes : List ℕ → List ℕ
 head_bytes begin = field_bytes (record { tag = 8; value = begin }) ++ tag_bytes 9
 
--- what stands before the last field
+-- everything before the last field
 abbrev pub front_over : List ℕ → List ℕ → List ℕ
 front_over head body = head ++ (decimal (length body) ++ (soh ∷ body))
 
@@ -22,20 +22,20 @@ front_over head body = head ++ (decimal (length body) ++ (soh ∷ body))
 abbrev pub text_from : List ℕ → List ℕ → List ℕ
 text_from head body = front_over head body ++ field_bytes (sum_field (front_over head body))
 
--- how long the text of a head and a body of so many bytes is
+-- the length of the text of a head and a body with these lengths
 abbrev pub needed_for : ℕ → ℕ → ℕ
 needed_for head body = head + body + (length (decimal body) + 8)
 
--- the value of so many bytes that stands after `8=`
+-- the value of `many` bytes after `8=`
 abbrev pub begin_in : ℕ → List ℕ → List ℕ
 begin_in many text = take many (drop 2 text)
 
--- the text is kept, and one that is begun stays within the limit once it is finished
+-- the text is stored, and one that is begun will be within the limit once it is finished
 abbrev pub Keeps : Phase → List ℕ → List ℕ → List ℕ → ℕ → Type 0
 Keeps Idle begin text body limit = ⊤
 Keeps Open begin text body limit = (text ≡ head_bytes begin) × (length (text_over begin body) ≤ limit)
 Keeps Done begin text body limit = text ≡ text_over begin body
 
--- the last field by its sum
+-- the last field with this sum
 abbrev pub sum_of_bytes : ℕ → Field
 sum_of_bytes n = record { tag = 10; value = three_digits n }

@@ -7,10 +7,10 @@ use lists::{List, NoMem};
 use std::alloc::Global;
 use std::marker::Model;
 
-/// What a tag is to the pairs of a length tag and its data tag.
+/// The role of a tag in the pairs of length tags and data tags.
 #[derive(Clone, Copy, Debug, PartialEq, Eq)]
 pub enum Role {
-    /// It is in no pair.
+    /// It isn't in a pair.
     Plain,
     /// It is the length tag of this data tag.
     Length(u32),
@@ -18,23 +18,23 @@ pub enum Role {
     Data,
 }
 
-/// A length tag and its data tag, as `95` (RawDataLength) and `96` (RawData).
+/// A length tag and its data tag, such as `95` (RawDataLength) and `96` (RawData).
 #[derive(Clone, Copy, Debug, PartialEq, Eq)]
 pub struct Pair {
     pub length_tag: u32,
     pub tag: u32,
 }
 
-/// How many marks there are. Nearly all tags in use are lower, so each has a mark of its own.
+/// The number of marks. Nearly all tags in use are lower, so each has its own mark.
 const MARKS: usize = 65_536;
 
 /// The pairs of length tags and data tags. "Data fields are always immediately preceded by a length field."
 ///
-/// A look-up costs the same however many pairs there are.
+/// A look-up costs the same for any number of pairs.
 #[derive(Drop)]
 pub struct DataTags {
     pairs: List<Pair>,
-    /// Mark `tag % MARKS` is set for each tag of a pair. A tag without its mark isn't looked up.
+    /// Mark `tag % MARKS` is set for each tag of a pair. A tag whose mark isn't set isn't looked up.
     marks: Vec<bool>,
     /// The role of each tag of a pair.
     roles: IndexMap<u32, Role>,
@@ -54,11 +54,11 @@ impl Model for DataTags {
 }
 
 impl DataTags {
-    /// No pairs.
+    /// Creates it without pairs.
     ///
     /// # Errors
     ///
-    /// Out of memory.
+    /// If memory runs out.
     pub fn new(alloc: Global) -> Result<DataTags, NoMem>
         ensures { IfOk result (λ t. t ≡ []) }
     {
@@ -71,11 +71,11 @@ impl DataTags {
         })
     }
 
-    /// Appends a pair. A tag that is in an earlier pair keeps the role that it has there.
+    /// Appends a pair. A tag that is in an earlier pair keeps its role there.
     ///
     /// # Errors
     ///
-    /// Out of memory. The pairs stay as they were.
+    /// If memory runs out. The pairs are then unchanged.
     pub fn add(&mut self, length_tag: u32, tag: u32) -> Result<(), NoMem>
         ensures ok { OnOk result (self.new ≡ self.old ++ record { length_tag = length_tag; tag = tag } ∷ []) }
         ensures err { OnErr result (self.new ≡ self.old) }
@@ -89,7 +89,7 @@ impl DataTags {
         Ok(())
     }
 
-    /// What a tag is to the pairs. Of several pairs with a tag the first counts.
+    /// The role of a tag. If several pairs have the tag, the first one counts.
     #[inline(always)]
     pub fn role(&self, tag: u32) -> Role
         ensures { result ≡ role_of self.now tag }

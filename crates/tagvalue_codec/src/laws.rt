@@ -1,4 +1,4 @@
-//! What holds of all texts. Each law is the clause of a function without a body; no code runs here.
+//! What holds of all texts. Each law is the contract of a function without a body; no code runs here.
 ghost use Rattle.std.specs.Prelude.{◌≡◌, ℕ, List, [], ◌⊎◌, ◌++◌, ◌<◌, ◌≤◌, length};
 ghost use Rattle.tagvalue_codec.specs.declared.data_tags.Pair.{Pair};
 ghost use Rattle.tagvalue_codec.specs.declared.read.FixFault.{FixFault};
@@ -17,7 +17,7 @@ pub fn at_most_one_fault()
     ensures { (tags : List Pair) (text : List ℕ) (f g : FixFault) → IsFirstFault tags text f → IsFirstFault tags text g → f ≡ g }
 {}
 
-/// A text has no fault.
+/// A text that is valid has no fault.
 pub fn no_fault_of_a_text()
     ensures { (tags : List Pair) (text : List ℕ) (fields : List Field) (fault : FixFault) → FixText tags fields text → ¬ (IsFirstFault tags text fault) }
 {}
@@ -27,13 +27,13 @@ pub fn fields_or_fault()
     ensures { (tags : List Pair) (text : List ℕ) → ((fields : List Field) × FixText tags fields text) ⊎ ((fault : FixFault) × IsFirstFault tags text fault) }
 {}
 
-/// What a writer finishes over fields that may follow one another is a text of these fields.
+/// The text that a writer finishes, from fields that are allowed to follow one another, has these fields.
 pub fn what_is_written_is_a_text()
     ensures { (tags : List Pair) (begin : List ℕ) (kind : Field) (others : List Field) (rest : List ℕ) → IsAt 8 (record { tag = 8; value = begin }) → IsAt 35 kind → Body tags Free others rest → length others ≤ most_between →
         length (field_bytes kind ++ rest) < 1000000000 → (fields : List Field) × FixText tags fields (text_over begin (field_bytes kind ++ rest)) }
 {}
 
-/// How many fields a table has room for at most, and how many bytes a writer.
+/// The most fields of a table, and the most bytes of a writer.
 pub fn limits()
     ensures fields { FIELD_LIMIT ≡ 4096 }
     ensures bytes { TEXT_LIMIT ≡ 16_777_216 }

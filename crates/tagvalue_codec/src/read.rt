@@ -16,26 +16,26 @@ use crate::table::{FieldTable, FixField};
 /// format").
 #[derive(Clone, Copy, Debug, PartialEq, Eq)]
 pub enum TCode {
-    /// T01: the text doesn't begin with BeginString (8). "The first three fields in the standard header are
-    /// BeginString (tag #8) followed by BodyLength (tag #9) then MsgType (tag #35)."
+    /// T01: the text doesn't begin with BeginString (8). "The first three fields in the standard header are BeginString
+    /// (tag #8) followed by BodyLength (tag #9) then MsgType (tag #35)."
     FirstTag,
     /// T02: no BodyLength (9) of 1 to 9 digits follows.
     BodyLength,
-    /// T03: BodyLength doesn't count the bytes after its own SOH up to `10=`. The detail is the right number.
+    /// T03: BodyLength isn't the number of bytes after its own SOH up to `10=`. The detail is the right number.
     LengthWrong,
     /// T04: the body doesn't begin with MsgType (35).
     MsgType,
-    /// T05: the text doesn't end with `10=`, three digits and SOH, or CheckSum isn't the sum of all bytes before it
+    /// T05: the text doesn't end with `10=`, three digits and SOH, or CheckSum isn't the sum of all preceding bytes
     /// modulo 256. The detail is the right sum.
     CheckSum,
-    /// T06: no field ends in the body here, or 8, 9, 10 or 35 comes again. A field is a tag of 1 to 9 digits without
-    /// a leading zero, `=`, a value that isn't empty, and SOH.
+    /// T06: there is no whole field here in the body, or 8, 9, 10 or 35 occurs again. A field is a tag of 1 to 9 digits
+    /// without a leading zero, `=`, a value that isn't empty, and SOH.
     Field,
     /// T07: a length field isn't 1 to 9 digits above zero, or its data field doesn't follow; or a data field has no
-    /// length field before it, passes the body, or isn't followed by SOH. "Data fields are always immediately
+    /// length field before it, extends past the body, or isn't followed by SOH. "Data fields are always immediately
     /// preceded by a length field."
     DataLength,
-    /// T08: the field would be the 4,097th, with 8, 9, 35 and 10 counted.
+    /// T08: the field would be the 4,097th, counting 8, 9, 35 and 10.
     TooMany,
 }
 
@@ -43,13 +43,13 @@ pub enum TCode {
 #[derive(Clone, Copy, Debug, PartialEq, Eq)]
 pub struct FixFault {
     pub code: TCode,
-    /// Where in the text it is.
+    /// Its offset in the text.
     pub offset: usize,
-    /// The right number for T03 and the right sum for T05, else 0.
+    /// The right number for T03 and the right sum for T05, otherwise 0.
     pub detail: u64,
 }
 
-/// The tag that begins at `at`, and the place after its `=`.
+/// The tag that begins at `at`, and the offset after its `=`.
 #[inline(always)]
 fn tag_at(text: &[u8], at: usize) -> Option<(u32, usize)>
     ensures { FindsTag text.now at result }
@@ -80,7 +80,7 @@ fn tag_at(text: &[u8], at: usize) -> Option<(u32, usize)>
     None
 }
 
-/// The field that begins at `at`, if its value has no SOH.
+/// The field that begins at `at`, if its value contains no SOH.
 #[inline(always)]
 fn field_at(text: &[u8], at: usize) -> Option<FixField>
     ensures { FindsAt reading.field_read text.now at result }
@@ -93,7 +93,7 @@ fn field_at(text: &[u8], at: usize) -> Option<FixField>
     Some(FixField { tag, at, from, to })
 }
 
-/// The number that a value of 1 to 9 digits is.
+/// The number in a value of 1 to 9 digits.
 fn number_of(value: &[u8]) -> Option<u32>
     ensures { IsNumberOf value.now result }
 {
@@ -110,7 +110,7 @@ fn number_of(value: &[u8]) -> Option<u32>
     Some(number)
 }
 
-/// The field of this tag that begins at `at`.
+/// The field with this tag that begins at `at`.
 #[inline(always)]
 #[tactic(auto, using(crate::proofs::Placing::tagged_found, crate::proofs::Placing::tagged_lacks))]
 fn tagged_at(text: &[u8], at: usize, tag: u32) -> Option<FixField>
@@ -135,7 +135,7 @@ fn size_at(text: &[u8], at: usize) -> Option<(FixField, u32)>
     }
 }
 
-/// Whether a tag has its own place: 8, 9, 10 and 35.
+/// Whether a tag has a fixed position: 8, 9, 10 and 35.
 #[inline(always)]
 fn is_locked(tag: u32) -> bool
     ensures { result ≡ texts.is_locked tag }
@@ -154,7 +154,7 @@ fn fault(code: TCode, offset: usize) -> FixFault
     }
 }
 
-/// Appends a length field and the data field after it, and returns the place after both.
+/// Appends a length field and the data field after it, and returns the offset after both.
 fn data_after(
     front: &[u8],
     size: FixField,
@@ -191,14 +191,14 @@ fn data_after(
     Ok(to + 1)
 }
 
-/// Whether there is SOH at a place.
+/// Whether there is SOH at an offset.
 fn ends_at(front: &[u8], to: usize) -> bool
     ensures { result ≡ places.ends_at to front.now }
 {
     to < front.len() && front[to] == SOH
 }
 
-/// Appends the fields of a body from a place on.
+/// Appends the fields of a body from an offset on.
 fn fill_body(
     front: &[u8],
     begin: usize,
@@ -236,14 +236,14 @@ fn fill_body(
     Ok(())
 }
 
-/// Reads a tag-value text: fills the table with the ranges of all its fields, 8, 9, 35 and 10 among them.
+/// Reads a tag-value text: fills the table with the ranges of all its fields, including 8, 9, 35 and 10.
 ///
-/// It takes no memory and copies nothing.
+/// It allocates nothing and copies nothing.
 ///
 /// # Errors
 ///
 /// The first fault, in the order T01, T02, T03, T04, then field by field T08, T06 and T07, and T05 at the end. The
-/// table is empty then.
+/// table is then empty.
 #[tactic(auto, using(crate::proofs::Told::holds, crate::proofs::Told::is_fault))]
 pub fn read_fix(text: &[u8], tags: &DataTags, table: &mut FieldTable) -> Result<(), FixFault>
     ensures ok { OnOk result (Holds tags.now text.now table.new) }
@@ -259,7 +259,7 @@ pub fn read_fix(text: &[u8], tags: &DataTags, table: &mut FieldTable) -> Result<
     }
 }
 
-/// The same, where a refusal may leave fields in the table.
+/// The same, but a refusal may leave fields in the table.
 fn fill(text: &[u8], tags: &DataTags, table: &mut FieldTable) -> Result<(), FixFault>
     ensures ok { OnOk result (Read tags.now text.now table.new) }
     ensures err { IfErr result (λ f. reading.text_read tags.now text.now ≡ Err f) }
@@ -356,7 +356,7 @@ mod tests {
         Ok(())
     }
 
-    /// Begins and finishes a text with so many fields `1=a` between its type and its sum.
+    /// Begins and finishes a text with `many` fields `1=a` between its type and its sum.
     fn fill_text(writer: &mut FixWriter, many: u32) {
         match writer.start(b"FIX.4.4", b"D") {
             Ok(()) => {}

@@ -11,7 +11,7 @@ use std::marker::Model;
 /// The largest limit that a writer takes, in bytes.
 pub const TEXT_LIMIT: usize = 16_777_216;
 
-/// Bytes in memory that was taken at the start.
+/// Bytes in memory that was allocated at the start.
 #[derive(Drop)]
 pub(crate) struct Room {
     memory: Vec<u8>,
@@ -31,7 +31,7 @@ impl Model for Room {
 }
 
 impl Room {
-    /// Takes memory for so many bytes.
+    /// Allocates memory for `limit` bytes.
     pub(crate) fn new(alloc: Global, limit: usize) -> Result<Room, NoMem>
         requires { limit ≤ TEXT_LIMIT }
         ensures empty { IfOk result (λ b. b.bytes ≡ []) }
@@ -61,7 +61,7 @@ impl Room {
         self.len
     }
 
-    /// The most bytes that may be there.
+    /// The most bytes that are allowed.
     #[inline(always)]
     pub(crate) fn limit(&self) -> usize
         ensures same { result ≡ self.now.limit }
@@ -70,7 +70,7 @@ impl Room {
         self.memory.len()
     }
 
-    /// Takes all bytes away.
+    /// Removes all bytes.
     pub(crate) fn clear(&mut self)
         ensures bytes { self.new.bytes ≡ [] }
         ensures limit { self.new.limit ≡ self.old.limit }
@@ -78,7 +78,7 @@ impl Room {
         self.len = 0;
     }
 
-    /// Appends bytes, which have room.
+    /// Appends bytes, for which there is room.
     #[inline(always)]
     pub(crate) fn append(&mut self, piece: &[u8])
         requires { length self.old.bytes + length piece.now ≤ self.old.limit }
@@ -88,7 +88,7 @@ impl Room {
         self.len = place(&mut self.memory, self.len, piece);
     }
 
-    /// Appends a field by the bytes of its tag with the `=`.
+    /// Appends a field, given the bytes of its tag with the `=`.
     #[inline(always)]
     pub(crate) fn append_ready(&mut self, tag: &[u8], value: &[u8])
         requires { length self.old.bytes + length tag.now + length value.now + 1 ≤ self.old.limit }
@@ -100,7 +100,7 @@ impl Room {
         self.len = place(&mut self.memory, after_value, &[SOH]);
     }
 
-    /// Appends a field by the digits of its tag.
+    /// Appends a field, given the digits of its tag.
     #[inline(always)]
     pub(crate) fn append_field(&mut self, digits: &[u8], value: &[u8])
         requires { length self.old.bytes + length digits.now + length value.now + 2 ≤ self.old.limit }

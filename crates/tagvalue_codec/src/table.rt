@@ -4,7 +4,7 @@ use lists::NoMem;
 use std::alloc::Global;
 use std::marker::Model;
 
-/// The most fields that a text may have, with 8, 9, 35 and 10 counted.
+/// The most fields that a text may have, counting 8, 9, 35 and 10.
 pub const FIELD_LIMIT: usize = 4096;
 
 /// A field of a text: its tag begins at `at`, and its value is the text's bytes from `from` up to `to`.
@@ -16,7 +16,7 @@ pub struct FixField {
     pub to: usize,
 }
 
-/// The fields of a text by their ranges. All memory is taken by `new`.
+/// The fields of a text by their ranges. All memory is allocated by `new`.
 #[derive(Drop)]
 pub struct FieldTable {
     memory: Vec<FixField>,
@@ -36,11 +36,11 @@ impl Model for FieldTable {
 }
 
 impl FieldTable {
-    /// Takes memory for as many fields as a text may have.
+    /// Allocates memory for as many fields as a text may have.
     ///
     /// # Errors
     ///
-    /// Out of memory.
+    /// If memory runs out.
     pub fn new(alloc: Global) -> Result<FieldTable, NoMem>
         ensures { IfOk result (λ t. t ≡ []) }
     {
@@ -55,7 +55,7 @@ impl FieldTable {
         Ok(FieldTable { memory, len: 0 })
     }
 
-    /// How many fields it holds.
+    /// The number of fields it holds.
     pub fn len(&self) -> usize
         ensures same { result ≡ length self.now }
         ensures few { length self.now ≤ FIELD_LIMIT }
@@ -72,7 +72,7 @@ impl FieldTable {
         self.memory[i]
     }
 
-    /// Drops all fields.
+    /// Removes all fields.
     pub(crate) fn clear(&mut self)
         ensures { self.new ≡ [] }
     {

@@ -1,4 +1,4 @@
-//! The definitions computed on small texts. Each row is the clause of a function without a body; no code runs here.
+//! The definitions, computed on small texts. Each row is the contract of a function without a body; no code runs here.
 ghost use Rattle.std.specs.Prelude.{◌≡◌, ℕ, List, [], ◌∷◌, codes, Ok, Err};
 ghost use Rattle.tagvalue_codec.specs.declared.read.TCode.TheVariants as code;
 ghost use Rattle.tagvalue_codec.specs.Drafts.{field_of};

@@ -14,26 +14,26 @@ use std::alloc::Global;
 use std::marker::Model;
 use thiserror::Error;
 
-/// No piece of a body has more bytes: a value of a slice's length, three numbers and what stands between them.
+/// No piece of a body has more bytes: a value of a slice's length, three numbers and what is between them.
 const MOST_MORE: u64 = 9_223_372_036_854_775_900;
 
 /// No text has more bytes than its head, its body and these: 20 digits, SOH and the last field.
 const MOST_AROUND: u64 = 28;
 
-/// A field has no room in a text.
+/// A text has no room for a field.
 #[derive(Clone, Copy, Debug, PartialEq, Eq, Drop, Error)]
 #[error("{needed} bytes are needed, and the limit is {limit}")]
 pub struct Full {
-    /// How many bytes the finished text has with the field, or `u64::MAX` where it has more than that.
+    /// The number of bytes of the finished text with the field, or `u64::MAX` if it is larger.
     pub needed: u64,
     /// The most bytes that it may have.
     pub limit: usize,
 }
 
-/// How far a text is.
+/// The progress of a text.
 #[derive(Clone, Copy, Debug, PartialEq, Eq)]
 pub enum Phase {
-    /// None is begun.
+    /// No text has been begun.
     Idle,
     /// Fields are being appended.
     Open,
@@ -43,12 +43,12 @@ pub enum Phase {
 
 /// Writes a text field by field.
 ///
-/// All memory is taken by `new`. Each field is accepted only if the finished text, with its BodyLength and its
+/// All memory is allocated by `new`. Each field is accepted only if the finished text, with its BodyLength and its
 /// CheckSum, stays within the limit.
 #[derive(Drop)]
 pub struct FixWriter {
     phase: Phase,
-    /// How many bytes the value after `8=` has.
+    /// The number of bytes of the value after `8=`.
     begin: usize,
     /// `8=`, its value, SOH and `9=`; the whole text once it is finished.
     text: Room,
@@ -68,11 +68,11 @@ impl Model for FixWriter {
 }
 
 impl FixWriter {
-    /// Takes all memory for a text of at most `limit` bytes, which is at most 16,777,216.
+    /// Allocates all memory for a text of at most `limit` bytes, which is at most 16,777,216.
     ///
     /// # Errors
     ///
-    /// Out of memory.
+    /// If memory runs out.
     pub fn new(alloc: Global, limit: usize) -> Result<FixWriter, NoMem>
         requires { limit ≤ TEXT_LIMIT }
         ensures { IfOk result (λ w. w ≡ idle limit) }
@@ -97,11 +97,11 @@ impl FixWriter {
         }
     }
 
-    /// Begins a text afresh with BeginString (8) and MsgType (35). What was there is dropped.
+    /// Begins a new text with BeginString (8) and MsgType (35). The previous text is discarded.
     ///
     /// # Errors
     ///
-    /// `Full` exactly where the finished text of these fields alone passes the limit. No text is begun then.
+    /// `Full` exactly if the finished text of these two fields exceeds the limit. No text is begun then.
     pub fn start(&mut self, begin: &[u8], msg_type: &[u8]) -> Result<(), Full>
         requires begin { IsValue begin.now }
         requires msg_type { IsValue msg_type.now }
@@ -131,7 +131,7 @@ impl FixWriter {
     ///
     /// # Errors
     ///
-    /// `Full` exactly where the text finished with this field passes the limit. The text stays as it was.
+    /// `Full` exactly if the text finished with this field exceeds the limit. The text is then unchanged.
     pub fn field(&mut self, tag: u32, value: &[u8]) -> Result<(), Full>
         requires open { self.old.phase ≡ Phase.Open }
         requires tag { IsTag tag }
@@ -153,11 +153,11 @@ impl FixWriter {
         Ok(())
     }
 
-    /// Appends a field by the bytes of its tag with the `=`, as `55=`.
+    /// Appends a field, given the bytes of its tag with the `=`, such as `55=`.
     ///
     /// # Errors
     ///
-    /// `Full` exactly where the text finished with this field passes the limit. The text stays as it was.
+    /// `Full` exactly if the text finished with this field exceeds the limit. The text is then unchanged.
     #[inline(always)]
     pub fn ready_field(&mut self, tag: &[u8], value: &[u8]) -> Result<(), Full>
         requires open { self.old.phase ≡ Phase.Open }
@@ -177,11 +177,11 @@ impl FixWriter {
         Ok(())
     }
 
-    /// Appends a length field and its data field, which count as one. SOH may stand in the value.
+    /// Appends a length field and its data field, which count as one. The value may contain SOH.
     ///
     /// # Errors
     ///
-    /// `Full` exactly where the text finished with both passes the limit. The text stays as it was.
+    /// `Full` exactly if the text finished with both exceeds the limit. The text is then unchanged.
     pub fn data_field(&mut self, length_tag: u32, tag: u32, value: &[u8]) -> Result<(), Full>
         requires open { self.old.phase ≡ Phase.Open }
         requires length_tag { IsTag length_tag }
@@ -211,12 +211,12 @@ impl FixWriter {
         Ok(())
     }
 
-    /// Appends a length field and its data field by the bytes of their tags with the `=`, as `95=` and `96=`. They
-    /// count as one, and SOH may stand in the value.
+    /// Appends a length field and its data field, given the bytes of their tags with the `=`, such as `95=` and `96=`.
+    /// They count as one, and the value may contain SOH.
     ///
     /// # Errors
     ///
-    /// `Full` exactly where the text finished with both passes the limit. The text stays as it was.
+    /// `Full` exactly if the text finished with both exceeds the limit. The text is then unchanged.
     pub fn ready_data_field(
         &mut self,
         length_tag: &[u8],
@@ -245,8 +245,8 @@ impl FixWriter {
         Ok(())
     }
 
-    /// Puts BodyLength (9) before the body and CheckSum (10) after it. It is never refused: each field was accepted
-    /// with both counted.
+    /// Puts BodyLength (9) before the body and CheckSum (10) after it. This can't fail: each field was accepted with
+    /// both counted.
     pub fn finish(&mut self)
         requires { self.old.phase ≡ Phase.Open }
         ensures { self.new ≡ done self.old }
@@ -255,7 +255,7 @@ impl FixWriter {
         self.phase = Phase::Done;
     }
 
-    /// Whether the text finished with so many more bytes in its body is within the limit.
+    /// Checks that the text finished with `more` bytes added to its body is within the limit.
     #[inline(always)]
     fn admit(&self, more: u64) -> Result<(), Full>
         requires open { self.now.phase ≡ Phase.Open }
@@ -272,7 +272,7 @@ impl FixWriter {
         self.judge(head, body)
     }
 
-    /// Whether a text with a head and a body of so many bytes is within the limit.
+    /// Checks that a text with a head of `head` and a body of `body` bytes is within the limit.
     fn judge(&self, head: u64, body: u64) -> Result<(), Full>
         ensures ok { OnOk result (needed_for head body ≤ self.now.limit) }
         ensures full { IfErr result (λ f. (self.now.limit < needed_for head body) × (f.needed ≡ min (needed_for head body) 18446744073709551615) × (f.limit ≡ self.now.limit)) }
@@ -288,7 +288,7 @@ impl FixWriter {
     }
 }
 
-/// How many digits a number has in decimal.
+/// The number of decimal digits of a number.
 #[inline(always)]
 fn digit_count(number: u64) -> u64
     ensures is { result ≡ length (decimal number) }
@@ -306,7 +306,7 @@ fn digit_count(number: u64) -> u64
     long_digit_count(number)
 }
 
-/// The same by writing them.
+/// The same, by writing them.
 fn long_digit_count(number: u64) -> u64
     ensures is { result ≡ length (decimal number) }
     ensures few { result ≤ 20 }
@@ -315,7 +315,7 @@ fn long_digit_count(number: u64) -> u64
     buffer.format(number).len() as u64
 }
 
-/// Appends what stands before the number after `9=`.
+/// Appends what precedes the number after `9=`.
 #[inline(always)]
 fn put_head(room: &mut Room, begin: &[u8])
     requires { length room.old.bytes + length begin.now + 5 ≤ room.old.limit }

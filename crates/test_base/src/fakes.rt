@@ -1,4 +1,4 @@
-//! A reader and a writer of which listed calls fail.
+//! A reader and a writer of which the listed calls fail.
 
 use anyhow::{Result, bail};
 use row_tables::Row;
@@ -7,7 +7,7 @@ use std::cell::RefCell;
 use std::io;
 use std::io::{ErrorKind, Read, Write};
 
-/// How often a reader or a writer was asked, how much it does a call, and which calls fail, each with this kind.
+/// How often a reader or a writer was called, how much it handles per call, and which calls fail, each with this kind.
 #[derive(Drop)]
 pub struct Course {
     calls: u64,
@@ -17,7 +17,7 @@ pub struct Course {
 }
 
 impl Course {
-    /// How much is done now, of so many bytes; an error where this call is listed.
+    /// How much is handled now, of `many` bytes. Fails if this call is listed.
     fn step(&mut self, many: usize) -> io::Result<usize> {
         self.calls = self.calls.saturating_add(1);
         if self.failing.contains(&self.calls) {
@@ -26,7 +26,7 @@ impl Course {
         Ok(many.min(self.most))
     }
 
-    /// How often it was asked.
+    /// How often it was called.
     pub fn calls(&self) -> u64 {
         self.calls
     }
@@ -42,7 +42,7 @@ fn kind_of(name: &str) -> Result<ErrorKind> {
     }
 }
 
-/// The numbers with blanks between.
+/// The numbers in a text, separated by spaces.
 pub fn numbers_of(alloc: Global, text: &str) -> Result<Vec<u64>> {
     let mut numbers = Vec::new(alloc);
     for word in text.split(' ') {
@@ -53,7 +53,7 @@ pub fn numbers_of(alloc: Global, text: &str) -> Result<Vec<u64>> {
     Ok(numbers)
 }
 
-/// The course that a row gives from this place on: how much a call does, which calls fail, and with which kind.
+/// The course that a row gives from this index on: how much a call handles, which calls fail, and with which kind.
 pub fn course_of(alloc: Global, row: &Row, i: usize) -> Result<Course> {
     Ok(Course {
         calls: 0,
@@ -70,7 +70,7 @@ pub struct Taken {
     pub bytes: Vec<u8>,
 }
 
-/// A writer whose taking can be looked at while it is lent.
+/// A writer whose contents can be inspected while it is lent.
 #[derive(Drop)]
 pub struct FakeWriter<'a> {
     taken: &'a RefCell<Taken>,

@@ -7,7 +7,7 @@ use sbe_base::{DirFiles, Files, MemFiles};
 use std::alloc::Global;
 use std::{env, fs};
 
-/// Loads as a caller does that knows the trait alone: a name and a limit, over a buffer in which something stands.
+/// Loads like a caller that knows only the trait: a name and a limit, into a buffer that isn't empty.
 fn load_told<F: Files>(alloc: Global, files: &mut F, name: &str, limit: usize) -> Result<String> {
     let mut into = Vec::from_slice(alloc, b"before")?;
     let answer = files.load(alloc, name, limit, &mut into);
@@ -49,14 +49,14 @@ fn mem_steps(alloc: Global, files: &mut MemFiles, row: &Row) -> Result<String> {
     Ok(text)
 }
 
-/// A row: the loads that fail, files with a blank between name and bytes, `load`, and loads by name and limit.
+/// A row: the loads that fail, files with a space between name and bytes, `load`, and loads by name and limit.
 pub fn mem_told(alloc: Global, row: &Row) -> Result<String> {
     let failing = numbers_of(alloc, row.text(0)?)?;
     let mut files = MemFiles::new(alloc, failing.as_slice())?;
     mem_steps(alloc, &mut files, row)
 }
 
-/// The place of a name: a folder for none, else a file in it.
+/// The path of a name: a folder for an empty one, otherwise a file in it.
 fn place_of(rt: &HostRuntime, name: &str) -> Result<String> {
     let dir = env::temp_dir(rt)?;
     let dir = dir.as_path().to_string_lossy();

@@ -6,7 +6,7 @@ use row_tables::Row;
 use sbe_base::Status;
 use std::alloc::Global;
 
-/// A row: bytes, of which a list is made by each way in turn; what it holds.
+/// A row: bytes, from which a list is made in each possible manner. Answers its contents.
 pub fn list_told(alloc: Global, row: &Row) -> Result<String> {
     let bytes = row.bytes(alloc, 0)?;
     let mut list = List::new(alloc);

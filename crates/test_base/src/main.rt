@@ -1,4 +1,4 @@
-//! Rows of the outside: sources, sinks and files in memory and over std, and the writer that several hands share. And lists.
+//! Rows of the outside: sources, sinks and files in memory and over std, and the writer with several users. Also lists.
 #![tactic(auto)]
 
 mod fakes;

@@ -1,4 +1,4 @@
-//! A writer that several hands share, and what hands on before it is asked itself.
+//! A writer with several users, and readers and writers that flush it first.
 
 use crate::fakes::{FakeWriter, Taken};
 use crate::sinks::{taken_of, taken_text};
@@ -9,7 +9,8 @@ use std::alloc::Global;
 use std::cell::RefCell;
 use std::io::{Read, Write};
 
-/// One step over the writer: a write, a flush, a read or a note that hands on before, a flush of notes, or the status that ends a run.
+/// One step over the writer: a write, a flush, a read or a note that flushes it first, a flush of notes, or the status
+/// that ends a run.
 fn step(
     alloc: Global,
     shared: &SharedWriter<FakeWriter<'_>>,
@@ -48,7 +49,7 @@ fn read_behind(
     }
 }
 
-/// A note, written and flushed by a hand of its own.
+/// A note, written and flushed by a user of its own.
 fn note_behind(
     alloc: Global,
     shared: &SharedWriter<FakeWriter<'_>>,
@@ -66,7 +67,7 @@ fn note_behind(
     Ok(format!(in alloc; "{} noted {}", answer.as_str(), noted.as_str())?)
 }
 
-/// What runs end with whose last flush is made now.
+/// The statuses of runs whose last flush is made now.
 fn settled_text(alloc: Global, shared: &SharedWriter<FakeWriter<'_>>) -> Result<String> {
     let mut hand = shared;
     let done = settled(Status::Done, hand.flush());
@@ -93,8 +94,8 @@ fn steps(
     Ok(text)
 }
 
-/// A row: the course of a writer behind a buffer of four bytes, and steps. What each answers, and what the writer was given in how
-/// many calls.
+/// A row: the course of a writer with a buffer of four bytes in front of it, and steps. Gives the answer of each, and
+/// what the writer was given in how many calls.
 pub fn shared_told(alloc: Global, row: &Row) -> Result<String> {
     let taken = taken_of(alloc, row, 0)?;
     let shared = SharedWriter::new(alloc, 4, FakeWriter::new(&taken))?;

@@ -8,7 +8,8 @@ use std::alloc::Global;
 use std::cell::RefCell;
 use std::io;
 
-/// Writes once, as a caller does that knows the trait alone: behind `all ` each byte of the text, else what is taken of it.
+/// Writes once, like a caller that knows only the trait: after `all ` each byte of the text, otherwise what is accepted
+/// of it.
 fn write_told<O: Sink>(alloc: Global, sink: &mut O, text: &str) -> Result<String> {
     if let Some(all) = text.strip_prefix("all ") {
         let whole = write_all_to(sink, all.as_bytes()).is_ok();
@@ -31,7 +32,8 @@ fn mem_steps(alloc: Global, sink: &mut MemSink, row: &Row) -> Result<String> {
     Ok(text)
 }
 
-/// A row: how many bytes there is room for, the writes that fail, and what is written. What is answered, and what is held.
+/// A row: how many bytes there is room for, the writes that fail, and what is written. Gives the answer, and the
+/// contents.
 pub fn mem_told(alloc: Global, row: &Row) -> Result<String> {
     let room = row.size(0)?;
     let failing = numbers_of(alloc, row.text(1)?)?;
@@ -39,7 +41,7 @@ pub fn mem_told(alloc: Global, row: &Row) -> Result<String> {
     mem_steps(alloc, &mut sink, row)
 }
 
-/// What a writer holds, and how often it was asked.
+/// The contents of a writer, and how often it was called.
 pub fn taken_text(alloc: Global, taken: &RefCell<Taken>) -> Result<String> {
     match taken.try_borrow() {
         Ok(taken) => {
@@ -51,7 +53,7 @@ pub fn taken_text(alloc: Global, taken: &RefCell<Taken>) -> Result<String> {
     }
 }
 
-/// A writer that nobody asked yet, whose course a row gives from this place on.
+/// A writer that wasn't called yet, whose course a row gives from this index on.
 pub fn taken_of(alloc: Global, row: &Row, i: usize) -> Result<RefCell<Taken>> {
     Ok(RefCell::new(Taken {
         course: course_of(alloc, row, i)?,
@@ -75,7 +77,8 @@ fn std_steps<O: Sink>(
     Ok(text)
 }
 
-/// A row: the course of the writer, and what is written. What is answered, and what the writer holds in how many calls.
+/// A row: the course of the writer, and what is written. Gives the answer, and the writer's contents and number of
+/// calls.
 pub fn std_told(alloc: Global, row: &Row) -> Result<String> {
     let taken = taken_of(alloc, row, 0)?;
     let mut sink = StdSink::new(FakeWriter::new(&taken));
@@ -89,7 +92,7 @@ fn count_text(alloc: Global, answer: io::Result<usize>) -> Result<String> {
     }
 }
 
-/// What is read of a reader of `abc`.
+/// What is read from a reader of `abc`.
 fn read_text(alloc: Global, row: &Row) -> Result<String> {
     let mut reader = FakeReader {
         course: course_of(alloc, row, 0)?,
@@ -102,7 +105,7 @@ fn read_text(alloc: Global, row: &Row) -> Result<String> {
     Ok(format!(in alloc; "reads {} {} in {calls}", read.as_str(), bytes.as_str())?)
 }
 
-/// What is answered where `de` is written.
+/// The answer when `de` is written.
 fn written_text(alloc: Global, row: &Row) -> Result<String> {
     let taken = taken_of(alloc, row, 0)?;
     let mut writer = FakeWriter::new(&taken);
@@ -111,7 +114,8 @@ fn written_text(alloc: Global, row: &Row) -> Result<String> {
     Ok(format!(in alloc; "writes {} {}", written.as_str(), held.as_str())?)
 }
 
-/// A row: the course of a reader, and of a writer. What `read_retried` reads, what `write_retried` answers, and what is held then.
+/// A row: the course of a reader, and of a writer. Gives what `read_retried` reads, what `write_retried` answers, and
+/// the contents afterwards.
 pub fn retried_told(alloc: Global, row: &Row) -> Result<String> {
     let read = read_text(alloc, row)?;
     let written = written_text(alloc, row)?;

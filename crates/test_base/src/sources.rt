@@ -7,10 +7,10 @@ use sbe_base::{BufferedSource, MemSource, Source, StdSource};
 use std::alloc::Global;
 use std::io::BufReader;
 
-/// How many bytes a read asks for at most.
+/// The most bytes that a read asks for.
 const MOST: usize = 16;
 
-/// Reads once, as a caller does that knows the trait alone.
+/// Reads once, like a caller that knows only the trait.
 fn read_told<I: Source>(alloc: Global, source: &mut I, many: usize) -> Result<String> {
     let mut buf = [b'.'; MOST];
     let many = many.min(MOST);
@@ -34,7 +34,8 @@ fn mem_reads(alloc: Global, source: &mut MemSource, sizes: &str) -> Result<Strin
     Ok(text)
 }
 
-/// A row: bytes, how many a read gives, the reads that fail, and how many bytes each read asks for. What is read, and what is left.
+/// A row: bytes, how many a read gives, the reads that fail, and how many bytes each read asks for. Gives what is read,
+/// and what is left.
 pub fn mem_told(alloc: Global, row: &Row) -> Result<String> {
     let piece = row.size(1)?;
     let sizes = row.text(3)?;
@@ -56,7 +57,7 @@ fn reads<I: Source>(alloc: Global, source: &mut I, sizes: &str) -> Result<String
     Ok(text)
 }
 
-/// A row: bytes, the course of the reader, and how many bytes each read asks for. What is read.
+/// A row: bytes, the course of the reader, and how many bytes each read asks for. Gives what is read.
 pub fn std_told(alloc: Global, row: &Row) -> Result<String> {
     let sizes = row.text(4)?;
     let bytes = row.bytes(alloc, 0)?;
@@ -68,7 +69,7 @@ pub fn std_told(alloc: Global, row: &Row) -> Result<String> {
     reads(alloc, &mut source, sizes)
 }
 
-/// What is lent ahead, whether so many bytes of it are passed over, what is lent then, and one byte that is read.
+/// What is lent ahead, whether `many` bytes of it are skipped, what is lent then, and one byte that is read.
 fn passed_told<I: Source>(alloc: Global, source: &mut I, many: usize) -> Result<String> {
     let lent = spelled(alloc, source.ahead())?;
     let passed = source.pass(many);
@@ -90,7 +91,7 @@ fn passes<I: Source>(alloc: Global, source: &mut I, sizes: &str) -> Result<Strin
     Ok(text)
 }
 
-/// A row: bytes, the size of the reader's buffer, and how many bytes are passed over before each read.
+/// A row: bytes, the size of the reader's buffer, and how many bytes are skipped before each read.
 pub fn buffered_told(alloc: Global, row: &Row) -> Result<String> {
     let size = row.size(1)?;
     let sizes = row.text(2)?;

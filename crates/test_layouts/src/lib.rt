@@ -1,5 +1,5 @@
-//! Tests of what is told of checked schemas: texts as JSON, lines of messages with any name, and the outline of a layout by its
-//! accessors. Schemas and lines of whole runs are rows of `run_rows`.
+//! Tests of the answers about checked schemas: texts as JSON, lines of messages with any name, and the outline of a
+//! layout by its accessors. Schemas and lines of whole runs are rows of `run_rows`.
 #![tactic(auto)]
 
 #[cfg(test)]

@@ -30,7 +30,7 @@ fn parts(alloc: Global, many: u32) -> Result<List<DataField>, Fail> {
     Ok(data)
 }
 
-/// A message without groups, with so many data parts.
+/// A message without groups, with `many` data parts.
 fn message(alloc: Global, name: &str, id: u32, block: u32, many: u32) -> Result<Level, Fail> {
     let name = List::from_slice(alloc, name.as_bytes())?;
     let parts = parts(alloc, many)?;

@@ -1,4 +1,5 @@
-//! The outline of a layout: a line for the schema, for each message, for each level with its parts, and for each data part.
+//! The outline of a layout: a line for the schema, for each message, for each level with its parts, and for each data
+//! part.
 
 ghost use Rattle.std.specs.Prelude.{◌≡◌, ◌<◌, length};
 ghost use Rattle.sbe_types.specs.Places.{is_const};
@@ -101,7 +102,7 @@ fn is_constant(kind: &Kind) -> bool
     }
 }
 
-/// Where a field begins, unless it is a constant.
+/// The offset of a field, unless it is a constant.
 #[tactic(auto, using(layout_tables::proofs::Told::place_there))]
 fn place_of(layout: &Layout, level: usize, i: usize) -> Option<u32>
     requires level { level < length (all_nodes layout.now) }

@@ -1,5 +1,6 @@
-//! A test of reading schema files: the tree of a file with each attribute, which the rules of schemas refuse, so that no run
-//! shows it. The forms of attributes are rows of `test_steps`; what is refused, and what meets a limit, are rows of `run_rows`.
+//! A test of reading schema files: the tree of a file with each attribute. The rules of schemas refuse it, so no run
+//! shows it. The forms of attributes are rows of `test_steps`; what is refused, and what reaches a limit, are rows of
+//! `run_rows`.
 #![tactic(auto)]
 
 #[cfg(test)]

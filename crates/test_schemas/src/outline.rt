@@ -1,5 +1,4 @@
-//! The outline of a schema: a line for each element, with all of its attributes, and its children
-//! behind it.
+//! The outline of a schema: a line for each element, with all of its attributes, followed by its children.
 
 use lists::Text;
 use sbe_types::{
@@ -137,7 +136,7 @@ fn add_composite(alloc: Global, out: &mut String, el: &CompositeEl) -> Result<()
     Ok(())
 }
 
-/// A composite inside another. What stands in a third one isn't shown.
+/// A composite inside another. What is in a third one isn't shown.
 fn add_inner_composite(
     alloc: Global,
     out: &mut String,
@@ -200,7 +199,7 @@ fn add_message(alloc: Global, out: &mut String, el: &MessageEl) -> Result<(), Al
     Ok(())
 }
 
-/// A group of a message. What stands in a group of a group of its entries isn't shown.
+/// A group of a message. What is in a group of a group of its entries isn't shown.
 fn add_group(alloc: Global, out: &mut String, el: &GroupEl) -> Result<(), AllocError> {
     add_group_line(alloc, out, el)?;
     for item in el.children.as_slice() {

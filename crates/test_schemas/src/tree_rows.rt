@@ -1,4 +1,4 @@
-//! Files that are read, beside an outline of what they hold.
+//! Files that are read, each with an outline of its contents.
 
 use crate::outline::add_schema;
 use sbe_schema::read_schema;
@@ -6,7 +6,7 @@ use std::alloc::Global;
 use std::process::Abort;
 use std::test::Fail;
 
-/// A file in pieces, and the outline of what it holds, in pieces too.
+/// A file in pieces, and the outline of its contents, in pieces too.
 #[derive(Clone, Copy)]
 struct Row {
     file: [&'static str; 3],
@@ -62,7 +62,7 @@ fn joined(alloc: Global, pieces: [&'static str; 3]) -> Result<String, Fail> {
     Ok(text)
 }
 
-/// Asks that the file of a row is read, and holds what the row says.
+/// Requires that the file of a row is read, and has the contents that the row states.
 fn expect_outline(rt: &impl Abort, alloc: Global, row: &Row) -> Result<(), Fail> {
     let file = joined(alloc, row.file)?;
     let outline = joined(alloc, row.outline)?;

@@ -1,4 +1,4 @@
-//! Attributes that must be there, may be, or have a default.
+//! Attributes that are required, are optional, or have a default.
 
 use crate::elements::{id_text, value_in};
 use crate::refused::refused_text;
@@ -8,7 +8,7 @@ use json_elements::{IdNumber, needed, optional, with_default};
 use row_tables::Row;
 use std::alloc::Global;
 
-/// What is told of a row; nothing where it names another call.
+/// The answer to a row, or `None` if it names another call.
 pub fn told(alloc: Global, row: &Row) -> Result<Option<String>> {
     if row.call() != "attribute" {
         return Ok(None);
@@ -35,7 +35,7 @@ fn optional_text(alloc: Global, element: &Json<'_>, name: &'static str) -> Resul
     }
 }
 
-/// What an attribute is read as where it is needed, where it is optional, and where 5 stands for it.
+/// What an attribute is read as if it is required, if it is optional, and if 5 is its default.
 fn attribute_text(alloc: Global, element: &Json<'_>, name: &'static str) -> Result<String> {
     let must = id_text(alloc, needed::<IdNumber>(alloc, element, name))?;
     let may = optional_text(alloc, element, name)?;

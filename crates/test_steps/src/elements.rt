@@ -11,7 +11,7 @@ use row_tables::{Row, spelled};
 use schema_lines::put_json_text;
 use std::alloc::Global;
 
-/// What is told of a row; nothing where it names another call.
+/// The answer to a row, or `None` if it names another call.
 pub fn told(alloc: Global, row: &Row) -> Result<Option<String>> {
     let mut space = JsonSpace::new(alloc);
     let space = &mut space;
@@ -35,7 +35,7 @@ pub fn told(alloc: Global, row: &Row) -> Result<Option<String>> {
     Ok(Some(text))
 }
 
-/// The JSON value that a row spells first.
+/// The JSON value that a row gives as its first item.
 pub fn value_in<'a>(space: &'a mut JsonSpace, row: &'a Row) -> Result<Json<'a>> {
     Ok(space.read(row.text(0)?.as_bytes())?)
 }
@@ -132,7 +132,7 @@ fn file_text(alloc: Global, space: &mut JsonSpace, bytes: &[u8]) -> Result<Strin
     }
 }
 
-/// A refusal inside a member, a child and a member, one without a place, and a number through the same.
+/// A refusal inside a member, a child and a member, one without a place, and a number passed through the same calls.
 fn places_text(alloc: Global) -> Result<String> {
     let deep = inside(
         "a",

@@ -1,4 +1,5 @@
-//! Rows of what `run` is made of and no run shows: words that become commands, the steps of a pump, and the elements of files.
+//! Rows for the parts of `run` that no run shows: arguments that become commands, the steps of a pump, and the elements
+//! of files.
 #![tactic(auto)]
 
 mod attributes;

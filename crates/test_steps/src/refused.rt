@@ -1,4 +1,4 @@
-//! What is told of elements of files.
+//! Answers about elements of files.
 
 use anyhow::{Result, bail};
 use json_elements::{ElementErr, path_of};

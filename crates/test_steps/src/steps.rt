@@ -10,10 +10,10 @@ use sbe_cli::{Command, Pump, Step, read_words};
 use std::alloc::Global;
 use std::fs;
 
-/// How many bytes the input gives a read.
+/// How many bytes the input gives per read.
 const PIECE: usize = 64;
 
-/// How many bytes the output and the notes take.
+/// How many bytes the output and the notes accept.
 const ROOM: usize = 1024;
 
 fn files_of(rt: &HostRuntime) -> Result<MemFiles> {
@@ -35,7 +35,7 @@ fn opened(rt: &HostRuntime, command: Command) -> Result<Pump>
     }
 }
 
-/// The pump of the words that a row gives.
+/// The pump of the arguments that a row gives.
 fn pump_of(rt: &HostRuntime, row: &Row) -> Result<Pump> {
     let words = words_of(rt.alloc(), row, 3)?;
     match read_words(rt.alloc(), words.as_slice()) {
@@ -44,7 +44,7 @@ fn pump_of(rt: &HostRuntime, row: &Row) -> Result<Pump> {
     }
 }
 
-/// One step: what it did, how many bytes the input has left then, and how many were written and noted.
+/// One step: what it did, how many bytes the input then has left, and how many were written and noted.
 fn step_text(
     alloc: Global,
     pump: &mut Pump,
@@ -81,7 +81,7 @@ fn all_steps(
     Ok(text)
 }
 
-/// The steps over an output and notes that take what comes.
+/// The steps over an output and notes that accept everything.
 fn steps_over(
     alloc: Global,
     pump: &mut Pump,
@@ -93,7 +93,7 @@ fn steps_over(
     all_steps(alloc, pump, input, &mut output, &mut notes, many)
 }
 
-/// A row: an input, the number of the read that fails, or 0, how many steps, and the words.
+/// A row: an input, the number of the read that fails, or 0, how many steps, and the arguments.
 pub fn steps_told(rt: &HostRuntime, row: &Row) -> Result<String> {
     let alloc = rt.alloc();
     let many = row.size(2)?;

@@ -1,4 +1,4 @@
-//! Words that become commands.
+//! Arguments that become commands.
 
 use anyhow::{Result, bail};
 use row_tables::Row;
@@ -6,7 +6,7 @@ use sbe_base::Limits;
 use sbe_cli::{Command, Draws, FORMS, WordsErr, read_words};
 use std::alloc::Global;
 
-/// The words that a row gives after so many others.
+/// The arguments that a row gives from index `first` on.
 pub fn words_of(alloc: Global, row: &Row, first: usize) -> Result<Vec<String>> {
     let mut words = Vec::new(alloc);
     for i in first..row.len() {
@@ -15,8 +15,8 @@ pub fn words_of(alloc: Global, row: &Row, first: usize) -> Result<Vec<String>> {
     Ok(words)
 }
 
-/// The text of a command: its word and its files; where it has numbers, the seed and the count; where it takes options, how many
-/// further schemas it has, and its limits.
+/// The text of a command: its word and its files; if it has numbers, the seed and the count; if it takes options, how
+/// many further schemas it has, and its limits.
 fn command_text(alloc: Global, command: &Command) -> Result<String> {
     let mut text = String::new(alloc);
     for (form, word, _, numbers, options) in FORMS {
@@ -55,7 +55,7 @@ fn options_text(alloc: Global, command: &Command) -> Result<String> {
     Ok(format!(in alloc; " and {more}, frames of {frame}, input of {input}")?)
 }
 
-/// A row: words. The command that they are, with its limits.
+/// A row: arguments. Answers the command that they give, with its limits.
 pub fn command_told(alloc: Global, row: &Row) -> Result<String> {
     let words = words_of(alloc, row, 0)?;
     match read_words(alloc, words.as_slice()) {

@@ -1,4 +1,4 @@
-//! Frames that are taken out of a stream.
+//! Frames taken from a stream.
 
 use crate::sources::{limits_of, range_of, source_of};
 use anyhow::Result;
@@ -27,7 +27,8 @@ fn take_told<I: Source>(alloc: Global, stream: &mut FrameStream, source: &mut I)
     }
 }
 
-/// Takes so often of a source in memory: what is told of each, how many bytes the source has left then, and how many were taken.
+/// Takes several times from a source in memory: the answer to each, how many bytes the source then has left, and how
+/// many were taken.
 fn all_told(
     alloc: Global,
     stream: &mut FrameStream,
@@ -45,14 +46,14 @@ fn all_told(
     Ok(text)
 }
 
-/// The row over pieces of one size: a source, the sizes, the reads that fail, both limits, and how many takes.
+/// The row with pieces of one size: a source, the sizes, the reads that fail, both limits, and how many takes.
 fn in_piece(alloc: Global, row: &Row, piece: usize) -> Result<String> {
     let mut source = source_of(alloc, row, piece)?;
     let mut stream = FrameStream::open(alloc, limits_of(row, 3, 4)?)?;
     all_told(alloc, &mut stream, &mut source, row.size(5)?)
 }
 
-/// The row over pieces of each size: what is told of all, or of the first that differs from what is wanted.
+/// The row with pieces of each size: the answer of all, or the first one that differs from the required one.
 pub fn in_pieces(alloc: Global, row: &Row) -> Result<String> {
     let (low, high) = range_of(row.text(1)?)?;
     for piece in low..high {
@@ -64,7 +65,7 @@ pub fn in_pieces(alloc: Global, row: &Row) -> Result<String> {
     in_piece(alloc, row, high)
 }
 
-/// Takes, and takes again where a read failed.
+/// Takes, and takes again if a read failed.
 fn take_retried(alloc: Global, stream: &mut FrameStream, source: &mut MemSource) -> Result<String> {
     let told = take_told(alloc, stream, source)?;
     if told.as_str().starts_with("ReadFault") {
@@ -73,8 +74,8 @@ fn take_retried(alloc: Global, stream: &mut FrameStream, source: &mut MemSource)
     Ok(told)
 }
 
-/// The row over a source of which one read in turn fails: a source, the bytes of a read, which one fails, both limits, and how many
-/// takes, each of which is made again where a read failed.
+/// The row with a source of which some reads fail: a source, the bytes of a read, which ones fail, both limits, and how
+/// many takes, each of which is repeated if a read failed.
 pub fn retried(alloc: Global, row: &Row) -> Result<String> {
     let mut source = source_of(alloc, row, row.size(1)?)?;
     let mut stream = FrameStream::open(alloc, limits_of(row, 3, 4)?)?;
@@ -86,7 +87,7 @@ pub fn retried(alloc: Global, row: &Row) -> Result<String> {
     Ok(text)
 }
 
-/// Takes so often of any source.
+/// Takes several times from any source.
 fn takes_told<I: Source>(
     alloc: Global,
     stream: &mut FrameStream,
@@ -103,7 +104,7 @@ fn takes_told<I: Source>(
     Ok(text)
 }
 
-/// The row over a source that lends what it has read ahead into a buffer of so many bytes.
+/// The row with a source that lends what it has read ahead into a buffer of `capacity` bytes.
 fn ahead_in(alloc: Global, row: &Row, capacity: usize) -> Result<String> {
     let bytes = row.bytes(alloc, 0)?;
     let reader = BufReader::with_capacity(alloc, capacity, bytes.as_slice())?;
@@ -112,7 +113,7 @@ fn ahead_in(alloc: Global, row: &Row, capacity: usize) -> Result<String> {
     takes_told(alloc, &mut stream, &mut source, row.size(4)?)
 }
 
-/// The row over buffers of each size: what is told of all, or of the first that differs from what is wanted.
+/// The row with buffers of each size: the answer of all, or the first one that differs from the required one.
 pub fn read_ahead(alloc: Global, row: &Row) -> Result<String> {
     let (low, high) = range_of(row.text(1)?)?;
     for capacity in low..high {

@@ -1,4 +1,4 @@
-//! Lines that are taken out of a stream.
+//! Lines taken from a stream.
 
 use crate::sources::{range_of, source_of};
 use anyhow::Result;
@@ -8,10 +8,10 @@ use row_tables::{Row, spelled};
 use sbe_base::{Limits, MemSource};
 use std::alloc::Global;
 
-/// A longer line than this is told by its length, where its bytes are all the same.
+/// A line longer than this is shown by its length, if its bytes are all the same.
 const TOLD_WHOLE: usize = 64;
 
-/// A line as it is told.
+/// A line as it is shown.
 fn line_told(alloc: Global, line: &[u8]) -> Result<String> {
     if line.len() > TOLD_WHOLE {
         let first = line[0];
@@ -35,7 +35,7 @@ fn take_told(alloc: Global, stream: &mut LineStream, source: &mut MemSource) -> 
     }
 }
 
-/// Takes so often: what is told of each, and how many bytes were taken.
+/// Takes several times: the answer to each, and how many bytes were taken.
 fn all_told(
     alloc: Global,
     stream: &mut LineStream,
@@ -51,7 +51,8 @@ fn all_told(
     Ok(text)
 }
 
-/// The row over pieces of one size: a source, the sizes, the reads that fail, the most bytes of the input, and how many takes.
+/// The row with pieces of one size: a source, the sizes, the reads that fail, the most bytes of the input, and how many
+/// takes.
 fn in_piece(alloc: Global, row: &Row, piece: usize) -> Result<String> {
     let limits = Limits {
         frame: HEAD_BYTES,
@@ -62,7 +63,7 @@ fn in_piece(alloc: Global, row: &Row, piece: usize) -> Result<String> {
     all_told(alloc, &mut stream, &mut source, row.size(4)?)
 }
 
-/// The row over pieces of each size: what is told of all, or of the first that differs from what is wanted.
+/// The row with pieces of each size: the answer of all, or the first one that differs from the required one.
 pub fn in_pieces(alloc: Global, row: &Row) -> Result<String> {
     let (low, high) = range_of(row.text(1)?)?;
     for piece in low..high {

@@ -1,4 +1,4 @@
-//! Rows of streams: frames, lines and tag-value texts that are taken of a source piece by piece.
+//! Rows of streams: frames, lines and tag-value texts that are taken from a source piece by piece.
 #![tactic(auto)]
 
 mod frames;

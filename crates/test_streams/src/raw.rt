@@ -1,4 +1,4 @@
-//! Tag-value texts, and the bytes between them, that are taken out of a stream.
+//! Tag-value texts, and the bytes between them, taken from a stream.
 
 ghost use Rattle.std.specs.Prelude.{◌≤◌, IfOk};
 ghost use Rattle.frame_stream.specs.declared.stream.TheConstants.{LONGEST_FRAME};
@@ -19,7 +19,7 @@ struct Space {
     table: FieldTable,
 }
 
-/// The limits that a row gives fourth and fifth.
+/// The limits that a row gives as its fourth and fifth items.
 fn raw_limits(row: &Row) -> Result<Limits>
     ensures low { IfOk result (λ limits. LEAST_FRAME ≤ limits.frame) }
     ensures high { IfOk result (λ limits. limits.frame ≤ LONGEST_FRAME) }
@@ -60,7 +60,7 @@ impl Space {
         }
     }
 
-    /// Takes, and takes again where a read failed.
+    /// Takes, and takes again if a read failed.
     fn take_retried(
         &mut self,
         alloc: Global,
@@ -75,7 +75,7 @@ impl Space {
     }
 }
 
-/// The row over pieces of one size: a source, the sizes, the reads that fail, both limits, and how many takes.
+/// The row with pieces of one size: a source, the sizes, the reads that fail, both limits, and how many takes.
 fn in_piece(alloc: Global, space: &mut Space, row: &Row, piece: usize) -> Result<String> {
     let mut source = source_of(alloc, row, piece)?;
     let mut stream = RawStream::open(alloc, raw_limits(row)?)?;
@@ -89,7 +89,7 @@ fn in_piece(alloc: Global, space: &mut Space, row: &Row, piece: usize) -> Result
     Ok(text)
 }
 
-/// The row over pieces of each size: what is told of all, or of the first that differs from what is wanted.
+/// The row with pieces of each size: the answer of all, or the first one that differs from the required one.
 pub fn in_pieces(alloc: Global, row: &Row) -> Result<String> {
     let mut space = Space::open(alloc)?;
     let (low, high) = range_of(row.text(1)?)?;
@@ -102,8 +102,8 @@ pub fn in_pieces(alloc: Global, row: &Row) -> Result<String> {
     in_piece(alloc, &mut space, row, high)
 }
 
-/// The row over a source of which one read in turn fails: a source, the bytes of a read, which one fails, both limits, and how many
-/// takes, each of which is made again where a read failed.
+/// The row with a source of which some reads fail: a source, the bytes of a read, which ones fail, both limits, and how
+/// many takes, each of which is repeated if a read failed.
 pub fn retried(alloc: Global, row: &Row) -> Result<String> {
     let mut source = source_of(alloc, row, row.size(1)?)?;
     let mut space = Space::open(alloc)?;

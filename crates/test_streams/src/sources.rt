@@ -1,4 +1,4 @@
-//! What rows give a stream.
+//! What rows give to a stream.
 
 ghost use Rattle.std.specs.Prelude.{◌≤◌, IfOk};
 
@@ -9,7 +9,7 @@ use row_tables::Row;
 use sbe_base::{Limits, MemSource};
 use std::alloc::Global;
 
-/// The least and the greatest number of a range, as `1-39`.
+/// The least and the greatest number of a range, such as `1-39`.
 pub fn range_of(text: &str) -> Result<(usize, usize)> {
     match text.split_once('-') {
         Some((low, high)) => Ok((low.parse::<usize>()?, high.parse::<usize>()?)),
@@ -17,7 +17,7 @@ pub fn range_of(text: &str) -> Result<(usize, usize)> {
     }
 }
 
-/// The numbers of the reads that fail, with blanks between.
+/// The numbers of the reads that fail, separated by spaces.
 fn failing(alloc: Global, text: &str) -> Result<Vec<u64>> {
     let mut calls = Vec::new(alloc);
     for word in text.split(' ') {
@@ -28,7 +28,8 @@ fn failing(alloc: Global, text: &str) -> Result<Vec<u64>> {
     Ok(calls)
 }
 
-/// The source that a row gives first, in pieces of so many bytes, of which the reads fail that the row lists third.
+/// The source that a row gives as its first item, in pieces of `piece` bytes. The reads that the row lists as its third
+/// item fail.
 pub fn source_of(alloc: Global, row: &Row, piece: usize) -> Result<MemSource> {
     if piece == 0 {
         bail!("a source gives some bytes a read");
@@ -38,7 +39,7 @@ pub fn source_of(alloc: Global, row: &Row, piece: usize) -> Result<MemSource> {
     Ok(MemSource::new(alloc, bytes.as_slice(), piece, calls.as_slice())?)
 }
 
-/// The most bytes of a frame and of the input, which a row gives at these places.
+/// The most bytes of a frame and of the input, which a row gives at these indices.
 pub fn limits_of(row: &Row, i: usize, j: usize) -> Result<Limits>
     ensures low { IfOk result (λ limits. HEAD_BYTES ≤ limits.frame) }
     ensures high { IfOk result (λ limits. limits.frame ≤ LONGEST_FRAME) }

@@ -1,4 +1,4 @@
-//! Schemas of files, and what is told of messages that are written.
+//! Schemas of files, and answers about messages that are written.
 
 use anyhow::{Result, bail};
 use layout_compile::compile;
@@ -27,7 +27,7 @@ pub fn layout_of(alloc: Global, checked: &Checked) -> Result<Layout> {
     Ok(compile(alloc, checked)?)
 }
 
-/// The steps of a way, each behind a blank.
+/// The steps of a path, each preceded by a space.
 pub fn path_text(alloc: Global, path: &Path) -> Result<String> {
     let mut text = String::new(alloc);
     for i in 0..path.len() {
@@ -42,7 +42,7 @@ pub fn refused_text(alloc: Global, e: &EncodeErr) -> Result<String> {
     Ok(format!(in alloc; "{:?} {}{}", e.code, e.detail, path.as_str())?)
 }
 
-/// How many bytes a body has, and the bytes; or why there is none, which leaves nothing in the buffer.
+/// The length of a body, and its bytes; or why there is none, which leaves the buffer empty.
 pub fn written_text(
     alloc: Global,
     answer: std::result::Result<usize, EncodeErr>,
@@ -60,7 +60,7 @@ fn bytes_text(alloc: Global, n: usize, bytes: &[u8]) -> Result<String> {
     Ok(format!(in alloc; "{n} {}", digits.as_str())?)
 }
 
-/// An answer, and the bytes that stand then.
+/// An answer, and the bytes in the buffer afterwards.
 pub fn with_bytes(alloc: Global, answer: &str, bytes: &[u8]) -> Result<String> {
     let digits = hex::encode(alloc, bytes)?;
     Ok(format!(in alloc; "{answer}: {}", digits.as_str())?)

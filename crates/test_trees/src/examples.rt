@@ -33,7 +33,7 @@ fn body_text(alloc: Global, checked: &Checked, row: &Row) -> Result<String> {
     }
 }
 
-/// A row: the schema, the limit, and a line, of which the template and the body are told.
+/// A row: the schema, the limit, and a line. Answers its template and its body.
 pub fn body_told(alloc: Global, checked: &Checked, row: &Row) -> Result<String> {
     let body = body_text(alloc, checked, row)?;
     match template_of(alloc, checked, row.text(2)?.as_bytes()) {
@@ -77,8 +77,8 @@ fn order_in(
     with_bytes(alloc, answer.as_str(), buf.bytes())
 }
 
-/// A row: the schema, the limit, and an order: its number, its legs with blanks between, and its note. What is answered, and the
-/// bytes that stand then.
+/// A row: the schema, the limit, and an order: its number, its legs separated by spaces, and its note. Gives the
+/// answer, and the bytes in the buffer afterwards.
 pub fn order_told(alloc: Global, checked: &Checked, row: &Row) -> Result<String> {
     let number = row.number(2)?;
     let note = row.text(4)?;
@@ -107,7 +107,7 @@ fn sum_text(
     }
 }
 
-/// A row: the schema, a body, the number of a group, and of a field of its entries, whose sum is told.
+/// A row: the schema, a body, the number of a group, and that of a field of its entries. Answers the sum of the field.
 pub fn sum_told(alloc: Global, checked: &Checked, row: &Row) -> Result<String> {
     let group = row.size(2)?;
     let field = row.size(3)?;

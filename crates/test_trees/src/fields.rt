@@ -1,4 +1,4 @@
-//! Values that are set in a block of which nothing else is set yet.
+//! Values that are set in a block in which nothing else is set.
 
 use crate::bench::{layout_of, path_text, with_bytes};
 use anyhow::{Result, bail};
@@ -9,7 +9,7 @@ use schema_check::Checked;
 use std::alloc::Global;
 use typed_writer::{FieldErr, FrameBuf, start};
 
-/// Begins the first message and sets one field; none where the schema has no such field.
+/// Begins the first message and sets one field. `None` if the schema has no such field.
 fn set_alone(
     layout: &Layout,
     buffer: &mut FrameBuf,
@@ -53,7 +53,8 @@ fn set_in(
     with_bytes(alloc, answer.as_str(), buffer.bytes())
 }
 
-/// A row: the schema, the limit, a field of the first message, and a value. Whether it is set, and the body then.
+/// A row: the schema, the limit, a field of the first message, and a value. Answers whether it is set, and the body
+/// afterwards.
 pub fn set_told(alloc: Global, checked: &Checked, row: &Row) -> Result<String> {
     let field = row.size(2)?;
     let value = value_of(alloc, row.text(3)?)?;

@@ -27,7 +27,7 @@ impl Calls for AllCalls {
     }
 }
 
-/// What is told of a row over the schema that it names first.
+/// The answer to a row about the schema that it names first.
 fn told_of(rt: &HostRuntime, checked: &Checked, row: &Row) -> Result<String> {
     let alloc = rt.alloc();
     match row.call() {

@@ -1,4 +1,4 @@
-//! Parts that are put at a place, and entries that are stepped over.
+//! Parts that are written at an offset, and entries that are skipped.
 
 use crate::bench::{layout_of, with_bytes};
 use anyhow::{Result, bail};
@@ -30,8 +30,8 @@ fn put_text(
     with_bytes(alloc, answer.as_str(), &out)
 }
 
-/// A row: the schema, the number of a data part, a place, and data, which are put there over six bytes. The place behind them, or why
-/// not, and the bytes then.
+/// A row: the schema, the number of a data part, an offset, and data, which are written there over six bytes. Answers
+/// the offset after them, or why there is none, and the bytes afterwards.
 pub fn put_told(alloc: Global, checked: &Checked, row: &Row) -> Result<String> {
     let part = row.size(1)?;
     let at = row.size(2)?;
@@ -58,7 +58,8 @@ fn skip_text(
     }
 }
 
-/// A row: the schema, a level, a version, the length of a block, its place, and bytes. The place behind the entry.
+/// A row: the schema, a level, a version, the length of a block, its offset, and bytes. Answers the offset after the
+/// entry.
 pub fn skip_told(alloc: Global, checked: &Checked, row: &Row) -> Result<String> {
     let level = row.size(1)?;
     let version = row.text(2)?.parse::<u32>()?;
@@ -69,7 +70,7 @@ pub fn skip_told(alloc: Global, checked: &Checked, row: &Row) -> Result<String> 
     skip_text(alloc, &layout, level, version, bytes.as_slice(), at, block)
 }
 
-/// What is kept of a byte: a text of 16 bytes, or none.
+/// What is stored for a byte: a text of 16 bytes, or none.
 fn slot_text(alloc: Global, codes: &Codes, byte: u8) -> Result<String> {
     let place = codes.index.get(byte as usize).copied().unwrap_or(0);
     let end = (place as usize).saturating_mul(16);
@@ -100,7 +101,7 @@ fn kept_text(alloc: Global, lines: &LineLayout, value: usize, bytes: &str) -> Re
     }
 }
 
-/// A row: the schema, a value of the first message's block, and bytes. What is kept to print each byte.
+/// A row: the schema, a value of the first message's block, and bytes. Answers what is stored to print each byte.
 pub fn kept_told(alloc: Global, checked: &Checked, row: &Row) -> Result<String> {
     let value = row.size(1)?;
     let bytes = row.text(2)?;

@@ -9,13 +9,13 @@ use std::alloc::Global;
 use tree_codec::decode;
 use version_project::{knows, plain, project};
 
-/// The message that lies in a body; none where none does.
+/// The message that lies in a body, if there is one.
 fn read(alloc: Global, checked: &Checked, body: &[u8]) -> Result<Option<Msg>> {
     let layout = layout_of(alloc, checked)?;
     Ok(decode(alloc, &layout, body).ok())
 }
 
-/// Whether the two are the same, and a copy of the first one too.
+/// Whether the two are the same, and so is a copy of the first one.
 fn both_same(alloc: Global, known: &Msg, seen: &Msg) -> Result<bool> {
     let copy = known.copy(alloc)?;
     Ok(known.same(seen) && copy.same(seen))

@@ -1,4 +1,4 @@
-//! Messages that are begun, and the states behind.
+//! Messages that are begun, and the states that follow.
 
 use crate::bench::{layout_of, with_bytes};
 use crate::states::{begin_entry, end_first, unset_first, write_first};
@@ -31,7 +31,8 @@ fn begin_in(
     with_bytes(alloc, answer.as_str(), buffer.bytes())
 }
 
-/// A row: the schema, the limit, and the number of a message, which is begun; and the bytes that stand then.
+/// A row: the schema, the limit, and the number of a message, which is begun. Gives the answer, and the bytes in the
+/// buffer afterwards.
 pub fn start_told(alloc: Global, checked: &Checked, row: &Row) -> Result<String> {
     let template = row.size(2)?;
     let mut buffer = FrameBuf::new(alloc, row.size(1)?)?;
@@ -54,7 +55,8 @@ fn way_in(alloc: Global, layout: &Layout, buffer: &mut FrameBuf, way: &str) -> R
     with_bytes(alloc, answer.as_str(), buffer.bytes())
 }
 
-/// A row: the schema, the limit, and which way is gone through the states of its messages; what they answer, and the bytes then.
+/// A row: the schema, the limit, and the path through the states of its messages. Gives their answers, and the bytes in
+/// the buffer afterwards.
 pub fn states_told(alloc: Global, checked: &Checked, row: &Row) -> Result<String> {
     let way = row.text(2)?;
     let mut buffer = FrameBuf::new(alloc, row.size(1)?)?;

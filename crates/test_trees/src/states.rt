@@ -4,19 +4,19 @@ use layout_tables::Layout;
 use sbe_types::{Kind, Value};
 use typed_writer::{FrameBuf, NextPart, start};
 
-/// What the writer answers on its way, and how many bytes the body has.
+/// The writer's answers in turn, and the length of the body.
 #[derive(Clone, Copy, Debug, PartialEq, Eq)]
 pub struct Told {
     /// The field that `done` names before any is set.
     unset: usize,
     /// Whether a value beyond the range is refused.
     is_refused: bool,
-    /// The field that `done` names then.
+    /// The field that `done` names after that.
     unset_still: usize,
     length: usize,
 }
 
-/// Writes the first message, where it has a number as its first field, and no groups and data.
+/// Writes the first message, if it has a number as its first field, and no groups and data.
 pub fn write_first(layout: &Layout, buffer: &mut FrameBuf) -> Option<Told> {
     if layout.templates() == 0 {
         return None;
@@ -65,7 +65,7 @@ pub fn write_first(layout: &Layout, buffer: &mut FrameBuf) -> Option<Told> {
     }
 }
 
-/// The field that `done` names where none is set.
+/// The field that `done` names if none is set.
 pub fn unset_first(layout: &Layout, buffer: &mut FrameBuf) -> Option<usize> {
     match start(buffer, layout, 0) {
         Ok(state) => match state.done() {
@@ -76,7 +76,7 @@ pub fn unset_first(layout: &Layout, buffer: &mut FrameBuf) -> Option<usize> {
     }
 }
 
-/// What the methods tell behind the fields of a message, and how many bytes it has.
+/// The answers of the methods after the fields of a message, and its length in bytes.
 #[derive(Clone, Copy, Debug, PartialEq, Eq)]
 pub struct Ended {
     is_whole: bool,
@@ -84,7 +84,7 @@ pub struct Ended {
     length: usize,
 }
 
-/// Ends the first message by the methods, where it has a field, and no groups and data.
+/// Ends the first message by the methods, if it has a field, and no groups and data.
 pub fn end_first(layout: &Layout, buffer: &mut FrameBuf) -> Option<Ended> {
     if layout.templates() == 0 {
         return None;
@@ -114,10 +114,10 @@ pub fn end_first(layout: &Layout, buffer: &mut FrameBuf) -> Option<Ended> {
     }
 }
 
-/// What the methods tell of a message with a group, of which an entry is begun and let go.
+/// The answers of the methods for a message with a group, of which an entry is begun and dropped.
 #[derive(Clone, Copy, Debug, PartialEq, Eq)]
 pub struct Begun {
-    /// What comes first behind the root's block, and whether the root's writer is whole then.
+    /// What comes first after the root's block, and whether the root's writer is whole at that point.
     next: NextPart,
     is_root_whole: bool,
     /// How many entries are still to come at first.
@@ -129,7 +129,7 @@ pub struct Begun {
     unset: usize,
 }
 
-/// Begins an entry of the second message's group by the methods, where it has a group.
+/// Begins an entry of the second message's group by the methods, if it has a group.
 pub fn begin_entry(layout: &Layout, buffer: &mut FrameBuf) -> Option<Begun> {
     if layout.templates() < 2 {
         return None;

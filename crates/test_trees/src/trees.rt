@@ -1,4 +1,4 @@
-//! Trees that no line can say, and what is read of bodies.
+//! Trees that no line can express, and what is read from bodies.
 
 use crate::bench::{layout_of, refused_text};
 use crate::written::msg_in;
@@ -26,7 +26,7 @@ fn group_of(alloc: Global, entry: Block) -> Result<GroupVal> {
     Ok(GroupVal::Entries(entries))
 }
 
-/// The block with one part more.
+/// The block with one more part.
 fn with_part(alloc: Global, block: &mut Block, kind: &str, rest: &str) -> Result<()> {
     match kind {
         "value" => block.fields.push(value_of(alloc, rest)?)?,
@@ -41,7 +41,7 @@ fn with_part(alloc: Global, block: &mut Block, kind: &str, rest: &str) -> Result
     Ok(())
 }
 
-/// Makes a block the one entry of a group of the block before.
+/// Makes a block the only entry of a group of the preceding block.
 fn close(alloc: Global, blocks: &mut Vec<Block>, entry: Block) -> Result<()> {
     let group = group_of(alloc, entry)?;
     match blocks.last_mut() {
@@ -59,8 +59,8 @@ fn add(alloc: Global, blocks: &mut Vec<Block>, word: &str) -> Result<()> {
     }
 }
 
-/// One step: `block` begins a block, `group` makes the block that was begun last the one entry of a group of the one before, and any
-/// other adds a part to the last one.
+/// One step: `block` begins a block, `group` makes the block that was begun last the only entry of a group of the
+/// preceding one, and any other step adds a part to the last one.
 fn step(alloc: Global, blocks: &mut Vec<Block>, word: &str) -> Result<()> {
     if word == "block" {
         return Ok(blocks.push(no_parts(alloc))?);
@@ -74,7 +74,7 @@ fn step(alloc: Global, blocks: &mut Vec<Block>, word: &str) -> Result<()> {
     }
 }
 
-/// The block that steps build, with `; ` between.
+/// The block built by steps that are separated by `; `.
 fn block_of(alloc: Global, steps: &str) -> Result<Block> {
     let mut blocks = Vec::new(alloc);
     for word in steps.split("; ") {
@@ -86,7 +86,7 @@ fn block_of(alloc: Global, steps: &str) -> Result<Block> {
     }
 }
 
-/// The tree that a row gives from this place on: the number of its message, its version, and the steps of its root.
+/// The tree that a row gives from this index on: the number of its message, its version, and the steps of its root.
 fn tree_of(alloc: Global, row: &Row, i: usize) -> Result<Msg> {
     let template = row.size(i)?;
     let version = row.text(i.saturating_add(1))?.parse::<u32>()?;
@@ -105,7 +105,7 @@ fn same_text(alloc: Global, msg: &Msg, other: &Msg) -> Result<String> {
     Ok(format!(in alloc; "copy {is_copied}, other {is_other}")?)
 }
 
-/// A row: the schema, and two trees. Whether the first is the same as its copy, and as the other.
+/// A row: the schema, and two trees. Answers whether the first one equals its copy, and the other one.
 pub fn same_told(alloc: Global, row: &Row) -> Result<String> {
     let msg = tree_of(alloc, row, 1)?;
     let other = tree_of(alloc, row, 4)?;
@@ -127,7 +127,7 @@ fn size_text(alloc: Global, checked: &Checked, limit: usize, msg: &Msg) -> Resul
     }
 }
 
-/// A row: the schema, the limit, and a tree, of which the size is told.
+/// A row: the schema, the limit, and a tree. Answers its size.
 pub fn size_told(alloc: Global, checked: &Checked, row: &Row) -> Result<String> {
     let limit = row.size(1)?;
     let msg = tree_of(alloc, row, 2)?;
@@ -205,7 +205,7 @@ fn decoded_text(alloc: Global, layout: &Layout, body: &[u8]) -> Result<String> {
     }
 }
 
-/// A row: the schema, and a body, of whose message the root is told.
+/// A row: the schema, and a body. Answers the root of its message.
 pub fn decoded_told(alloc: Global, checked: &Checked, row: &Row) -> Result<String> {
     let body = row.bytes(alloc, 1)?;
     let layout = layout_of(alloc, checked)?;

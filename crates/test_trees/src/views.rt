@@ -33,14 +33,15 @@ fn view_text(alloc: Global, layout: &Layout, version: u32, body: &[u8]) -> Resul
     }
 }
 
-/// A row: the schema, and a body. What its view tells of the message, or the template as far as a refusal tells it.
+/// A row: the schema, and a body. Answers what its view says of the message, or the template as far as a refusal names
+/// it.
 pub fn view_told(alloc: Global, checked: &Checked, row: &Row) -> Result<String> {
     let body = row.bytes(alloc, 1)?;
     let layout = layout_of(alloc, checked)?;
     view_text(alloc, &layout, checked.version(), body.as_slice())
 }
 
-/// The body that the printed form of a line has.
+/// The body of a line in printed form.
 fn printed_text(alloc: Global, printed: &PrintedLines, line: &str, limit: usize) -> Result<String> {
     let mut draft = BodyDraft::new();
     if body_of_line(printed, line.as_bytes(), limit, &mut draft) {
@@ -49,7 +50,7 @@ fn printed_text(alloc: Global, printed: &PrintedLines, line: &str, limit: usize)
     Ok(format!(in alloc; "no printed line")?)
 }
 
-/// The body that a line of any form has.
+/// The body of a line in any form.
 fn general_text(
     alloc: Global,
     checked: &Checked,
@@ -82,7 +83,7 @@ fn both_text(
     Ok(format!(in alloc; "{}, {}", short.as_str(), general.as_str())?)
 }
 
-/// A row: the schema, the limit, and a line, of which the body is told by both ways: `both` where they give the same.
+/// A row: the schema, the limit, and a line. Answers its body by both paths: `both` if they give the same.
 pub fn printed_told(alloc: Global, checked: &Checked, row: &Row) -> Result<String> {
     let limit = row.size(1)?;
     let line = row.text(2)?;

@@ -1,4 +1,4 @@
-//! Messages of lines and of bodies, written into a buffer of so many bytes.
+//! Messages of lines and of bodies, written to a buffer of a given size.
 
 use crate::bench::{layout_of, written_text};
 use anyhow::{Result, bail};
@@ -19,7 +19,7 @@ fn message_of(alloc: Global, checked: &Checked, line: &str) -> Result<Msg> {
     }
 }
 
-/// What is told of a message over a buffer, whose limit stays.
+/// The answer for a message written to a buffer, whose limit doesn't change.
 fn msg_told(alloc: Global, layout: &Layout, msg: &Msg, buf: &mut FrameBuf) -> Result<String> {
     let limit = buf.limit();
     let answer = encode(layout, msg, buf);
@@ -29,7 +29,7 @@ fn msg_told(alloc: Global, layout: &Layout, msg: &Msg, buf: &mut FrameBuf) -> Re
     written_text(alloc, answer, buf)
 }
 
-/// What is told of a message over a buffer of so many bytes.
+/// The answer for a message written to a buffer of `limit` bytes.
 pub fn msg_in(alloc: Global, checked: &Checked, limit: usize, msg: &Msg) -> Result<String> {
     let mut buf = FrameBuf::new(alloc, limit)?;
     let layout = layout_of(alloc, checked)?;
@@ -46,7 +46,7 @@ pub fn line_told(alloc: Global, checked: &Checked, row: &Row) -> Result<String> 
     text_told(alloc, checked, row.size(1)?, row.text(2)?)
 }
 
-/// The text with the pairs of texts behind these places replaced, the second of a pair for the first.
+/// The text in which the pairs from this index on are replaced: the first text of a pair by the second.
 fn replaced(alloc: Global, text: String, row: &Row, first: usize) -> Result<String> {
     let mut text = text;
     for i in first..row.len() {
@@ -63,7 +63,8 @@ fn replaced(alloc: Global, text: String, row: &Row, first: usize) -> Result<Stri
     Ok(text)
 }
 
-/// A row: the schema, the limit, a file in `lines`, and pairs of texts, of which the second is put for the first.
+/// A row: the schema, the limit, a file in `lines`, and pairs of texts. The first text of a pair is replaced by the
+/// second.
 pub fn changed_told(rt: &HostRuntime, checked: &Checked, row: &Row) -> Result<String> {
     let name = row.text(2)?;
     let path = format!(in rt.alloc(); "lines/{name}.json")?;
@@ -114,7 +115,7 @@ fn turns_in(
     Ok(text)
 }
 
-/// A row: the schema, the limit, and lines, whose messages are written into one buffer in turn.
+/// A row: the schema, the limit, and lines, whose messages are written to one buffer in turn.
 pub fn turns_told(alloc: Global, checked: &Checked, row: &Row) -> Result<String> {
     let mut buf = FrameBuf::new(alloc, row.size(1)?)?;
     let layout = layout_of(alloc, checked)?;

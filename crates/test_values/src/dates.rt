@@ -10,7 +10,7 @@ use fix_values::V;
 use row_tables::Row;
 use std::alloc::Global;
 
-/// What is told of a row; nothing where it names another call.
+/// The answer to a row, or `None` if it names another call.
 pub fn told(alloc: Global, row: &Row) -> Result<Option<String>> {
     let text = match row.call() {
         "show_day" => day_shown(alloc, row)?,
@@ -49,7 +49,7 @@ fn stamp_shown(alloc: Global, row: &Row) -> Result<String> {
     shown(alloc, answer, &out)
 }
 
-/// The nanoseconds of what was read, and how many digits its fraction has.
+/// The nanoseconds that were read, and the number of digits of the fraction.
 fn moment_read(alloc: Global, answer: std::result::Result<Moment, V>) -> Result<String> {
     match answer {
         Ok(moment) => {

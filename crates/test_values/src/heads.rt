@@ -5,7 +5,7 @@ use open_framing::{HEAD_BYTES, Head, HeadErr, put_head, read_head};
 use row_tables::{Row, spelled};
 use std::alloc::Global;
 
-/// What is told of a row; nothing where it names another call.
+/// The answer to a row, or `None` if it names another call.
 pub fn told(alloc: Global, row: &Row) -> Result<Option<String>> {
     let text = match row.call() {
         "read_head" => head_read(alloc, row)?,
@@ -36,7 +36,7 @@ fn head_read(alloc: Global, row: &Row) -> Result<String> {
     }
 }
 
-/// A head of this length and encoding over bytes that were there.
+/// Writes a head with this length and encoding over other bytes.
 fn head_put(alloc: Global, row: &Row) -> Result<String> {
     let mut out = [0xff; HEAD_BYTES];
     let head = Head {

@@ -1,4 +1,4 @@
-//! Leaves and lists of names as rows spell them.
+//! Leaves and lists of names in the notation of rows.
 
 use anyhow::{Result, bail};
 use lists::List;
@@ -6,7 +6,7 @@ use sbe_types::{Bytes, Leaf, LeafShape, Named, NamedList, Presence, Prim};
 use serde_json::Value;
 use std::alloc::Global;
 
-/// The primitive of a name.
+/// The primitive with this name.
 pub fn prim_of(name: &str) -> Result<Prim> {
     match name {
         "char" => Ok(Prim::Char),
@@ -33,7 +33,7 @@ fn shape_of(name: &str) -> Result<LeafShape> {
     }
 }
 
-/// A leaf: its primitive, length, shape, least and greatest number, and its null where it is optional.
+/// A leaf: its primitive, length, shape, least and greatest number, and its null if it is optional.
 pub fn leaf_of(alloc: Global, text: &str) -> Result<Leaf> {
     let mut words = Vec::new(alloc);
     for word in text.split(' ') {
@@ -62,7 +62,7 @@ pub fn leaf_of(alloc: Global, text: &str) -> Result<Leaf> {
     }
 }
 
-/// A name and its number, which stand in an array of the two.
+/// A name and its number, given as an array of the two.
 fn named(alloc: Global, pair: &Value) -> Result<Named> {
     let name = pair.get(0).and_then(Value::as_str);
     let number = pair.get(1).and_then(Value::as_i64);
@@ -75,7 +75,7 @@ fn named(alloc: Global, pair: &Value) -> Result<Named> {
     })
 }
 
-/// Names and their numbers, an array of arrays of two.
+/// Names and their numbers, given as an array of arrays of two.
 pub fn names_of(alloc: Global, text: &str) -> Result<NamedList> {
     let value = Value::from_str(alloc, text)?;
     let Some(pairs) = value.as_array() else {

@@ -1,11 +1,11 @@
-//! What is told of answers.
+//! Answers as text.
 
 use anyhow::Result;
 use fix_values::{Short, V};
 use row_tables::spelled;
 use std::alloc::Global;
 
-/// The text that a call left, or the code of its refusal, which leaves none.
+/// The text that a call wrote, or the code of its refusal, which leaves no text.
 pub fn shown(alloc: Global, answer: std::result::Result<(), V>, out: &Short) -> Result<String> {
     match answer {
         Ok(()) => spelled(alloc, out.bytes()),
@@ -22,7 +22,7 @@ pub fn number_read(alloc: Global, answer: std::result::Result<i128, V>) -> Resul
     }
 }
 
-/// That a text is taken, or the code of its refusal.
+/// That a text is accepted, or the code of its refusal.
 pub fn taken(alloc: Global, answer: std::result::Result<(), V>) -> Result<String> {
     match answer {
         Ok(()) => Ok(format!(in alloc; "taken")?),
@@ -30,7 +30,7 @@ pub fn taken(alloc: Global, answer: std::result::Result<(), V>) -> Result<String
     }
 }
 
-/// A place for a text, in which another one stands.
+/// A buffer for a text that already holds another one.
 pub fn used() -> Short {
     let mut out = Short::new();
     out.push(b'x');

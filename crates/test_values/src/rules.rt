@@ -14,7 +14,7 @@ use lists::{Bytes, List};
 use row_tables::Row;
 use std::alloc::Global;
 
-/// What is told of a row; nothing where it names another call.
+/// The answer to a row, or `None` if it names another call.
 pub fn told(alloc: Global, row: &Row) -> Result<Option<String>> {
     let text = match row.call() {
         "uses" => uses(alloc, &rule_of(alloc, row)?)?,
@@ -69,7 +69,7 @@ fn uses(alloc: Global, rule: &NumRule) -> Result<String> {
     Ok(format!(in alloc; "shows {shows} reads {reads}")?)
 }
 
-/// Whether the rule is asked for the number.
+/// Whether the rule can be given the number.
 fn is_asked(rule: &NumRule, n: i128) -> bool
     ensures { result ≡ is_asked rule.now n }
 {

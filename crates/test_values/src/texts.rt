@@ -1,4 +1,4 @@
-//! Values as JSON texts, and the chunk that they are gathered in.
+//! Values as JSON texts, and the chunk in which they are gathered.
 
 use crate::leaves::{names_of, prim_of};
 use anyhow::{Result, bail};
@@ -11,10 +11,10 @@ use sbe_base::MemSink;
 use sbe_types::{Bytes, ConstValue, Named};
 use std::alloc::Global;
 
-/// How many bytes the sink of a row takes.
+/// How many bytes the sink of a row accepts.
 const ROOM: usize = 8192;
 
-/// What is told of a row; nothing where it names another call.
+/// The answer to a row, or `None` if it names another call.
 pub fn told(alloc: Global, row: &Row) -> Result<Option<String>> {
     let text = match row.call() {
         "digits" => all_digits(alloc, row.text(0)?)?,
@@ -57,7 +57,7 @@ fn put_listed(alloc: Global, row: &Row, printer: &mut Printer<'_, MemSink>) -> R
     Ok(())
 }
 
-/// A constant: its kind, and what it is.
+/// A constant: its kind, and its value.
 fn constant_of(alloc: Global, row: &Row) -> Result<ConstValue> {
     match row.text(0)? {
         "number" => Ok(ConstValue::Num(row.number(1)?)),
@@ -83,7 +83,7 @@ fn one_put(alloc: Global, row: &Row) -> Result<String> {
     spelled(alloc, out.bytes())
 }
 
-/// A number put behind so many bytes, of which the chunk gathers what it can.
+/// A number printed after `many` bytes, of which the chunk gathers what it can.
 fn digits_behind(alloc: Global, many: usize, number: &str) -> Result<String> {
     let before = vec![in alloc; b'x'; many]?;
     let mut out = MemSink::new(alloc, ROOM, &[])?;
@@ -98,7 +98,7 @@ fn digits_behind(alloc: Global, many: usize, number: &str) -> Result<String> {
     }
 }
 
-/// Each of these numbers behind so many bytes, with a blank behind each.
+/// Each of these numbers printed after that many bytes, each followed by a space.
 fn numbers_behind(alloc: Global, many: &str, numbers: &str) -> Result<String> {
     let many = many.parse::<usize>()?;
     let mut text = String::new(alloc);
@@ -109,7 +109,7 @@ fn numbers_behind(alloc: Global, many: &str, numbers: &str) -> Result<String> {
     Ok(text)
 }
 
-/// The digits of a number, and those of it as a count, where it is none below zero.
+/// The digits of a number, and those of it as a count, unless it is negative.
 fn digits_of(alloc: Global, number: &str) -> Result<String> {
     let mut out = MemSink::new(alloc, ROOM, &[])?;
     let mut chunk = Chunk::new();
@@ -123,7 +123,7 @@ fn digits_of(alloc: Global, number: &str) -> Result<String> {
     spelled(alloc, out.bytes())
 }
 
-/// The digits of each of these numbers, with a blank behind each.
+/// The digits of each of these numbers, each followed by a space.
 fn all_digits(alloc: Global, numbers: &str) -> Result<String> {
     let mut text = String::new(alloc);
     for number in numbers.split(' ') {
@@ -133,7 +133,7 @@ fn all_digits(alloc: Global, numbers: &str) -> Result<String> {
     Ok(text)
 }
 
-/// Two pieces of so many bytes and a bar between.
+/// Two pieces of these sizes with a bar between them.
 fn pieces_put(alloc: Global, row: &Row) -> Result<String> {
     let first = vec![in alloc; b'x'; row.size(0)?]?;
     let second = vec![in alloc; b'y'; row.size(1)?]?;
@@ -151,7 +151,7 @@ fn pieces_put(alloc: Global, row: &Row) -> Result<String> {
     bail!("the pieces differ")
 }
 
-/// Whether so many pieces of ten bytes were written.
+/// Whether `many` pieces of ten bytes were written.
 fn tens_put(out: &mut MemSink, many: usize) -> bool {
     let mut chunk = Chunk::new();
     let mut printer = Printer::new(out, &mut chunk);
@@ -161,8 +161,8 @@ fn tens_put(out: &mut MemSink, many: usize) -> bool {
     printer.finish().is_ok()
 }
 
-/// So many pieces of ten bytes over a sink of which one call fails: whether they were written, and whether what stands
-/// then is a front of what is written where none fails, and shorter.
+/// Pieces of ten bytes printed to a sink of which one call fails: whether they were written, and whether the sink then
+/// holds a proper prefix of what is written if no call fails.
 fn failing_put(alloc: Global, row: &Row) -> Result<String> {
     let mut whole = MemSink::new(alloc, ROOM, &[])?;
     let mut out = MemSink::new(alloc, ROOM, &[row.text(1)?.parse::<u64>()?])?;

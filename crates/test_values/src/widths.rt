@@ -15,7 +15,7 @@ use sbe_types::{
 };
 use std::alloc::Global;
 
-/// What is told of a row; nothing where it names another call.
+/// The answer to a row, or `None` if it names another call.
 pub fn told(alloc: Global, row: &Row) -> Result<Option<String>> {
     let text = match row.call() {
         "get_num" => num_got(alloc, row)?,
@@ -64,7 +64,7 @@ fn has_number(prim: Prim, n: i128) -> bool
     }
 }
 
-/// A byte order, a primitive, and a number, whose bytes are put in front of others.
+/// A byte order, a primitive, and a number, whose bytes are written in front of others.
 fn num_put(alloc: Global, row: &Row) -> Result<String> {
     let order = order_of(row)?;
     let prim = prim_of(row.text(1)?)?;
@@ -126,7 +126,7 @@ fn judged(alloc: Global, kind: &Kind, v: &Value) -> Result<String>
     fault_text(alloc, &fault)
 }
 
-/// A kind and a value. The kind is that of a leaf, of an enum over a leaf, or of a set over a primitive.
+/// A kind and a value. The kind is that of a leaf, of an enum with a leaf, or of a set with a primitive.
 fn kind_judged(alloc: Global, row: &Row) -> Result<String> {
     let value = value_of(alloc, row.text(2)?)?;
     match row.text(0)? {
@@ -178,7 +178,8 @@ fn pair_kind() -> Kind
     })
 }
 
-/// A byte order, one of two kinds, and a value, whose bytes are put over others: what is told, and the bytes then.
+/// A byte order, one of two kinds, and a value, whose bytes are written over others: the answer, and the bytes
+/// afterwards.
 fn leaf_written(alloc: Global, row: &Row) -> Result<String> {
     let order = order_of(row)?;
     let value = value_of(alloc, row.text(2)?)?;

@@ -1,4 +1,4 @@
-//! Messages that are drawn, as the bodies that they are written as.
+//! Messages that are drawn, shown by the bodies that they are written as.
 
 use anyhow::{Result, bail};
 use layout_compile::compile;
@@ -40,7 +40,7 @@ fn body_text(alloc: Global, layout: &Layout, msg: &Msg) -> Result<String> {
     }
 }
 
-/// The message that a schema has by a seed and an index.
+/// The message of a schema for a seed and an index.
 fn drawn(alloc: Global, checked: &Checked, seed: u64, index: u64) -> Result<Msg> {
     if checked.messages().is_empty() {
         bail!("the schema has no message");

@@ -9,14 +9,14 @@ use Rattle.date_answers.specs.Answers.{Instant, in_unit}
 use Rattle.bridge_rules.specs.Rules.{UnitBy}
 use Rattle.bridge_rules.specs.Values.{Misread, TimeCount, in_unit_of, moment_value, time_count, value_from}
 
--- the moment is the instant, told with as many digits up to nine; or both are refused alike
+-- the moment is the instant, with as many digits up to nine; or both are refused for the same reason
 abbrev pub IsInstant : Result Moment V → Result Instant V → Type 0
 IsInstant (Ok m) (Ok i) = (m.nanos ≡ i.nanos) × (m.digits ≡ min 9 i.digits)
 IsInstant (Err v) (Err w) = v ≡ w
 IsInstant (Ok m) (Err w) = ⊥
 IsInstant (Err v) (Ok i) = ⊥
 
--- so many nanoseconds counted in a unit, as one of the leaf's numbers
+-- a number of nanoseconds counted in a unit, as one of the leaf's numbers
 abbrev pub count_of : LeafOf → ℕ → ℤ → Result TimeCount V
 count_of leaf unit nanos = time_count unit (judged leaf (in_unit nanos unit))
 

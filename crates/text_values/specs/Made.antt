@@ -1,4 +1,4 @@
--- The rows that are made of rules. Own profile.
+-- The rows made from rules. Own profile.
 use Rattle.std.specs.Prelude.{Bool, true, pos}
 use Rattle.sbe_types.specs.declared.kind.Leaf.{Leaf as LeafOf}
 use Rattle.fix_values.specs.declared.rule.NumRule.{NumRule}

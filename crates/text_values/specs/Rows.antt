@@ -22,7 +22,7 @@ use Rattle.text_values.specs.declared.row.ConstValue.TheVariants as fixed
 use Rattle.text_values.specs.declared.row.TextValue.{TextValue}
 use Rattle.text_values.specs.declared.row.TextValue.TheVariants as row
 
--- a text that a field may have: one byte or more, with SOH only where any byte may be there
+-- a text that a field may have: at least one byte, with SOH only if any byte is allowed
 abbrev pub given : Bool → List ℕ → Bool
 given any [] = false
 given any (b ∷ bs) = any || not (has_soh (b ∷ bs))
@@ -76,7 +76,7 @@ value_in_row (row.Const own) t = const_value own t
 abbrev pub row_value : TextValue → List ℕ → Result Value Misread
 row_value row t = if given (is_data row) t then value_in_row row t else Err (not_read why.Spelling)
 
--- the value of a row's part without a field, where there is one
+-- the value of a row's part without a field, if there is one
 abbrev pub row_missing : TextValue → Option Value
 row_missing (row.Number rule leaf) = if_optional leaf value.Null
 row_missing (row.Listed rule leaf) = if_optional leaf value.Null
@@ -91,7 +91,7 @@ row_missing (row.Moment from leaf unit) = if_optional leaf (two_members value.Nu
 row_missing (row.Month leaves) = if_optional leaves.year (null_month (leaves_of leaves))
 row_missing (row.Const own) = None
 
--- the row reads the texts of a rule, and knows what a missing field gives
+-- the row reads the texts of a rule, and gives the rule's value for a missing field
 pub record Reads (row : TextValue) (rule : Rule) : Type 0 where
   pub value : (t : List ℕ) → value_by rule t ≡ row_value row t
   pub missing : missing_by rule ≡ row_missing row

@@ -15,7 +15,7 @@ use crate::value::{Misread, ReadValue};
 use fix_values::{Dec, V, fit_decimal, read_decimal};
 use sbe_types::Leaf;
 
-/// The value of a decimal under a constant exponent.
+/// The value of a decimal with a constant exponent.
 pub(crate) fn decimal_in<'a>(
     leaf: &Leaf,
     exponent: i128,
@@ -29,7 +29,7 @@ pub(crate) fn decimal_in<'a>(
     }
 }
 
-/// The mantissa that a text has under a constant exponent.
+/// The mantissa of a text with a constant exponent.
 fn mantissa_of(leaf: &Leaf, exponent: i128, text: &[u8]) -> Result<i128, V>
     ensures { result ≡ mantissa_of leaf.now exponent (decimal_of text.now) }
 {
@@ -39,7 +39,7 @@ fn mantissa_of(leaf: &Leaf, exponent: i128, text: &[u8]) -> Result<i128, V>
     }
 }
 
-/// The mantissa that a decimal as texts have them has under any exponent.
+/// The mantissa of a decimal in the form that texts have, with any exponent.
 fn fitted(number: &Dec, leaf: &Leaf, exponent: i128) -> Result<i128, V>
     requires near { unsigned_abs number.now.exponent ≤ MOST_DIGITS }
     ensures { result ≡ fitted number.now leaf.now exponent }
@@ -50,7 +50,7 @@ fn fitted(number: &Dec, leaf: &Leaf, exponent: i128) -> Result<i128, V>
     }
 }
 
-/// The mantissa under an exponent that is far from all that texts have: zero alone has one.
+/// The mantissa with an exponent that is far from all that texts have: only zero has one.
 fn fitted_far(number: &Dec, leaf: &Leaf, exponent: i128) -> Result<i128, V>
     requires near { unsigned_abs number.now.exponent ≤ MOST_DIGITS }
     requires far { ¬ FitsSigned w32 exponent }
@@ -74,7 +74,7 @@ fn fitted_far(number: &Dec, leaf: &Leaf, exponent: i128) -> Result<i128, V>
     Err(V::Range)
 }
 
-/// The number, where it is one of the leaf's.
+/// The number, if it is one of the leaf's.
 pub(crate) fn judged(leaf: &Leaf, n: i128) -> Result<i128, V>
     ensures { result ≡ judged leaf.now (Ok n) }
 {
@@ -105,7 +105,7 @@ pub(crate) fn floating_in<'a>(
     }
 }
 
-/// The decimal that a text is, where each of its numbers is one of its type.
+/// The decimal in a text, if each of its numbers fits its type.
 fn typed_decimal(mantissa: &Leaf, exponent: &Leaf, text: &[u8]) -> Result<Dec, V>
     ensures { result ≡ decimal_in_types mantissa.now exponent.now (decimal_of text.now) }
 {

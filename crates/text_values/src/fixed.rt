@@ -14,7 +14,7 @@ use crate::value::{Misread, ReadValue};
 use fix_values::V;
 use sbe_types::{Leaf, Prim};
 
-/// The value of a constant, where the text is read as it.
+/// The value of a constant, if the text is read as that constant.
 pub(crate) fn constant_in<'a>(own: &ConstValue, text: &'a [u8]) -> Result<ReadValue<'a>, Misread>
     ensures { answer_seen result ≡ const_value own.now text.now }
 {

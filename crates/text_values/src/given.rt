@@ -7,7 +7,7 @@ ghost use Rattle.text_values.specs.Rows.{given};
 use crate::value::{Misread, ReadValue};
 use fix_values::{V, show_text};
 
-/// Whether a field may have the text: it has a byte, and SOH only where any byte may be there.
+/// Whether a field may have the text: it isn't empty, and contains SOH only if any byte is allowed.
 pub(crate) fn is_given(any: bool, text: &[u8]) -> bool
     ensures { result ≡ given any text.now }
 {

@@ -1,4 +1,5 @@
-//! The values of the texts of fields: the rows of a plan, each made of a rule of the table of kinds and datatypes. No text takes memory.
+//! The values of the texts of fields: the rows of a plan, each made from a rule of the table of kinds and datatypes.
+//! Reading a text allocates nothing.
 #![tactic(auto)]
 
 mod decimals;

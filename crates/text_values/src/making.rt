@@ -1,4 +1,4 @@
-// Rows of rules.
+// Makes rows from rules.
 ghost use Rattle.std.specs.Prelude.{◌≡◌, List, is_some, IfSome};
 ghost use Rattle.sbe_types.specs.declared.kind.Named.{Named as AnyNamed};
 ghost use Rattle.bridge_rules.specs.Table.{every_byte, every_number};
@@ -17,8 +17,8 @@ use fix_values::{CodeList, NumRule};
 use sbe_types::{Leaf, LeafShape, Presence, Prim};
 
 impl TextValue {
-    /// The row of a rule; none where the texts of the rule's codes are empty, too long or not apart, as those of a mapping in order
-    /// never are.
+    /// The row of a rule. `None` if the texts of the rule's codes are empty, too long or not distinct, which they never
+    /// are in a valid mapping.
     pub fn new(rule: FieldRule) -> Option<TextValue>
         ensures reads { IfSome result (λ row. (names : List AnyNamed) → Reads row (rule_with names rule)) }
         ensures some { is_some result ≡ is_readable rule }
@@ -93,7 +93,7 @@ fn enum_leaf(rule: &EnumRule) -> Leaf
     }
 }
 
-/// How the numbers of an enum are spelled.
+/// How the numbers of an enum are written.
 fn enum_spelling(rule: EnumRule) -> NumRule
     ensures { result ≡ enum_spelling rule }
 {
@@ -150,7 +150,7 @@ fn fixed_listed(rule: EnumRule, n: i128) -> Option<ConstValue>
     }
 }
 
-/// A type that admits every number of an i128.
+/// A type whose range contains every number of an i128.
 pub(crate) fn every_number(prim: Prim) -> Leaf
     ensures { result ≡ every_number prim }
 {
@@ -165,7 +165,7 @@ pub(crate) fn every_number(prim: Prim) -> Leaf
     }
 }
 
-/// A type that admits every byte, and this one.
+/// A type whose range contains every byte, including this one.
 fn every_byte(byte: u8) -> Leaf
     ensures { result ≡ every_byte byte }
 {

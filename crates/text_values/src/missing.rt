@@ -14,7 +14,7 @@ use crate::value::ReadValue;
 use bridge_table::{MonthLeaves, Unit};
 use sbe_types::{Leaf, Presence};
 
-/// The value of a row's part without a field, where there is one.
+/// The value of a row's part without a field, if it has one.
 pub(crate) fn missing_value<'a>(row: &TextValue) -> Option<ReadValue<'a>>
     ensures { row_missing row.now ≡ option_map value_seen result }
 {
@@ -36,7 +36,7 @@ pub(crate) fn missing_value<'a>(row: &TextValue) -> Option<ReadValue<'a>>
     }
 }
 
-/// The value, where the leaf is optional.
+/// The value, if the leaf is optional.
 fn if_optional<'a>(leaf: &Leaf, value: ReadValue<'a>) -> Option<ReadValue<'a>>
     ensures { if_optional leaf.now (value_seen value.entry) ≡ option_map value_seen result }
 {
@@ -78,7 +78,7 @@ fn month_without<'a>(leaves: &MonthLeaves) -> ReadValue<'a>
     )
 }
 
-/// What a member is after a null one: null, or 0, or its least number.
+/// The value of a member after a null one: null, or 0, or its least number.
 fn least_or_null(leaf: &Leaf) -> Option<i128>
     ensures { number_or_null result ≡ least_or_null leaf.now }
 {
@@ -91,7 +91,7 @@ fn least_or_null(leaf: &Leaf) -> Option<i128>
     Some(leaf.low)
 }
 
-/// Empty data, where it may be.
+/// Empty data, if it is allowed.
 fn empty_if_admitted<'a>(length: &Leaf) -> Option<ReadValue<'a>>
     ensures { empty_if_admitted length.now ≡ option_map value_seen result }
 {

@@ -37,7 +37,7 @@ pub(crate) fn judged_day(leaf: &Leaf, text: &[u8]) -> Result<i128, V>
     }
 }
 
-/// The number of the day that a text spells.
+/// The number of the day in a text.
 #[tactic(auto, using(crate::proofs::Dates::day_is))]
 fn day_number(text: &[u8]) -> Result<i128, V>
     ensures { result ≡ day_read text.now }
@@ -61,7 +61,7 @@ pub(crate) fn moment_in<'a>(
     }
 }
 
-/// The moment that a text spells.
+/// The moment in a text.
 fn moment_of(epoch: Epoch, text: &[u8]) -> Result<Moment, V>
     ensures { IsInstant result (instant_read (epoch_of epoch) text.now) }
 {
@@ -85,7 +85,7 @@ fn time_of(text: &[u8]) -> Result<Moment, V>
     read_time(text)
 }
 
-/// The value of a moment in its unit: the constant one, or the least that has a place for each digit.
+/// The value of a moment in its unit: the constant one, or the least one that has a place for each digit.
 fn counted_value<'a>(leaf: &Leaf, unit: &Unit, moment: &Moment) -> Result<ReadValue<'a>, Misread>
     ensures { answer_seen result ≡ counted_of leaf.now (unit_of unit.now) moment.now.nanos moment.now.digits }
 {
@@ -135,7 +135,7 @@ fn counted(leaf: &Leaf, unit: u8, nanos: i128) -> Result<i128, V>
     fit_decimal(&number, leaf, places as i32)
 }
 
-/// The least unit that has a place for each of so many digits.
+/// The least unit that has a place for each of the digits.
 fn least_unit(digits: u8) -> u8
     ensures { result ≡ least_unit digits }
 {

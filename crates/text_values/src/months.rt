@@ -30,7 +30,7 @@ pub(crate) fn month_in<'a>(leaves: &MonthLeaves, text: &'a [u8]) -> Result<ReadV
     }
 }
 
-/// The month that a text spells, where the types of its parts admit it.
+/// The month in a text, if the types of its parts allow it.
 fn month_of(leaves: &MonthLeaves, text: &[u8]) -> Result<MonthYear, V>
     ensures { result ≡ month_admitted (leaves_of leaves.now) (month_read text.now) }
 {
@@ -52,7 +52,7 @@ fn month_spelled(text: &[u8]) -> Result<MonthYear, V>
     read_month(text)
 }
 
-/// Whether each number of a month is one of its type.
+/// Whether each number of a month fits its type.
 fn is_month_of(leaves: &MonthLeaves, month: &MonthYear) -> bool
     ensures { result ≡ is_month_of (leaves_of leaves.now) month.now }
 {
@@ -62,7 +62,7 @@ fn is_month_of(leaves: &MonthLeaves, month: &MonthYear) -> bool
         && is_value_or_none(&leaves.week, month.week)
 }
 
-/// Whether a number that is there is one of the type's, and one that isn't may be null.
+/// Whether a number that is present fits the type, or one that is absent may be null.
 fn is_value_or_none(leaf: &Leaf, n: Option<i128>) -> bool
     ensures { result ≡ is_value_or_none leaf.now n }
 {

@@ -32,7 +32,7 @@ impl Model for Reading {
 }
 
 impl Reading {
-    /// The reading by a rule; none where numbers can't be read by it.
+    /// Wraps a rule. `None` if numbers can't be read by it.
     pub fn new(rule: NumRule) -> Option<Reading>
         ensures same { IfSome result (λ reading. reading ≡ rule) }
         ensures some { is_some result ≡ can_read rule }
@@ -71,7 +71,7 @@ impl Model for ChoiceReading {
 }
 
 impl ChoiceReading {
-    /// The reading by the codes of a set; none where choices can't be read by them.
+    /// Creates the rule from the codes of a set. `None` if choices can't be read by them.
     pub fn new(codes: CodeList) -> Option<ChoiceReading>
         ensures same { IfSome result (λ reading. reading ≡ rules.Codes codes) }
         ensures some { is_some result ≡ can_read (rules.Codes codes) }

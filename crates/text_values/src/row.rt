@@ -29,7 +29,7 @@ pub enum TextValue {
     Listed(Reading, Leaf),
     /// The choices of a set.
     Choices(ChoiceReading),
-    /// A decimal under this exponent.
+    /// A decimal with this exponent.
     Decimal(Leaf, i128),
     /// A decimal whose exponent is on the wire: the types of both.
     Floating(Leaf, Leaf),
@@ -39,7 +39,7 @@ pub enum TextValue {
     Octets(Leaf),
     /// Data that is a text.
     Words(Leaf),
-    /// A day by its number.
+    /// A day, by its number.
     Day(Leaf),
     /// A time and its unit.
     Moment(Epoch, Leaf, Unit),
@@ -70,7 +70,7 @@ impl TextValue {
         read_row(self, text)
     }
 
-    /// The value of a part without a field, where there is one.
+    /// The value of a part without a field, if it has one.
     pub fn missing<'a>(&self) -> Option<ReadValue<'a>>
         ensures { (rule : Rule) → Reads self.now rule → missing_by rule ≡ option_map value_seen result }
     {
@@ -87,7 +87,7 @@ fn read_row<'a>(row: &TextValue, text: &'a [u8]) -> Result<ReadValue<'a>, Misrea
     read_given(row, text)
 }
 
-/// Whether the row's texts may have any bytes.
+/// Whether the row's texts may contain any bytes.
 fn is_data(row: &TextValue) -> bool
     ensures { result ≡ is_data row.now }
 {

@@ -1,4 +1,4 @@
-// What texts are read as.
+// The values that are read from texts.
 ghost use Rattle.std.specs.Prelude.{◌≡◌, ◌∷◌, [], IfOk};
 ghost use Rattle.bridge_rules.specs.Members.{decimal_value, number_or_null, two_members};
 ghost use Rattle.sbe_types.specs.declared.message.Value.{Comp};
@@ -10,7 +10,7 @@ use sbe_types::Value;
 use std::alloc::Global;
 use thiserror::Error;
 
-/// The value that a text is read as, or that a part has without a field.
+/// The value that was read from a text, or the value of a part without a field.
 #[derive(Clone, Copy)]
 pub enum ReadValue<'a> {
     /// A number, or null.
@@ -27,7 +27,7 @@ pub enum ReadValue<'a> {
     Pair(Option<i128>, Option<i128>),
     /// A composite of a year, a month, a day and a week, each of which may be null.
     Month(Option<i128>, Option<i128>, Option<i128>, Option<i128>),
-    /// The value that the schema fixes.
+    /// The value that is fixed by the schema.
     Constant,
 }
 
@@ -43,11 +43,11 @@ pub enum Misread {
 }
 
 impl ReadValue<'_> {
-    /// The value itself.
+    /// The value as a tree.
     ///
     /// # Errors
     ///
-    /// Out of memory.
+    /// If memory runs out.
     pub fn value(&self, alloc: Global) -> Result<Value, NoMem>
         ensures { IfOk result (λ v. v ≡ value_seen self.now) }
     {

@@ -13,18 +13,18 @@ use Rattle.message_walk.specs.Rows.{AreRows, FitsSeen}
 use Rattle.replies.specs.declared.verdict.Verdict.{Verdict}
 use Rattle.tofix_replies.specs.Unsent.{IsNear}
 
--- the rows are those of a plan whose places are some of the block's
+-- the rows are those of a plan whose places are among the block's
 pub record IsCovered {R : Type 0} (spells : R → Rule → Type 0) (rows : List (PlanRow R)) (seen : Seen) : Type 0 where
   pub lists : TagLists
   pub plan : Plan
   pub rows_are : AreRows spells lists plan rows
   pub fits : FitsSeen plan seen
 
--- the way to a place that isn't written has few steps
+-- the path to a place that isn't written has few steps
 abbrev pub AreNear : Option Unsent → Type 0
 AreNear refusal = (u : Unsent) → refusal ≡ Some u → IsNear u
 
--- what becomes of an item whose frame or line is written so
+-- the verdict on an item, or the status of a failed write of its frame or line
 abbrev pub put_so : Result (Unit {0}) WriteFault → Verdict → Result Verdict Status
 put_so (Ok done) verdict = Ok verdict
 put_so (Err e) verdict = Err status.WriteFault

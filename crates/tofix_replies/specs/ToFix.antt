@@ -1,4 +1,4 @@
--- What `tofix` answers to one frame. Own profile.
+-- The answer of `tofix` to one frame. Own profile.
 use Rattle.std.specs.Prelude.{◌≡◌, ◌≢◌, ℕ, ◌+◌, ◌-◌, min, Option, Some, None, List, [], slice_get}
 use Rattle.std.specs.Option.{option_map}
 use Rattle.sbe_types.specs.declared.message.Block.{Block}
@@ -26,14 +26,15 @@ use Rattle.replies.specs.declared.verdict.Verdict.TheVariants.{Refused, Translat
 use Rattle.tofix_replies.specs.declared.given.GivenHead.{GivenHead}
 use Rattle.tofix_replies.specs.Unsent.{of_no_message, of_uncovered, of_unsent}
 
--- a mapping, and the schemas whose messages are translated by it; the head of the first text, and how many bytes a frame may have
+-- a mapping, and the schemas whose messages are translated by it; the head of the first text, and the most bytes of a
+-- frame
 pub record Bridge : Type 0 where
   pub schemas : Schemas
   pub mapping : Mapping
   pub head : Head
   pub frame : ℕ
 
--- the most bytes of a text in a frame of so many bytes
+-- the most bytes of a text in a frame of `frame` bytes
 abbrev pub text_limit : ℕ → ℕ
 text_limit frame = frame - HEAD_BYTES
 
@@ -41,20 +42,20 @@ text_limit frame = frame - HEAD_BYTES
 abbrev pub given_head : GivenHead → Head
 given_head head = record { begin = head.begin; sender = head.sender; target = head.target; seq = head.seq; time = head.time }
 
--- the sequence number of the text after so many others, which stays at the last number of 64 bits
+-- the sequence number of the text after `translated` others; it stays at the largest number of 64 bits
 abbrev pub number_after : ℕ → ℕ → ℕ
 number_after translated first = min (first + translated) 18446744073709551615
 
--- the head of the text after so many others
+-- the head of the text after `translated` others
 abbrev pub head_after : ℕ → Head → Head
 head_after translated head =
     record { begin = head.begin; sender = head.sender; target = head.target; seq = option_map (number_after translated) head.seq; time = head.time }
 
--- a refused item is noted
+-- the reply that notes a refused item
 abbrev pub noted : List ℕ → Reply
 noted line = record { output = []; notes = line; verdict = Refused }
 
--- the frame of a text
+-- the reply with the frame of a text
 abbrev pub sent : List ℕ → Reply
 sent text = record { output = frame TAG_VALUE text; notes = []; verdict = Translated }
 
@@ -71,15 +72,15 @@ covered_reply b kept level p all =
     text_reply kept.items level p (message_text b.mapping.lists kind head (place_fields all.places))
     (text_refusal b.mapping.lists (text_limit b.frame) kind head all)
 
--- the reply to a message by what the mapping says of its template
+-- the reply to a message by whether the mapping covers its template
 abbrev pub cover_reply : Bridge → Kept → Level → Block → Cover → Reply
 cover_reply b kept level block (covered_by p) = covered_reply b kept level p (places_of p (values_of p block))
 cover_reply b kept level block no_message = noted (refused_line kept.items of_no_message)
 cover_reply b kept level block (unmapped path) = noted (refused_line kept.items (of_uncovered path))
 
--- A frame of another encoding type than the schemas' is refused, and one whose body is no message, at its first fault. A message is
--- refused where the mapping has no message for its template, or doesn't cover all of it, or at the first place that isn't written.
--- Else its text is sent.
+-- A frame with another encoding type than the schemas' is refused, and so is one whose body isn't a message, at its
+-- first fault. A message is refused if the mapping has no message for its template, or doesn't cover all of it, or at
+-- the first place that isn't written. Else its text is sent.
 pub data IsToFixReply (b : Bridge) (kept : Kept) (item : Item) (reply : Reply) : Type 0 where
   other_encoding : item.encoding ≢ encoding_of b.schemas.first.order → reply ≡ noted (refused_line kept.items (of_encoding item.encoding))
       → IsToFixReply b kept item reply

@@ -11,7 +11,7 @@ use Rattle.bridge_terms.specs.Plans.{Plan}
 use Rattle.message_walk.specs.Ways.{kept_way}
 use Rattle.way_texts.specs.WayTexts.{way_text}
 
--- the code of why a value has no text
+-- the code of why a value doesn't have a text
 abbrev pub value_code : V → List ℕ
 value_code v.Spelling = codes "V1"
 value_code v.Range = codes "V2"
@@ -20,48 +20,48 @@ value_code v.Soh = codes "V4"
 value_code v.Empty = codes "V5"
 value_code v.UnknownCode = codes "V6"
 
--- the names after the first, a dot before each
+-- the names after the first, with a dot before each
 abbrev pub dotted : List (List ℕ) → List ℕ
 dotted [] = []
 dotted (name ∷ names) = codes "." ++ (name ++ dotted names)
 
--- names with a dot between
+-- names joined by dots
 abbrev pub joined : List (List ℕ) → List ℕ
 joined [] = []
 joined (name ∷ names) = name ++ dotted names
 
--- a message of a template that the mapping has no message for
+-- the refusal of a message whose template has no message in the mapping
 abbrev pub of_no_message : RefusedItem
 of_no_message = record { code = codes "B01"; offset = None; path = []; detail = [] }
 
--- a message of a template of which the mapping doesn't cover that part
+-- the refusal of a message with a part that the mapping doesn't cover
 abbrev pub of_uncovered : List (List ℕ) → RefusedItem
 of_uncovered path = record { code = codes "B02"; offset = None; path = joined path; detail = [] }
 
--- a place that isn't written: a value without a text, or an entry without its delimiter
+-- the refusal of a place that isn't written: a value without a text, or an entry without its delimiter
 abbrev pub of_why : Why → List ℕ → RefusedItem
 of_why (no_text v) path = record { code = codes "B03"; offset = None; path = path; detail = value_code v }
 of_why no_delimiter path = record { code = codes "B06"; offset = None; path = path; detail = [] }
 
--- a text that needs so many bytes, which are too many: those of its frame are told
+-- the refusal of a text of `size` bytes, which are too many; the detail counts its frame
 abbrev pub of_full : ℕ → RefusedItem
 of_full size = record { code = codes "N08"; offset = None; path = []; detail = decimal (size + HEAD_BYTES) }
 
--- the first refusal of a text: it would be too long, or a place isn't written
+-- the refusal for a text: it would be too long, or a place isn't written
 abbrev pub of_unsent : Level → Plan → Unsent → RefusedItem
 of_unsent level p (over_limit o) = of_full (min o.size 18446744073709551615)
 of_unsent level p (unwritten r) = of_why r.why (way_text p level r.way)
 
--- the line of a message whose text is refused so
+-- the line of a message whose text is refused
 pub unsent_line : ℕ → Level → Plan → Unsent → List ℕ
 unsent_line item level p u = refused_line item (of_unsent level p u)
 
--- what the line of a refused message is
+-- the equation of the line of a refused message
 pub unsent_line_is : (item : ℕ) (level : Level) (p : Plan) (u : Unsent) → unsent_line item level p u ≡ refused_line item (of_unsent level p u)
 unfolding unsent_line
 unsent_line_is item level p u = refl
 
--- the way to a place has few steps
+-- the path to a place that isn't written has few steps
 abbrev pub IsNear : Unsent → Type 0
 IsNear (over_limit o) = ⊤
 IsNear (unwritten r) = kept_way r.way ≡ r.way

@@ -30,7 +30,8 @@ use sbe_types::Level;
 use std::alloc::Global;
 use tagvalue_codec::FixWriter;
 
-/// What replies are made with: the text, the first refusal, and the chunk that lines go by. It is lent from frame to frame.
+/// What replies are made with: the text, the first refusal, and the chunk through which lines are printed. It is lent
+/// from frame to frame.
 #[derive(Drop)]
 pub struct TextSpace {
     pub out: FixWriter,
@@ -39,11 +40,11 @@ pub struct TextSpace {
 }
 
 impl TextSpace {
-    /// Takes the memory for a text in a frame of at most `frame` bytes.
+    /// Allocates memory for a text in a frame of at most `frame` bytes.
     ///
     /// # Errors
     ///
-    /// Out of memory.
+    /// If memory runs out.
     pub fn new(alloc: Global, frame: usize) -> Result<TextSpace, NoMem>
         requires least { HEAD_BYTES ≤ frame }
         requires most { frame ≤ 16_777_216 }
@@ -57,12 +58,12 @@ impl TextSpace {
     }
 }
 
-/// Writes the reply to a message of a covered template: the frame of its text to the output, or the line of why it has none to the
-/// notes. It takes no memory.
+/// Writes the reply to a message of a covered template: the frame of its text to the output, or the line of why it has
+/// none to the notes. Allocates nothing.
 ///
 /// # Errors
 ///
-/// `WriteFault` where a write fails; the sink then holds a front of the frame or line.
+/// `WriteFault` if a write fails. The sink then holds a prefix of the frame or line.
 pub fn answer_covered<O: Sink, N: Sink, R: PutValue>(
     template: &MessageRows<'_, R>,
     level: &Level,
@@ -102,7 +103,7 @@ pub fn answer_covered<O: Sink, N: Sink, R: PutValue>(
     verdict_of(put, Verdict::Refused)
 }
 
-/// What becomes of an item whose frame or line is written so.
+/// What becomes of an item after its frame or line was written.
 pub(crate) fn verdict_of(put: Result<(), WriteFault>, verdict: Verdict) -> Result<Verdict, Status>
     ensures told { result ≡ put_so put verdict }
     ensures wants { Wants true result }

@@ -8,11 +8,11 @@ use open_framing::{HEAD_BYTES, Head, TAG_VALUE, put_head};
 use printers::{Chunk, Printer};
 use sbe_base::{Sink, WriteFault};
 
-/// Writes the frame of a text. It takes no memory.
+/// Writes the frame of a text. Allocates nothing.
 ///
 /// # Errors
 ///
-/// Where a write fails; the sink then holds a front of the frame.
+/// [`WriteFault`] if a write fails. The sink then holds a prefix of the frame.
 pub fn write_frame<O: Sink>(sink: &mut O, text: &[u8], chunk: &mut Chunk) -> Result<(), WriteFault>
     requires { length text.now < 2 ^ 24 }
     ensures { Writes (O.state sink.old) (O.state sink.new) (frame TAG_VALUE text.now) result }

@@ -1,4 +1,4 @@
-//! The head that texts begin with, as it was given.
+//! The head with which texts begin, as it was given.
 
 ghost use Rattle.std.specs.Prelude.{◌≡◌, min, ◌+◌};
 ghost use Rattle.std.specs.Option.{option_map};
@@ -8,7 +8,8 @@ ghost use Rattle.tofix_replies.specs.ToFix.{given_head, head_after, number_after
 use fix_messages::FixHead;
 use lists::Text;
 
-/// What a head has: the version of the encoding, the header fields that are given, and the sequence number of the first text.
+/// The contents of a head: the version of the encoding, the header fields that are given, and the sequence number of
+/// the first text.
 #[derive(Drop)]
 pub struct GivenHead {
     /// BeginString (8).
@@ -24,7 +25,7 @@ pub struct GivenHead {
 }
 
 impl GivenHead {
-    /// The head of the text after so many others. A sequence number stays at the last number of 64 bits.
+    /// The head of the text that follows `translated` others. A sequence number stays at the largest number of 64 bits.
     pub fn after(&self, translated: u64) -> FixHead<'_>
         ensures { head_of result ≡ head_after translated (given_head self.now) }
     {
@@ -38,7 +39,7 @@ impl GivenHead {
     }
 }
 
-/// A text that is given, lent.
+/// Borrows a text, if it is given.
 fn lent(text: &Option<Text>) -> Option<&[u8]>
     ensures { option_map (λ t. t.now) result ≡ text.now }
 {
@@ -48,7 +49,7 @@ fn lent(text: &Option<Text>) -> Option<&[u8]>
     }
 }
 
-/// The sequence number of the text after so many others.
+/// The sequence number of the text that follows `translated` others.
 fn number_after(first: Option<u64>, translated: u64) -> Option<u64>
     ensures { result ≡ option_map (number_after translated) first }
 {

@@ -1,4 +1,4 @@
-//! Laws of the replies, as functions without a body.
+//! Laws of the replies, stated as functions without a body.
 
 ghost use Rattle.std.specs.Prelude.{◌≡◌, ℕ, Some, slice_get};
 ghost use Rattle.sbe_types.specs.declared.message.Value.{Value};
@@ -26,7 +26,7 @@ pub fn each_frame_has_one_reply()
         → IsToFixReply b kept item x → IsToFixReply b kept item y → x ≡ y }
 {}
 
-/// The way to a refused place of a message of a checked schema has no more steps than are kept.
+/// The path to a refused place of a message of a checked schema has no more steps than are kept.
 pub fn ways_have_few_steps()
     ensures { (schema : WireSchema) (i : ℕ) (level : Level) (m : Mapping) (s : Structure) (limit : ℕ) (head : Head) (t : Tree Value (plan_of m s level)) (u : Unsent)
         → IsChecked schema → slice_get schema.messages i ≡ Some level

@@ -28,11 +28,11 @@ use sbe_base::{Sink, WriteFault};
 use sbe_types::Level;
 use way_texts::put_way;
 
-/// Writes the line of an item whose frame is of another encoding type.
+/// Writes the line of an item whose frame has another encoding type.
 ///
 /// # Errors
 ///
-/// Where a write fails; the sink then holds a front of the line. So it is in the other calls.
+/// [`WriteFault`] if a write fails. The sink then holds a prefix of the line. The same holds for the other calls.
 pub fn note_encoding<N: Sink>(
     sink: &mut N,
     item: u64,
@@ -46,8 +46,8 @@ pub fn note_encoding<N: Sink>(
     printer.finish()
 }
 
-/// Writes the line of an item whose body is no message, by what was left of its refusal. It needs a path of the message that the
-/// refusal names.
+/// Writes the line of an item whose body isn't a message, by what was recorded of its refusal. Requires a path of the
+/// message that the refusal names.
 pub fn note_fault<N: Sink>(
     sink: &mut N,
     layout: &Layout,
@@ -63,7 +63,7 @@ pub fn note_fault<N: Sink>(
     printer.finish()
 }
 
-/// Writes the line of a message whose template the mapping has no message for.
+/// Writes the line of a message for whose template the mapping has no message.
 pub fn note_no_message<N: Sink>(
     sink: &mut N,
     item: u64,
@@ -84,7 +84,7 @@ fn put_no_message<N: Sink>(printer: &mut Printer<'_, N>, item: u64)
     put_refused_back(printer, b"");
 }
 
-/// Writes the line of a message whose template isn't covered, by the names of the path to the first part.
+/// Writes the line of a message whose template isn't covered, with the names of the path to the first such part.
 pub fn note_uncovered<N: Sink>(
     sink: &mut N,
     item: u64,
@@ -107,7 +107,7 @@ fn put_uncovered<N: Sink>(printer: &mut Printer<'_, N>, item: u64, path: &[Text]
     put_refused_back(printer, b"");
 }
 
-/// Prints names with a dot between.
+/// Prints names, separated by dots.
 fn put_names<N: Sink>(printer: &mut Printer<'_, N>, names: &[Text])
     ensures { Prints N.state printer.old printer.new (joined names.now) }
 {
@@ -128,7 +128,7 @@ fn put_dotted<N: Sink>(printer: &mut Printer<'_, N>, names: &[Text])
     }
 }
 
-/// Writes the line of a message of which a place isn't written, by the rows of its plan and the root of its template.
+/// Writes the line of a message with a place that isn't written, by the rows of its plan and the root of its template.
 pub fn note_halt<N: Sink, R: PutValue>(
     sink: &mut N,
     item: u64,
@@ -200,7 +200,7 @@ fn put_no_delimiter<N: Sink, R: PutValue>(
     put_refused_back(printer, b"");
 }
 
-/// Prints the line of a message whose text needs so many bytes, which are too many.
+/// Prints the line of a message whose text needs `needed` bytes, which are too many.
 fn put_full<N: Sink>(printer: &mut Printer<'_, N>, item: u64, needed: u64)
     ensures { Prints N.state printer.old printer.new (refused_line item (of_full needed)) }
 {
@@ -209,7 +209,7 @@ fn put_full<N: Sink>(printer: &mut Printer<'_, N>, item: u64, needed: u64)
     put_bytes(printer, needed);
 }
 
-/// Prints what follows the path: so many bytes, and those of the head of a frame.
+/// Prints what follows the path: the number of bytes, including the head of a frame.
 fn put_bytes<N: Sink>(printer: &mut Printer<'_, N>, needed: u64)
     ensures { Prints N.state printer.old printer.new (back_text (decimal (needed + HEAD_BYTES))) }
 {

@@ -1,4 +1,5 @@
-//! The definitions computed on small replies. Each row is the clause of a function without a body; no code runs here.
+//! The definitions, computed on small replies. Each row is the contract of a function without a body; no code runs
+//! here.
 
 ghost use Rattle.std.specs.Prelude.{◌≡◌, ◌∷◌, ◌++◌, [], codes, None, Some};
 ghost use Rattle.fix_values.specs.declared.rule.V.TheVariants as why;
@@ -15,7 +16,7 @@ pub fn unwritten_places_are_noted()
     ensures room { refused_line 1 (of_full 59) ≡ codes "{\"refused\":\"N08\",\"item\":1,\"offset\":null,\"path\":\"\",\"detail\":\"65\"}\n" }
 {}
 
-/// Templates that the mapping has no message for, or doesn't cover.
+/// Templates for which the mapping has no message, or which it doesn't cover.
 pub fn uncovered_templates_are_noted()
     ensures message { refused_line 0 of_no_message ≡ codes "{\"refused\":\"B01\",\"item\":0,\"offset\":null,\"path\":\"\",\"detail\":\"\"}\n" }
     ensures part { refused_line 3 (of_uncovered (codes "legs" ∷ codes "px" ∷ [])) ≡ codes "{\"refused\":\"B02\",\"item\":3,\"offset\":null,\"path\":\"legs.px\",\"detail\":\"\"}\n" }
@@ -29,7 +30,7 @@ pub fn texts_are_framed()
     ensures limit { text_limit 65536 ≡ 65530 }
 {}
 
-/// Sequence numbers go up by one with each text, and none is given where none was asked for.
+/// Sequence numbers increase by one with each text, and there are none if none was asked for.
 pub fn texts_are_numbered()
     ensures given { (head_after 2 (record { begin = codes "FIX.4.4"; sender = None; target = None; seq = Some 7; time = None })).seq ≡ Some 9 }
     ensures last { (head_after 2 (record { begin = codes "FIX.4.4"; sender = None; target = None; seq = Some 18446744073709551614; time = None })).seq ≡ Some 18446744073709551615 }

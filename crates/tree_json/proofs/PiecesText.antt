@@ -167,7 +167,7 @@ module _ (order : Order) (known : Bool) (b : List ℕ) where
       ap (λ l. l ++ k.1) (append-nil next ∙ sym (append_assoc front j.last value)) ∙ append_assoc (front ++ j.last) value k.1 ∙ ap (λ t. (front ++ j.last) ++ t) (sym k.3) in
       subst (JoinedText order known (with_pieces (with_piece j (shown kind place)) ps) b) same rest
 
-  -- pieces, and a text behind them
+  -- pieces, and a text after them
   ends_so : (ps : List Piece) (behind text : List ℕ) → PiecesText order known ps b text → PiecesText order known (ps ++ literal behind ∷ []) b (text ++ behind)
   ends_so [] behind text h = ([], ap (λ l. l ++ behind) h ∙ sym (append-nil behind), refl)
   ends_so (literal bytes ∷ ps) behind text h = (h.0 ++ behind, ap (λ l. l ++ behind) h.1 ∙ append_assoc bytes h.0 behind, ends_so ps behind h.0 h.2)

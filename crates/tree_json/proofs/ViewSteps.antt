@@ -68,7 +68,7 @@ pub value_next : {A B : Type 0} (f : A → B → Entry) (later : Bool) (i : ℕ)
     → entry_text later (f x y) ++ entries_text (later_behind later (f x y).1) (zipped f (drop (i + 1) xs) (drop (i + 1) ys)) ≡ entries_text later (zipped f (drop i xs) (drop i ys))
 value_next f later i xs ys x y h k = view_next f later i xs x y (drop (i + 1) ys) (drop i ys) h (next_at ys i y k)
 
--- behind the last part
+-- after the last part
 pub view_over : {A B : Type 0} (f : A → B → Entry) (later : Bool) (i : ℕ) (xs : List A) (ys : List B) → length xs ≤ i → codes "}" ≡ entries_text later (zipped f (drop i xs) ys)
 view_over f later i xs ys h = sym (ap (entries_text later) (none f (drop i xs) ys (omega (arith, length-drop i xs, h))))
   where

@@ -1,4 +1,4 @@
--- How deep groups lie around one another.
+-- How deeply groups are nested.
 use Rattle.std.specs.Prelude.{ℕ, suc, max, List, [], ◌∷◌}
 use Rattle.sbe_types.specs.declared.schema.Group.{Group, out-Group}
 use Rattle.schema_facts.specs.CheckedLevels.{groups_deep}

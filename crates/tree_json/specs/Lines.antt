@@ -17,20 +17,20 @@ use Rattle.sbe_types.specs.declared.message.GroupVal.TheVariants as groupval
 use Rattle.sbe_types.specs.declared.message.Msg.{Msg}
 use Rattle.json_values.specs.Values.{Entry, listed, zipped, text_data, value_data}
 
--- a field with its value
+-- a field and its value
 abbrev pub field_entry : Field → Value → Entry
 field_entry f v = (f.name, value_data f.kind v)
 
--- the bytes of a data part; none where it is absent
+-- the bytes of a data part; None if it is absent
 abbrev pub part_data : DataVal → Option Data
 part_data dataval.Absent = None
 part_data (dataval.Bytes bytes) = Some (text_data bytes)
 
--- a data part with its bytes
+-- a data part and its bytes
 abbrev pub part_entry : DataField → DataVal → Entry
 part_entry p v = (p.name, part_data v)
 
--- the entries of a group; none where it is absent
+-- the entries of a group; None if it is absent
 abbrev pub entries_in : GroupVal → Option (List Block)
 entries_in groupval.Absent = None
 entries_in (groupval.Entries' n row) = Some (items-the_row-Block _ row)
@@ -39,7 +39,7 @@ entries_in (groupval.Entries' n row) = Some (items-the_row-Block _ row)
 abbrev pub group_name : Group → List ℕ
 group_name g = (out-Level (out-Group g).level).name
 
--- items, each of which becomes data
+-- items, each converted to data
 abbrev pub items_by : {A : Type 0} → (A → Data) → List A → Items
 items_by f [] = no_items
 items_by f (x ∷ xs) = item (f x) (items_by f xs)
@@ -50,7 +50,7 @@ three_entries parts fields groups =
     (codes "data", Some (object (listed parts))) ∷ (codes "fields", Some (object (listed fields))) ∷ (codes "groups", Some (object (listed groups))) ∷ []
 
 unfoldable mutual
-  -- what stands in the object of a message's root, or of an entry
+  -- the members of the object of a message's root, or of an entry
   pub block_entries : Level → Block → List Entry
   block_entries (Level' name id semantic since block_length fields n groups parts) b =
       three_entries (zipped part_entry parts (out-Block b).parts) (zipped field_entry fields (out-Block b).fields) (groups_entries groups (out-Block b).groups)
@@ -61,7 +61,7 @@ unfoldable mutual
   groups_entries (more_of-Group g rest) [] = []
   groups_entries (more_of-Group g rest) (v ∷ vs) = (group_name g, group_data g v) ∷ groups_entries rest vs
 
-  -- a group as an array of objects; none where it is absent
+  -- a group as an array of objects; None if it is absent
   pub group_data : Group → GroupVal → Option Data
   group_data (Group' dim level) v = option_map (λ es. array (items_by (λ e. object (listed (block_entries level e))) es)) (entries_in v)
 
@@ -73,12 +73,12 @@ group_entry g v = (group_name g, group_data g v)
 abbrev pub block_data : Level → Block → Data
 block_data level b = object (listed (block_entries level b))
 
--- what stands in a message's object: what is in its root's, then its template's name and its version
+-- the members of a message's object: those of its root, then its template's name and its version
 abbrev pub message_entries : Level → ℕ → Block → List Entry
 message_entries level version b =
     block_entries level b ++ ((codes "template", Some (string (out-Level level).name)) ∷ (codes "version", Some (number (unsigned version))) ∷ [])
 
--- a message of the template of that level; without a template there is none
+-- a message of the template with this root level; null without a template
 abbrev pub message_at : Option Level → Msg → Data
 message_at None m = null
 message_at (Some level) m = object (listed (message_entries level m.version m.block))

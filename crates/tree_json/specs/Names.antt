@@ -1,4 +1,4 @@
--- Schemas whose names stand for themselves in a line. Own profile.
+-- Schemas whose names need no escapes in a line. Own profile.
 use Rattle.std.specs.Prelude.{◌≡◌, ⊤}
 use Rattle.std.specs.List.{AllByRecursion}
 use Rattle.sbe_types.specs.declared.kind.Kind.{Kind, Leaf, Enum, Set, Const, Comp', Row_of-Member, end_of-Member, more_of-Member}
@@ -21,12 +21,12 @@ abbrev mutual
   HasPlainMembers (Const c) = ⊤
   HasPlainMembers (Comp' n members) = ArePlainMembers members
 
-  -- the same of members
+  -- the same for members
   pub ArePlainMembers : {n : _} → Row_of-Member n → Type 0
   ArePlainMembers end_of-Member = ⊤
   ArePlainMembers (more_of-Member name offset kind rest) = IsPlainName name × HasPlainMembers kind × ArePlainMembers rest
 
--- a field's name is plain, and those in its kind
+-- a field's name is plain, and so are those in its kind
 abbrev pub IsPlainField : Field → Type 0
 IsPlainField f = IsPlainName f.name × HasPlainMembers f.kind
 
@@ -40,12 +40,12 @@ abbrev mutual
   IsPlainLevel (Level' name id semantic since block_length fields n groups parts) =
       AllByRecursion IsPlainField fields × ArePlainGroups groups × AllByRecursion IsPlainPart parts
 
-  -- the same of groups
+  -- the same for groups
   pub ArePlainGroups : {n : _} → Row_of-Group n → Type 0
   ArePlainGroups end_of-Group = ⊤
   ArePlainGroups (more_of-Group g rest) = IsPlainGroup g × ArePlainGroups rest
 
-  -- the same of a group, and of its own name
+  -- the same for a group, and its own name
   pub IsPlainGroup : Group → Type 0
   IsPlainGroup (Group' dim level) = IsPlainName (out-Level level).name × IsPlainLevel level
 
@@ -57,6 +57,6 @@ HasPlainNames schema = AllByRecursion IsPlainLevel schema.messages
 abbrev pub CheckedIsPlain : Type 0
 CheckedIsPlain = (schema : WireSchema) → IsChecked schema → HasPlainNames schema
 
--- The law: where names are plain, the text that is printed is the line.
+-- The law: if the names are plain, the text that is printed is the line.
 abbrev pub PrintedIsLine : Type 0
 PrintedIsLine = (schema : WireSchema) (m : Msg) → HasPlainNames schema → plain_text (message_data schema m) ≡ line_of schema m

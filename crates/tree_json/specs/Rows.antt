@@ -27,7 +27,7 @@ use Rattle.sbe_types.specs.declared.message.Block.{Block}
 
 -- ---- parts
 
--- a required number, or an array of so many
+-- a required number, or an array of this length
 abbrev pub leaf : Primitive → ℕ → LeafShape → LeafOf
 leaf prim length shape = record { prim = prim; length = length; shape = shape; presence = Required; null = pos 255; low = pos 0; high = pos 254 }
 
@@ -63,7 +63,7 @@ schema_of level = record { id = 7; version = 0; order = Little; header = record 
 abbrev pub block : List Value → List GroupVal → List DataVal → Block
 block fields groups parts = record { fields = fields; groups = groups; parts = parts }
 
--- the message of that block
+-- the message with that block
 abbrev pub message : ℕ → Block → Msg
 message version b = record { template = 0; version = version; block = b }
 
@@ -77,19 +77,20 @@ ping = schema_of (flat_level (codes "Ping") (number (codes "a") U16 ∷ number (
 abbrev pub ping_message : Msg
 ping_message = message 0 (block (value.Num (pos 258) ∷ value.Null ∷ []) [] [])
 
--- its line
+-- the line of that message
 abbrev pub ping_line : List ℕ
 ping_line = codes "{\"data\":{},\"fields\":{\"a\":258,\"b\":null},\"groups\":{},\"template\":\"Ping\",\"version\":0}"
 
--- the least number of an int64, the greatest of a uint64, and three chars, of which the last is none that is seen
+-- two numbers, and three chars
 abbrev pub wide : WireSchema
 wide = schema_of (flat_level (codes "Wide") (number (codes "i") I64 ∷ number (codes "u") U16 ∷ number (codes "c") Char ∷ number (codes "q") Char ∷ number (codes "z") Char ∷ []) [])
 
--- a message of it
+-- a message with the least number of an int64, the greatest of a uint64, and three chars, the last of which isn't
+-- printable
 abbrev pub wide_message : Msg
 wide_message = message 4294967295 (block (value.Num (negsuc 9223372036854775807) ∷ value.Num (pos 18446744073709551615) ∷ value.Num (pos 65) ∷ value.Num (pos 34) ∷ value.Num (pos 127) ∷ []) [] [])
 
--- its line
+-- the line of that message
 abbrev pub wide_line : List ℕ
 wide_line = codes "{\"data\":{},\"fields\":{\"i\":-9223372036854775808,\"u\":18446744073709551615,\"c\":\"A\",\"q\":\"\\\"\",\"z\":127},\"groups\":{},\"template\":\"Wide\",\"version\":4294967295}"
 
@@ -106,7 +107,7 @@ texts_message = message 1 (block
     (value.Text (codes "AB") ∷ value.Text (codes "a\"\\~") ∷ value.Text (97 ∷ 255 ∷ []) ∷ value.Nums (elem.Num (pos 0) ∷ elem.Num (pos 255) ∷ []) ∷ value.Nums (elem.Null ∷ elem.Num (negsuc 0) ∷ []) ∷ [])
     [] (dataval.Bytes [] ∷ dataval.Absent ∷ dataval.Bytes (0 ∷ 171 ∷ []) ∷ []))
 
--- its line
+-- the line of that message
 abbrev pub texts_line : List ℕ
 texts_line = codes "{\"data\":{\"d\":\"\",\"y\":{\"hex\":\"00ab\"}},\"fields\":{\"t\":\"AB\",\"e\":\"a\\\"\\\\~\",\"h\":{\"hex\":\"61ff\"},\"o\":[0,255],\"n\":[null,-1]},\"groups\":{},\"template\":\"Texts\",\"version\":1}"
 
@@ -126,11 +127,11 @@ names = schema_of (flat_level (codes "Names")
     (field (codes "e") (Enum (leaf Char 1 Number) sides) ∷ field (codes "u") (Enum (leaf Char 1 Number) sides) ∷ field (codes "s") (Set U8 flags) ∷ field (codes "z") (Set U8 flags) ∷ field (codes "r") (Set U8 flags)
     ∷ field (codes "k") (Const (constant.Num (negsuc 1))) ∷ field (codes "l") (Const (constant.Text (codes "USD"))) ∷ field (codes "m") (Const (constant.Code Char (named (codes "Sell") (pos 50)))) ∷ []) [])
 
--- listed and not
+-- values that are listed, and some that aren't
 abbrev pub names_message : Msg
 names_message = message 0 (block (value.Enum (pos 50) ∷ value.Enum (pos 53) ∷ value.Set 5 ∷ value.Set 0 ∷ value.Set 7 ∷ value.Const ∷ value.Const ∷ value.Const ∷ []) [] [])
 
--- its line
+-- the line of that message
 abbrev pub names_line : List ℕ
 names_line = codes "{\"data\":{},\"fields\":{\"e\":\"Sell\",\"u\":53,\"s\":[\"B\",\"A\"],\"z\":[],\"r\":7,\"k\":-2,\"l\":\"USD\",\"m\":\"Sell\"},\"groups\":{},\"template\":\"Names\",\"version\":0}"
 
@@ -151,14 +152,14 @@ nested_message = message 0 (block (value.Comp (value.Num (pos 5) ∷ value.Comp 
     (groupval.Entries (block (value.Num (pos 1) ∷ []) (groupval.Entries [] ∷ []) (dataval.Bytes (codes "hi") ∷ [])
     ∷ block (value.Num (pos 2) ∷ []) (groupval.Entries (block (value.Num (pos 3) ∷ []) [] [] ∷ block (value.Null ∷ []) [] [] ∷ []) ∷ []) (dataval.Absent ∷ []) ∷ []) ∷ []) [])
 
--- its line
+-- the line of that message
 abbrev pub nested_line : List ℕ
 nested_line = codes "{\"data\":{},\"fields\":{\"px\":{\"mantissa\":5,\"in\":{\"x\":null}}},\"groups\":{\"legs\":[{\"data\":{\"note\":\"hi\"},\"fields\":{\"q\":1},\"groups\":{\"subs\":[]}},{\"data\":{},\"fields\":{\"q\":2},\"groups\":{\"subs\":[{\"data\":{},\"fields\":{\"s\":3},\"groups\":{}},{\"data\":{},\"fields\":{\"s\":null},\"groups\":{}}]}}]},\"template\":\"Nest\",\"version\":0}"
 
--- the group is absent
+-- a message whose group is absent
 abbrev pub older_message : Msg
 older_message = message 0 (block (value.Absent ∷ value.Num (pos 9) ∷ []) (groupval.Absent ∷ []) [])
 
--- its line
+-- the line of that message
 abbrev pub older_line : List ℕ
 older_line = codes "{\"data\":{},\"fields\":{\"later\":9},\"groups\":{},\"template\":\"Nest\",\"version\":0}"

@@ -25,24 +25,24 @@ seen_front s =
     ++ (codes ",\"fields\":{" ++ (entries_text false (zipped field_entry s.fields (out-Block s.block).fields)
     ++ (codes ",\"groups\":{" ++ entries_text false (zipped group_entry s.groups (out-Block s.block).groups)))))
 
--- the data of a block, behind the opening of the block's object
+-- the data of a block, after the opening of the block's object
 abbrev pub data_front : List DataField → List DataVal → List ℕ
 data_front parts vs = codes "{\"data\":{" ++ entries_text false (zipped part_entry parts vs)
 
--- the same where there is data; else nothing
+-- the same if there is data; else nothing
 abbrev pub own_data : List DataField → List DataVal → List ℕ
 own_data parts vs = if length parts == 0 then [] else data_front parts vs
 
--- the object of a block up to its groups, whose object is opened, and closed where there are none
+-- the object of a block up to its groups, whose object is opened, and closed if there are none
 abbrev pub seen_head : Seen → List ℕ
 seen_head s =
     data_front s.parts (out-Block s.block).parts ++ (codes ",\"fields\":{" ++ (entries_text false (zipped field_entry s.fields (out-Block s.block).fields) ++ text_behind s.groups))
 
--- the groups behind that
+-- the groups that follow it
 abbrev pub own_groups : List Group → List GroupVal → List ℕ
 own_groups groups vs = if length groups == 0 then [] else entries_text false (zipped group_entry groups vs)
 
--- a data part with its bytes
+-- a data part and its bytes
 abbrev pub bytes_entry : DataField → Option (List ℕ) → Entry
 bytes_entry p bytes = (p.name, option_map text_data bytes)
 
@@ -50,7 +50,7 @@ bytes_entry p bytes = (p.name, option_map text_data bytes)
 abbrev pub entries_data : List Seen → Data
 entries_data es = array (items_by seen_data es)
 
--- a group with its entries
+-- a group and its entries
 abbrev pub entries_entry : Group → Option (List Seen) → Entry
 entries_entry g entries = (group_name g, option_map entries_data entries)
 
@@ -60,7 +60,7 @@ pub record PrintsOpen (text : List ℕ) (prints : List ℕ → Type 0) : Type 0 
   pub printed : prints done
   pub whole : done ++ codes "}" ≡ text
 
--- the front of a group's entries is printed, behind the opening bracket: the text of those that are left makes it whole
+-- the front of a group's entries is printed, after the opening bracket; the text of those that are left completes it
 pub record PrintsFront (later : Bool) (all left : List Seen) (prints : List ℕ → Type 0) : Type 0 where
   pub done : List ℕ
   pub printed : prints done

@@ -26,8 +26,8 @@ use json_values::{put_comma, put_key, put_text};
 use printers::Printer;
 use sbe_base::Sink;
 
-/// Prints the object of a message's root or of an entry, without the closing bracket. Without texts each field is printed by
-/// its kind.
+/// Prints the object of a message's root or of an entry, without the closing bracket. If there are no texts each field
+/// is printed by its kind.
 #[cycle(block)]
 #[inline(always)]
 pub(crate) fn put_front<O: Sink, T: Kept + Copy>(
@@ -43,11 +43,12 @@ pub(crate) fn put_front<O: Sink, T: Kept + Copy>(
     if count == 0 {
         return;
     }
-    // A copy of its own, so that nothing is stored where there are no groups.
+    // A separate copy, so that nothing is stored if there are no groups.
     put_groups(printer, texts, &block.again());
 }
 
-/// Prints the data and the fields of a block, and the opening of its groups; without groups the bracket after them too.
+/// Prints the data and the fields of a block, and the opening of its groups; if there are no groups, also the bracket
+/// after them.
 #[inline(always)]
 fn put_head<O: Sink, T: Kept + Copy>(printer: &mut Printer<'_, O>, texts: T, block: &BlockView<'_>)
     requires { AreTexts (T.texts texts) block.now }
@@ -59,7 +60,7 @@ fn put_head<O: Sink, T: Kept + Copy>(printer: &mut Printer<'_, O>, texts: T, blo
     }
 }
 
-/// The same by the texts of the block's level.
+/// The same, by the texts of the block's level.
 #[inline(always)]
 fn put_head_by<O: Sink>(printer: &mut Printer<'_, O>, texts: &LevelTexts, block: &BlockView<'_>)
     requires { AreTextsOf block.now texts.now }
@@ -85,7 +86,7 @@ fn put_by_kinds<O: Sink>(printer: &mut Printer<'_, O>, block: &BlockView<'_>)
     put_opening(printer, block);
 }
 
-/// Prints the opening of a block's groups; without groups the bracket behind them too.
+/// Prints the opening of a block's groups; if there are none, also the bracket after them.
 fn put_opening<O: Sink>(printer: &mut Printer<'_, O>, block: &BlockView<'_>)
     ensures { Prints O.state printer.old printer.new (text_behind block.now.groups) }
 {
@@ -99,7 +100,7 @@ fn put_opening<O: Sink>(printer: &mut Printer<'_, O>, block: &BlockView<'_>)
 
 // ---- data parts
 
-/// Prints the data parts of a block, where it has some, behind its first bracket.
+/// Prints the data parts of a block, if it has some, after its first bracket.
 #[inline(always)]
 fn put_own_data<O: Sink>(printer: &mut Printer<'_, O>, block: &BlockView<'_>)
     ensures { Prints O.state printer.old printer.new (own_data block.now.parts (out-Block block.now.block).parts) }
@@ -108,11 +109,11 @@ fn put_own_data<O: Sink>(printer: &mut Printer<'_, O>, block: &BlockView<'_>)
     if parts == 0 {
         return;
     }
-    // A copy of its own, so that nothing is stored where there is no data.
+    // A separate copy, so that nothing is stored if there is no data.
     put_data(printer, &block.again());
 }
 
-/// Prints the data parts of a block that are there, from its first bracket to that behind them.
+/// Prints the data parts of a block that are present, from its first bracket to the one after them.
 #[inline(never)]
 fn put_data<O: Sink>(printer: &mut Printer<'_, O>, block: &BlockView<'_>)
     ensures { Prints O.state printer.old printer.new (data_front block.now.parts (out-Block block.now.block).parts) }
@@ -127,7 +128,7 @@ fn put_data<O: Sink>(printer: &mut Printer<'_, O>, block: &BlockView<'_>)
     printer.put(b"}");
 }
 
-/// Prints a data part behind its name, unless it is absent, and tells whether a member stands now.
+/// Prints a data part after its name, unless it is absent, and returns whether a member has been printed by now.
 fn put_part<O: Sink>(
     printer: &mut Printer<'_, O>,
     later: bool,
@@ -149,7 +150,7 @@ fn put_part<O: Sink>(
 
 // ---- fields
 
-/// Prints the fields of a block that are there, with the bracket behind them.
+/// Prints the fields of a block that are present, and the bracket after them.
 fn put_fields<O: Sink>(printer: &mut Printer<'_, O>, block: &BlockView<'_>)
     ensures { Prints O.state printer.old printer.new (entries_text false (zipped field_entry block.now.fields (out-Block block.now.block).fields)) }
 {
@@ -161,7 +162,7 @@ fn put_fields<O: Sink>(printer: &mut Printer<'_, O>, block: &BlockView<'_>)
     printer.put(b"}");
 }
 
-/// Prints field `i`, unless it is absent, and tells whether one stands now. It needs a field in range.
+/// Prints field `i`, unless it is absent, and returns whether one has been printed by now. Requires a field in range.
 fn put_field<O: Sink>(
     printer: &mut Printer<'_, O>,
     later: bool,
@@ -187,7 +188,7 @@ fn put_field<O: Sink>(
 
 // ---- groups
 
-/// Prints the groups of a block that are there, with the bracket behind them.
+/// Prints the groups of a block that are present, and the bracket after them.
 #[cycle(block)]
 #[inline(never)]
 fn put_groups<O: Sink, T: Kept + Copy>(
@@ -214,7 +215,7 @@ fn put_groups<O: Sink, T: Kept + Copy>(
     printer.put(b"}");
 }
 
-/// Prints a group after its name, unless it is absent, and tells whether a member stands now.
+/// Prints a group after its name, unless it is absent, and returns whether a member has been printed by now.
 #[cycle(block)]
 fn put_group<O: Sink, T: Kept + Copy>(
     printer: &mut Printer<'_, O>,
@@ -257,7 +258,7 @@ fn put_entries<O: Sink, T: Kept + Copy>(
     put_views(printer, texts, later, entries);
 }
 
-/// Prints the entries that are left behind others, by a view of each, and the closing bracket.
+/// Prints the remaining entries through a view of each, and the closing bracket.
 #[cycle(block)]
 #[inline(never)]
 fn put_views<O: Sink, T: Kept + Copy>(
@@ -277,7 +278,8 @@ fn put_views<O: Sink, T: Kept + Copy>(
     printer.put(b"]");
 }
 
-/// Prints the first of some entries, as far as a table shows them and there are texts, and tells whether one stands now.
+/// Prints the first of some entries, as far as there are texts and a table accepts them, and returns whether one has
+/// been printed.
 #[inline(always)]
 fn put_first_entries<O: Sink, T: Kept + Copy>(
     printer: &mut Printer<'_, O>,
@@ -295,7 +297,7 @@ fn put_first_entries<O: Sink, T: Kept + Copy>(
     }
 }
 
-/// The same by the texts of their level.
+/// The same, by the texts of their level.
 #[inline(always)]
 fn put_flat_entries<O: Sink>(
     printer: &mut Printer<'_, O>,
@@ -315,7 +317,7 @@ fn put_flat_entries<O: Sink>(
     later
 }
 
-/// Prints the object of an entry without groups and data by its texts, after a comma where another stands before.
+/// Prints the object of an entry without groups and data by its texts, preceded by a comma if it isn't the first.
 #[inline(always)]
 fn put_flat_entry<O: Sink>(
     printer: &mut Printer<'_, O>,
@@ -333,7 +335,7 @@ fn put_flat_entry<O: Sink>(
     printer.put(b"}");
 }
 
-/// Prints the object of an entry, behind a comma where another stands before.
+/// Prints the object of an entry, preceded by a comma if it isn't the first.
 #[cycle(block)]
 fn put_entry<O: Sink, T: Kept + Copy>(
     printer: &mut Printer<'_, O>,

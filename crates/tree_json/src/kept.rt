@@ -1,4 +1,4 @@
-// Whether there are texts of a level, told by a type.
+// Whether the texts of a level are stored, expressed by a type.
 ghost use Rattle.std.specs.Prelude.{◌≡◌, ◌<◌, IfSome, None, Option, Some, length};
 ghost use Rattle.std.specs.Option.{option_map};
 ghost use Rattle.tree_json.specs.declared.texts.LevelTexts.{LevelTexts, out-LevelTexts};
@@ -6,22 +6,22 @@ ghost use Rattle.tree_json.specs.Texts.{texts_at};
 
 use crate::texts::LevelTexts;
 
-/// What is printed of a level alike in each line, where it is kept.
+/// The text of a level that is the same in each line, if it is stored.
 pub(crate) trait Kept {
-    /// The texts, where they are kept.
+    /// The texts, if they are stored.
     ghost texts: { Self → Option LevelTexts };
 
     /// The texts of the level.
     fn level(&self) -> Option<&LevelTexts>
         ensures { option_map (λ t. t.now) result ≡ texts self.now };
 
-    /// The same of its group `i`. It needs a group in range.
+    /// The same for its group `i`. Requires a group in range.
     fn group(self, i: usize) -> Self
         requires { IfSome (texts self) (λ t. i < length (out-LevelTexts t).groups) }
         ensures { texts result ≡ texts_at (texts self) i };
 }
 
-/// They are kept.
+/// The texts are stored.
 #[derive(Clone, Copy)]
 pub(crate) struct OfLevel<'t> {
     pub(crate) texts: &'t LevelTexts,
@@ -43,7 +43,7 @@ impl<'t> Kept for OfLevel<'t> {
     }
 }
 
-/// None are kept.
+/// No texts are stored.
 #[derive(Clone, Copy)]
 pub(crate) struct NoTexts;
 

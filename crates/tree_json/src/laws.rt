@@ -2,12 +2,12 @@
 
 ghost use Rattle.tree_json.specs.Names.{CheckedIsPlain, PrintedIsLine};
 
-/// Where the names of a schema stand for themselves, a message's text as it is printed is its line.
+/// If the names of a schema need no escaping, the printed text of a message is its line.
 pub fn printed_text_is_the_line()
     ensures { PrintedIsLine }
 {}
 
-/// The names of a checked schema stand for themselves in a line.
+/// The names of a checked schema need no escaping in a line.
 pub fn checked_names_stand_for_themselves()
     ensures { CheckedIsPlain }
 {}

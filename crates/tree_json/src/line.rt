@@ -16,11 +16,12 @@ use json_values::put_count;
 use printers::{Chunk, Printer};
 use sbe_base::{Sink, WriteFault};
 
-/// Prints the line of a message, without its line end; each field by its kind. [`LineLayout`] is faster for many messages.
+/// Prints the line of a message, without its line end, and each field by its kind. For many messages [`LineLayout`] is
+/// faster.
 ///
 /// # Errors
 ///
-/// Where a write fails; the sink then holds a front of the line.
+/// [`WriteFault`] if a write fails. The sink then holds a prefix of the line.
 pub fn line_of<O: Sink>(view: &MsgView<'_>, sink: &mut O) -> Result<(), WriteFault>
     ensures { Writes (O.state sink.old) (O.state sink.new) (compact_text (message_at (Some view.now.level) view.now.message)) result }
 {
@@ -49,7 +50,7 @@ impl LineLayout {
     ///
     /// # Errors
     ///
-    /// Where a write fails; the sink then holds a front of the line.
+    /// [`WriteFault`] if a write fails. The sink then holds a prefix of the line.
     pub fn line_of<O: Sink>(&self, view: &MsgView<'_>, sink: &mut O) -> Result<(), WriteFault>
         requires { slice_get self.now.messages view.now.message.template ≡ Some view.now.level }
         ensures { Writes (O.state sink.old) (O.state sink.new) (compact_text (message_at (Some view.now.level) view.now.message)) result }
@@ -87,12 +88,12 @@ fn put_open<O: Sink, T: Kept + Copy>(printer: &mut Printer<'_, O>, texts: T, vie
     requires { IfSome (T.texts texts) (AreLevelTexts view.now.level) }
     ensures { PrintsOpen (compact_text (message_at (Some view.now.level) view.now.message)) (Prints O.state printer.old printer.new) }
 {
-    // A checked schema's names stand for themselves.
+    // A checked schema's names need no escaping.
     let _schema = view.schema();
     put_message(printer, texts, view);
 }
 
-/// Prints a message without its closing bracket. It needs a template's name that stands for itself.
+/// Prints a message without its closing bracket. Requires a template's name that needs no escaping.
 fn put_message<O: Sink, T: Kept + Copy>(printer: &mut Printer<'_, O>, texts: T, view: &MsgView<'_>)
     requires name { IsPlainName (out-Level view.now.level).name }
     requires texts { IfSome (T.texts texts) (AreLevelTexts view.now.level) }

@@ -1,4 +1,4 @@
-// What is printed of messages alike in each line.
+// The texts that are the same in each line of a message.
 ghost use Rattle.std.specs.Prelude.{◌≡◌, ◌<◌, IfOk, codes, length, slice_get, Some};
 ghost use Rattle.std.specs.List.{AllByRecursion};
 ghost use Rattle.sbe_types.specs.declared.schema.Level.{out-Level, Level};
@@ -13,7 +13,8 @@ use sbe_types::{Group, Level, WireSchema};
 use std::alloc::Global;
 use std::marker::Model;
 
-/// What is printed of a level alike in each line: between the values of its fields, and of the levels of its groups.
+/// The texts of a level that are the same in each line: those between the values of its fields, and those of the levels
+/// of its groups.
 #[cycle(texts)]
 #[derive(Drop)]
 pub struct LevelTexts {
@@ -21,7 +22,7 @@ pub struct LevelTexts {
     pub groups: List<LevelTexts>,
 }
 
-/// A layout, and what is printed of its messages alike in each line. To contracts it is the schema.
+/// A layout, and the texts of its messages that are the same in each line. Contracts see it as the schema.
 #[derive(Drop)]
 pub struct LineLayout {
     layout: Layout,
@@ -46,7 +47,7 @@ impl Model for LineLayout {
 }
 
 impl LineLayout {
-    /// The texts of a layout. The only error is out of memory.
+    /// Builds the texts of a layout. The only error is out of memory.
     pub fn new(alloc: Global, layout: Layout) -> Result<LineLayout, NoMem>
         ensures { IfOk result (λ lines. lines ≡ layout) }
     {
@@ -76,14 +77,14 @@ impl LineLayout {
         self.layout.id()
     }
 
-    /// The number schemaId of a body's header, or none exactly where the body is shorter than the header.
+    /// The schemaId of a body's header, or `None` exactly if the body is shorter than the header.
     pub fn schema_id(&self, body: &[u8]) -> Option<u32>
         ensures { result ≡ header_number self.now (codes "schemaId") body.now }
     {
         self.layout.schema_id(body)
     }
 
-    /// The texts of a message. It needs a template in range.
+    /// The texts of a message. Requires a template in range.
     pub fn message(&self, template: usize) -> &LevelTexts
         requires { template < length self.now.messages }
         ensures { (level : Level) → slice_get self.now.messages template ≡ Some level → AreLevelTexts level result.now }

@@ -14,17 +14,17 @@ pub fn wide_numbers_are_shown()
     ensures { line_of wide wide_message ≡ wide_line }
 {}
 
-/// Texts as they are, with escapes and in hex; arrays with nulls; data, and data that is absent.
+/// Texts without escapes, with escapes and in hex; arrays with nulls; data, and data that is absent.
 pub fn texts_are_shown()
     ensures { line_of texts texts_message ≡ texts_line }
 {}
 
-/// Enums and sets by names, or by the number where a value or a bit isn't listed; constants.
+/// Enums and sets by names, or by the number if a value or a bit isn't listed; constants.
 pub fn names_are_shown()
     ensures { line_of names names_message ≡ names_line }
 {}
 
-/// Composites, groups in groups, a group without entries, and what is absent.
+/// Composites, nested groups, a group without entries, and absent parts.
 pub fn nested_groups_are_shown()
     ensures { line_of nested nested_message ≡ nested_line }
 {}

@@ -17,7 +17,7 @@ use type_facts::{
     Declarations, NO_MEMBERS, enum_fact, member_name, member_since, offset_of, with_member,
 };
 
-/// Judges a declared composite with its members.
+/// Checks a declared composite and its members.
 pub fn judge_composite(
     alloc: Global,
     known: &Declarations,
@@ -32,8 +32,7 @@ pub fn judge_composite(
     judge_whole(alloc, 0, all)
 }
 
-/// Judges the members of a composite with so many composites around them, and gives the facts of
-/// that composite.
+/// Checks the members of a composite that has `around` composites around them, and returns the facts of that composite.
 #[cycle(members)]
 fn judge_members(
     alloc: Global,
@@ -92,7 +91,7 @@ fn judge_member(
     }
 }
 
-/// Judges what is inside a composite with so many composites around it.
+/// Checks what is nested in a composite that has `around` composites around it.
 #[cycle(members)]
 fn judge_inner(
     alloc: Global,
@@ -106,7 +105,7 @@ fn judge_inner(
     judge_whole(alloc, around, all)
 }
 
-/// The rules on a member that are tried before what is inside it.
+/// Applies the rules for a member that are tried before those for what is nested in it.
 fn judge_entered(
     alloc: Global,
     known: &Declarations,
@@ -170,7 +169,7 @@ fn judge_place(
     Ok(())
 }
 
-/// The rules on a member that are tried after those on every member.
+/// Applies the rules for a member that are tried after those for every member.
 fn judge_last(
     alloc: Global,
     known: &Declarations,
@@ -231,7 +230,7 @@ fn names_constant_enum(known: &Declarations, r: &RefEl) -> bool
     }
 }
 
-/// The rules on a composite that are tried after its members.
+/// Applies the rules for a composite that are tried after its members.
 fn judge_whole(alloc: Global, around: u8, all: Fact) -> Result<(), CheckErr>
     ensures { Gives result (first_of (composite_rules around all)) }
 {
@@ -244,7 +243,7 @@ fn judge_whole(alloc: Global, around: u8, all: Fact) -> Result<(), CheckErr>
     Ok(())
 }
 
-/// Whether a part begins before the end of the one before it.
+/// Whether a part begins before the end of the previous one.
 pub fn begins_early(reached: u64, offset: Option<u32>, fact: Fact) -> bool
     ensures { result ≡ begins_early reached offset fact }
 {

@@ -14,7 +14,7 @@ use schema_rules::{CCode, CheckErr};
 use std::alloc::Global;
 use type_facts::{Declarations, type_name};
 
-/// Judges the declared types in their order.
+/// Checks the declared types in their order.
 pub fn judge_types(alloc: Global, known: &Declarations) -> Result<(), CheckErr>
     ensures { Gives result (types_judged known.now [] known.now) }
 {

@@ -20,7 +20,7 @@ use type_facts::{
     set_fact, type_fact,
 };
 
-/// Judges a field of a level.
+/// Checks a field of a level.
 pub fn judge_field(
     alloc: Global,
     known: &Declarations,
@@ -46,7 +46,7 @@ pub fn judge_field(
     Ok(())
 }
 
-/// The rules on a field's type and place.
+/// Applies the rules for a field's type and offset.
 fn judge_type_of(
     alloc: Global,
     known: &Declarations,
@@ -75,7 +75,7 @@ fn judge_type_of(
     Ok(())
 }
 
-/// The facts of a field, whose own presence counts before its type's.
+/// The facts of a field, whose own presence overrides its type's.
 pub fn field_fact(known: &Declarations, field: &FieldEl) -> Fact
     ensures { result ≡ field_fact known.now field.now }
 {
@@ -110,7 +110,7 @@ fn has_bad_text_in(field: &FieldEl, t: &TypeEl) -> bool
     }
 }
 
-/// Whether a constant has no value or two, or what isn't constant has a valueRef.
+/// Whether a constant has no value or two, or something that isn't constant has a valueRef.
 fn has_bad_presence(known: &Declarations, field: &FieldEl) -> bool
     ensures { result ≡ has_bad_presence known.now field.now (type_named known.now field.now.type_name) }
 {
@@ -152,7 +152,7 @@ fn presence_in(encoding: Option<Encoding>) -> Option<Presence>
     }
 }
 
-/// Whether a constant enum has no valueRef into it, or what isn't constant has a valueRef.
+/// Whether a constant enum has no valueRef into it, or something that isn't constant has a valueRef.
 fn is_bad_code(presence: Presence, name: &[u8], value_ref: &Option<ValueRef>) -> bool
     ensures { result ≡ is_bad_code presence name.now value_ref.now }
 {

@@ -8,7 +8,7 @@ use crate::refusals::refuse;
 use schema_rules::{CCode, CheckErr, LevelFacts, LevelScope, PartClass, PartHead};
 use std::alloc::Global;
 
-/// The rules on every part of a level.
+/// Applies the rules for every part of a level.
 pub fn judge_head(
     alloc: Global,
     level: LevelScope,
@@ -52,7 +52,7 @@ fn greatest_since(all: LevelFacts, class: PartClass) -> u32
     }
 }
 
-/// Whether a part begins in a version above the schema's, or before an earlier part of its class.
+/// Whether a part begins at a version above the schema's, or before an earlier part of its class.
 fn begins_wrong(level: LevelScope, all: LevelFacts, head: PartHead) -> bool
     ensures { result ≡ begins_wrong level all head }
 {

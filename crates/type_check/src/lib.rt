@@ -1,4 +1,4 @@
-//! The rules asked of declared types, of the members of composites, and of the fields that name them.
+//! The rules for declared types, for the members of composites, and for the fields that name them.
 #![tactic(auto)]
 
 mod composites;

@@ -7,7 +7,7 @@ use lists::NoMem;
 use std::alloc::Global;
 use std::marker::Model;
 
-/// Names in order, no two of which are equal.
+/// Names in their order, no two of which are equal.
 #[derive(Drop)]
 pub struct NameTable {
     names: IndexSet<Vec<u8>>,
@@ -25,7 +25,7 @@ impl Model for NameTable {
 }
 
 impl NameTable {
-    /// An empty table, which takes no memory.
+    /// Creates an empty table. Allocates nothing.
     pub fn new(alloc: Global) -> NameTable
         ensures { result ≡ [] }
     {
@@ -34,14 +34,14 @@ impl NameTable {
         }
     }
 
-    /// Whether a name stands in it.
+    /// Whether the table contains a name.
     pub fn contains(&self, name: &[u8]) -> bool
         ensures { result ≡ list_any (bytes_eq name.now) self.now }
     {
         self.names.contains(name)
     }
 
-    /// Appends a name that doesn't stand in it.
+    /// Appends a name that the table doesn't contain.
     pub fn push(&mut self, alloc: Global, name: &[u8]) -> Result<(), NoMem>
         requires { list_any (bytes_eq name.now) self.old ≡ false }
         ensures ok { OnOk result (self.new ≡ self.old ++ name.now ∷ []) }

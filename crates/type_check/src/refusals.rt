@@ -5,14 +5,14 @@ use lists::{List, NoMem, Text};
 use schema_rules::{CCode, CheckErr};
 use std::alloc::Global;
 
-/// A refusal here.
+/// A refusal with this code, at the current element.
 pub fn refuse<T>(alloc: Global, code: CCode) -> Result<T, CheckErr>
     ensures { Gives result (refuse code) }
 {
     Err(CheckErr::Refused(code, List::new(alloc)))
 }
 
-/// Why the element of that name isn't accepted, seen from in front of it.
+/// The refusal of the element with this name, with `front` and the name put before its path.
 pub fn behind(alloc: Global, front: &str, name: &[u8], err: CheckErr) -> CheckErr
     ensures { (told : Judged (Unit {0})) → Gives {X = Unit {0}} (Err err) told → Gives {X = Unit {0}} (Err result) (behind front.now name.now told) }
 {

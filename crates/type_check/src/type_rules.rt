@@ -18,7 +18,7 @@ use type_facts::{
     refers_to_none,
 };
 
-/// The rules on a `type` that are tried first.
+/// Applies the rules for a `type` that are tried first.
 pub fn judge_type(alloc: Global, types: &Types, is_member: bool, t: &TypeEl) -> Result<(), CheckErr>
     ensures { Gives result (first_of (type_rules types.now is_member t.now)) }
 {
@@ -37,7 +37,7 @@ pub fn judge_type(alloc: Global, types: &Types, is_member: bool, t: &TypeEl) -> 
     Ok(())
 }
 
-/// The rule on a `type` that is tried last.
+/// Applies the rule for a `type` that is tried last.
 pub fn judge_type_constant(alloc: Global, t: &TypeEl) -> Result<(), CheckErr>
     ensures { Gives result (first_of (type_constant_rules t.now)) }
 {
@@ -56,7 +56,7 @@ fn is_fraction(primitive: PrimitiveType) -> bool
     }
 }
 
-/// Whether it has length 0 and isn't the bytes of a data.
+/// Whether it has length 0 and isn't the bytes of a data part.
 fn is_empty_elsewhere(is_member: bool, t: &TypeEl) -> bool
     ensures { result ≡ is_empty_elsewhere is_member t.now }
 {
@@ -93,7 +93,7 @@ fn is_out(prim: Prim, stated: Option<i128>) -> bool
     }
 }
 
-/// Whether a constant's text isn't a value. Over char each text is.
+/// Whether a constant's text isn't a value. For char every text is one.
 pub fn is_bad_text(prim: Prim, text: &Option<Text>) -> bool
     ensures { result ≡ is_bad_text prim text.now }
 {
@@ -103,7 +103,7 @@ pub fn is_bad_text(prim: Prim, text: &Option<Text>) -> bool
     }
 }
 
-/// Whether a constant has no value or two, or what isn't constant has a valueRef.
+/// Whether a constant has no value or two, or something that isn't constant has a valueRef.
 pub fn is_bad_constant(
     presence: Presence,
     text: &Option<Text>,

@@ -15,7 +15,7 @@ use schema_rules::{CCode, CheckErr, Encoding};
 use std::alloc::Global;
 use type_facts::{Types, bit_number, choices, encoding_named, valid_values, value_number};
 
-/// The rules on an enum.
+/// Applies the rules for an enum.
 pub fn judge_enum(alloc: Global, types: &Types, e: &EnumEl) -> Result<(), CheckErr>
     ensures { Gives result (first_of (enum_rules types.now e.now)) }
 {
@@ -39,7 +39,7 @@ pub fn judge_enum(alloc: Global, types: &Types, e: &EnumEl) -> Result<(), CheckE
     Ok(())
 }
 
-/// The rules on a set.
+/// Applies the rules for a set.
 pub fn judge_set(alloc: Global, types: &Types, s: &SetEl) -> Result<(), CheckErr>
     ensures { Gives result (first_of (set_rules types.now s.now)) }
 {
@@ -63,7 +63,7 @@ pub fn judge_set(alloc: Global, types: &Types, s: &SetEl) -> Result<(), CheckErr
     Ok(())
 }
 
-/// Whether a name is float or double, and no type of that name is declared.
+/// Whether a name is float or double, and no type with that name is declared.
 pub fn names_fraction(types: &Types, name: &[u8]) -> bool
     ensures { result ≡ names_fraction types.now name.now }
 {
@@ -170,7 +170,7 @@ fn has_bit_twice(alloc: Global, encoding: Option<Encoding>, s: &SetEl) -> Result
     }
 }
 
-/// Whether a name or a number stands twice.
+/// Whether a name or a number occurs twice.
 fn stands_twice(alloc: Global, values: &[Named]) -> Result<bool, NoMem>
     ensures { IfOk result (λ twice. twice ≡ stands_twice values.now) }
 {

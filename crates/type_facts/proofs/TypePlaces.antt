@@ -51,7 +51,7 @@ module _ {K : Type 0} (bytes : K → List ℕ) (name : List ℕ) (key : K) (v : 
   found_put [] = refl
   found_put (e ∷ es) = step e es (bytes_eq (bytes key) (bytes e.0)) refl (found_put es)
 
--- the places of the types from i on, by those of the types behind it
+-- the places of the types from i on, by those of the types after it
 pub placed : (types : List TypesItem) (i : ℕ) (t : TypesItem) (name : List ℕ) → slice_get types i ≡ Some t →
     (if bytes_eq name (name_of t) then Some i else place_from (suc i) name (drop (suc i) types)) ≡ place_from i name (drop i types)
 placed types i t name h =

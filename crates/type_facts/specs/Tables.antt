@@ -1,4 +1,4 @@
--- Tables for the declared types, made round by round: each round reaches one name further.
+-- Tables for the declared types, built round by round: each round reaches one name further.
 use Rattle.std.specs.Prelude.{ℕ, zero, suc, Bool, true, false, List, map, Option, Some, None, slice_get, option_and_then, unwrap_or}
 use Rattle.sbe_types.specs.declared.tree.TypesItem.{TypesItem}
 use Rattle.schema_rules.specs.declared.facts.Fact.{Fact}
@@ -6,7 +6,7 @@ use Rattle.schema_rules.specs.Names.{place_of}
 use Rattle.schema_rules.specs.Facts.{no_fact, item_fact, declared_or_plain}
 use Rattle.schema_rules.specs.Chains.{is_composite, item_goes_on}
 
--- what a table of facts tells of a name
+-- the fact that a table gives for a name
 abbrev pub fact_told : List TypesItem → List Fact → List ℕ → Fact
 fact_told types table name = declared_or_plain (option_and_then (slice_get table) (place_of name types)) name
 
@@ -15,7 +15,7 @@ abbrev pub fact_round : ℕ → List TypesItem → List Fact
 fact_round zero types = map (λ t. no_fact) types
 fact_round (suc n) types = map (item_fact types (fact_told types (fact_round n types))) types
 
--- what a table of chains tells of a name
+-- what a table of chains gives for a name
 abbrev pub chain_told : List TypesItem → List Bool → List ℕ → Bool
 chain_told types table name = unwrap_or (option_and_then (slice_get table) (place_of name types)) false
 

@@ -8,10 +8,10 @@ use lists::{List, NoMem};
 use sbe_types::{CompositeEl, MemberItem, TypesItem};
 use std::alloc::Global;
 
-/// For each declared type, whether chains of composites that begin at it go on without end.
+/// For each declared type, whether chains of composites that begin at it are endless.
 pub type Chains = List<bool>;
 
-/// Whether a chain that begins at a member goes on, by a table for the declared types.
+/// Whether a chain that begins at a member continues, given a table for the declared types.
 #[cycle(chains)]
 fn goes_member_on(types: &Types, table: &[bool], member: &MemberItem) -> bool
     ensures { result ≡ member_has (chain_told types.now table.now) member.now }
@@ -35,7 +35,7 @@ fn go_members_on(types: &Types, table: &[bool], members: &[MemberItem]) -> bool
     false
 }
 
-/// Whether a chain that begins at a composite goes on.
+/// Whether a chain that begins at a composite continues.
 pub fn goes_composite_on(types: &Types, table: &[bool], composite: &CompositeEl) -> bool
     ensures { result ≡ composite_has (chain_told types.now table.now) composite.now }
 {
@@ -69,7 +69,7 @@ fn is_composite(item: &TypesItem) -> bool
     }
 }
 
-/// The table of which composites there are.
+/// The first table: which types are composites.
 fn first_round(alloc: Global, types: &Types) -> Result<Chains, NoMem>
     ensures { IfOk result (λ table. table ≡ map (λ t. is_composite (Some t)) types.now) }
 {
@@ -80,7 +80,7 @@ fn first_round(alloc: Global, types: &Types) -> Result<Chains, NoMem>
     Ok(table)
 }
 
-/// The table one name further.
+/// The table for chains of one more name.
 fn next_round(alloc: Global, types: &Types, table: &[bool]) -> Result<Chains, NoMem>
     ensures { IfOk result (λ next. next ≡ map (λ t. item_goes_on (chain_told types.now table.now) (Some t)) types.now) }
 {
@@ -91,8 +91,8 @@ fn next_round(alloc: Global, types: &Types, table: &[bool]) -> Result<Chains, No
     Ok(next)
 }
 
-/// For each declared type, whether chains from it have more names than there are types. Each round
-/// goes one name further, and one that changes nothing is the last.
+/// For each declared type, whether chains from it have more names than there are types. Each round follows one more
+/// name; a round that changes nothing is the last.
 pub fn find_chains(alloc: Global, types: &Types) -> Result<Chains, NoMem>
     ensures { IfOk result (λ table. table ≡ chain_round (length types.now) types.now) }
 {

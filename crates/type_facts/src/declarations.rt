@@ -36,7 +36,7 @@ impl Model for Declarations {
 }
 
 impl Declarations {
-    /// These types, in their order.
+    /// Creates it from these types, in their order.
     pub fn new(alloc: Global, declared: Vec<TypesItem>) -> Result<Declarations, NoMem>
         ensures { IfOk result (λ all. all ≡ declared.items) }
     {
@@ -57,7 +57,7 @@ impl Declarations {
         &self.types
     }
 
-    /// The facts of what a name stands for.
+    /// The facts of the type that a name stands for.
     pub fn fact_named(&self, name: &[u8]) -> Fact
         ensures { result ≡ fact_named self.now name.now }
     {
@@ -71,7 +71,7 @@ impl Declarations {
         member_fact(&self.types, self.facts.as_slice(), member)
     }
 
-    /// Whether a chain of composites that begins at it has no end.
+    /// Whether a chain of composites that begins at it is endless.
     pub fn is_endless(&self, composite: &CompositeEl) -> bool
         ensures { result ≡ is_endless self.now composite.now }
     {

@@ -6,7 +6,7 @@ use crate::types::Types;
 use sbe_types::{Leaf, LeafShape, Presence, Prim, PrimitiveType, TypeEl, TypesItem};
 use schema_rules::{Encoding, Numbers};
 
-/// The presence that holds: the field's own, else the type's, else required.
+/// The presence that applies: the field's own, else the type's, else required.
 pub fn effective(own: Option<Presence>, of_type: Option<Presence>) -> Presence
     ensures { result ≡ effective own of_type }
 {
@@ -29,7 +29,7 @@ pub fn integral(primitive: PrimitiveType) -> Option<Prim>
     }
 }
 
-/// What something is over that names this type, if it is a `type` of numbers or characters.
+/// The encoding that this name gives an enum or a set, if it names a `type` of numbers or characters.
 pub fn encoding_named(types: &Types, name: &[u8]) -> Option<Encoding>
     ensures { result ≡ encoding_named types.now name.now }
 {
@@ -51,7 +51,7 @@ fn encoding_of(t: &TypeEl) -> Option<Encoding>
     }
 }
 
-/// The leaf that a `type` is where it has this presence.
+/// The leaf of a `type` with this presence.
 pub fn leaf_of(prim: Prim, presence: Presence, t: &TypeEl) -> Leaf
     ensures { result ≡ leaf_of prim presence t.now }
 {
@@ -81,7 +81,7 @@ fn shape_of(prim: Prim, t: &TypeEl) -> LeafShape
     }
 }
 
-/// How an array is read.
+/// How the elements of an array are interpreted.
 fn array_shape(prim: Prim, t: &TypeEl) -> LeafShape
     ensures { result ≡ array_shape prim t.now }
 {
@@ -106,7 +106,7 @@ fn array_shape(prim: Prim, t: &TypeEl) -> LeafShape
     }
 }
 
-/// The least number of the range, stated or by default.
+/// The lowest number of the range, stated or by default.
 pub fn low_of(prim: Prim, t: &TypeEl) -> i128
     ensures { result ≡ low_of prim t.now }
 {
@@ -116,7 +116,7 @@ pub fn low_of(prim: Prim, t: &TypeEl) -> i128
     }
 }
 
-/// The greatest number of the range, stated or by default.
+/// The highest number of the range, stated or by default.
 pub fn high_of(prim: Prim, t: &TypeEl) -> i128
     ensures { result ≡ high_of prim t.now }
 {

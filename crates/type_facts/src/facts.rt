@@ -15,7 +15,7 @@ use std::alloc::Global;
 /// The facts of the declared types, in their order.
 pub type Facts = List<Fact>;
 
-/// The facts of a type that isn't known.
+/// The facts of an unknown type.
 pub const UNKNOWN: Fact = Fact {
     is_fixed: true,
     width: 0,
@@ -33,14 +33,14 @@ pub const NO_MEMBERS: Fact = Fact {
     holds_empty: false,
 };
 
-/// The sum, up to the number that stands for all that is more.
+/// The sum, saturated at the number that stands for everything larger.
 fn counted_sum(a: u64, b: u64) -> u64
     ensures { result ≡ counted (a + b) }
 {
     a.saturating_add(b).min(4_294_967_296)
 }
 
-/// The facts of a `type`, where this presence counts before its own.
+/// The facts of a `type`. `own`, if given, overrides its presence.
 pub fn type_fact(own: Option<Presence>, t: &TypeEl) -> Fact
     ensures { result ≡ type_fact own t.now }
 {
@@ -54,7 +54,7 @@ pub fn type_fact(own: Option<Presence>, t: &TypeEl) -> Fact
     }
 }
 
-/// The facts of a type that is no composite.
+/// The facts of a type that isn't a composite.
 fn simple_fact(empty: bool, presence: Presence, width: u64) -> Fact
     ensures { result ≡ simple_fact empty presence width }
 {
@@ -68,7 +68,7 @@ fn simple_fact(empty: bool, presence: Presence, width: u64) -> Fact
     }
 }
 
-/// The facts of an enum, where this presence counts before that of its encoding type.
+/// The facts of an enum. `own`, if given, overrides the presence of its encoding type.
 pub fn enum_fact(types: &Types, own: Option<Presence>, e: &EnumEl) -> Fact
     ensures { result ≡ enum_fact types.now own e.now }
 {
@@ -104,7 +104,7 @@ fn set_fact_in(encoding: Option<Encoding>) -> Fact
     }
 }
 
-/// The end of the parts so far when one more is added.
+/// The end of the parts when one more is added to those that end at `reached`.
 pub fn past(reached: u64, offset: Option<u32>, fact: Fact) -> u64
     ensures { result ≡ past reached offset fact }
 {
@@ -117,7 +117,7 @@ pub fn past(reached: u64, offset: Option<u32>, fact: Fact) -> u64
     }
 }
 
-/// The facts of a composite with one more member.
+/// The facts of a composite when one more member is added.
 pub fn with_member(all: Fact, offset: Option<u32>, fact: Fact) -> Fact
     ensures { result ≡ with_member all offset fact }
 {
@@ -143,7 +143,7 @@ pub fn offset_of(member: &MemberItem) -> Option<u32>
     }
 }
 
-/// The facts of a member, by a table of those of the declared types.
+/// The facts of a member, given a table of those of the declared types.
 #[cycle(facts)]
 pub fn member_fact(types: &Types, table: &[Fact], member: &MemberItem) -> Fact
     ensures { result ≡ member_fact types.now (fact_told types.now table.now) member.now }
@@ -168,7 +168,7 @@ fn members_fact(types: &Types, table: &[Fact], members: &[MemberItem]) -> Fact
     all
 }
 
-/// The facts of what a name stands for, by a table of those of the declared types.
+/// The facts of the type that a name stands for, given a table of those of the declared types.
 pub fn told(types: &Types, table: &[Fact], name: &[u8]) -> Fact
     ensures { result ≡ fact_told types.now table.now name.now }
 {
@@ -207,7 +207,7 @@ fn item_fact(types: &Types, table: &[Fact], item: &TypesItem) -> Fact
     }
 }
 
-/// The table one name further.
+/// The table for one more name.
 fn next_round(alloc: Global, types: &Types, table: &[Fact]) -> Result<Facts, NoMem>
     ensures { IfOk result (λ next. next ≡ map (item_fact types.now (fact_told types.now table.now)) types.now) }
 {
@@ -218,8 +218,7 @@ fn next_round(alloc: Global, types: &Types, table: &[Fact]) -> Result<Facts, NoM
     Ok(next)
 }
 
-/// The facts of each declared type, through as many names as a schema in order has inside one
-/// another.
+/// The facts of each declared type, through as many names as an accepted schema nests.
 pub fn find_facts(alloc: Global, types: &Types) -> Result<Facts, NoMem>
     ensures { IfOk result (λ table. table ≡ fact_round 5 types.now) }
 {

@@ -1,5 +1,5 @@
-//! What the declared types of a schema say: what a name stands for, which numbers and characters it is
-//! over, and its width, leaves, height and chains (SBE 1.0, "Message schema").
+//! What the declared types of a schema mean: what a name stands for, which numbers and characters it is based on, and
+//! its width, leaves, height and chains (SBE 1.0, "Message schema").
 #![tactic(auto)]
 
 mod chains;

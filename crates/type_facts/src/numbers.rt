@@ -6,7 +6,7 @@ ghost use Rattle.type_facts.specs.Wholes.{whole_in};
 use sbe_types::Prim;
 use schema_rules::Numbers;
 
-/// The number of a valid value: over char its character, else what its text spells.
+/// The number of a valid value: if the encoding is char, its character; otherwise the number in its text.
 pub fn value_number(prim: Prim, text: &[u8]) -> Option<i128>
     ensures { result ≡ value_number prim text.now }
 {
@@ -17,14 +17,14 @@ pub fn value_number(prim: Prim, text: &[u8]) -> Option<i128>
     }
 }
 
-/// The bit of a choice of a set over this primitive.
+/// The bit of a choice of a set with this primitive.
 pub fn bit_number(prim: Prim, text: &[u8]) -> Option<i128>
     ensures { result ≡ bit_number (prim_width prim) text.now }
 {
     number_between(0, 8 * prim.width() as i128 - 1, text)
 }
 
-/// The number of the primitive that a text spells.
+/// The number in a text, if it is one of the primitive.
 pub fn number_in(prim: Prim, text: &[u8]) -> Option<i128>
     ensures { result ≡ number_in prim text.now }
 {
@@ -40,7 +40,7 @@ pub fn is_number_of(prim: Prim, n: i128) -> bool
     numbers.least <= n && n <= numbers.greatest
 }
 
-/// A text of one character, which is its number.
+/// The number of a text of one character.
 fn character(text: &[u8]) -> Option<i128>
     ensures { result ≡ character text.now }
 {
@@ -50,7 +50,7 @@ fn character(text: &[u8]) -> Option<i128>
     }
 }
 
-/// The number that a text spells, if it lies between these two.
+/// The number in a text, if it is between these two.
 fn number_between(least: i128, most: i128, text: &[u8]) -> Option<i128>
     ensures { result ≡ number_between least most text.now }
 {
@@ -73,7 +73,7 @@ fn kept_between(least: i128, most: i128, n: i128) -> Option<i128>
     }
 }
 
-/// The whole number that a text spells, if an `i128` holds it.
+/// The integer in a text, if it fits an `i128`.
 fn whole_in(text: &str) -> Option<i128>
     ensures { result ≡ whole_in text.now }
 {
@@ -86,7 +86,7 @@ fn whole_in(text: &str) -> Option<i128>
     }
 }
 
-/// Whether a text begins with `+`, which `parse` would take.
+/// Whether a text begins with `+`, which `parse` would accept.
 fn has_plus(text: &[u8]) -> bool
     ensures { result ≡ (slice_index text.now 0 == 43) }
 {

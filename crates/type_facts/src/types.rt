@@ -10,11 +10,11 @@ use sbe_types::{Prim, PrimitiveType, TypeEl, TypesItem};
 use std::alloc::Global;
 use std::marker::Model;
 
-/// The declared types of a schema, which are found by their names.
+/// The declared types of a schema, found by name.
 #[derive(Drop)]
 pub struct Types {
     declared: Vec<TypesItem>,
-    /// For each name, the place of the first declared type that has it.
+    /// For each name, the index of the first declared type that has it.
     places: IndexMap<Vec<u8>, usize>,
     /// The types that the names of primitives stand for.
     plain: Vec<TypesItem>,
@@ -39,7 +39,7 @@ impl Model for Types {
 }
 
 impl Types {
-    /// These types, in their order.
+    /// Creates the table of these types, in their order.
     pub fn new(alloc: Global, declared: Vec<TypesItem>) -> Result<Types, NoMem>
         ensures { IfOk result (λ types. types ≡ declared.items) }
     {
@@ -52,14 +52,14 @@ impl Types {
         })
     }
 
-    /// The place of the first declared type of that name.
+    /// The index of the first declared type with this name.
     pub fn place(&self, name: &[u8]) -> Option<usize>
         ensures { result ≡ place_of name.now self.now }
     {
         self.places.get(name).copied()
     }
 
-    /// The first declared type of that name.
+    /// The first declared type with this name.
     pub fn declared(&self, name: &[u8]) -> Option<&TypesItem>
         ensures { option_copied result ≡ declared_as self.now name.now }
     {
@@ -69,7 +69,7 @@ impl Types {
         }
     }
 
-    /// What a name stands for: the first declared type of that name, else a primitive.
+    /// What a name stands for: the first declared type with this name, else a primitive.
     pub fn named(&self, name: &[u8]) -> Option<&TypesItem>
         ensures { option_copied result ≡ type_named self.now name.now }
     {
@@ -79,14 +79,14 @@ impl Types {
         }
     }
 
-    /// The type that the name of a primitive stands for where no declared type has that name.
+    /// The type that the name of a primitive stands for if no declared type has that name.
     pub fn plain_named(&self, name: &[u8]) -> Option<&TypesItem>
         ensures { option_copied result ≡ plain_named name.now }
     {
         type_in(self.plain.as_slice(), name)
     }
 
-    /// All of them, in their order.
+    /// All declared types, in their order.
     pub fn as_slice(&self) -> &[TypesItem]
         ensures { result.now ≡ self.now }
     {
@@ -94,7 +94,7 @@ impl Types {
     }
 }
 
-/// The first type of that name among these.
+/// The first of these types with this name.
 fn type_in<'a>(types: &'a [TypesItem], name: &[u8]) -> Option<&'a TypesItem>
     ensures { option_copied result ≡ find (λ t. bytes_eq name.now (name_of t)) types.now }
 {
@@ -106,7 +106,7 @@ fn type_in<'a>(types: &'a [TypesItem], name: &[u8]) -> Option<&'a TypesItem>
     None
 }
 
-/// The place of the first type of each name. Of two types of one name the first is put in last.
+/// The index of the first type with each name. Of two types with the same name the first one is inserted last.
 fn places_of(alloc: Global, declared: &[TypesItem]) -> Result<IndexMap<Vec<u8>, usize>, NoMem>
     ensures { IfOk result (λ places. (name : List ℕ) → get_by (λ key. bytes_eq name key.items) places ≡ place_of name declared.now) }
 {

@@ -6,7 +6,7 @@ use lists::{List, NoMem};
 use sbe_types::{ChoiceEl, Named, NamedList, Prim, ValidValueEl};
 use std::alloc::Global;
 
-/// The valid values of an enum over this primitive, with their numbers.
+/// The valid values of an enum with this primitive, with their numbers.
 pub fn valid_values(alloc: Global, prim: Prim, values: &[ValidValueEl]) -> Result<NamedList, NoMem>
     ensures { IfOk result (λ named. named ≡ map (valid_value prim) values.now) }
 {
@@ -17,7 +17,7 @@ pub fn valid_values(alloc: Global, prim: Prim, values: &[ValidValueEl]) -> Resul
     Ok(named)
 }
 
-/// A valid value of an enum over this primitive, with its number.
+/// A valid value of an enum with this primitive, with its number.
 pub fn valid_value(alloc: Global, prim: Prim, value: &ValidValueEl) -> Result<Named, NoMem>
     ensures { IfOk result (λ named. named ≡ valid_value prim value.now) }
 {
@@ -27,7 +27,7 @@ pub fn valid_value(alloc: Global, prim: Prim, value: &ValidValueEl) -> Result<Na
     })
 }
 
-/// The choices of a set over this primitive, with their bits.
+/// The choices of a set with this primitive, with their bits.
 pub fn choices(alloc: Global, prim: Prim, choices: &[ChoiceEl]) -> Result<NamedList, NoMem>
     ensures { IfOk result (λ named. named ≡ map (choice prim) choices.now) }
 {

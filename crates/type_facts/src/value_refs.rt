@@ -9,7 +9,7 @@ use crate::numbers::{is_number_of, value_number};
 use crate::types::Types;
 use sbe_types::{EnumEl, Prim, TypesItem, ValidValueEl, ValueRef};
 
-/// The valid value that a valueRef names, with its enum.
+/// The valid value that a valueRef refers to, with its enum.
 pub fn referred<'a>(
     types: &'a Types,
     value_ref: &ValueRef,
@@ -25,7 +25,7 @@ pub fn referred<'a>(
     }
 }
 
-/// The valid value of that name.
+/// The valid value with this name.
 fn value_named<'a>(e: &'a EnumEl, name: &[u8]) -> Option<&'a ValidValueEl>
     ensures { option_copied result ≡ find (λ v. bytes_eq name.now v.name) e.now.children }
 {
@@ -37,7 +37,7 @@ fn value_named<'a>(e: &'a EnumEl, name: &[u8]) -> Option<&'a ValidValueEl>
     None
 }
 
-/// Whether a valueRef names nothing.
+/// Whether a valueRef refers to nothing.
 pub fn refers_to_none(types: &Types, value_ref: &Option<ValueRef>) -> bool
     ensures { result ≡ refers_to_none types.now value_ref.now }
 {
@@ -47,7 +47,7 @@ pub fn refers_to_none(types: &Types, value_ref: &Option<ValueRef>) -> bool
     }
 }
 
-/// Whether the number of the valid value that a valueRef names isn't one of the primitive.
+/// Whether the number of the valid value that a valueRef refers to isn't one of the primitive.
 pub fn refers_outside(types: &Types, prim: Prim, value_ref: &Option<ValueRef>) -> bool
     ensures { result ≡ refers_outside types.now prim value_ref.now }
 {

@@ -6,7 +6,7 @@ use Rattle.sbe_types.specs.declared.tree.TypesItem.TheVariants as item
 use Rattle.schema_rules.specs.Kinds.{as_declared, type_kind}
 use Rattle.schema_rules.specs.Counters.{leaf_in}
 
--- The leaf that a type is, if it was found.
+-- The leaf of a type, if it was found and is one.
 abbrev pub found_leaf : List TypesItem → Option TypesItem → Option Leaf
 found_leaf types None = None
 found_leaf types (Some (item.Type t)) = leaf_in (type_kind types as_declared t)

@@ -1,11 +1,11 @@
--- A table of kinds for the declared types, made round by round: each round reaches one name further.
+-- A table of kinds for the declared types, built round by round: each round reaches one name further.
 use Rattle.std.specs.Prelude.{ℕ, zero, suc, List, map, slice_get, option_and_then}
 use Rattle.sbe_types.specs.declared.kind.Kind.{Kind}
 use Rattle.sbe_types.specs.declared.tree.TypesItem.{TypesItem}
 use Rattle.schema_rules.specs.Kinds.{as_declared, unresolved, item_kind, kind_or_plain}
 use Rattle.schema_rules.specs.Names.{place_of}
 
--- what a table of kinds tells of a name
+-- the kind that a table gives for a name
 abbrev pub kind_told : List TypesItem → List Kind → List ℕ → Kind
 kind_told types table name = kind_or_plain types (option_and_then (slice_get table) (place_of name types)) name
 

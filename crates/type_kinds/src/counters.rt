@@ -10,7 +10,7 @@ ghost use Rattle.type_kinds.specs.Leaves.{found_leaf};
 use sbe_types::{Leaf, MemberItem, Presence, Prim, TypeEl, TypesItem};
 use type_facts::{Types, effective, integral, is_number_of, leaf_of, member_name, offset_of};
 
-/// The members of the composite that a name stands for. What is no composite has none.
+/// The members of the composite that a name stands for. If it isn't a composite, there are none.
 pub fn members_named<'a>(types: &'a Types, name: &[u8]) -> &'a [MemberItem]
     ensures { members_of types.now (kind_named types.now) result.now ≡ members_named types.now name.now }
 {
@@ -71,7 +71,7 @@ fn is_counter_primitive(prim: Prim) -> bool
     }
 }
 
-/// Whether these are the members of the type of a data.
+/// Whether these are the members of a type of data.
 pub fn is_data(types: &Types, members: &[MemberItem]) -> bool
     ensures { result ≡ is_data (members_of types.now (kind_named types.now) members.now) }
 {
@@ -126,7 +126,7 @@ fn is_behind(prim: Prim, offset: Option<u32>) -> bool
     }
 }
 
-/// Whether the member of that name can hold the number.
+/// Whether the member with this name can hold the number.
 pub fn holds(types: &Types, members: &[MemberItem], name: &[u8], n: u32) -> bool
     ensures { result ≡ holds (members_of types.now (kind_named types.now) members.now) name.now n }
 {
@@ -147,7 +147,7 @@ fn holds_in(leaf: Option<Leaf>, n: u32) -> bool
     }
 }
 
-/// The leaf that a member is, if it is one.
+/// The leaf of a member, if it is one.
 #[tactic(auto, using(crate::proofs::LeafLemmas::named_leaf, crate::proofs::LeafLemmas::enum_leafless, crate::proofs::LeafLemmas::set_leafless))]
 pub fn leaf_of_member(types: &Types, member: &MemberItem) -> Option<Leaf>
     ensures { result ≡ leaf_in (member_kind types.now (kind_named types.now) member.now) }

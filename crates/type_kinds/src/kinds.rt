@@ -21,7 +21,7 @@ use type_facts::{
 /// The kinds of the declared types, in their order.
 pub type Kinds = List<Kind>;
 
-/// The kind of a field: that of its type, where its own presence and valueRef count first.
+/// The kind of a field: that of its type, overridden by its own presence and valueRef.
 pub fn field_kind(
     alloc: Global,
     types: &Types,
@@ -42,14 +42,14 @@ pub fn field_kind(
     }
 }
 
-/// What stands where no kind is known. A schema in order has none.
+/// A placeholder where no kind is known. An accepted schema has none.
 fn unresolved() -> Kind
     ensures { result ≡ unresolved }
 {
     Kind::Const(ConstValue::Num(0))
 }
 
-/// The kind of a `type`, where this presence and valueRef count first.
+/// The kind of a `type`, overridden by this presence and valueRef.
 fn type_kind(
     alloc: Global,
     types: &Types,
@@ -69,7 +69,7 @@ fn type_kind(
     }
 }
 
-/// The value of a constant: by the field's valueRef, else the type's, else the type's text.
+/// The value of a constant: that of the field's valueRef, else of the type's, else the type's text.
 fn constant_of(
     alloc: Global,
     types: &Types,
@@ -88,7 +88,7 @@ fn constant_of(
     }
 }
 
-/// The valid value that a valueRef names, with the encoding of its enum.
+/// The valid value that a valueRef refers to, with the encoding of its enum.
 fn code_named(alloc: Global, types: &Types, value_ref: &ValueRef) -> Result<ConstValue, NoMem>
     ensures { IfOk result (λ value. value ≡ code_of types.now (Some value_ref.now)) }
 {
@@ -119,7 +119,7 @@ fn text_value(alloc: Global, prim: Prim, text: &Option<Text>) -> Result<ConstVal
     }
 }
 
-/// The kind of an enum, where this presence counts first. A constant one is its valueRef's value.
+/// The kind of an enum, overridden by this presence. A constant one has the value of its valueRef.
 fn enum_kind(
     alloc: Global,
     types: &Types,
@@ -193,7 +193,7 @@ fn set_kind(alloc: Global, types: &Types, s: &SetEl) -> Result<Kind, NoMem>
     }
 }
 
-/// A composite by the presence of its field: where that is optional, its first leaf is.
+/// A composite with the presence of its field: if that is optional, its first leaf is optional.
 fn composite_with(
     alloc: Global,
     presence: Option<Presence>,
@@ -240,7 +240,7 @@ fn made_optional(alloc: Global, kind: &Kind) -> Result<Kind, NoMem>
     }
 }
 
-/// The kind of a member, by a table of those of the declared types.
+/// The kind of a member, given a table of those of the declared types.
 #[cycle(kinds)]
 fn member_kind(
     alloc: Global,
@@ -271,7 +271,7 @@ fn composite_of(
     Ok(Kind::Comp(members_of(alloc, types, table, members)?))
 }
 
-/// The members of a composite with their kinds, by a table of those of the declared types.
+/// The members of a composite with their kinds, given a table of those of the declared types.
 #[cycle(kinds)]
 pub fn members_of(
     alloc: Global,
@@ -304,7 +304,7 @@ fn member_of(
     })
 }
 
-/// The kind of a `type` that is declared or a member.
+/// The kind of a `type` that is declared or is a member.
 fn declared_type(alloc: Global, types: &Types, t: &TypeEl) -> Result<Kind, NoMem>
     ensures { IfOk result (λ kind. kind ≡ type_kind types.now as_declared t.now) }
 {
@@ -319,7 +319,7 @@ fn declared_enum(alloc: Global, types: &Types, e: &EnumEl) -> Result<Kind, NoMem
     enum_kind(alloc, types, None, &none, e)
 }
 
-/// The kind that a name stands for, by a table of those of the declared types.
+/// The kind that a name stands for, given a table of those of the declared types.
 fn told(alloc: Global, types: &Types, table: &Kinds, name: &[u8]) -> Result<Kind, NoMem>
     ensures { IfOk result (λ kind. kind ≡ kind_told types.now table.now name.now) }
 {
@@ -358,7 +358,7 @@ fn item_kind(alloc: Global, types: &Types, table: &Kinds, item: &TypesItem) -> R
     }
 }
 
-/// The table one name further.
+/// The table for one more name.
 fn next_round(alloc: Global, types: &Types, table: &Kinds) -> Result<Kinds, NoMem>
     ensures { IfOk result (λ next. next ≡ map (item_kind types.now (kind_told types.now table.now) as_declared) types.now) }
 {
@@ -369,8 +369,7 @@ fn next_round(alloc: Global, types: &Types, table: &Kinds) -> Result<Kinds, NoMe
     Ok(next)
 }
 
-/// The kind of each declared type, through as many names as a schema in order has inside one
-/// another.
+/// The kind of each declared type, through as many names as an accepted schema nests.
 pub fn find_kinds(alloc: Global, types: &Types) -> Result<Kinds, NoMem>
     ensures { IfOk result (λ table. table ≡ kind_round 4 types.now) }
 {

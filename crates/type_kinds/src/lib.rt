@@ -1,5 +1,5 @@
-//! The kinds that the types of a schema stand for: of fields and composites, resolved, and of the
-//! counters in headers, dimensions and data; which kinds are equal, and how wide each is.
+//! The kinds that the types of a schema stand for: of fields and composites, resolved, and of the counters in headers,
+//! dimensions and data; which kinds are equal, and how wide each one is.
 #![tactic(auto)]
 
 mod counters;

@@ -10,7 +10,7 @@ use std::alloc::Global;
 use std::marker::Model;
 use type_facts::Declarations;
 
-/// The declared types of a schema in order, with the kind of each.
+/// The declared types of an accepted schema, with the kind of each.
 #[derive(Drop)]
 pub struct Resolver {
     known: Declarations,
@@ -34,7 +34,7 @@ impl Model for Resolver {
 }
 
 impl Resolver {
-    /// The same types, with the kind of each.
+    /// Adds the kind of each type.
     pub fn new(alloc: Global, known: Declarations) -> Result<Resolver, NoMem>
         ensures { IfOk result (λ all. all ≡ known) }
     {

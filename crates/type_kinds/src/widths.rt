@@ -21,7 +21,7 @@ pub fn fact_of(kind: &Kind) -> Fact
     }
 }
 
-/// Where members end.
+/// The end of the members.
 #[cycle(widths)]
 fn end_of(members: &List<Member>) -> u64
     ensures { counted result ≡ counted (members_end 0 members.now) }

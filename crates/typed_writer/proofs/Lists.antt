@@ -28,7 +28,7 @@ front_put m n front piece after more is within =
     take-take m n (front ++ (piece ++ after) ++ more) within ∙ ap (take m) shape ∙ ap (λ k. take k ((front ++ piece) ++ (after ++ more))) (sym long)
     ∙ take-append_seam (front ++ piece) (after ++ more)
 
--- ---- bytes behind bytes
+-- ---- bytes after bytes
 
 none_is : (bytes : List ℕ) → ◌≡◌ {A = Option (List ℕ)} None (Some bytes) → ⊥
 none_is bytes h = cc
@@ -36,14 +36,14 @@ none_is bytes h = cc
 some_is : (a b : List ℕ) → Some a ≡ Some b → a ≡ b
 some_is a b h = cc
 
--- one piece behind another
+-- one piece after another
 pub behind_both : (xs ys zs : List ℕ) (a b : Option (List ℕ)) → behind xs a ≡ Some ys → behind ys b ≡ Some zs → behind xs (both a b) ≡ Some zs
 behind_both xs ys zs None b h k = absurd (none_is ys h)
 behind_both xs ys zs (Some a) None h k = absurd (none_is zs k)
 behind_both xs ys zs (Some a) (Some b) h k =
     ap Some (sym (append_assoc xs a b)) ∙ ap (λ w. Some (w ++ b)) (some_is (xs ++ a) ys h) ∙ k
 
--- what is left behind a piece, and what is left behind all
+-- what is left after a piece, and what is left after all
 pub behind_next : (xs ys : List ℕ) (a b : Option (List ℕ)) → behind xs a ≡ Some ys → behind xs (both a b) ≡ behind ys b
 behind_next xs ys None b h = absurd (none_is ys h)
 behind_next xs ys (Some a) None h = refl

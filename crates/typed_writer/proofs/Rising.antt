@@ -1,4 +1,4 @@
--- Parts that stand one behind another.
+-- Parts that stand one after another.
 use Rattle.std.proofs.Common.{◌≡◌, ℕ, zero, suc, ◌+◌, ◌-◌, ◌≤◌, ◌<◌, Bool, true, false, cond, List, [], ◌∷◌, length, drop, get_or, replicate, Option, Some, refl, sym, ap, ◌∙◌, subst, arith}
 use Rattle.sbe_types.specs.declared.kind.Order.{Order}
 use Rattle.sbe_types.specs.declared.kind.Leaf.{Leaf as LeafOf}
@@ -35,7 +35,7 @@ fields_rise e (f ∷ fs) h =
     let rest = fields_rise (end_past e f.offset f.kind) fs h.1 in
     omega (arith, here, rest)
 
--- the next member begins behind those before it, and ends before all
+-- the next member begins after those before it, and ends before all
 pub member_within : (e : ℕ) (ms : List Member) (i : ℕ) (m : Member) → i < length ms → m ≡ get_or ms i m → MembersStand e (drop i ms) →
     (e ≤ end_past e m.offset m.kind) × (end_past e m.offset m.kind ≤ members_end e (drop i ms))
 member_within e [] i m h is all = absurd (omega (arith, h))

@@ -1,4 +1,4 @@
--- The numbers of headers and dimensions by their names. From SBE 1.0, Message structure and Repeating group encoding.
+-- The numbers of headers and dimensions by name. From SBE 1.0, Message structure and Repeating group encoding.
 use Rattle.std.specs.Prelude.{◌≡◌, ℕ, true, if◌then◌else◌, List, codes}
 use Rattle.std.specs.List.{AllByRecursion}
 use Rattle.std.specs.Str.{bytes_eq}
@@ -8,7 +8,7 @@ use Rattle.sbe_wire.specs.Canonical.{dimension_numbers}
 use Rattle.typed_writer.specs.declared.counters.Counters.{Counters}
 use Rattle.typed_writer.specs.declared.counters.Counters.TheVariants.{Header, Dimension}
 
--- the number of that name
+-- the number with this name
 abbrev pub number_of_name : Counters → List ℕ → ℕ
 number_of_name (Header block template schema version) name =
     if bytes_eq name (codes "blockLength") then block
@@ -16,11 +16,11 @@ number_of_name (Header block template schema version) name =
     else (if bytes_eq name (codes "schemaId") then schema else version))
 number_of_name (Dimension block count) name = dimension_numbers block count name
 
--- the member is one unsigned number of at most four bytes, which has room for the number of its name
+-- the member is one unsigned number of at most four bytes, and can hold the number of its name
 pub record HasRoomFor (numbers : List ℕ → ℕ) (member : Member) : Type 0 where
   pub counter : is_counter (leaf_in member.kind) ≡ true
   pub holds : holds_in (leaf_in member.kind) (numbers member.name) ≡ true
 
--- each member is so
+-- the same for each member
 abbrev pub HaveRoomFor : (List ℕ → ℕ) → List Member → Type 0
 HaveRoomFor numbers members = AllByRecursion (HasRoomFor numbers) members

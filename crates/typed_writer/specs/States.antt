@@ -1,4 +1,4 @@
--- The states of a writer: which writer is the innermost one, and what stands open with it.
+-- The states of a writer: which writer is the innermost one, and which others are open.
 use Rattle.std.specs.Prelude.{◌≡◌, ℕ, suc, ◌+◌, ◌-◌, ◌*◌, ◌≤◌, ◌<◌, nat_lt, if◌then◌else◌, List, [], ◌∷◌, length, drop}
 use Rattle.std.specs.Option.{option_map_or, IsSome}
 use Rattle.sbe_types.specs.declared.schema.Level.{Level, out-Level}
@@ -15,21 +15,21 @@ use Rattle.typed_writer.specs.Held.{Held}
 
 -- ---- the innermost writer
 
--- the number of its level
+-- the number of the innermost writer's level
 abbrev pub level_of : List Frame → ℕ
 level_of [] = 0
 level_of (Fields level ∷ rest) = level
 level_of (Tail level many ∷ rest) = level
 level_of (Entries level left ∷ rest) = level
 
--- how many groups and data it has appended
+-- how many groups and data parts the innermost writer has appended
 abbrev pub parts_done : List Frame → ℕ
 parts_done [] = 0
 parts_done (Fields level ∷ rest) = 0
 parts_done (Tail level many ∷ rest) = many
 parts_done (Entries level left ∷ rest) = 0
 
--- how many entries are still to come
+-- how many entries the innermost writer has still to append
 abbrev pub entries_left : List Frame → ℕ
 entries_left [] = 0
 entries_left (Fields level ∷ rest) = 0
@@ -42,15 +42,15 @@ entries_left (Entries level left ∷ rest) = left
 abbrev pub block_at : WireSchema → ℕ → ℕ
 block_at schema n = option_map_or (λ (l : Level). (out-Level l).block_length) (level_at schema n) 0
 
--- how many groups lie around one another in level n
+-- how many groups below level n are nested in one another at most
 abbrev pub deep_at : WireSchema → ℕ → ℕ
 deep_at schema n = option_map_or groups_deep (level_at schema n) 0
 
--- how many groups and data level n has
+-- how many groups and data parts level n has
 abbrev pub parts_in_tail : WireSchema → ℕ → ℕ
 parts_in_tail schema n = length (groups_at schema n) + length (parts_at schema n)
 
--- what comes behind so many groups and data of level n
+-- what follows the first `many` groups and data parts of level n
 abbrev pub next_part : WireSchema → ℕ → ℕ → NextPart
 next_part schema n many =
     if nat_lt many (length (groups_at schema n)) then next.Group many
@@ -58,7 +58,8 @@ next_part schema n many =
 
 -- ---- states
 
--- The innermost writer sets the fields of a level's block, which lies in the bytes; the groups below have room in the memory.
+-- The innermost writer sets the fields of a level's block, which is within the bytes; there is memory for the groups
+-- below.
 pub record SetsFields (schema : WireSchema) (held : Held) : Type 0 where
   pub frames : held.frames ≡ Fields (level_of held.frames) ∷ drop 1 held.frames
   pub level : level_of held.frames < length (all_nodes schema)

@@ -18,12 +18,12 @@ use lists::NoMem;
 use std::alloc::Global;
 use std::marker::Model;
 
-/// The bytes of a body, and the writers over it that stand open. All memory is taken when it is made.
+/// The bytes of a body, and its open writers. All memory is allocated when it is made.
 #[derive(Drop)]
 pub struct FrameBuf {
     pub(crate) room: Room,
     pub(crate) stack: Stack,
-    /// Where the block stands that was begun last.
+    /// The offset of the block that was begun last.
     pub(crate) at: usize,
     pub(crate) marks: Marks,
 }
@@ -37,7 +37,7 @@ impl Model for FrameBuf {
 }
 
 impl FrameBuf {
-    /// Takes all memory for a body of at most `limit` bytes.
+    /// Allocates all memory for a body of at most `limit` bytes.
     pub fn new(alloc: Global, limit: usize) -> Result<FrameBuf, NoMem>
         ensures empty { IfOk result (λ b. b.bytes ≡ []) }
         ensures closed { IfOk result (λ b. b.frames ≡ []) }
@@ -61,7 +61,7 @@ impl FrameBuf {
         self.room.bytes()
     }
 
-    /// The most bytes that a body may have. Whatever stands in the buffer is within it.
+    /// The most bytes that a body may have. The contents of the buffer are within it.
     pub fn limit(&self) -> usize
         ensures same { result ≡ self.now.limit }
         ensures within { length self.now.bytes ≤ self.now.limit }
@@ -70,14 +70,14 @@ impl FrameBuf {
         self.room.limit()
     }
 
-    /// How many writers stand open.
+    /// The number of open writers.
     pub fn depth(&self) -> usize
         ensures { result ≡ length self.now.frames }
     {
         self.stack.len()
     }
 
-    /// Lets go of what stands in the buffer.
+    /// Empties the buffer.
     pub fn clear(&mut self)
         ensures bytes { self.new.bytes ≡ [] }
         ensures frames { self.new.frames ≡ [] }
@@ -87,7 +87,7 @@ impl FrameBuf {
         self.stack.clear();
     }
 
-    /// How many entries are still to come to the innermost writer.
+    /// How many entries the innermost writer still has to append.
     pub(crate) fn left(&self) -> u32
         ensures { result ≡ entries_left self.now.frames }
     {
@@ -99,7 +99,7 @@ impl FrameBuf {
         }
     }
 
-    /// What comes next for the innermost writer.
+    /// What the innermost writer has to append next.
     pub(crate) fn next(&self, layout: &Layout) -> NextPart
         requires { AppendsParts layout.now self.now }
         ensures { result ≡ next_part layout.now (level_of self.now.frames) (parts_done self.now.frames) }
@@ -112,7 +112,7 @@ impl FrameBuf {
         }
     }
 
-    /// The first field that has to be set and isn't.
+    /// The first field that must be set and isn't.
     pub(crate) fn unset(&self, layout: &Layout) -> Option<usize>
         requires { SetsFields layout.now self.now }
         ensures { result ≡ first_unset layout.now (level_of self.now.frames) self.now.set }
@@ -125,7 +125,7 @@ impl FrameBuf {
         }
     }
 
-    /// The innermost writer is done.
+    /// Closes the innermost writer.
     pub(crate) fn leave(&mut self)
         requires { 0 < length self.old.frames }
         ensures { self.new ≡ ends self.old }
@@ -133,7 +133,7 @@ impl FrameBuf {
         self.stack.pop();
     }
 
-    /// The innermost writer goes on as another.
+    /// Replaces the innermost writer.
     pub(crate) fn go_on(&mut self, frame: Frame)
         requires { 0 < length self.old.frames }
         ensures { self.new ≡ goes_on_as self.old frame }
@@ -141,7 +141,7 @@ impl FrameBuf {
         self.stack.replace(frame);
     }
 
-    /// Appends the empty block of a level, which has room, and begins its marks.
+    /// Appends the empty block of a level, for which there is room, and starts its marks.
     #[tactic(auto, using(crate::proofs::Checked::fields_stand, crate::proofs::Checked::fields_within, crate::proofs::Checked::fields_few, crate::proofs::Checked::block_told))]
     pub(crate) fn lay_block(&mut self, layout: &Layout, level: usize)
         requires level { level < length (all_nodes layout.now) }
@@ -186,7 +186,7 @@ impl FrameBuf {
         Ok(())
     }
 
-    /// Appends the header of a message, which has room.
+    /// Appends the header of a message, for which there is room.
     #[tactic(auto, using(crate::proofs::Holding::header_holds, crate::proofs::Holding::header_stands, crate::proofs::Holding::header_told))]
     fn lay_header(&mut self, layout: &Layout, template: usize)
         requires template { template < length layout.now.messages }
@@ -208,12 +208,12 @@ impl FrameBuf {
             .members(schema.order, &schema.header.members, numbers);
     }
 
-    /// Begins the body of a message, afresh: what stood in the buffer is let go.
+    /// Begins the body of a new message. The previous contents of the buffer are discarded.
     ///
     /// # Errors
     ///
-    /// `Template` exactly where the schema has no message of that number, then `Full` exactly where its header and
-    /// its root's block pass the limit. The buffer is empty after both.
+    /// `Template` exactly if the schema has no message with this number; otherwise `Full` exactly if its header and its
+    /// root's block exceed the limit. The buffer is empty after both.
     pub fn begin<'b>(
         &'b mut self,
         layout: &'b Layout,
@@ -261,12 +261,11 @@ impl FrameBuf {
         }
     }
 
-    /// Begins the next entry of the group whose entries are being appended. It needs an entry that is still to
-    /// come.
+    /// Begins the next entry of the current group. Requires an entry that is still to come.
     ///
     /// # Errors
     ///
-    /// `Full` exactly where the entry's block passes the limit. The buffer is as it was.
+    /// `Full` exactly if the entry's block exceeds the limit. The buffer is then unchanged.
     pub fn entry<'b>(&'b mut self, layout: &'b Layout) -> Result<FieldsW<'b>, Full>
         requires state { AppendsEntries layout.now self.old }
         requires some { 0 < entries_left self.old.frames }
@@ -287,8 +286,8 @@ impl FrameBuf {
     ///
     /// # Errors
     ///
-    /// The first field that isn't set, where one is no constant and no optional leaf or enum other than octets.
-    /// The buffer is as it was.
+    /// The first field that must be set and isn't. A field must be set unless it is a constant or an optional leaf or
+    /// enum other than octets. The buffer is then unchanged.
     pub fn done<'b>(&'b mut self, layout: &'b Layout) -> Result<TailW<'b>, usize>
         requires { SetsFields layout.now self.old }
         ensures* rests { sem 𝓛 (TailRests self.entry result) }
@@ -311,7 +310,7 @@ impl FrameBuf {
         })
     }
 
-    /// The fields are done, and the groups and data follow.
+    /// Ends the fields; the groups and data follow.
     pub(crate) fn to_tail(&mut self, layout: &Layout)
         requires { SetsFields layout.now self.old }
         ensures now { self.new ≡ goes_on_as self.old (Frame.Tail (level_of self.old.frames) 0) }
@@ -326,7 +325,7 @@ impl FrameBuf {
     }
 }
 
-/// What comes behind so many groups and data of a level.
+/// What follows the first `many` groups and data parts of a level.
 fn next_of(layout: &Layout, level: usize, many: usize) -> NextPart
     requires { level < length (all_nodes layout.now) }
     ensures { result ≡ next_part layout.now level many }

@@ -27,7 +27,7 @@ pub(crate) enum Counters {
 }
 
 impl Counters {
-    /// The number of that name.
+    /// The number with this name.
     fn of_name(self, name: &[u8]) -> u32
         ensures { result ≡ number_of_name self name.now }
     {
@@ -60,7 +60,7 @@ impl Counters {
 }
 
 impl Room {
-    /// Appends the members of a header or a dimension, which have room.
+    /// Appends the members of a header or a dimension, for which there is room.
     pub(crate) fn members(&mut self, order: Order, members: &MemberList, numbers: Counters)
         requires room { length self.old.bytes + members_end 0 members.now ≤ self.old.limit }
         requires stand { MembersStand 0 members.now }
@@ -75,7 +75,7 @@ impl Room {
         }
     }
 
-    /// Appends one member behind members that end at `end`, and tells where it ends.
+    /// Appends one member after members that end at `end`, and returns where it ends.
     fn member(&mut self, order: Order, end: u32, member: &Member, numbers: Counters) -> u32
         requires room { length self.old.bytes + (end_past end member.now.offset member.now.kind - end) ≤ self.old.limit }
         requires stands { MembersStand end (member.now ∷ []) }

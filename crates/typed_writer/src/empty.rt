@@ -15,7 +15,7 @@ use flat_rows::{begin_of, end_behind, width_of};
 use sbe_types::{Field, Kind, Leaf, LeafShape, Order, Presence};
 
 impl Room {
-    /// Appends an empty block, which has room.
+    /// Appends an empty block, for which there is room.
     pub(crate) fn block(&mut self, order: Order, block_length: u32, fields: &[Field])
         requires stand { FieldsStand 0 fields.now }
         requires within { fields_end 0 fields.now ≤ block_length }
@@ -30,7 +30,7 @@ impl Room {
         self.zeros(rest);
     }
 
-    /// Appends empty fields, which have room.
+    /// Appends empty fields, for which there is room.
     fn fields(&mut self, order: Order, fields: &[Field])
         requires stand { FieldsStand 0 fields.now }
         requires room { length self.old.bytes + fields_end 0 fields.now ≤ self.old.limit }
@@ -45,7 +45,7 @@ impl Room {
         }
     }
 
-    /// Appends an empty field behind fields that end at `end`.
+    /// Appends an empty field after fields that end at `end`.
     fn field(&mut self, order: Order, end: u32, field: &Field)
         requires stands { CanStand end field.now }
         requires room { length self.old.bytes + (end_past end field.now.offset field.now.kind - end) ≤ self.old.limit }
@@ -106,7 +106,7 @@ impl Room {
     }
 }
 
-/// Whether a leaf of that shape is a number or an array of numbers, and no text or octets.
+/// Whether a leaf of this shape is a number or an array of numbers, and not a text or octets.
 fn has_null_elements(shape: LeafShape) -> bool
     ensures { result ≡ has_null_elements shape }
 {

@@ -15,13 +15,13 @@ use layout_tables::Layout;
 use sbe_types::{Field, Value};
 
 impl FrameBuf {
-    /// Sets field `i` of the block that was begun last; a later value takes the place of an earlier one. It needs a
-    /// field in range.
+    /// Sets field `i` of the block that was begun last. A later value replaces an earlier one. Requires a field in
+    /// range.
     ///
     /// # Errors
     ///
-    /// The first member, element or byte that doesn't fit the field; any value of a constant. The buffer is as it
-    /// was, and what counts as set too.
+    /// The first member, element or byte that doesn't fit the field; any value for a constant. The buffer, and which
+    /// fields are set, are then unchanged.
     #[tactic(auto, using(crate::proofs::Setting::moving_place, crate::proofs::Setting::field_inside, crate::proofs::Setting::misfit_told, crate::proofs::Checked::fields_few, kind_bytes::proofs::MemberBytes::field_fits))]
     pub fn set(&mut self, layout: &Layout, i: usize, v: &Value) -> Result<(), FieldErr>
         requires state { SetsFields layout.now self.old }

@@ -1,4 +1,4 @@
-//! A message is written in wire order, through states that can't be misused.
+//! Writes a message in wire order, through states that can't be misused.
 #![tactic(auto)]
 
 mod buffer;

@@ -8,7 +8,7 @@ use sbe_types::{Field, Kind, LeafShape, PART_LIMIT, Presence};
 use std::alloc::Global;
 use std::marker::Model;
 
-/// Which fields of a block are set, in memory that was taken at the start.
+/// Which fields of a block are set, in memory that was allocated at the start.
 #[derive(Drop)]
 pub(crate) struct Marks {
     memory: Vec<bool>,
@@ -27,7 +27,7 @@ impl Model for Marks {
 }
 
 impl Marks {
-    /// Takes memory for the fields of any block.
+    /// Allocates memory for the fields of any block.
     pub(crate) fn new(alloc: Global) -> Result<Marks, NoMem>
         ensures { IfOk result (λ m. m ≡ []) }
     {
@@ -36,7 +36,7 @@ impl Marks {
         Ok(Marks { memory, len: 0 })
     }
 
-    /// A block of so many fields begins, of which none is set.
+    /// Begins a block of `many` fields, none of which is set.
     #[tactic(auto, using(crate::proofs::Lists::take_same))]
     pub(crate) fn begin(&mut self, many: usize)
         requires { many ≤ PART_LIMIT }
@@ -54,7 +54,7 @@ impl Marks {
         self.len
     }
 
-    /// Field `i` is set.
+    /// Marks field `i` as set.
     pub(crate) fn mark(&mut self, i: usize)
         requires { i < length self.old }
         ensures { self.new ≡ slice_set self.old i true }
@@ -70,7 +70,7 @@ impl Marks {
         self.memory[i]
     }
 
-    /// Whether field `i` has to be set and isn't.
+    /// Whether field `i` must be set and isn't.
     fn wants(&self, i: usize, field: &Field) -> bool
         requires { i < length self.now }
         ensures { option_map (λ b. must_be_set field.now.kind && not b) (slice_get self.now i) ≡ Some result }
@@ -79,7 +79,7 @@ impl Marks {
         must_be_set(&field.kind) && !set
     }
 
-    /// The first of the block's fields that has to be set and isn't.
+    /// The first of the block's fields that must be set and isn't.
     pub(crate) fn unset(&self, fields: &[Field]) -> Option<usize>
         requires { length self.now ≡ length fields.now }
         ensures { result ≡ unset_from 0 fields.now self.now }
@@ -93,7 +93,7 @@ impl Marks {
     }
 }
 
-/// Whether a field has to be set: it is no constant, and no optional leaf or enum other than octets.
+/// Whether a field must be set: it isn't a constant, and isn't an optional leaf or enum other than octets.
 fn must_be_set(kind: &Kind) -> bool
     ensures { result ≡ must_be_set kind.now }
 {

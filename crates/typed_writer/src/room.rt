@@ -16,17 +16,17 @@ use std::alloc::Global;
 use std::marker::Model;
 use thiserror::Error;
 
-/// A part of a body has no room in the buffer.
+/// The buffer has no room for a part of a body.
 #[derive(Clone, Copy, Debug, PartialEq, Eq, Drop, Error)]
 #[error("{needed} bytes are needed, and the limit is {limit}")]
 pub struct Full {
-    /// How many bytes the body has with the part.
+    /// The size of the body with the part, in bytes.
     pub needed: u64,
     /// The most bytes that it may have.
     pub limit: usize,
 }
 
-/// Bytes in memory that was taken at the start.
+/// Bytes in memory that was allocated at the start.
 #[derive(Drop)]
 pub(crate) struct Room {
     memory: Vec<u8>,
@@ -45,7 +45,7 @@ impl Model for Room {
 }
 
 impl Room {
-    /// Takes memory for so many bytes.
+    /// Allocates memory for `limit` bytes.
     pub(crate) fn new(alloc: Global, limit: usize) -> Result<Room, NoMem>
         ensures empty { IfOk result (λ b. b.bytes ≡ []) }
         ensures limit { IfOk result (λ b. b.limit ≡ limit) }
@@ -70,14 +70,14 @@ impl Room {
         self.len
     }
 
-    /// The most bytes that may be there.
+    /// The most bytes that are allowed.
     pub(crate) fn limit(&self) -> usize
         ensures { result ≡ self.now.limit }
     {
         self.memory.len()
     }
 
-    /// Whether so many bytes more have room.
+    /// Checks that there is room for `many` more bytes.
     pub(crate) fn judge(&self, many: u64) -> Result<(), Full>
         requires small { many < 2 ^ 40 }
         ensures ok { OnOk result (length self.now.bytes + many ≤ self.now.limit) }
@@ -94,7 +94,7 @@ impl Room {
         Ok(())
     }
 
-    /// Takes all bytes away.
+    /// Removes all bytes.
     pub(crate) fn clear(&mut self)
         ensures bytes { self.new.bytes ≡ [] }
         ensures limit { self.new.limit ≡ self.old.limit }
@@ -102,7 +102,7 @@ impl Room {
         self.len = 0;
     }
 
-    /// Appends bytes, which have room.
+    /// Appends bytes, for which there is room.
     pub(crate) fn append(&mut self, piece: &[u8])
         requires { length self.old.bytes + length piece.now ≤ self.old.limit }
         ensures bytes { self.new.bytes ≡ self.old.bytes ++ piece.now }
@@ -113,7 +113,7 @@ impl Room {
         self.len = end;
     }
 
-    /// Appends so many bytes of 00, which have room.
+    /// Appends `many` zeros, for which there is room.
     pub(crate) fn zeros(&mut self, many: usize)
         requires { length self.old.bytes + many ≤ self.old.limit }
         ensures bytes { self.new.bytes ≡ self.old.bytes ++ replicate many 0 }
@@ -124,7 +124,7 @@ impl Room {
         self.len = end;
     }
 
-    /// Appends a number of a primitive, which has room.
+    /// Appends a number of a primitive, for which there is room.
     pub(crate) fn number(&mut self, order: Order, prim: Prim, n: i128)
         requires room { length self.old.bytes + prim_width prim ≤ self.old.limit }
         requires number { is_number_of prim n ≡ true }
@@ -137,7 +137,7 @@ impl Room {
         self.len = end;
     }
 
-    /// Writes a value that fits its kind over the bytes at a place behind `at`.
+    /// Writes a value that fits its kind over the bytes at offset `place` from `at`.
     pub(crate) fn put(&mut self, at: usize, place: usize, order: Order, kind: &Kind, v: &Value)
         requires ready { IsKindInOrder kind.now }
         requires room { at + place + width kind.now ≤ length self.old.bytes }

@@ -4,10 +4,10 @@ use lists::NoMem;
 use std::alloc::Global;
 use std::marker::Model;
 
-/// The most writers that stand open at once: that of a root, and two of each of the groups around an entry.
+/// The most writers that are open at once: that of a root, and two for each of the groups around an entry.
 pub const OPEN_LIMIT: usize = 13;
 
-/// A writer that stands open.
+/// An open writer.
 #[derive(Clone, Copy, Debug, PartialEq, Eq)]
 pub enum Frame {
     /// The fields of a level's block are being set.
@@ -19,7 +19,7 @@ pub enum Frame {
     Tail {
         /// The number of the level.
         level: usize,
-        /// How many of its groups and data are there.
+        /// How many of its groups and data parts were appended.
         next: usize,
     },
     /// The entries of a group are being appended.
@@ -31,10 +31,10 @@ pub enum Frame {
     },
 }
 
-/// The writers that stand open, in memory that was taken at the start.
+/// The open writers, in memory that was allocated at the start.
 #[derive(Drop)]
 pub(crate) struct Stack {
-    /// The innermost one stands at `top`, and the others behind it.
+    /// The innermost one is at `top`, and the others follow it.
     memory: Vec<Frame>,
     top: usize,
 }
@@ -52,7 +52,7 @@ impl Model for Stack {
 }
 
 impl Stack {
-    /// Takes memory for as many as can stand open.
+    /// Allocates memory for as many as can be open.
     pub(crate) fn new(alloc: Global) -> Result<Stack, NoMem>
         ensures { IfOk result (λ s. s ≡ []) }
     {
@@ -64,7 +64,7 @@ impl Stack {
         })
     }
 
-    /// How many stand open.
+    /// The number of open writers.
     pub(crate) fn len(&self) -> usize
         ensures same { result ≡ length self.now }
         ensures few { length self.now ≤ OPEN_LIMIT }
@@ -72,7 +72,7 @@ impl Stack {
         self.memory.len() - self.top
     }
 
-    /// The innermost one.
+    /// The innermost writer.
     pub(crate) fn top(&self) -> Option<Frame>
         ensures { result ≡ slice_get self.now 0 }
     {
@@ -82,14 +82,14 @@ impl Stack {
         Some(self.memory[self.top])
     }
 
-    /// None stands open any more.
+    /// Closes all writers.
     pub(crate) fn clear(&mut self)
         ensures { self.new ≡ [] }
     {
         self.top = self.memory.len();
     }
 
-    /// One more stands open.
+    /// Opens one more writer.
     pub(crate) fn push(&mut self, frame: Frame)
         requires { length self.old < OPEN_LIMIT }
         ensures { self.new ≡ frame ∷ self.old }
@@ -99,7 +99,7 @@ impl Stack {
         self.top = top;
     }
 
-    /// The innermost one is done.
+    /// Closes the innermost writer.
     pub(crate) fn pop(&mut self)
         requires { 0 < length self.old }
         ensures { self.new ≡ drop 1 self.old }
@@ -107,7 +107,7 @@ impl Stack {
         self.top += 1;
     }
 
-    /// The innermost one goes on as another.
+    /// Replaces the innermost writer.
     pub(crate) fn replace(&mut self, frame: Frame)
         requires { 0 < length self.old }
         ensures { self.new ≡ frame ∷ drop 1 self.old }

@@ -16,7 +16,7 @@ use layout_tables::Layout;
 use sbe_types::Value;
 use thiserror::Error;
 
-/// What comes next behind a block.
+/// What comes next after a block.
 #[derive(Clone, Copy, Debug, PartialEq, Eq)]
 pub enum NextPart {
     /// Group `i` of the level.
@@ -30,10 +30,10 @@ pub enum NextPart {
 /// Why a message can't be begun.
 #[derive(Clone, Copy, Debug, PartialEq, Eq, Drop, Error)]
 pub enum StartErr {
-    /// The schema has no message of that number.
+    /// The schema has no message with this number.
     #[error("there is no such message")]
     Template,
-    /// The header and the root's block have no room.
+    /// There is no room for the header and the root's block.
     #[error("{0}")]
     Full(Full),
 }
@@ -41,13 +41,13 @@ pub enum StartErr {
 /// Why a group or a data part can't be appended.
 #[derive(Clone, Copy, Debug, PartialEq, Eq, Drop, Error)]
 pub enum TailErr {
-    /// The group may not have so many entries.
+    /// The count of the group doesn't allow this many entries.
     #[error("the group may not have so many entries")]
     Count,
-    /// The data part may not have so many bytes.
+    /// The length of the data part doesn't allow this many bytes.
     #[error("the data may not have so many bytes")]
     Length,
-    /// The group's dimension, or the data, have no room.
+    /// There is no room for the group's dimension, or for the data.
     #[error("{0}")]
     Full(Full),
 }
@@ -64,7 +64,7 @@ pub struct FieldsW<'b> {
 pub struct TailW<'b> {
     pub buf: &'b mut FrameBuf,
     pub layout: &'b Layout,
-    /// How many writers stand open while it is the innermost one.
+    /// The number of open writers while it is the innermost one.
     pub depth: usize,
 }
 
@@ -73,7 +73,7 @@ pub struct TailW<'b> {
 pub struct EntriesW<'b> {
     pub buf: &'b mut FrameBuf,
     pub layout: &'b Layout,
-    /// How many writers stand open while it is the innermost one.
+    /// The number of open writers while it is the innermost one.
     pub depth: usize,
 }
 
@@ -81,16 +81,16 @@ pub struct EntriesW<'b> {
 #[derive(Drop)]
 pub struct Undone<'b> {
     pub fields: FieldsW<'b>,
-    /// The first field that isn't set, and has to be.
+    /// The first field that must be set and isn't.
     pub unset: usize,
 }
 
-/// Begins the body of a message, afresh: what stood in the buffer is let go (SBE 1.0, "Message structure").
+/// Begins the body of a new message (SBE 1.0, "Message structure"). The previous contents of the buffer are discarded.
 ///
 /// # Errors
 ///
-/// `Template` exactly where the schema has no message of that number, then `Full` exactly where its header and its
-/// root's block pass the limit. The buffer is empty after both.
+/// `Template` exactly if the schema has no message with this number; otherwise `Full` exactly if its header and its
+/// root's block exceed the limit. The buffer is empty after both.
 pub fn start<'b>(
     buf: &'b mut FrameBuf,
     layout: &'b Layout,
@@ -107,13 +107,13 @@ pub fn start<'b>(
 }
 
 impl<'b> FieldsW<'b> {
-    /// Sets field `i` of the block (SBE 1.0, "Field encoding"); a later value takes the place of an earlier one. It
-    /// needs a field in range.
+    /// Sets field `i` of the block (SBE 1.0, "Field encoding"). A later value replaces an earlier one. Requires a field
+    /// in range.
     ///
     /// # Errors
     ///
-    /// The first member, element or byte that doesn't fit the field; any value of a constant. The bytes are as they
-    /// were, and what counts as set too.
+    /// The first member, element or byte that doesn't fit the field; any value for a constant. The bytes, and which
+    /// fields are set, are then unchanged.
     pub fn set(&mut self, i: usize, v: &Value) -> Result<(), FieldErr>
         requires state { SetsFields self.old.layout.now self.old.buf.now }
         requires field { i < length (fields_at self.old.layout.now (level_of self.old.buf.now.frames)) }
@@ -131,8 +131,8 @@ impl<'b> FieldsW<'b> {
     ///
     /// # Errors
     ///
-    /// The writer itself, where a field is unset that is no constant and no optional leaf or enum other than
-    /// octets; and the first such field.
+    /// The writer itself with the first field that must be set and isn't. A field must be set unless it is a constant
+    /// or an optional leaf or enum other than octets.
     pub fn done(self) -> Result<TailW<'b>, Undone<'b>>
         requires { SetsFields self.layout.now self.buf.now }
         ensures ok_reference { IfOk result (λ t. t.buf.ghost_name ≡ self.entry.buf.ghost_name) }
@@ -158,7 +158,7 @@ impl<'b> FieldsW<'b> {
 }
 
 impl<'b> TailW<'b> {
-    /// Whether no writer below this one is unfinished.
+    /// Whether no writer inside this one is unfinished.
     pub fn whole(&self) -> bool
         ensures { result ≡ (length self.now.buf.now.frames == self.now.depth) }
     {
@@ -173,12 +173,12 @@ impl<'b> TailW<'b> {
         self.buf.next(self.layout)
     }
 
-    /// Begins the next group, of so many entries. It needs a group that is next.
+    /// Begins the next group, with `count` entries. Requires that a group is next.
     ///
     /// # Errors
     ///
-    /// `Count` exactly where the group may not have so many entries, then `Full` exactly where its dimension passes
-    /// the limit.
+    /// `Count` exactly if the group's count doesn't allow this many entries; otherwise `Full` exactly if its dimension
+    /// exceeds the limit.
     pub fn group(&mut self, count: u32) -> Result<EntriesW<'_>, TailErr>
         requires state { AppendsParts self.old.layout.now self.old.buf.now }
         requires group { parts_done self.old.buf.now.frames < length (groups_at self.old.layout.now (level_of self.old.buf.now.frames)) }
@@ -192,12 +192,12 @@ impl<'b> TailW<'b> {
         self.buf.group(layout, count)
     }
 
-    /// Appends the next data part (SBE 1.0, "Variable-length data"). It needs a data part that is next.
+    /// Appends the next data part (SBE 1.0, "Variable-length data"). Requires that a data part is next.
     ///
     /// # Errors
     ///
-    /// `Length` exactly where the part may not have so many bytes, then `Full` exactly where they pass the limit
-    /// with their length number. The buffer is as it was.
+    /// `Length` exactly if the part's length doesn't allow this many bytes; otherwise `Full` exactly if they exceed the
+    /// limit with their length number. The buffer is then unchanged.
     pub fn data(&mut self, bytes: &[u8]) -> Result<(), TailErr>
         requires state { AppendsParts self.old.layout.now self.old.buf.now }
         requires groups { length (groups_at self.old.layout.now (level_of self.old.buf.now.frames)) ≤ parts_done self.old.buf.now.frames }
@@ -213,7 +213,7 @@ impl<'b> TailW<'b> {
         self.buf.put_data(self.layout, bytes)
     }
 
-    /// Ends an entry, behind its last part. It needs a writer that isn't the root's.
+    /// Ends an entry, after its last part. Requires a writer that isn't the root's.
     pub fn close(self)
         requires state { AppendsParts self.layout.now self.buf.now }
         requires end { parts_done self.buf.now.frames ≡ parts_in_tail self.layout.now (level_of self.buf.now.frames) }
@@ -223,7 +223,7 @@ impl<'b> TailW<'b> {
         self.buf.leave();
     }
 
-    /// Ends the message, behind its last part, and gives the length of its body. It needs the root's writer.
+    /// Ends the message, after its last part, and returns the length of its body. Requires the root's writer.
     pub fn finish(self) -> usize
         requires state { AppendsParts self.layout.now self.buf.now }
         requires end { parts_done self.buf.now.frames ≡ parts_in_tail self.layout.now (level_of self.buf.now.frames) }
@@ -244,18 +244,18 @@ impl<'b> EntriesW<'b> {
         self.buf.left()
     }
 
-    /// Whether no writer below this one is unfinished.
+    /// Whether no writer inside this one is unfinished.
     pub fn whole(&self) -> bool
         ensures { result ≡ (length self.now.buf.now.frames == self.now.depth) }
     {
         self.buf.depth() == self.depth
     }
 
-    /// Begins the next entry. It needs an entry that is still to come.
+    /// Begins the next entry. Requires an entry that is still to come.
     ///
     /// # Errors
     ///
-    /// `Full` exactly where the entry's block passes the limit.
+    /// `Full` exactly if the entry's block exceeds the limit.
     pub fn entry(&mut self) -> Result<FieldsW<'_>, Full>
         requires state { AppendsEntries self.old.layout.now self.old.buf.now }
         requires some { 0 < entries_left self.old.buf.now.frames }
@@ -268,7 +268,7 @@ impl<'b> EntriesW<'b> {
         self.buf.entry(layout)
     }
 
-    /// Ends the group, behind its last entry.
+    /// Ends the group, after its last entry.
     pub fn end(self)
         requires state { AppendsEntries self.layout.now self.buf.now }
         requires none { entries_left self.buf.now.frames ≡ 0 }

@@ -1,4 +1,4 @@
-// The groups and data behind a block.
+// The groups and data after a block.
 ghost use Rattle.std.specs.Prelude.{◌≡◌, ◌≤◌, ◌<◌, ◌+◌, ◌∷◌, true, length, drop, slice_get, OnOk, OnErr, IfOk, IfErr, Some, pos};
 ghost use Rattle.std.specs.Borrow.{sem};
 ghost use Rattle.std.specs.Option.{IsSome};
@@ -57,7 +57,7 @@ impl FrameBuf {
         }
     }
 
-    /// Appends the dimension of a group, by the number of its level.
+    /// Appends the dimension of a group, given the number of its level.
     #[tactic(auto, using(crate::proofs::Grouping::dim_room, crate::proofs::Grouping::dim_stands, crate::proofs::Grouping::dim_told, crate::proofs::Grouping::size_is, crate::proofs::Checked::block_told, layout_tables::proofs::GroupWalk::dim_within))]
     fn lay_dimension(&mut self, layout: &Layout, group: usize, count: u32) -> Result<(), TailErr>
         requires { IsSome (dim_at layout.now group) }
@@ -85,12 +85,12 @@ impl FrameBuf {
         Ok(())
     }
 
-    /// Begins the next group, of so many entries. It needs a group that is next.
+    /// Begins the next group, with `count` entries. Requires that a group is next.
     ///
     /// # Errors
     ///
-    /// `Count` exactly where the group may not have so many entries, then `Full` exactly where its dimension passes
-    /// the limit. The buffer is as it was.
+    /// `Count` exactly if the group's count doesn't allow this many entries; otherwise `Full` exactly if its dimension
+    /// exceeds the limit. The buffer is then unchanged.
     pub fn group<'b>(&'b mut self, layout: &'b Layout, count: u32) -> Result<EntriesW<'b>, TailErr>
         requires state { AppendsParts layout.now self.old }
         requires group { parts_done self.old.frames < length (groups_at layout.now (level_of self.old.frames)) }
@@ -115,12 +115,12 @@ impl FrameBuf {
         }
     }
 
-    /// Appends the next data part (SBE 1.0, "Variable-length data"). It needs a data part that is next.
+    /// Appends the next data part (SBE 1.0, "Variable-length data"). Requires that a data part is next.
     ///
     /// # Errors
     ///
-    /// `Length` exactly where the part may not have so many bytes, then `Full` exactly where they pass the limit
-    /// with their length number. The buffer is as it was.
+    /// `Length` exactly if the part's length doesn't allow this many bytes; otherwise `Full` exactly if they exceed the
+    /// limit with their length number. The buffer is then unchanged.
     #[tactic(auto, using(crate::proofs::Parting::part_told, crate::proofs::Parting::part_admits, crate::proofs::Checked::tail_few))]
     pub fn put_data(&mut self, layout: &Layout, bytes: &[u8]) -> Result<(), TailErr>
         requires state { AppendsParts layout.now self.old }
@@ -194,7 +194,7 @@ fn part_at(layout: &Layout, level: usize, i: usize) -> &DataField
     &layout.parts(level)[i]
 }
 
-/// Whether a group may have so many entries.
+/// Whether a group may have `count` entries.
 #[tactic(auto, using(crate::proofs::Grouping::admits_told, group_codec::proofs::DimRows::never_none, layout_tables::proofs::GroupWalk::dim_within))]
 fn admits(layout: &Layout, group: usize, count: u32) -> bool
     requires { IsSome (dim_at layout.now group) }

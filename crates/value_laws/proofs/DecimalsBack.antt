@@ -21,7 +21,7 @@ use Rattle.value_laws.proofs.Fractions.{sign_of, below_some, fit_only, turned}
 use Rattle.fix_values.proofs.DecimalLemmas.{ten_pos, ten_next, rest_small, trailing_again, digits_trailing, whole_small, no_places}
 use Rattle.std.specs.Int.{w128}
 
--- digits behind a number add their own number to it, moved by as many places
+-- digits after a number add their own number to it, moved by as many places
 first_value : (d : ℕ) (ds : List ℕ) → digits_value 10 (d ∷ ds) ≡ digits_value_after 10 (digit_value d) ds
 first_value d ds = let alone : 0 * 10 + digit_value d ≡ digit_value d = omega arith in ap (λ n. digits_value_after 10 n ds) alone
 
@@ -80,7 +80,7 @@ digits_at_digits (suc k) r small =
     together (is_ascii_digit (48 + r / 10 ^ k)) _ (glyph_digit (r / 10 ^ k) (quotient_digit r (10 ^ k) (ten_pos k) (omega (arith, small, ten_next k))))
     (digits_at_digits k (r % 10 ^ k) (rest_small k r (10 ^ k) refl))
 
--- digits are those that are kept, and zeros behind them
+-- digits are those that are kept, and zeros after them
 padded_by : (b : Bool) (d : ℕ) (ds : List ℕ) (j : ℕ) → eqb d 48 ≡ b → ds ≡ replicate j 48 → (i : ℕ) × (d ∷ ds ≡ cond b [] (d ∷ []) ++ replicate i 48)
 padded_by true d ds j is h = (suc j, ap (λ k. k ∷ ds) (eqb-true d 48 is) ∙ ap (λ l. 48 ∷ l) h)
 padded_by false d ds j is h = (j, ap (λ l. d ∷ l) h)
@@ -131,7 +131,7 @@ pointed_plain : (fraction : List ℕ) → is_negative (pointed fraction) ≡ fal
 pointed_plain [] = refl
 pointed_plain (f ∷ fs) = refl
 
--- the parts of a sign, digits, and what stands behind them
+-- the parts of a sign, digits, and what follows them
 pub split_parts : (negative : Bool) (whole rest : List ℕ) → all_ascii_digits whole ≡ true → is_negative rest ≡ false → before_point rest ≡ [] →
     parts_of (sign negative ++ (whole ++ rest)) ≡ record { negative = negative; whole = whole; fraction = behind_point rest }
 split_parts negative whole rest digits plain none =

@@ -1,4 +1,4 @@
-//! The laws of the texts of single values, and their definitions computed on rows. No code runs here.
+//! The laws of the texts of single values, and the definitions computed on rows. No code runs here.
 #![tactic(auto)]
 
 pub mod laws;

@@ -26,7 +26,7 @@ pub fn read_rows()
     ensures one_more { decimal_of (replicate 39 57) ≡ Err Range }
 {}
 
-/// The mantissas of decimals under other exponents.
+/// The mantissas of decimals with other exponents.
 pub fn fitted_rows()
     ensures cut { mantissa_under (dec (pos 123456) (negsuc 2)) (negsuc 1) ≡ Err Inexact }
     ensures wide { mantissa_under (dec (negsuc 4) (negsuc 0)) (negsuc 1) ≡ Ok (negsuc 49) }

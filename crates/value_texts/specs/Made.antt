@@ -1,4 +1,4 @@
--- The rows that are made of rules. Own profile.
+-- The rows made from rules. Own profile.
 use Rattle.std.specs.Prelude.{ℕ, List, pos, Option, Result, Ok, Err}
 use Rattle.fix_values.specs.declared.rule.V.{V}
 use Rattle.fix_values.specs.declared.rule.NumRule.{NumRule}
@@ -19,12 +19,12 @@ enum_spelling (listed.Code leaf codes) = spelling.Code codes
 enum_spelling (listed.Number leaf codes) = spelling.Code codes
 enum_spelling (listed.Boolean leaf names) = spelling.Boolean names
 
--- a text that was shown, or why there is none
+-- the text of a constant if it may be written, or why not
 abbrev pub kept_of : Result Unit V → List ℕ → ConstText
 kept_of (Ok u) text = fixed.Given text
 kept_of (Err v) text = fixed.Missing v
 
--- the text of a constant, or why it has none
+-- the text of a constant, or why it doesn't have one
 abbrev pub const_shown : ConstRule → Result (Option (List ℕ)) V
 const_shown (constant.Text t) = field_text (judged_text t (text_shown t))
 const_shown (constant.Character b) = field_text (text_of spelling.Char (pos b))

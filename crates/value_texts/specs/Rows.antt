@@ -22,12 +22,12 @@ use Rattle.value_texts.specs.declared.row.ConstText.{ConstText}
 use Rattle.value_texts.specs.declared.row.ConstText.TheVariants as fixed
 use Rattle.value_texts.specs.Seen.{choices_in, is_word, IsValueOf}
 
--- the text of a constant, where it may be written
+-- the text of a constant, if it may be written
 abbrev pub const_text : ConstText → Result (Option (List ℕ)) V
 const_text (fixed.Given t) = field_text (judged_text t (text_shown t))
 const_text (fixed.Missing v) = Err v
 
--- the text of a value by its row, or none where it gives no field, or why it has no text
+-- the text of a value by its row, or that it gives no field, or why it doesn't have a text
 abbrev pub row_text : ValueText → Value → Result (Option (List ℕ)) V
 row_text (row.Number rule) v = text_if_any (number_in v) (λ n. text_of rule n)
 row_text (row.Choices rule) v = text_if_any (choices_in v) (λ n. text_of rule n)
@@ -39,12 +39,12 @@ row_text (row.Moment from unit) v = text_if_any (mantissa_in v) (λ n. moment_te
 row_text row.Month v = text_if_any (mantissa_in v) (λ year. month_text (month_in (members_in v)))
 row_text (row.Const t) v = if is_const v then const_text t else Ok None
 
--- the number may be asked of the rule, if there is one
+-- the rule may be asked for the number, if there is one
 abbrev pub CanAsk : NumRule → Option ℤ → Type 0
 CanAsk rule None = ⊤
 CanAsk rule (Some n) = is_asked rule n ≡ true
 
--- the number of the value may be asked of the row's rule
+-- the row's rule may be asked for the number of the value
 abbrev pub CanAskRow : ValueText → Value → Type 0
 CanAskRow (row.Number rule) v = CanAsk rule (number_in v)
 CanAskRow (row.Choices rule) v = ⊤
@@ -56,7 +56,7 @@ CanAskRow (row.Moment from unit) v = ⊤
 CanAskRow row.Month v = ⊤
 CanAskRow (row.Const t) v = ⊤
 
--- each number of 64 bits may be asked of the rule of a set
+-- the rule of a set may be asked for each number of 64 bits
 abbrev pub AsksWords : ValueText → Type 0
 AsksWords (row.Choices rule) = (n : ℤ) → is_word n ≡ true → is_asked rule n ≡ true
 AsksWords (row.Number rule) = ⊤
@@ -68,18 +68,18 @@ AsksWords (row.Moment from unit) = ⊤
 AsksWords row.Month = ⊤
 AsksWords (row.Const t) = ⊤
 
--- what may be asked of a row about the value of a field, whose kind is in order
+-- the row may be asked for the value of a field whose kind is in order
 pub record CanAskOf (row : ValueText) (i : ℕ) (seen : Seen) : Type 0 where
   pub number : (k : Kind) → option_map (λ f. f.kind) (slice_get seen.fields i) ≡ Some k → IsKindInOrder k → IsValueOf k (field_of seen i) → CanAskRow row (field_of seen i)
   pub words : AsksWords row
 
--- the row writes the texts of a rule, and its numbers may be asked where the rule is that of a kind by the table
+-- the row writes the texts of a rule, and may be asked for each value if the rule is that of a kind by the table
 pub record Spells (row : ValueText) (rule : Rule) : Type 0 where
   pub text : (v : Value) → text_by rule v ≡ row_text row v
   pub asked : (k : Kind) (v : Value) → IsByTable k rule → IsKindInOrder k → IsValueOf k v → CanAskRow row v
   pub words : AsksWords row
 
--- there is a value
+-- the result is a value
 abbrev pub is_ok_of : {X : Type 0} → Result X V → Bool
 is_ok_of (Ok x) = true
 is_ok_of (Err v) = false

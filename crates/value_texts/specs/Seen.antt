@@ -18,7 +18,7 @@ use Rattle.bridge_terms.specs.Blocks.{nth_or}
 use Rattle.bridge_table.specs.declared.rule.Unit.{Unit}
 use Rattle.bridge_table.specs.declared.rule.Unit.TheVariants as unit
 
--- what is seen of a field is this value
+-- what a view shows of a field is this value
 abbrev pub IsSeenOf : Option FieldBytes → Value → Type 0
 IsSeenOf None v = v ≡ value.Absent
 IsSeenOf (Some f) v = IsShownIn f (Some v)
@@ -28,7 +28,7 @@ pub record CanRead (f : FieldBytes) : Type 0 where
   pub order : IsKindInOrder f.kind.now
   pub wide : length f.bytes.now ≡ width f.kind.now
 
--- the same where there is a field
+-- the same if there is a field
 abbrev pub CanReadAny : Option FieldBytes → Type 0
 CanReadAny None = ⊤
 CanReadAny (Some f) = CanRead f
@@ -44,7 +44,7 @@ pub record IsValueOf (k : Kind) (v : Value) : Type 0 where
 abbrev pub choices_in : Value → Option ℤ
 choices_in v = option_map pos (and_then (bits_in v) not_zero)
 
--- a number from 0 to that of 64 bits
+-- a number from 0 to the largest of 64 bits
 abbrev pub is_word : ℤ → Bool
 is_word n = int_le (pos 0) n && int_le n (pos 18446744073709551615)
 
@@ -61,7 +61,7 @@ abbrev pub is_composite_field : Option FieldBytes → Bool
 is_composite_field None = false
 is_composite_field (Some f) = is_composite f.kind.now
 
--- the values of a composite's members, none where there is no composite
+-- the values of a composite's members; none if there isn't a composite
 abbrev pub members_seen : Option Seen → List Value
 members_seen None = []
 members_seen (Some s) = (out-Block s.block).fields

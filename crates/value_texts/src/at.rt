@@ -100,7 +100,7 @@ pub(crate) fn day_at(
     put_day(n, lead, out, halt)
 }
 
-/// Writes the field of a constant, where the field is one.
+/// Writes the field of a constant, if the field is one.
 pub(crate) fn constant_at(
     text: &ConstText,
     lead: &Lead,

@@ -8,7 +8,7 @@ use crate::seen::{field_at, number_of};
 use flyweight_view::{BlockView, FieldBytes};
 use sbe_types::Kind;
 
-/// The members of a field, none where it is absent or no composite. It needs a field in range.
+/// The members of a field, or `None` if it is absent or isn't a composite. Requires a field in range.
 pub(crate) fn members_at<'a>(block: &BlockView<'a>, number: usize) -> Option<BlockView<'a>>
     requires { number < length block.now.fields }
     ensures members { members_in (field_of block.now number) ≡ members_seen result }
@@ -21,7 +21,7 @@ pub(crate) fn members_at<'a>(block: &BlockView<'a>, number: usize) -> Option<Blo
     None
 }
 
-/// Whether a field is there and a composite.
+/// Whether a field is present and a composite.
 fn is_composite(field: Option<FieldBytes<'_>>) -> bool
     ensures { result ≡ is_composite_field field.entry }
 {
@@ -43,7 +43,7 @@ fn is_composite_kind(kind: &Kind) -> bool
     }
 }
 
-/// The number of a member, none where it is null or there is no such member.
+/// The number of a member, or `None` if it is null or there is no such member.
 pub(crate) fn member_number(members: &Option<BlockView<'_>>, i: usize) -> Option<i128>
     requires { HasMembers members.now }
     ensures { nth_number i (members_seen members.now) ≡ result }

@@ -44,7 +44,7 @@ pub(crate) fn put_fixed_decimal(
     }
 }
 
-/// Shows a decimal with any exponent.
+/// Writes a decimal with any exponent as text.
 fn show_any_decimal(mantissa: i128, exponent: i128, out: &mut Short) -> Result<(), V>
     ensures { Leaves result out.new (decimal_text (dec mantissa exponent)) }
 {
@@ -84,7 +84,7 @@ pub(crate) fn put_floating(
     }
 }
 
-/// Shows a decimal with an exponent that is there, where the text can be read back.
+/// Writes a decimal with an exponent that is present as text, if the text can be read back.
 fn show_floating(
     mantissa: &Leaf,
     exponent: &Leaf,
@@ -103,7 +103,7 @@ fn show_floating(
     }
 }
 
-/// Shows a decimal, where the text can be read back.
+/// Writes a decimal as text, if the text can be read back.
 fn show_back(mantissa: &Leaf, exponent: &Leaf, m: i128, e: i128, out: &mut Short) -> Result<(), V>
     ensures { Leaves result out.new (floating_text mantissa.now exponent.now (Some e) m) }
 {
@@ -113,7 +113,7 @@ fn show_back(mantissa: &Leaf, exponent: &Leaf, m: i128, e: i128, out: &mut Short
     }
 }
 
-/// Keeps a text that is read as a decimal of these types.
+/// Keeps a text if it is read as a decimal of these types.
 fn judge_back(mantissa: &Leaf, exponent: &Leaf, out: &mut Short) -> Result<(), V>
     ensures { Leaves result out.new (if_read out.old (decimal_in_types mantissa.now exponent.now (decimal_of out.old))) }
 {

@@ -16,7 +16,7 @@ use flyweight_view::FieldBytes;
 use message_walk::{Halt, Lead, Put, put_judged};
 use tagvalue_codec::FixWriter;
 
-/// Writes the field of a constant, where the field is one.
+/// Writes the field of a constant, if the field is one.
 pub(crate) fn put_constant(
     text: &ConstText,
     field: Option<FieldBytes<'_>>,
@@ -35,7 +35,7 @@ pub(crate) fn put_constant(
     put_const_text(text, lead, out, halt)
 }
 
-/// Writes the field of a constant's text, if it may be written.
+/// Writes the field of a constant's text, if the text may be written.
 fn put_const_text(text: &ConstText, lead: &Lead, out: &mut FixWriter, halt: &mut Halt) -> Put
     requires { out.old.phase ≡ Open }
     ensures open { out.new.phase ≡ Open }

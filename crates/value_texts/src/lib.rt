@@ -1,4 +1,4 @@
-//! The texts of the values of fields: the rows of a plan, each made of a rule of the table of kinds and datatypes.
+//! The texts of the values of fields: the rows of a plan, each made from a rule of the table of kinds and datatypes.
 #![tactic(auto)]
 
 mod at;

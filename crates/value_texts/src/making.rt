@@ -1,4 +1,4 @@
-// Rows of rules.
+// Makes rows from rules.
 ghost use Rattle.std.specs.Prelude.{◌≡◌, true, List, IfOk, IfSome};
 ghost use Rattle.sbe_types.specs.declared.kind.Named.{Named as AnyNamed};
 ghost use Rattle.fix_values.specs.Values.{is_asked, text_of};
@@ -18,12 +18,12 @@ use lists::{List, NoMem};
 use std::alloc::Global;
 
 impl ValueText {
-    /// The row of a rule. None for data, and where the texts of the rule's codes are empty, too long or not apart, as those of a mapping in
-    /// order never are.
+    /// The row of a rule. `None` for data, and if the texts of the rule's codes are empty, too long or not distinct,
+    /// which they never are in a valid mapping.
     ///
     /// # Errors
     ///
-    /// Out of memory.
+    /// If memory runs out.
     pub fn new(alloc: Global, rule: FieldRule) -> Result<Option<ValueText>, NoMem>
         ensures { IfOk result (λ made. IfSome made (λ row. (names : List AnyNamed) → Spells row (rule_with names rule))) }
     {
@@ -66,7 +66,7 @@ fn choices(rule: NumRule) -> Option<ValueText>
     }
 }
 
-/// How the numbers of an enum are spelled.
+/// How the numbers of an enum are written.
 fn enum_rule(rule: EnumRule) -> NumRule
     ensures { result ≡ enum_spelling rule }
 {
@@ -87,7 +87,7 @@ fn constant(alloc: Global, rule: ConstRule) -> Result<Option<ValueText>, NoMem>
     }
 }
 
-/// The text of a constant; none where its codes can't be shown.
+/// The text of a constant, or `None` if its codes can't be written.
 fn constant_text(alloc: Global, rule: ConstRule) -> Result<Option<ConstText>, NoMem>
     ensures { IfOk result (λ made. IfSome made (λ text. const_text text ≡ const_shown rule)) }
 {
@@ -122,7 +122,7 @@ fn day_text(alloc: Global, n: i128) -> Result<ConstText, NoMem>
     kept(alloc, shown, &text)
 }
 
-/// A text that was shown, or why there is none.
+/// A text that was written, or why there is none.
 fn kept(alloc: Global, shown: Result<(), V>, text: &Short) -> Result<ConstText, NoMem>
     ensures { IfOk result (λ made. made ≡ kept_of shown text.now) }
 {

@@ -39,7 +39,7 @@ pub(crate) fn put_day(n: Option<i128>, lead: &Lead, out: &mut FixWriter, halt: &
     }
 }
 
-/// Shows a day.
+/// Writes a day as text.
 #[tactic(auto, using(crate::proofs::Dates::day_left))]
 pub(crate) fn show_day_number(n: i128, out: &mut Short) -> Result<(), V>
     ensures { Leaves result out.new (day_shown n) }
@@ -74,7 +74,7 @@ pub(crate) fn put_moment(
     }
 }
 
-/// The unit of a moment; none where it isn't there or far from those that texts have.
+/// The unit of a moment, or `None` if it is absent or far from those that texts have.
 fn unit_of(members: &Option<BlockView<'_>>, unit: &Unit) -> Option<u8>
     requires { HasMembers members.now }
     ensures { (from : From) (n : ℤ) → moment_text from (unit_seen unit.now (members_seen members.now)) n ≡ moment_text from result n }
@@ -88,7 +88,7 @@ fn unit_of(members: &Option<BlockView<'_>>, unit: &Unit) -> Option<u8>
     }
 }
 
-/// A number as a unit, which is 0 where it is negative; none where it is far above those that texts have.
+/// A number as a unit, which is 0 if it is negative, or `None` if it is far above those that texts have.
 fn small_unit(unit: i128) -> Option<u8>
     ensures { (from : From) (n : ℤ) → moment_text from (Some (natural unit)) n ≡ moment_text from result n }
 {
@@ -101,7 +101,7 @@ fn small_unit(unit: i128) -> Option<u8>
     }
 }
 
-/// Shows a moment in a unit that is there.
+/// Writes a moment as text, in a unit that is present.
 fn show_moment(epoch: Epoch, unit: Option<u8>, n: i128, out: &mut Short) -> Result<(), V>
     ensures { Leaves result out.new (moment_text (epoch_of epoch) unit n) }
 {
@@ -139,7 +139,7 @@ pub(crate) fn put_month(
     }
 }
 
-/// The month of a composite's numbers, where its year and month are there.
+/// The month in a composite's numbers, if its year and month are present.
 fn month_of(members: &Option<BlockView<'_>>) -> Option<MonthYear>
     requires { HasMembers members.now }
     ensures { month_in (members_seen members.now) ≡ result }
@@ -158,7 +158,7 @@ fn month_of(members: &Option<BlockView<'_>>) -> Option<MonthYear>
     })
 }
 
-/// Shows a month that is there.
+/// Writes a month that is present as text.
 fn show_month_of(month: Option<MonthYear>, out: &mut Short) -> Result<(), V>
     ensures { Leaves result out.new (month_text month) }
 {

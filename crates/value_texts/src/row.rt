@@ -33,7 +33,7 @@ pub enum ValueText {
     Floating(Leaf, Leaf),
     /// A text.
     Passage,
-    /// A day by its number.
+    /// A day, by its number.
     Day,
     /// A time and its unit.
     Moment(Epoch, Unit),
@@ -65,7 +65,7 @@ impl PutValue for ValueText {
     }
 }
 
-/// Writes the field of the value of field `number` of a block, if it gives one.
+/// Writes the field of the value of field `number` of a block, if the value has one.
 fn put_field(
     row: &ValueText,
     lead: &Lead,

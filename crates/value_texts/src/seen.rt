@@ -18,7 +18,7 @@ use field_values::before_zero;
 use flyweight_view::{BlockView, FieldBytes};
 use sbe_types::{Kind, Leaf, LeafShape, Order, Presence, Prim, get_num};
 
-/// The field of that number, none where it is absent. It needs a field in range.
+/// The field with this number, or `None` if it is absent. Requires a field in range.
 #[inline(always)]
 pub(crate) fn field_at<'a>(block: &BlockView<'a>, number: usize) -> Option<FieldBytes<'a>>
     requires { number < length block.now.fields }
@@ -40,7 +40,7 @@ pub(crate) fn number_of(field: Option<FieldBytes<'_>>) -> Option<i128>
     }
 }
 
-/// The same of the bytes of a kind.
+/// The same for the bytes of a kind.
 fn kind_number(order: Order, kind: &Kind, bytes: &[u8]) -> Option<i128>
     requires ready { IsKindInOrder kind.now }
     requires wide { length bytes.now ≡ width kind.now }
@@ -55,7 +55,7 @@ fn kind_number(order: Order, kind: &Kind, bytes: &[u8]) -> Option<i128>
     }
 }
 
-/// The number of a leaf that is one, and not null.
+/// The number of a leaf that is a number, and not null.
 fn leaf_number(order: Order, leaf: &Leaf, bytes: &[u8]) -> Option<i128>
     requires order { IsLeafInOrder leaf.now }
     requires wide { length bytes.now ≡ width (LeafKind leaf.now) }
@@ -70,7 +70,7 @@ fn leaf_number(order: Order, leaf: &Leaf, bytes: &[u8]) -> Option<i128>
     }
 }
 
-/// The number that the bytes of one primitive show, unless it is the leaf's null.
+/// The number that the bytes of one primitive encode, unless it is the leaf's null.
 fn number_unless_null(order: Order, leaf: &Leaf, bytes: &[u8]) -> Option<i128>
     requires { length bytes.now ≡ prim_width leaf.now.prim }
     ensures { result ≡ seen_element leaf.now (number_of order leaf.now.prim bytes.now) }
@@ -95,7 +95,7 @@ pub(crate) fn choices_of(field: Option<FieldBytes<'_>>) -> Option<i128>
     }
 }
 
-/// The same of the bytes of a kind.
+/// The same for the bytes of a kind.
 fn kind_choices(order: Order, kind: &Kind, bytes: &[u8]) -> Option<i128>
     requires ready { IsKindInOrder kind.now }
     requires wide { length bytes.now ≡ width kind.now }
@@ -111,7 +111,7 @@ fn kind_choices(order: Order, kind: &Kind, bytes: &[u8]) -> Option<i128>
     }
 }
 
-/// The number of the choices that the bytes of a set show, unless there are none.
+/// The number of the choices that the bytes of a set encode, unless there are none.
 #[tactic(auto, using(crate::proofs::Values::some_choices, crate::proofs::Values::no_choices, crate::proofs::Values::word_small))]
 fn choices_shown(order: Order, prim: Prim, bytes: &[u8]) -> Option<i128>
     requires encoding { is_set_primitive prim ≡ true }
@@ -126,7 +126,7 @@ fn choices_shown(order: Order, prim: Prim, bytes: &[u8]) -> Option<i128>
     Some(bits as i128)
 }
 
-/// The number that the bytes of a set show.
+/// The number that the bytes of a set encode.
 fn set_number(order: Order, prim: Prim, bytes: &[u8]) -> u64
     requires encoding { is_set_primitive prim ≡ true }
     requires wide { length bytes.now ≡ prim_width prim }
@@ -135,7 +135,7 @@ fn set_number(order: Order, prim: Prim, bytes: &[u8]) -> u64
     get_num(order, prim, bytes) as u64
 }
 
-/// The text of a field that is one, and not null.
+/// The text of a field that is a text, and not null.
 pub(crate) fn text_of<'a>(field: Option<FieldBytes<'a>>) -> Option<&'a [u8]>
     ensures { (v : Value) → IsSeenOf field.entry v → text_in v ≡ option_map (λ b. b.now) result }
 {
@@ -145,7 +145,7 @@ pub(crate) fn text_of<'a>(field: Option<FieldBytes<'a>>) -> Option<&'a [u8]>
     }
 }
 
-/// The same of the bytes of a kind.
+/// The same for the bytes of a kind.
 fn kind_text<'a>(kind: &Kind, bytes: &'a [u8]) -> Option<&'a [u8]>
     ensures { (order : AnyOrder) (known : Bool) (v : Value) → Shows order known kind.now v bytes.now → text_in v ≡ option_map (λ b. b.now) result }
 {
@@ -158,7 +158,7 @@ fn kind_text<'a>(kind: &Kind, bytes: &'a [u8]) -> Option<&'a [u8]>
     }
 }
 
-/// The text of a leaf that is one, and not null.
+/// The text of a leaf that is a text, and not null.
 fn leaf_text<'a>(leaf: &Leaf, bytes: &'a [u8]) -> Option<&'a [u8]>
     ensures { (order : AnyOrder) (v : Value) → ShowsLeaf order leaf.now.shape leaf.now v bytes.now → text_in v ≡ option_map (λ b. b.now) result }
 {
@@ -171,7 +171,7 @@ fn leaf_text<'a>(leaf: &Leaf, bytes: &'a [u8]) -> Option<&'a [u8]>
     }
 }
 
-/// The text before the first 00, unless it is an empty one of an optional leaf.
+/// The text before the first 00, unless it is empty and the leaf is optional.
 fn text_unless_null<'a>(leaf: &Leaf, bytes: &'a [u8]) -> Option<&'a [u8]>
     ensures { text_in (text_value leaf.now (before_zero bytes.now)) ≡ option_map (λ b. b.now) result }
 {

@@ -1,4 +1,4 @@
-// The field of a text that was shown.
+// The field of a text that was written.
 ghost use Rattle.std.specs.Prelude.{◌≡◌, ℕ, List, Result, Err, IfOk, None};
 ghost use Rattle.tagvalue_codec.specs.declared.write.Phase.TheVariants.{Open};
 ghost use Rattle.bridge_terms.specs.MessageFields.{length_in};
@@ -13,7 +13,7 @@ use fix_values::{Short, V};
 use message_walk::{Cause, Halt, Lead, Put, put_text};
 use tagvalue_codec::FixWriter;
 
-/// Writes the field of a text that was shown, or tells why there is none.
+/// Writes the field of a text that was written, or records why there is none.
 #[tactic(auto, using(crate::proofs::Leaving::shown_fine, crate::proofs::Leaving::shown_bad))]
 pub(crate) fn put_shown(
     shown: Result<(), V>,
@@ -34,7 +34,7 @@ pub(crate) fn put_shown(
     }
 }
 
-/// Tells that a value has no text.
+/// Records that a value has no text.
 #[tactic(auto, using(crate::proofs::Leaving::refused))]
 pub(crate) fn refuse(why: V, halt: &mut Halt) -> Put
     ensures { (lists : TagLists) (d : Draft) (tag : ℕ) → IsPut lists d tag (Err why) (record { put = result; draft = d; halt = halt.new }) }

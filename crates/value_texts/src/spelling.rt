@@ -1,4 +1,4 @@
-// How a number is spelled.
+// How a number is written.
 ghost use Rattle.std.specs.Prelude.{◌≡◌, true, None, IfSome};
 ghost use Rattle.tagvalue_codec.specs.declared.write.Phase.TheVariants.{Open};
 ghost use Rattle.bridge_terms.specs.MessageFields.{length_in};
@@ -15,7 +15,7 @@ use message_walk::{Halt, Lead, Put};
 use std::marker::Model;
 use tagvalue_codec::FixWriter;
 
-/// A rule by which numbers can be shown.
+/// A rule by which numbers can be written.
 #[derive(Drop)]
 pub struct Spelling {
     rule: NumRule,
@@ -34,7 +34,7 @@ impl Model for Spelling {
 }
 
 impl Spelling {
-    /// The spelling by a rule; none where numbers can't be shown by it.
+    /// Wraps a rule. `None` if numbers can't be written by it.
     pub fn new(rule: NumRule) -> Option<Spelling>
         ensures { IfSome result (λ spelling. spelling ≡ rule) }
     {
@@ -44,7 +44,7 @@ impl Spelling {
         None
     }
 
-    /// Writes the field of a number. A number that can't be asked of the rule is left out.
+    /// Writes the field of a number. A number that the rule can't be given is left out.
     pub(crate) fn put(&self, n: i128, lead: &Lead, out: &mut FixWriter, halt: &mut Halt) -> Put
         requires { out.old.phase ≡ Open }
         ensures open { out.new.phase ≡ Open }
@@ -62,7 +62,7 @@ impl Spelling {
         put_shown(shown, &text, lead, out, halt)
     }
 
-    /// Shows a number. One that can't be asked of the rule is refused.
+    /// Writes a number as text. One that the rule can't be given is refused.
     pub(crate) fn show(&self, n: i128, out: &mut Short) -> Result<(), V>
         ensures { is_asked self.now n ≡ true → Leaves result out.new (text_of self.now n) }
     {
@@ -73,7 +73,7 @@ impl Spelling {
     }
 }
 
-/// Whether numbers are spelled as digits.
+/// Whether numbers are written as digits.
 #[inline(always)]
 fn is_plain(rule: &NumRule) -> bool
     ensures { result ≡ is_plain rule.now }
@@ -84,7 +84,7 @@ fn is_plain(rule: &NumRule) -> bool
     }
 }
 
-/// Whether the number may be asked of the rule.
+/// Whether the rule can be given this number.
 fn is_asked(rule: &NumRule, n: i128) -> bool
     ensures { result ≡ is_asked rule.now n }
 {

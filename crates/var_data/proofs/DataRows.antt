@@ -32,7 +32,7 @@ at_each P [] n x all at = cc
 at_each P (y ∷ xs) zero x all at = let here : y ≡ x = cc in subst P here all.0
 at_each P (y ∷ xs) (suc n) x all at = at_each P xs n x all.1 at
 
--- the part behind its row
+-- the part after its row
 part_behind : (parts : List DataField) (i : ℕ) (row : PartRow) → slice_get (map part_row parts) i ≡ Some row → (part : DataField) × (slice_get parts i ≡ Some part) × (row ≡ part_row part)
 part_behind [] i row h = cc
 part_behind (p ∷ ps) zero row h = (p, refl, cc)
@@ -63,7 +63,7 @@ range_told schema k place level row bytes at result stands for here told =
     ap (option_map (λ (d : DataField). data_range schema.order d.length bytes at)) (stands.same ∙ part.1)
     ∙ ap Some (ap (λ (r : PartRow). data_range schema.order r.length bytes at) (sym part.2) ∙ sym told)
 
--- ---- data behind their length number
+-- ---- data after their length number
 
 pub range_is : (order : Order) (leaf : LeafOf) (bytes : List ℕ) (at wide size : ℕ) (result : Result (ℕ × ℕ) DataErr) → wide ≡ prim_width leaf.prim → wide ≤ length bytes - at →
     size ≡ natural (number_of order leaf.prim (take (at + wide - at) (drop at bytes))) → result ≡ range_behind leaf size bytes (at + wide) → result ≡ data_range order leaf bytes at

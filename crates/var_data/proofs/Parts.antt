@@ -25,9 +25,9 @@ use Rattle.field_bytes.specs.Laid.{laid_at, IsPut}
 use Rattle.var_data.specs.Laid.{counted_bytes, data_end}
 use Rattle.var_data.proofs.DataRows.{at_each, part_at, part_within, parts_is}
 
--- ---- one piece behind another
+-- ---- one piece after another
 
--- two pieces that are written one behind the other are one
+-- two pieces that are written one after the other are one
 pub put_behind : (old first second : List ℕ) (at w n k j : ℕ) → length first ≡ w → length second ≡ n → at + w + n ≤ length old → k ≡ w → j ≡ n →
     put_mid (at + w) j (put_mid at k old first) second ≡ laid_at at (first ++ second) old
 put_behind old first second at w n k j one two room is same =

@@ -9,7 +9,7 @@ use Rattle.sbe_types.specs.Wire.{both}
 use Rattle.var_data.specs.declared.put.PutDataErr.{PutDataErr}
 use Rattle.var_data.specs.declared.put.PutDataErr.TheVariants.{Full, Length}
 
--- where n bytes of data end, with their length number, that are put at a place of so many bytes, or why they are not
+-- the end of n bytes of data that are put, with their length number, at an offset of `room` bytes, or why they are not
 abbrev pub data_end : LeafOf → ℕ → ℕ → ℕ → Result ℕ PutDataErr
 data_end leaf n room at =
     if admits leaf (pos n)

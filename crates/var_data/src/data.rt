@@ -10,27 +10,27 @@ use layout_tables::{Layout, small_number};
 use sbe_types::{Leaf, Order};
 use thiserror::Error;
 
-/// Why bytes are no data.
+/// Why bytes aren't a data part.
 #[derive(Clone, Copy, Debug, PartialEq, Eq, Drop, Error)]
 pub enum DataErr {
-    /// The length number, or the data with it, passes the end of the bytes.
+    /// The length number, or the data after it, extends past the end of the bytes.
     #[error("{needed} bytes are needed")]
     Truncated {
-        /// How many bytes the length number, or the length number and the data, need.
+        /// The size in bytes of the length number, or of the length number and the data.
         needed: u64,
     },
-    /// This length isn't admitted.
+    /// This length is out of range.
     #[error("a length of {0} bytes is not admitted")]
     Length(u32),
 }
 
-/// Reads a data part of the schema that begins at a place of the bytes (SBE 1.0, "Variable-length data"), and
-/// tells where its bytes begin and end.
+/// Reads a data part of the schema that begins at an offset of the bytes (SBE 1.0, "Variable-length data"), and returns
+/// where its bytes begin and end.
 ///
 /// # Errors
 ///
-/// `Truncated` exactly where the length number passes the end of the bytes, then `Length` exactly where it isn't
-/// admitted as a required number of its type, then `Truncated` exactly where the data pass the end.
+/// `Truncated` exactly if the length number extends past the end of the bytes; otherwise `Length` exactly if it is out
+/// of the range of its type; otherwise `Truncated` exactly if the data extend past the end.
 #[tactic(auto, using(crate::proofs::DataRows::part_within, crate::proofs::DataRows::part_small, crate::proofs::DataRows::part_told))]
 pub fn read_data(
     layout: &Layout,
@@ -53,7 +53,7 @@ pub fn read_data(
     )
 }
 
-/// The same by the type of the length number.
+/// The same, given the type of the length number.
 #[inline(always)]
 pub fn read_data_of(
     order: Order,
@@ -76,7 +76,7 @@ pub fn read_data_of(
     range_behind(leaf, size, bytes, start)
 }
 
-/// The same of data that lie there, as where they were read before. Nothing is judged again.
+/// The same for a data part that is known to be valid, because it was read before. Nothing is checked again.
 #[inline(always)]
 pub fn standing_data(order: Order, leaf: &Leaf, bytes: &[u8], at: usize) -> (usize, usize)
     requires small { IsSmall leaf.now.prim }
@@ -90,7 +90,7 @@ pub fn standing_data(order: Order, leaf: &Leaf, bytes: &[u8], at: usize) -> (usi
     (start, start + size as usize)
 }
 
-/// Data of so many bytes whose bytes begin at a place.
+/// The range of a data part of `size` bytes that begin at an offset.
 #[inline(always)]
 fn range_behind(
     leaf: &Leaf,

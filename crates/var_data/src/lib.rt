@@ -1,4 +1,4 @@
-//! Variable-length data, as it lies in a body.
+//! Variable-length data, as they lie in a body.
 #![tactic(auto)]
 
 mod data;

@@ -16,24 +16,24 @@ use layout_tables::Layout;
 use sbe_types::{Leaf, Order, Prim};
 use thiserror::Error;
 
-/// Why data aren't put.
+/// Why a data part wasn't written.
 #[derive(Clone, Copy, Debug, PartialEq, Eq, Drop, Error)]
 pub enum PutDataErr {
-    /// This length isn't admitted.
+    /// This length is out of range.
     #[error("the length is not admitted")]
     Length,
-    /// The length number, or the data behind it, pass the end of the bytes.
+    /// The length number, or the data after it, extends past the end of the bytes.
     #[error("there is no room for the data")]
     Full,
 }
 
-/// Puts a data part of the schema at a place of `out` (SBE 1.0, "Variable-length data"): its length number, and then
-/// its bytes. All other bytes of `out` are as before. Tells the place behind them.
+/// Writes a data part of the schema at an offset of `out` (SBE 1.0, "Variable-length data"): its length number, and
+/// then its bytes. All other bytes of `out` are unchanged. Returns the offset after it.
 ///
 /// # Errors
 ///
-/// `Length` exactly where the length isn't admitted as a required number of its type, and then `Full` exactly where
-/// `out` is too short; `out` is as before.
+/// `Length` exactly if the length is out of the range of its type; otherwise `Full` exactly if `out` is too short.
+/// `out` is then unchanged.
 #[tactic(auto, using(crate::proofs::DataRows::part_within))]
 pub fn put_data(
     layout: &Layout,
@@ -60,7 +60,7 @@ pub fn put_data(
     )
 }
 
-/// The same by the type of the length number.
+/// The same, given the type of the length number.
 pub fn put_data_of(
     order: Order,
     leaf: &Leaf,
@@ -86,7 +86,7 @@ pub fn put_data_of(
     Ok(at + wide + bytes.len())
 }
 
-/// Puts a length number and the bytes behind it where there is room for both.
+/// Writes a length number and the bytes after it, if there is room for both.
 fn put_counted(order: Order, prim: Prim, bytes: &[u8], out: &mut [u8], at: usize)
     requires number { is_number_of prim (pos (length bytes.now)) ≡ true }
     requires room { at + prim_width prim + length bytes.now ≤ length out.old }

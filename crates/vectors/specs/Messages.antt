@@ -24,16 +24,16 @@ use Rattle.vectors.specs.Values.{value_drawn}
 
 -- ---- counts and lengths
 
--- the number lowered to the greatest one, and raised to the least one where that is no large one
+-- the number lowered to the largest one, and raised to the least one unless that is above RAISED_LIMIT
 abbrev pub amount : LeafOf → ℕ → ℕ
 amount leaf n = if int_le leaf.low (pos RAISED_LIMIT) then max (min (natural leaf.high) n) (natural leaf.low) else min (natural leaf.high) n
 
--- the leaf of the member of that name
+-- the leaf of the member with this name
 abbrev pub leaf_named : List ℕ → List Member → Option LeafOf
 leaf_named name [] = None
 leaf_named name (m ∷ ms) = if bytes_eq m.name name then leaf_in m.kind else leaf_named name ms
 
--- how many entries a group of that dimension has
+-- how many entries a group with this dimension has
 abbrev pub count_drawn : List Member → Drawing ℕ
 count_drawn dim = below COUNTS >>= (λ n. always (option_map_or (λ leaf. amount leaf n) (leaf_named (codes "numInGroup") dim) 0))
 
@@ -67,7 +67,7 @@ unfoldable mutual
     vs ← groups_drawn rest
     always (v ∷ vs)
 
-  -- a group: how many entries it has, and then each of them
+  -- a group: its number of entries, and then each of them
   pub group_drawn : Group → Drawing GroupVal
   group_drawn (Group' dim level) = do
     n ← count_drawn dim
@@ -76,13 +76,13 @@ unfoldable mutual
 
 -- ---- messages
 
--- a message of the template whose number is given and whose root is this level
+-- a message of the template with this number and this root level
 abbrev pub message_at : WireSchema → ℕ → Option Level → Drawing (Option Msg)
 message_at schema template None = always None
 message_at schema template (Some level) = block_drawn level >>= (λ block. always (Some (record { template = template; version = schema.version; block = block })))
 
--- Message `index` that a schema has by a seed: of the schema's version, and of each template in turn. There is none where the
--- schema has no message.
+-- Message `index` that a schema has by a seed: of the schema's version, and of each template in turn. None if the
+-- schema has no messages.
 unfoldable pub generated : WireSchema → ℕ → ℕ → Option Msg
 generated schema seed index =
     let template = index % length schema.messages in

@@ -7,11 +7,11 @@ use Rattle.sbe_types.specs.declared.message.GroupVal.{GroupVal}
 use Rattle.sbe_types.specs.declared.message.GroupVal.TheVariants as groupval
 use Rattle.sbe_types.specs.declared.message.Msg.{Msg}
 
--- fields without groups and data
+-- a block of fields without groups and data
 abbrev pub fields_alone : List Value → Block
 fields_alone values = record { fields = values; groups = []; parts = [] }
 
--- groups alone
+-- a block of groups alone
 abbrev pub groups_alone : List GroupVal → Block
 groups_alone groups = record { fields = []; groups = groups; parts = [] }
 
@@ -32,6 +32,6 @@ abbrev pub grp_by_two : Option Msg
 grp_by_two =
     message 3 (groups_alone (groupval.Entries (fields_alone (value.Num (pos 117) ∷ []) ∷ fields_alone (value.Num (pos 31) ∷ []) ∷ []) ∷ []))
 
--- a group without entries, by the greatest seed: the sum of seed and index begins again at 0
+-- a group without entries, by the largest seed: the sum of seed and index wraps around to 0
 abbrev pub big_by_last : Option Msg
 big_by_last = message 5 (groups_alone (groupval.Entries [] ∷ []))

@@ -18,11 +18,11 @@ use Rattle.vectors.specs.Drawing.{Drawing, ◌>>=◌, always, below, times, or_n
 
 -- ---- numbers
 
--- how many numbers lie from low to high
+-- how many numbers there are from low to high
 abbrev pub size_of : ℤ → ℤ → ℕ
 size_of low high = if int_le low high then unsigned_abs (high -ℤ low) + 1 else 0
 
--- a number from low to high, among the first ones where there are very many
+-- a number from low to high; only one of the first WORD_LIMIT if there are more
 abbrev pub number_in : ℤ → ℤ → Drawing ℤ
 number_in low high = below (min (size_of low high) WORD_LIMIT) >>= (λ n. always (low +ℤ pos n))
 
@@ -58,30 +58,30 @@ array_drawn leaf draw = times leaf.length draw >>= (λ elements. always (value.N
 
 -- ---- texts
 
--- the least byte of a text: 00 never stands in one
+-- the least byte of a text, which never contains 00
 abbrev pub least_byte : LeafOf → ℤ
 least_byte leaf = if admits leaf (pos 0) then pos 1 else leaf.low
 
--- some byte may stand in a text
+-- a text can contain some byte
 abbrev pub has_bytes : LeafOf → Bool
 has_bytes leaf = not (is_ranged leaf.shape) || int_le (least_byte leaf) leaf.high
 
--- the byte nearest to the number; each number of a char's range is one
+-- the byte nearest to the number; each number of a char's range is a byte
 abbrev pub byte_of : ℤ → ℕ
 byte_of n = min (natural n) LAST_BYTE
 
--- a byte of a text: of its range, or a capital letter where there is a character encoding
+-- a byte of a text: one of its range, or a capital letter if there is a character encoding
 abbrev pub text_byte_drawn : LeafOf → Drawing ℕ
 text_byte_drawn leaf =
     if is_ranged leaf.shape
     then (number_in (least_byte leaf) leaf.high >>= (λ n. always (byte_of n)))
     else (below LETTERS >>= (λ n. always (FIRST_LETTER + n)))
 
--- the length of a text; an empty one would be null
+-- the length of a text; an optional one isn't empty, since that would be null
 abbrev pub text_length_drawn : LeafOf → Drawing ℕ
 text_length_drawn leaf = if is_optional leaf.presence then (below leaf.length >>= (λ n. always (n + 1))) else below (leaf.length + 1)
 
--- how many bytes a text of that length has: none where no byte may stand
+-- how many bytes a text of this length has: none if it can't contain any byte
 abbrev pub byte_count : LeafOf → ℕ → ℕ
 byte_count leaf n = if has_bytes leaf then n else 0
 
@@ -94,7 +94,7 @@ text_drawn leaf = do
 
 -- ---- leaves
 
--- a leaf may be null where it is optional and no octets
+-- a leaf may be null if it is optional and not octets
 abbrev pub may_be_null : LeafOf → Bool
 may_be_null leaf = is_optional leaf.presence && not (is_octets leaf.shape)
 
@@ -106,7 +106,7 @@ null_of EncodedText leaf = value.Null
 null_of Octets leaf = all_null leaf
 null_of Numbers leaf = all_null leaf
 
--- a value of a leaf that is there
+-- a value of a leaf that isn't null
 abbrev pub there_drawn : LeafShape → LeafOf → Drawing Value
 there_drawn Number leaf = number_drawn leaf
 there_drawn RangedText leaf = text_drawn leaf
@@ -120,7 +120,7 @@ leaf_drawn leaf = or_null (may_be_null leaf) (null_of leaf.shape leaf) (there_dr
 
 -- ---- enums and sets
 
--- a valid value; null where its number is the null
+-- a valid value; null if its number is the null
 abbrev pub listed_value : LeafOf → Option Named → Value
 listed_value leaf None = value.Null
 listed_value leaf (Some v) = if is_null leaf v.number then value.Null else value.Enum v.number
@@ -133,12 +133,12 @@ choice_drawn leaf values = below (length values) >>= (λ n. always (listed_value
 abbrev pub enum_drawn : LeafOf → List Named → Drawing Value
 enum_drawn leaf values = or_null (is_optional leaf.presence) value.Null (choice_drawn leaf values)
 
--- the bits with that of a choice, where one was drawn
+-- the bits with that of a choice, if it was drawn
 abbrev pub with_bit : ℕ → ℤ → ℕ → ℕ
 with_bit bits (pos k) n = if (n == 1) && nat_lt k SET_BITS then bit_or bits (2 ^ k) else bits
 with_bit bits (negsuc k) n = bits
 
--- the bits with those that are drawn of the choices
+-- the bits with those of the choices that are drawn
 unfoldable pub bits_drawn : ℕ → List Named → Drawing ℕ
 bits_drawn bits [] = always bits
 bits_drawn bits (choice ∷ choices) = below 2 >>= (λ n. bits_drawn (with_bit bits choice.number n) choices)

@@ -1,8 +1,8 @@
 ghost use Rattle.std.specs.Prelude.{◌≡◌};
 ghost use Rattle.vectors.specs.Altered.{altered};
 
-/// Alters one byte of a body: the one at the place `index` modulo the body's length is greater by 1,
-/// and 00 where it was ff. An empty body stays empty.
+/// Alters one byte of a body: the byte at `index` modulo the body's length is increased by 1, and becomes 00 if it was
+/// ff. An empty body stays empty.
 pub fn alter(body: &mut [u8], index: u64)
     ensures { body.new ≡ altered body.old index }
 {

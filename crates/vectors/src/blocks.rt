@@ -27,7 +27,7 @@ fn draw_fields(alloc: Global, words: &mut Pcg32, fields: &List<Field>) -> Result
     Ok(values)
 }
 
-/// So many bytes of a data part.
+/// `count` bytes of a data part.
 fn draw_data(alloc: Global, words: &mut Pcg32, count: u64) -> Result<Bytes, NoMem>
     ensures { IfOk result (λ it. times count (below BYTE_VALUES) words.old ≡ (it, words.new)) }
 {
@@ -63,7 +63,7 @@ fn draw_parts(
 
 // ---- groups
 
-/// The leaf of the member of that name.
+/// The leaf of the member with this name.
 #[tactic(auto, using(crate::proofs::BlockParts::leaf_next))]
 fn leaf_named(members: &List<Member>, name: &[u8]) -> Option<Leaf>
     ensures { result ≡ leaf_named name.now members.now }
@@ -76,7 +76,7 @@ fn leaf_named(members: &List<Member>, name: &[u8]) -> Option<Leaf>
     None
 }
 
-/// The leaf that a kind is.
+/// The leaf of a kind.
 fn leaf_in(kind: &Kind) -> Option<Leaf>
     ensures { result ≡ leaf_in kind.now }
 {
@@ -115,7 +115,7 @@ fn draw_groups(
     Ok(values)
 }
 
-/// So many entries of a group.
+/// `count` entries of a group.
 #[cycle(block)]
 fn draw_entries(
     alloc: Global,

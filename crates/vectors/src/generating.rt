@@ -7,12 +7,12 @@ use sbe_types::Msg;
 use schema_check::Checked;
 use std::alloc::Global;
 
-/// Message `index` that the schema has by this seed. Each template has its turn. The same schema, seed
-/// and index always give the same message. It needs a schema with a message.
+/// Message `index` of the schema for this seed. The templates take turns. The same schema, seed and index always give
+/// the same message. Requires a schema with a message.
 ///
 /// # Errors
 ///
-/// `NoMem` where there is not enough memory.
+/// `NoMem` if memory runs out.
 pub fn generate(alloc: Global, checked: &Checked, seed: u64, index: u64) -> Result<Msg, NoMem>
     requires { 1 ≤ length checked.now.messages }
     ensures { IfOk result (λ m. generated checked.now seed index ≡ Some m) }

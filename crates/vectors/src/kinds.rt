@@ -12,7 +12,7 @@ use std::alloc::Global;
 
 // ---- leaves
 
-/// Whether a value that may be null is so.
+/// Draws whether a value is null; only an optional one may be.
 fn draw_null(words: &mut Pcg32, optional: bool) -> bool
     ensures { null_drawn optional words.old ≡ (result, words.new) }
 {
@@ -45,7 +45,7 @@ fn null_leaf(alloc: Global, leaf: &Leaf) -> Result<Value, NoMem>
     }
 }
 
-/// A value of a leaf that is there.
+/// A value of a leaf, after no null was drawn.
 fn draw_there(alloc: Global, words: &mut Pcg32, leaf: &Leaf) -> Result<Value, NoMem>
     ensures { IfOk result (λ it. there_drawn leaf.now.shape leaf.now words.old ≡ (it, words.new)) }
 {
@@ -69,7 +69,7 @@ fn draw_leaf(alloc: Global, words: &mut Pcg32, leaf: &Leaf) -> Result<Value, NoM
 
 // ---- enums and sets
 
-/// A valid value; null where its number is the null.
+/// A valid value, or null if its number is the null.
 fn listed_value(leaf: &Leaf, values: &NamedList, place: u64) -> Value
     ensures { result ≡ listed_value leaf.now (slice_get values.now place) }
 {
@@ -101,7 +101,7 @@ fn draw_enum(words: &mut Pcg32, leaf: &Leaf, values: &NamedList) -> Value
     draw_choice(words, leaf, values)
 }
 
-/// The bits with that of a choice, where one was drawn.
+/// The bits with that of a choice added, if it was drawn.
 fn with_bit(bits: u64, choice: &Named, drawn: u64) -> u64
     ensures { result ≡ with_bit bits choice.now.number drawn }
 {
@@ -112,7 +112,7 @@ fn with_bit(bits: u64, choice: &Named, drawn: u64) -> u64
     bits | (1 << number as u32)
 }
 
-/// The bits that are drawn of a set's choices.
+/// The bits that were drawn from a set's choices.
 fn draw_bits(words: &mut Pcg32, choices: &NamedList) -> u64
     ensures { bits_drawn 0 choices.now words.old ≡ (result, words.new) }
 {

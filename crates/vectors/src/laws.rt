@@ -1,4 +1,4 @@
-//! Laws of the definitions, as functions without a body.
+//! Laws of the definitions, stated as functions without a body.
 
 ghost use Rattle.std.specs.Prelude.{◌≡◌, ◌≤◌, ◌<◌, ℕ, ℤ, pos, int_le, true, length, List, [], None};
 ghost use Rattle.rand_pcg.specs.Lcg.{Lcg};
@@ -12,34 +12,34 @@ ghost use Rattle.vectors.specs.Drawing.{times, Drawing};
 ghost use Rattle.vectors.specs.Messages.{amount, generated};
 ghost use Rattle.vectors.specs.Values.{has_bytes, number_in, text_byte_drawn};
 
-/// A number that is drawn of a leaf lies in its range.
+/// A number that is drawn for a leaf is within its range.
 pub fn numbers_lie_in_range()
     ensures { (leaf : LeafOf) (words : Lcg) → int_le leaf.low leaf.high ≡ true → admits leaf (number_in leaf.low leaf.high words).0 ≡ true }
 {}
 
-/// A byte that is drawn of a text may stand in it, where any may.
+/// A byte that is drawn for a text is allowed in it, if any byte is.
 pub fn text_bytes_may_stand()
     ensures { (leaf : LeafOf) (words : Lcg) → int_le (pos 0) leaf.low ≡ true → int_le leaf.high (pos LAST_BYTE) ≡ true → has_bytes leaf ≡ true
         → is_text_byte leaf (text_byte_drawn leaf words).0 ≡ true }
 {}
 
-/// A count or a length is admitted where its range begins at a number from 0 to 64.
+/// A count or a length is in range if its range begins at a number from 0 to 64.
 pub fn amounts_are_admitted()
     ensures { (leaf : LeafOf) (n : ℕ) → int_le (pos 0) leaf.low ≡ true → int_le leaf.low (pos RAISED_LIMIT) ≡ true → int_le leaf.low leaf.high ≡ true
         → admits leaf (pos (amount leaf n)) ≡ true }
 {}
 
-/// So many bytes are drawn as are asked for.
+/// As many are drawn as are asked for.
 pub fn as_many_are_drawn()
     ensures { (n : ℕ) (draw : Drawing ℕ) (words : Lcg) → length (times n draw words).0 ≡ n }
 {}
 
-/// An altered body is as long as the body.
+/// An altered body is as long as the original.
 pub fn altered_bodies_are_as_long()
     ensures { (body : List ℕ) (index : ℕ) → length (altered body index) ≡ length body }
 {}
 
-/// No message is drawn of a schema without messages.
+/// No message is drawn for a schema without messages.
 pub fn empty_schemas_have_none()
     ensures { (schema : WireSchema) (seed index : ℕ) → schema.messages ≡ [] → generated schema seed index ≡ None }
 {}

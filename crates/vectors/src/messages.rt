@@ -7,7 +7,7 @@ use lists::NoMem;
 use sbe_types::{Msg, WireSchema};
 use std::alloc::Global;
 
-/// Message `index` that a schema with a message has by this seed.
+/// Message `index` of a schema with a message, for this seed.
 pub(crate) fn draw_message(
     alloc: Global,
     schema: &WireSchema,

@@ -11,34 +11,34 @@ use rand_pcg::Pcg32;
 use sbe_types::{Elem, ElemList, Leaf, Value};
 use std::alloc::Global;
 
-/// A value that may be null is so once in so many times.
+/// An optional value is null once in this many draws.
 pub(crate) const NULLS: u64 = 4;
 
-/// Among how many numbers of a range one is drawn at most.
+/// The most numbers of a range from which one is drawn.
 pub(crate) const WORD_LIMIT: u64 = 4_294_967_295;
 
-/// How many values a byte has.
+/// The number of values of a byte.
 pub(crate) const BYTE_VALUES: u64 = 256;
 
-/// The greatest byte.
+/// The largest byte.
 pub(crate) const LAST_BYTE: u64 = 255;
 
 /// The byte of the letter `A`.
 pub(crate) const FIRST_LETTER: u64 = 65;
 
-/// How many capital letters there are.
+/// The number of capital letters.
 pub(crate) const LETTERS: u64 = 26;
 
-/// How many bits a set has at most.
+/// The most bits that a set has.
 pub(crate) const SET_BITS: u32 = 64;
 
-/// A group has fewer entries than this, where its type admits so.
+/// A group has fewer entries than this, if its type allows it.
 pub(crate) const COUNTS: u64 = 3;
 
-/// A data part has fewer bytes than this, where its type admits so.
+/// A data part has fewer bytes than this, if its type allows it.
 pub(crate) const DATA_LENGTHS: u64 = 17;
 
-/// The greatest minimum of a count or length to which it is raised.
+/// The largest minimum of a count or length to which a drawn one is raised.
 pub(crate) const RAISED_LIMIT: u64 = 64;
 
 /// A number from `low` to `high`.
@@ -48,7 +48,7 @@ pub(crate) fn draw_number(words: &mut Pcg32, low: i128, high: i128) -> i128
     low + draw(words, choices_in(low, high)) as i128
 }
 
-/// Among how many numbers from `low` to `high` one is drawn.
+/// The size of the range from which a number between `low` and `high` is drawn.
 fn choices_in(low: i128, high: i128) -> u64
     ensures { result ≡ min (size_of low high) WORD_LIMIT }
 {
@@ -118,7 +118,7 @@ fn draw_octet(words: &mut Pcg32) -> Elem
     Elem::Num(draw(words, BYTE_VALUES) as i128)
 }
 
-/// So many octets.
+/// `count` octets.
 pub(crate) fn draw_octets(alloc: Global, words: &mut Pcg32, count: u32) -> Result<ElemList, NoMem>
     ensures { IfOk result (λ it. times count octet_drawn words.old ≡ (it, words.new)) }
 {
@@ -129,7 +129,7 @@ pub(crate) fn draw_octets(alloc: Global, words: &mut Pcg32, count: u32) -> Resul
     Ok(elements)
 }
 
-/// So many elements that are null.
+/// `count` elements that are null.
 pub(crate) fn null_elements(alloc: Global, count: u32) -> Result<ElemList, NoMem>
     ensures { IfOk result (λ it. it ≡ replicate count Null) }
 {
@@ -140,7 +140,7 @@ pub(crate) fn null_elements(alloc: Global, count: u32) -> Result<ElemList, NoMem
     Ok(elements)
 }
 
-/// The number as a whole one from 0 to `most`: the nearest of them.
+/// The nearest integer from 0 to `most`.
 #[tactic(auto, using(std::proofs::lemmas::Int::ints, crate::proofs::Wholes::natural_low, crate::proofs::Wholes::natural_is))]
 pub(crate) fn natural_within(number: i128, most: u64) -> u64
     ensures { result ≡ min (natural number) most }
@@ -154,8 +154,8 @@ pub(crate) fn natural_within(number: i128, most: u64) -> u64
     number as u64
 }
 
-/// A count or a length: lowered to the greatest number of the leaf, and raised to the least one
-/// where that is no large one.
+/// A count or a length: lowered to the leaf's greatest number, and raised to its least one if that is at most
+/// [`RAISED_LIMIT`].
 pub(crate) fn amount(leaf: &Leaf, number: u64) -> u64
     ensures { result ≡ amount leaf.now number }
 {

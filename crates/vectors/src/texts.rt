@@ -11,7 +11,7 @@ use rand_pcg::Pcg32;
 use sbe_types::{Leaf, LeafShape, Presence, Value};
 use std::alloc::Global;
 
-/// Whether a value of the leaf may be null.
+/// Whether a leaf with this presence may be null.
 pub(crate) fn is_optional(presence: Presence) -> bool
     ensures { result ≡ is_optional presence }
 {
@@ -21,7 +21,7 @@ pub(crate) fn is_optional(presence: Presence) -> bool
     }
 }
 
-/// Whether the bytes of a text lie in a range.
+/// Whether the bytes of a text are limited to a range.
 fn is_ranged(shape: LeafShape) -> bool
     ensures { result ≡ is_ranged shape }
 {
@@ -43,7 +43,7 @@ fn least_byte(leaf: &Leaf) -> i128
     leaf.low
 }
 
-/// Whether some byte may stand in a text.
+/// Whether some byte is allowed in a text.
 fn has_bytes(leaf: &Leaf) -> bool
     ensures { result ≡ has_bytes leaf.now }
 {
@@ -67,7 +67,7 @@ fn draw_byte(words: &mut Pcg32, leaf: &Leaf) -> u8
     (FIRST_LETTER + draw(words, LETTERS)) as u8
 }
 
-/// How many bytes a text has.
+/// The length of a text in bytes.
 fn draw_length(words: &mut Pcg32, leaf: &Leaf) -> u64
     ensures { text_length_drawn leaf.now words.old ≡ (result, words.new) }
 {
@@ -78,7 +78,7 @@ fn draw_length(words: &mut Pcg32, leaf: &Leaf) -> u64
     draw(words, most + 1)
 }
 
-/// So many bytes of a text.
+/// `count` bytes of a text.
 fn draw_bytes(alloc: Global, words: &mut Pcg32, leaf: &Leaf, count: u64) -> Result<Bytes, NoMem>
     ensures { IfOk result (λ it. times count (text_byte_drawn leaf.now) words.old ≡ (it, words.new)) }
 {
@@ -89,7 +89,7 @@ fn draw_bytes(alloc: Global, words: &mut Pcg32, leaf: &Leaf, count: u64) -> Resu
     Ok(bytes)
 }
 
-/// The bytes as a value: null where there are none and it may be.
+/// The bytes as a value: null if there are none and the leaf is optional.
 fn text_value(leaf: &Leaf, bytes: Bytes) -> Value
     ensures { result ≡ text_value leaf.now bytes }
 {
@@ -99,7 +99,7 @@ fn text_value(leaf: &Leaf, bytes: Bytes) -> Value
     Value::Text(bytes)
 }
 
-/// How many bytes a text of this length has: none where no byte may stand.
+/// The number of bytes in a text of this length: none if no byte is allowed.
 fn byte_count(leaf: &Leaf, length: u64) -> u64
     ensures { result ≡ byte_count leaf.now length }
 {

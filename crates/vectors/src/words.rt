@@ -5,7 +5,7 @@ use rand_core::SeedableRng;
 use rand_core::utils::NextWord;
 use rand_pcg::Pcg32;
 
-/// The next word modulo `n`, and 0 where `n` is 0.
+/// The next word modulo `n`, or 0 if `n` is 0.
 pub(crate) fn draw(words: &mut Pcg32, n: u64) -> u64
     ensures drawn { below n words.old ≡ (result, words.new) }
     ensures small { result < max n 1 }
@@ -14,7 +14,7 @@ pub(crate) fn draw(words: &mut Pcg32, n: u64) -> u64
     remainder(u64::from(word), n)
 }
 
-/// The number modulo `n`, and 0 where `n` is 0.
+/// The number modulo `n`, or 0 if `n` is 0.
 fn remainder(number: u64, n: u64) -> u64
     ensures value { result ≡ remainder number n }
     ensures small { result < max n 1 }
@@ -25,7 +25,7 @@ fn remainder(number: u64, n: u64) -> u64
     number % n
 }
 
-/// The generator that message `index` of a seed is drawn of.
+/// The generator from which message `index` of a seed is drawn.
 #[tactic(auto, unfolding(crate::specs::Drawing::words_of))]
 pub(crate) fn words_of(seed: u64, index: u64) -> Pcg32
     ensures { result ≡ words_of seed index }

@@ -21,12 +21,12 @@ pub fn entries_are_drawn()
     ensures { generated schema7 2 3 ≡ grp_by_two }
 {}
 
-/// The sum of a seed and an index begins again at 0.
+/// The sum of a seed and an index wraps around to 0.
 pub fn seeds_wrap()
     ensures { generated schema7 18446744073709551615 5 ≡ big_by_last }
 {}
 
-/// The altered byte is the one at the index modulo the length, and 00 comes after ff.
+/// The altered byte is the one at the index modulo the length, and ff becomes 00.
 pub fn bytes_are_altered()
     ensures last { altered (1 ∷ 2 ∷ 255 ∷ []) 2 ≡ 1 ∷ 2 ∷ 0 ∷ [] }
     ensures around { altered (7 ∷ 8 ∷ []) 3 ≡ 7 ∷ 9 ∷ [] }

@@ -34,7 +34,7 @@ abbrev mutual
   RowStands R (more_of-Member name offset kind rest) (more_of-Member name' offset' kind' rest') =
       (offset ≡ offset') × KindStands R kind kind' × RowStands R rest rest'
 
--- lists of members behind e and d, as dimensions and headers have them: names, places and types
+-- lists of members after e and d, as dimensions and headers have them: names, places and types
 abbrev pub MembersStand : Lists → ℕ → List Member → ℕ → List Member → Type 0
 MembersStand R e [] d [] = ⊤
 MembersStand R e [] d (y ∷ ys) = ⊥
@@ -47,7 +47,7 @@ MembersStand R e (x ∷ xs) d (y ∷ ys) =
 abbrev pub Listed : Bool → Lists
 Listed more xs ys = lists_too more xs ys ≡ true
 
--- ---- a field behind fields that end at e, and one behind fields that end at d
+-- ---- a field after fields that end at e, and one after fields that end at d
 
 pub record FieldStands (R : Lists) (e : ℕ) (f : Field) (d : ℕ) (g : Field) : Type 0 where
   pub name : f.name ≡ g.name

@@ -191,7 +191,7 @@ module _ (order : Order) (R : Lists) (known known' : Bool) (least version versio
           GroupLays mode f (projected_group least g v) b
       cut_group (Group' old_dim old) (Group' dim level) h placed o v b plain lies = of_group keeps old_dim dim old level h placed (cut_tail old level h.2 placed) o v b plain lies
 
-  -- ---- the root: behind what old has, new's additions may stand
+  -- ---- the root: after what old has, new's additions may stand
 
   -- old's data at the front, and nothing more where no addition is alive
   abbrev PartsCut : List DataField → List DataVal → List ℕ → Type 0
@@ -243,7 +243,7 @@ module _ (order : Order) (R : Lists) (known known' : Bool) (least version versio
     abbrev OldGroups : {n : _} → Row_of-Group n → List GroupVal → List ℕ → Type 0
     OldGroups olds vs b = GroupsLay mode olds vs b
 
-    -- old's groups at the front; behind them nothing yet, or an addition, and then old has no data
+    -- old's groups at the front; after them nothing yet, or an addition, and then old has no data
     abbrev GroupsCut : {n : _} → Row_of-Group n → List GroupVal → List ℕ → Type 0
     GroupsCut olds vs b = (front : List ℕ) × (back : List ℕ) × (b ≡ front ++ back) × OldGroups olds vs front
         × (((back ≡ []) × PlainRootParts least parts ds) ⊎ (NoOldParts least parts × (DeadBeyond least version' → ⊥)))

@@ -7,13 +7,13 @@ use Rattle.version_laws.specs.declared.difference.Difference.{Difference}
 use Rattle.version_laws.specs.Differ.{differ}
 use Rattle.version_laws.specs.Forward.{NamePath, first_added}
 
--- the names of a path, with dots between them
+-- the names of a path, separated by dots
 abbrev pub dotted : NamePath → List ℕ
 dotted [] = []
 dotted (name ∷ []) = name
 dotted (name ∷ (next ∷ names)) = name ++ codes "." ++ dotted (next ∷ names)
 
--- No at the first difference; else OneWay at the first addition that an older reader can't pass over
+-- No at the first difference; else OneWay at the first addition that an older reader can't skip
 abbrev pub compat_of : Option Difference → Option NamePath → Compat
 compat_of (Some d) added = answer.No d.path d.reason
 compat_of None (Some names) = answer.OneWay (dotted names)

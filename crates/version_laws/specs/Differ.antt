@@ -16,7 +16,7 @@ use Rattle.version_laws.specs.declared.difference.Reason.{Reason}
 use Rattle.version_laws.specs.declared.difference.Reason.TheVariants as reason
 use Rattle.version_laws.specs.Same.{same_leaf, same_kind, same_members, same_place, same_places, same_header}
 
--- a difference at the part of that name
+-- a difference at the part with this name
 abbrev pub differs : List ℕ → Reason → Option Difference
 differs name reason = Some (record { path = name; reason = reason })
 
@@ -25,36 +25,36 @@ abbrev pub or_else : Option Difference → Option Difference → Option Differen
 or_else None more = more
 or_else (Some d) more = Some d
 
--- inside a part, its name and a dot stand in front
+-- the difference inside a part: its path begins with the part's name and a dot
 abbrev pub in_part : List ℕ → Option Difference → Option Difference
 in_part name None = None
 in_part name (Some d) = differs (name ++ codes "." ++ d.path) d.reason
 
--- the reason, unless the test holds: then what comes after it
+-- the reason, unless the test holds; in that case what follows
 abbrev pub asks : Bool → Reason → Option Reason → Option Reason
 asks true reason more = more
 asks false reason more = Some reason
 
--- a difference at the part, or else those further on
+-- a difference at the part, or else those that follow
 abbrev pub unless_for : List ℕ → Option Reason → Option Difference → Option Difference
 unless_for name None more = more
 unless_for name (Some reason) more = differs name reason
 
--- one byte order
+-- the same byte order
 abbrev pub same_order : Order → Order → Bool
 same_order Little Little = true
 same_order Little Big = false
 same_order Big Little = false
 same_order Big Big = true
 
--- `version`: old's. Old has the parts that are effective by then
+-- a part with this since exists at old's version, `version`
 abbrev pub is_old : ℕ → ℕ → Bool
 is_old version since = nat_le since version
 
--- ---- fields, and data: old's, and those of new that are effective by old's version, in order.
+-- ---- fields, and data: old's, and those of new that are effective at old's version, in order.
 -- `more`: enums and sets of new may list more
 
--- where the fields before end, in old and in new
+-- the ends of the fields before, in old and in new
 pub record Ends : Type 0 where
   pub old : ℕ
   pub new : ℕ
@@ -63,15 +63,15 @@ pub record Ends : Type 0 where
 abbrev pub no_fields : Ends
 no_fields = record { old = 0; new = 0 }
 
--- behind a field of new that old doesn't have
+-- after a field of new that old doesn't have
 abbrev pub past_added : Ends → Field → Ends
 past_added ends g = record { old = ends.old; new = end_past ends.new g.offset g.kind }
 
--- behind a field of old, and the one of new that is compared with it
+-- after a field of old, and the one of new that is compared with it
 abbrev pub past_both : Ends → Field → Field → Ends
 past_both ends f g = record { old = end_past ends.old f.offset f.kind; new = end_past ends.new g.offset g.kind }
 
--- the field begins at one place in both, and so does each member of a composite
+-- the field begins at the same offset in both, and so does each member of a composite
 abbrev pub field_stays : Ends → Field → Field → Bool
 field_stays ends f g = same_place f.kind (begin_of ends.old f.offset) g.kind (begin_of ends.new g.offset) && same_places f.kind g.kind
 
@@ -83,7 +83,7 @@ field_reason more ends f g =
     (asks (field_stays ends f g) reason.Place
     (asks (same_kind more f.kind g.kind) reason.Kind None)))
 
--- the first difference of fields, behind fields that end at these places
+-- the first difference of fields, after fields with these ends
 abbrev pub fields_differ : ℕ → Bool → Ends → List Field → List Field → Option Difference
 fields_differ version more ends [] [] = None
 fields_differ version more ends (f ∷ fs) [] = differs f.name reason.Part
@@ -94,14 +94,14 @@ fields_differ version more ends (f ∷ fs) (g ∷ gs) =
     then unless_for f.name (field_reason more ends f g) (fields_differ version more (past_both ends f g) fs gs)
     else fields_differ version more (past_added ends g) (f ∷ fs) gs
 
--- why the data g of new isn't the data f of old
+-- why the data part g of new isn't the data part f of old
 abbrev pub data_reason : DataField → DataField → Option Reason
 data_reason f g =
     asks (bytes_eq f.name g.name) reason.Part
     (asks (f.since == g.since) reason.Since
     (asks (same_leaf f.length g.length) reason.Kind None))
 
--- the first difference of data
+-- the first difference of data parts
 abbrev pub parts_differ : ℕ → List DataField → List DataField → Option Difference
 parts_differ version [] [] = None
 parts_differ version (f ∷ fs) [] = differs f.name reason.Part
@@ -111,7 +111,7 @@ parts_differ version (f ∷ fs) (g ∷ gs) =
     then unless_for f.name (data_reason f g) (parts_differ version fs gs)
     else parts_differ version (f ∷ fs) gs
 
--- ---- groups, each with its own level behind it
+-- ---- groups, each with its own level after it
 
 -- the name of a group
 abbrev pub group_name : Group → List ℕ
@@ -125,7 +125,7 @@ group_since (Group' dim level) = (out-Level level).since
 abbrev pub group_dimension : Group → List Member
 group_dimension (Group' dim level) = dim
 
--- why the group g of new isn't the group f of old; its level is looked at behind it
+-- why the group g of new isn't the group f of old; its level is compared after it
 abbrev pub group_reason : Group → Group → Option Reason
 group_reason f g =
     asks (bytes_eq (group_name f) (group_name g)) reason.Part
@@ -138,7 +138,7 @@ unfoldable mutual
       or_else (fields_differ version more no_fields old_fields fields)
       (or_else (groups_differ version more old_groups groups) (parts_differ version old_parts parts))
 
-  -- the first difference of groups; the level of a group comes right behind it
+  -- the first difference of groups; the level of a group is compared right after it
   pub groups_differ : ℕ → Bool → {n : _} → Row_of-Group n → {k : _} → Row_of-Group k → Option Difference
   groups_differ version more end_of-Group end_of-Group = None
   groups_differ version more (more_of-Group f fs) end_of-Group = differs (group_name f) reason.Part
@@ -155,7 +155,7 @@ unfoldable mutual
 
 -- ---- messages, and the whole
 
--- old's message, and the one of its id in new
+-- the first difference between old's message and new's message with its id
 abbrev pub message_differs : ℕ → Bool → Level → Option (ℕ × Level) → Option Difference
 message_differs version more old None = differs (out-Level old).name reason.Message
 message_differs version more old (Some m) =

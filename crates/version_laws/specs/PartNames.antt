@@ -1,4 +1,4 @@
--- The names of the parts that are effective by a version, at each level, in order.
+-- The names of the parts that are effective at a version, at each level, in order.
 use Rattle.std.specs.Prelude.{◌≡◌, ℕ, map, Bool, if◌then◌else◌, List, [], ◌∷◌, ⊤}
 use Rattle.std.specs.Bool.{MatchBool}
 use Rattle.sbe_types.specs.declared.schema.Field.{Field}
@@ -7,7 +7,7 @@ use Rattle.sbe_types.specs.declared.schema.Group.{Group, Group'}
 use Rattle.sbe_types.specs.declared.schema.Level.{Level, Level', Row_of-Group, end_of-Group, more_of-Group}
 use Rattle.version_laws.specs.Differ.{is_old, group_name, group_since}
 
--- the names of the parts that are known
+-- the names of the known parts
 abbrev pub known_names : {P : Type 0} → (P → Bool) → (P → List ℕ) → List P → List (List ℕ)
 known_names known name [] = []
 known_names known name (p ∷ ps) = if known p then name p ∷ known_names known name ps else known_names known name ps
@@ -17,7 +17,7 @@ abbrev pub group_names : {n : _} → Row_of-Group n → List (List ℕ)
 group_names end_of-Group = []
 group_names (more_of-Group g gs) = group_name g ∷ group_names gs
 
--- the names of the groups that are effective by a version
+-- the names of the groups that are effective at a version
 abbrev pub known_group_names : ℕ → {n : _} → Row_of-Group n → List (List ℕ)
 known_group_names version end_of-Group = []
 known_group_names version (more_of-Group g gs) =
@@ -25,7 +25,7 @@ known_group_names version (more_of-Group g gs) =
     then group_name g ∷ known_group_names version gs
     else known_group_names version gs
 
--- new's parts that are effective by old's version are old's parts, at each level that both have
+-- new's parts that are effective at old's version are old's parts, at each level that both have
 abbrev mutual
   -- the names of a level and of the groups inside it
   pub SameNames : ℕ → Level → Level → Type 0

@@ -13,19 +13,19 @@ use Rattle.sbe_types.specs.declared.message.GroupVal.TheVariants as groupval
 use Rattle.sbe_types.specs.declared.message.Msg.{Msg}
 use Rattle.version_laws.specs.Differ.{is_old, group_since}
 
--- each of these entries
+-- the property holds of each of these entries
 abbrev pub AllOf : (Block → Type 0) → List Block → Type 0
 AllOf P [] = ⊤
 AllOf P (e ∷ es) = P e × AllOf P es
 
--- each entry of a group that is there
+-- the property holds of each entry of a group, if the group is there
 abbrev pub EachEntry : (Block → Type 0) → GroupVal → Type 0
 EachEntry P groupval.Absent = ⊤
 EachEntry P (groupval.Entries' n row) = AllOf P (items-the_row-Block _ row)
 
--- ---- entries: no part that old lacks is there
+-- ---- entries: a part that old lacks isn't there
 
--- each data that old lacks is absent
+-- each data part that old lacks is absent
 abbrev pub PlainParts : ℕ → List DataField → List DataVal → Type 0
 PlainParts version [] vs = ⊤
 PlainParts version (p ∷ ps) [] = ⊤
@@ -48,9 +48,9 @@ abbrev mutual
   pub PlainGroup : ℕ → Group → GroupVal → Type 0
   PlainGroup version (Group' dim level) v = EachEntry (λ entry. PlainEntry version level entry) v
 
--- ---- the root: behind a part that old lacks, and that is there, stands none that old has
+-- ---- the root: a part that old lacks, and that is there, is followed by none that old has
 
--- none of these data is one that old has
+-- none of these data parts is one that old has
 abbrev pub NoOldParts : ℕ → List DataField → Type 0
 NoOldParts version [] = ⊤
 NoOldParts version (p ∷ ps) = (is_old version p.since ≡ false) × NoOldParts version ps
@@ -70,14 +70,14 @@ abbrev pub is_absent_group : GroupVal → Bool
 is_absent_group groupval.Absent = true
 is_absent_group (groupval.Entries' n row) = false
 
--- behind a data that old lacks, and that is there, stands none that old has
+-- a data part that old lacks, and that is there, is followed by none that old has
 abbrev pub PlainRootParts : ℕ → List DataField → List DataVal → Type 0
 PlainRootParts version [] vs = ⊤
 PlainRootParts version (p ∷ ps) [] = ⊤
 PlainRootParts version (p ∷ ps) (v ∷ vs) =
     MatchBool (is_old version p.since) (PlainRootParts version ps vs) (MatchBool (is_absent_part v) (PlainRootParts version ps vs) (NoOldParts version ps))
 
--- the same of groups and the data behind them; and the entries of groups that old has are plain
+-- the same for groups and the data after them; and the entries of groups that old has are plain
 abbrev pub PlainRootGroups : ℕ → List DataField → List DataVal → {n : _} → Row_of-Group n → List GroupVal → Type 0
 PlainRootGroups version parts ds end_of-Group vs = PlainRootParts version parts ds
 PlainRootGroups version parts ds (more_of-Group g gs) [] = ⊤
@@ -85,7 +85,7 @@ PlainRootGroups version parts ds (more_of-Group g gs) (v ∷ vs) =
     MatchBool (is_old version (group_since g)) (PlainGroup version g v × PlainRootGroups version parts ds gs vs)
     (MatchBool (is_absent_group v) (PlainRootGroups version parts ds gs vs) (NoOldGroups version gs × NoOldParts version parts))
 
--- the same of a message's root
+-- the same for a message's root
 abbrev pub PlainRoot : ℕ → Level → Block → Type 0
 PlainRoot version (Level' _ _ _ _ _ _ _ groups parts) block = PlainRootGroups version parts (out-Block block).parts groups (out-Block block).groups
 

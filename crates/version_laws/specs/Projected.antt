@@ -31,7 +31,7 @@ projected_list known (p ∷ ps) (v ∷ vs) = if known p then v ∷ projected_lis
 abbrev pub old_field : ℕ → Field → Bool
 old_field version f = is_old version f.since
 
--- old has the data
+-- old has the data part
 abbrev pub old_part : ℕ → DataField → Bool
 old_part version p = is_old version p.since
 
@@ -92,7 +92,7 @@ unfoldable mutual
 
 -- ---- messages
 
--- m under the number of another template, with another block; none where there is no such template
+-- m with the number of another template and another block; none if there is no such template
 abbrev pub with_block : Msg → Option (ℕ × Level) → (Level → Block) → Option Msg
 with_block m None block = None
 with_block m (Some t) block = Some (record { template = t.0; version = m.version; block = block t.1 })
@@ -102,7 +102,7 @@ abbrev pub projected_from : WireSchema → Msg → Option Level → Option Msg
 projected_from old m None = None
 projected_from old m (Some level) = with_block m (message_named 0 (out-Level level).id old.messages) (λ other. projected_block old.version level m.block)
 
--- m, a message of new, as old knows it; none where old lacks the template
+-- m, a message of new, as old knows it; none if old lacks the template
 abbrev pub projected : WireSchema → WireSchema → Msg → Option Msg
 projected old new m = projected_from old m (slice_get new.messages m.template)
 
@@ -115,6 +115,7 @@ lifted_from old new m (Some level) = with_block m (message_named 0 (out-Level le
 abbrev pub lifted : WireSchema → WireSchema → Msg → Option Msg
 lifted old new m = lifted_from old new m (slice_get old.messages m.template)
 
--- m is of a later version than old, or both schemas have one version: old judges no value by a list that is shorter than its writer's
+-- m is of a later version than old, or both schemas have the same version: old checks no value by a list shorter than
+-- its writer's
 abbrev pub IsOfNew : WireSchema → WireSchema → Msg → Type 0
 IsOfNew old new m = (old.version < m.version) ⊎ (old.version ≡ new.version)

@@ -76,7 +76,7 @@ ne1 = record {
 abbrev pub event_raw_body : List ℕ
 event_raw_body = 4 ∷ 0 ∷ 1 ∷ 0 ∷ 8 ∷ 0 ∷ 2 ∷ 0 ∷ 53 ∷ 7 ∷ 9 ∷ 0 ∷ 1 ∷ 0 ∷ 65 ∷ []
 
--- what the newer schema reads of it
+-- what the newer schema reads in it
 abbrev pub event_full_message : Msg
 event_full_message = record {
   template = 0;
@@ -84,7 +84,7 @@ event_full_message = record {
   block = with_data (value.Enum (pos 53) ∷ value.Num (pos 7) ∷ value.Num (pos 9) ∷ []) (dataval.Bytes (65 ∷ []) ∷ []);
 }
 
--- what the older schema reads of it: a number that it does not list, and nothing of the later parts
+-- what the older schema reads in it: a number that it doesn't list, and nothing of the later parts
 abbrev pub event_raw_message : Msg
 event_raw_message = record { template = 0; version = 2; block = flat (value.Enum (pos 53) ∷ value.Num (pos 7) ∷ []) }
 
@@ -100,15 +100,15 @@ ne_of version entries = record { template = 0; version = version; block = record
 abbrev pub ne_entries : List Block
 ne_entries = with_data (value.Num (pos 5) ∷ []) (dataval.Bytes (65 ∷ []) ∷ []) ∷ with_data (value.Num (pos 6) ∷ []) (dataval.Bytes [] ∷ []) ∷ []
 
--- what the newer schema reads of that body
+-- what the newer schema reads in that body
 abbrev pub ne_full_message : Msg
 ne_full_message = ne_of 1 ne_entries
 
--- what the older schema reads of it, wrongly
+-- what the older schema reads in it, wrongly
 abbrev pub ne_misread_message : Msg
 ne_misread_message = ne_of 1 (flat (value.Num (pos 5) ∷ []) ∷ flat (value.Num (pos 1) ∷ []) ∷ [])
 
--- what the older schema should read of it
+-- what the older schema should read in it
 abbrev pub ne_projected_message : Msg
 ne_projected_message = ne_of 1 (flat (value.Num (pos 5) ∷ []) ∷ flat (value.Num (pos 6) ∷ []) ∷ [])
 
@@ -116,20 +116,20 @@ ne_projected_message = ne_of 1 (flat (value.Num (pos 5) ∷ []) ∷ flat (value.
 abbrev pub ne_old_body : List ℕ
 ne_old_body = 0 ∷ 0 ∷ 1 ∷ 0 ∷ 14 ∷ 0 ∷ 0 ∷ 0 ∷ 1 ∷ 0 ∷ 2 ∷ 0 ∷ 5 ∷ 6 ∷ []
 
--- what the older schema reads of it
+-- what the older schema reads in it
 abbrev pub ne_old_message : Msg
 ne_old_message = ne_of 0 (flat (value.Num (pos 5) ∷ []) ∷ flat (value.Num (pos 6) ∷ []) ∷ [])
 
--- what the newer schema reads of it
+-- what the newer schema reads in it
 abbrev pub ne_lifted_message : Msg
 ne_lifted_message =
     ne_of 0 (with_data (value.Num (pos 5) ∷ []) (dataval.Absent ∷ []) ∷ with_data (value.Num (pos 6) ∷ []) (dataval.Absent ∷ []) ∷ [])
 
--- e 53 at version 0, which lists no 53
+-- e 53 at version 0, which doesn't list 53
 abbrev pub event_early_body : List ℕ
 event_early_body = 2 ∷ 0 ∷ 1 ∷ 0 ∷ 8 ∷ 0 ∷ 0 ∷ 0 ∷ 53 ∷ 7 ∷ []
 
--- what the newer schema reads of it
+-- what the newer schema reads in it
 abbrev pub event_early_message : Msg
 event_early_message = record {
   template = 0;
@@ -143,16 +143,16 @@ event_early_fault = record { code = fault.EnumUnknown; path = way.Part 0 ∷ [];
 
 -- ---- one difference each
 
--- a schema of id, version, byte order, header and messages
+-- a schema with this id, version, byte order, header and messages
 abbrev pub of_form : ℕ → ℕ → Order → List Member → List Level → WireSchema
 of_form id version order members messages =
     record { id = id; version = version; order = order; header = record { members = members }; messages = messages }
 
--- schema 7 at that version, with these messages
+-- schema 7 at this version, with these messages
 abbrev pub with_messages : ℕ → List Level → WireSchema
 with_messages version messages = of_form 7 version Little header_members messages
 
--- its header with a byte of padding before the last member
+-- the header of schema 7 with a byte of padding before the last member
 abbrev pub padded_header : List Member
 padded_header =
     member (codes "blockLength") None uint16 ∷ member (codes "templateId") None uint16
@@ -162,25 +162,25 @@ padded_header =
 abbrev pub ping_of : List Field → Level
 ping_of fields = Level' (codes "Ping") 1 [] 0 8 fields [] end_of-Group []
 
--- a uint8 of that name, since that version, at that offset if there is one
+-- a uint8 with this name, since this version, at this offset if there is one
 abbrev pub small : List ℕ → ℕ → Option ℕ → Field
 small name since offset = record { name = name; id = 1; since = since; offset = offset; kind = Leaf uint8 }
 
--- at that version, with these fields
+-- schema 7 at this version, with Ping of these fields
 abbrev pub small_ping : ℕ → List Field → WireSchema
 small_ping version fields = with_messages version (ping_of fields ∷ [])
 
--- a composite of a mantissa and an exponent behind it
+-- a composite of a mantissa and then an exponent
 abbrev pub decimal : LeafOf → Kind
 decimal mantissa =
     Comp' (tt ∷ tt ∷ []) (more_of-Member (codes "mantissa") None (Leaf mantissa)
     (more_of-Member (codes "exponent") None (Leaf int8) end_of-Member))
 
--- an enum of one letter each
+-- an enum over char with these valid values
 abbrev pub letters : List Named → Kind
 letters names = Enum char names
 
--- the type of one character
+-- a valid value with this number
 abbrev pub letter : List ℕ → ℕ → Named
 letter name n = record { name = name; number = pos n }
 
@@ -190,7 +190,7 @@ grp_of dimension name =
     Level' (codes "Grp") 4 [] 0 0 [] (tt ∷ [])
     (more_of-Group (Group' dimension (Level' name 2001 [] 0 1 (field (codes "x") 1005 0 (Leaf uint8) ∷ []) [] end_of-Group [])) end_of-Group) []
 
--- a group in a group, with data behind it
+-- a group in a group, with data after it
 abbrev pub nest_of : LeafOf → LeafOf → Level
 nest_of inner length =
     Level' (codes "Nest") 5 [] 0 0 [] (tt ∷ [])
@@ -199,7 +199,7 @@ nest_of inner length =
     (more_of-Group (Group' size16 (Level' (codes "subs") 2003 [] 0 1 (field (codes "s") 1007 0 (Leaf inner) ∷ []) [] end_of-Group [])) end_of-Group)
     (record { name = codes "note"; id = 2004; since = 0; length = length } ∷ []))) end_of-Group) []
 
--- a group of one field, since that version
+-- a group of one field, since this version
 abbrev pub empty_group : List ℕ → ℕ → Group
 empty_group name since = Group' size16 (Level' name 1002 [] since 1 (field (codes "x") 1003 since (Leaf uint8) ∷ []) [] end_of-Group [])
 

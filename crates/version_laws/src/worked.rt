@@ -1,4 +1,4 @@
-//! Rows: pairs of schemas, bodies and messages, and what the definitions give for them.
+//! Rows: pairs of schemas, bodies and messages, and the results of the definitions for them.
 
 ghost use Rattle.std.specs.Prelude.{◌≡◌, Option, Some, None, Ok, Err, List, [], ◌∷◌, codes};
 ghost use Rattle.sbe_types.specs.declared.kind.Order.TheVariants.{Little, Big};
@@ -16,12 +16,12 @@ ghost use Rattle.version_laws.specs.Projected.{projected, lifted};
 ghost use Rattle.version_laws.specs.Rows.{ping_wide, one_data1, ne0, ne1, event_raw_body, event_raw_message, event_full_message, ne_body, ne_old_body, ne_full_message, ne_misread_message, ne_projected_message, ne_old_message, ne_lifted_message, event_early_body, event_early_message, event_early_fault};
 ghost use Rattle.version_laws.specs.Rows.{of_form, with_messages, padded_header, small, small_ping, decimal, letters, letter, grp_of, nest_of, group_alone, group_last};
 
-/// At version 2 an enum lists one more, a field and data are added.
+/// At version 2 an enum lists one more value, and a field and data are added.
 pub fn event_is_extended()
     ensures { differ event0 event2 ≡ None }
 {}
 
-/// The later version isn't extended by the earlier one.
+/// Version 0 doesn't extend version 2.
 pub fn event_is_older()
     ensures { differ event2 event0 ≡ differs [] reason.Version }
 {}
@@ -31,17 +31,17 @@ pub fn ping_is_wider()
     ensures { differ schema7 ping_wide ≡ differs (codes "Ping.a") reason.Kind }
 {}
 
-/// A group that is added in front of data stops an older reader.
+/// A group that is added before data stops an older reader.
 pub fn group_is_in_front()
     ensures { first_added one_data one_data1 ≡ Some (codes "Ow" ∷ codes "g" ∷ []) }
 {}
 
-/// So does data that entries gain.
+/// So does data that is added to entries.
 pub fn entry_gains_data()
     ensures { first_added ne0 ne1 ≡ Some (codes "Ne" ∷ codes "g" ∷ codes "t" ∷ []) }
 {}
 
-/// A field, and data behind all others, don't.
+/// A field, and data after all others, don't.
 pub fn event_goes_both_ways()
     ensures { first_added event0 event2 ≡ None }
 {}
@@ -51,7 +51,7 @@ pub fn event_is_read()
     ensures { message_of event2 event_raw_body ≡ Ok event_full_message }
 {}
 
-/// Version 0 reads the value as its number, and passes over the parts.
+/// Version 0 reads the value as its number, and skips the parts.
 pub fn event_is_read_raw()
     ensures { message_of event0 event_raw_body ≡ Ok event_raw_message }
 {}
@@ -66,7 +66,7 @@ pub fn entries_are_read()
     ensures { message_of ne1 ne_body ≡ Ok ne_full_message }
 {}
 
-/// The older one takes the first entry's data for the second entry.
+/// The older one mistakes the first entry's data for the second entry.
 pub fn entries_are_misread()
     ensures { message_of ne0 ne_body ≡ Ok ne_misread_message }
 {}
@@ -91,17 +91,17 @@ pub fn entries_are_not_plain()
     ensures { Plain ne0 ne1 ne_full_message → ⊥ }
 {}
 
-/// A message that says to be of version 0, with a value that version 2 alone lists, is read by version 2.
+/// A message that claims to be of version 0, with a value that only version 2 lists, is read by version 2.
 pub fn early_value_is_read()
     ensures { message_of event2 event_early_body ≡ Ok event_early_message }
 {}
 
-/// Version 0 refuses it: only of a message of a later version it takes values that it doesn't list.
+/// Version 0 refuses it: it accepts values that it doesn't list only in messages of a later version.
 pub fn early_value_is_refused()
     ensures { message_of event0 event_early_body ≡ Err event_early_fault }
 {}
 
-/// The answers in words.
+/// Each of the possible answers.
 pub fn answer_rows()
     ensures two_way { compat event0 event2 ≡ answer.TwoWay }
     ensures one_way { compat ne0 ne1 ≡ answer.OneWay (codes "Ne.g.t") }
@@ -149,7 +149,7 @@ pub fn message_rows()
         ≡ differs (codes "Nul") reason.Message }
 {}
 
-/// Differences of fields; the path of a missing part is the older version's.
+/// Differences of fields. The path of a missing part is the older version's.
 pub fn field_rows()
     ensures missing { differ
         (small_ping 0 (small (codes "a") 0 None ∷ small (codes "b") 0 None ∷ []))
@@ -181,7 +181,7 @@ pub fn field_rows()
         ≡ differs (codes "Ping.px") reason.Place }
 {}
 
-/// The values that an enum lists: as many at one version, those and more at a later one.
+/// The values that an enum lists: the same at one version, and those plus more at a later one.
 pub fn list_rows()
     ensures gained { differ
         (small_ping 0 (field (codes "e") 2 0 (letters (letter (codes "A") 65 ∷ [])) ∷ []))
@@ -201,7 +201,7 @@ pub fn list_rows()
         ≡ differs (codes "Ping.e") reason.Kind }
 {}
 
-/// Differences of groups and of what stands in them.
+/// Differences of groups and of their contents.
 pub fn group_rows()
     ensures renamed { differ
         (with_messages 0 (grp_of size16 (codes "g") ∷ []))

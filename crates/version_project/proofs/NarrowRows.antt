@@ -28,6 +28,6 @@ pub narrow_next : (e : ℕ) (ms : List Member) (i : ℕ) (m : Member) → slice_
     IsNarrow m.kind × EndsWithin e m.offset m.kind × AreNarrow (end_past e m.offset m.kind) (drop (i + 1) ms)
 narrow_next e ms i m at all = subst (AreNarrow e) (drop_at ms i m at) all
 
--- and the end behind it
+-- and the end after it
 pub narrow_goes : (e next : ℕ) (ms : List Member) (i : ℕ) (m : Member) → slice_get ms i ≡ Some m → next ≡ end_past e m.offset m.kind → AreNarrow e (drop i ms) → AreNarrow next (drop (i + 1) ms)
 narrow_goes e next ms i m at is all = subst (λ n. AreNarrow n (drop (i + 1) ms)) (sym is) (narrow_next e ms i m at all).2

@@ -1,4 +1,4 @@
--- The walk over a root: what is behind an addition, and the first pair that fails.
+-- The walk over a root: what is after an addition, and the first pair that fails.
 use Rattle.std.proofs.Common.{◌≡◌, ◌<◌, ℕ, ◌+◌, Bool, true, false, cond, List, ◌∷◌, length, drop, get_or, Some, sym, ap, ◌∙◌}
 use Rattle.std.specs.Prelude.{slice_get, not, ◌&&◌, ◌||◌}
 use Rattle.std.specs.List.{list_any}
@@ -41,7 +41,7 @@ parts_stop version ps zs vs i p v r any same h at is e t found so_far =
     let step = parts_step version (drop i ps) (drop i vs) p v (drop (i + 1) ps) (drop (i + 1) vs) (item_at ps zs i p same h at) (drop_at vs i v is) in
     ap (λ a. not a) found ∙ sym (step ∙ ap (λ b. cond b (root_parts_pass version (drop (i + 1) ps) (drop (i + 1) vs)) (not (list_any (old_part version) (drop i ps)))) (sym e ∙ t)) ∙ so_far
 
--- ---- groups, with the data behind them
+-- ---- groups, with the data after them
 
 module _ (version : ℕ) (ps : List DataField) (ds : List DataVal) where
   groups_step : (gs : List Group) (vs : List GroupVal) (g : Group) (v : GroupVal) (more : List Group) (rest : List GroupVal) → gs ≡ g ∷ more → vs ≡ v ∷ rest →

@@ -14,17 +14,17 @@ use Rattle.version_project.specs.IsPlain.{old_group}
 abbrev pub text : Option NamePath → Option (List ℕ)
 text = option_map dotted
 
--- the text of a path inside a part of that name
+-- the text of a path inside a part with this name
 abbrev pub inside_text : List ℕ → Option (List ℕ) → Option (List ℕ)
 inside_text name = option_map (λ inner. name ++ codes "." ++ inner)
 
--- the first of an entry's groups that is added, or of what is added inside them
+-- the first group of an entry that is added, or the first addition inside a group
 abbrev pub added_each : ℕ → List Group → Option NamePath
 added_each version [] = None
 added_each version (g ∷ gs) =
     if is_old version (group_since g) then or_later (below (group_name g) (added_below version g)) (added_each version gs) else Some (group_name g ∷ [])
 
--- of a message's groups and data, the first added one before one that old has, or in an entry
+-- of a message's groups and data, the first added one that is followed by one that old has, or that is in an entry
 abbrev pub early_each : ℕ → List DataField → List Group → Option NamePath
 early_each version parts [] = early_part version parts
 early_each version parts (g ∷ gs) =

@@ -9,7 +9,7 @@ use Rattle.sbe_types.specs.declared.message.GroupVal.{GroupVal}
 use Rattle.version_laws.specs.Projected.{old_field, old_part, projected_group}
 use Rattle.version_project.specs.IsPlain.{old_group}
 
--- something of each known part
+-- f of each known part and its value
 abbrev pub known_each : {X Y : Type 0} → (X → Bool) → (X → Y → Y) → List X → List Y → List Y
 known_each known f [] ys = []
 known_each known f (x ∷ xs) [] = []
@@ -19,7 +19,7 @@ known_each known f (x ∷ xs) (y ∷ ys) = if known x then f x y ∷ known_each 
 abbrev pub known_fields : ℕ → List Field → List Value → List Value
 known_fields version fields values = known_each (old_field version) (λ field value. value) fields values
 
--- the data that old has
+-- the data parts that old has
 abbrev pub known_parts : ℕ → List DataField → List DataVal → List DataVal
 known_parts version parts values = known_each (old_part version) (λ part value. value) parts values
 

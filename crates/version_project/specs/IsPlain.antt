@@ -12,17 +12,17 @@ use Rattle.version_laws.specs.Differ.{is_old, group_since}
 use Rattle.version_laws.specs.Projected.{old_part}
 use Rattle.version_laws.specs.Plain.{is_absent_part, is_absent_group}
 
--- a test of each pair
+-- the test holds of each pair
 abbrev pub all_pairs : {X Y : Type 0} → (X → Y → Bool) → List X → List Y → Bool
 all_pairs test [] ys = true
 all_pairs test (x ∷ xs) [] = true
 all_pairs test (x ∷ xs) (y ∷ ys) = test x y && all_pairs test xs ys
 
--- a data that old lacks is absent
+-- the data part is absent, or old has it
 abbrev pub part_is_plain : ℕ → DataField → DataVal → Bool
 part_is_plain version p v = is_old version p.since || is_absent_part v
 
--- each entry of a group passes
+-- the test holds of each entry of a group
 abbrev pub entries_pass : (Block → Bool) → GroupVal → Bool
 entries_pass test groupval.Absent = true
 entries_pass test (groupval.Entries' n row) = list_all test (items-the_row-Block _ row)
@@ -33,31 +33,31 @@ unfoldable mutual
   entry_is_plain version (Level' _ _ _ _ _ _ _ groups parts) block =
       groups_are_plain version groups (out-Block block).groups && all_pairs (part_is_plain version) parts (out-Block block).parts
 
-  -- the same of groups
+  -- the same for groups
   pub groups_are_plain : ℕ → {n : _} → Row_of-Group n → List GroupVal → Bool
   groups_are_plain version end_of-Group vs = true
   groups_are_plain version (more_of-Group g gs) [] = true
   groups_are_plain version (more_of-Group g gs) (v ∷ vs) = group_is_plain version g v && groups_are_plain version gs vs
 
-  -- the same of a group
+  -- the same for a group
   pub group_is_plain : ℕ → Group → GroupVal → Bool
   group_is_plain version (Group' dim level) v =
       if is_old version (out-Level level).since then entries_pass (λ entry. entry_is_plain version level entry) v else is_absent_group v
 
--- ---- the root: what comes behind the first addition that is there has none that old has
+-- ---- the root: an addition that is there isn't followed by a part that old has
 
 -- old has the group
 abbrev pub old_group : ℕ → Group → Bool
 old_group version g = is_old version (group_since g)
 
--- behind a data that old lacks, and that is there, stands none that old has
+-- a data part that old lacks, and that is there, is followed by none that old has
 abbrev pub root_parts_pass : ℕ → List DataField → List DataVal → Bool
 root_parts_pass version [] vs = true
 root_parts_pass version (p ∷ ps) [] = true
 root_parts_pass version (p ∷ ps) (v ∷ vs) =
     if part_is_plain version p v then root_parts_pass version ps vs else not (list_any (old_part version) (p ∷ ps))
 
--- the same of groups and the data behind them
+-- the same for groups and the data after them
 abbrev pub root_groups_pass : ℕ → List DataField → List DataVal → List Group → List GroupVal → Bool
 root_groups_pass version parts ds [] vs = root_parts_pass version parts ds
 root_groups_pass version parts ds (g ∷ gs) [] = true

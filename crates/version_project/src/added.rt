@@ -1,4 +1,4 @@
-//! The first added group or data that an older reader can't pass over.
+//! The first added group or data that an older reader can't skip.
 ghost use Rattle.std.specs.Prelude.{◌≡◌, IfOk, Some};
 ghost use Rattle.version_laws.specs.Differ.{group_name};
 ghost use Rattle.version_laws.specs.Forward.{below, added_part, added_in, added_below};
@@ -12,7 +12,7 @@ use lists::{List, NoMem, Text};
 use sbe_types::{DataField, Group, Level, WireSchema};
 use std::alloc::Global;
 
-/// The path of the first group or data added to old's messages that a reader of old can't pass over, in new's order.
+/// The path of the first group or data added to old's messages that a reader of old can't skip, in new's order.
 pub(crate) fn first_added(
     alloc: Global,
     old: &WireSchema,
@@ -23,7 +23,7 @@ pub(crate) fn first_added(
     added_among(alloc, old.version, &old.messages, &new.messages)
 }
 
-/// The same, in these messages of new.
+/// The same, for these messages of new.
 fn added_among(
     alloc: Global,
     version: u32,
@@ -40,7 +40,7 @@ fn added_among(
     Ok(None)
 }
 
-/// The same, in one message of new; where old doesn't have it, nothing counts as added.
+/// The same, for one message of new. If old doesn't have it, nothing counts as added.
 fn added_of(
     alloc: Global,
     version: u32,
@@ -58,7 +58,7 @@ fn added_of(
     }
 }
 
-/// The first added group or data of a message that stands before one that old has, or inside an entry.
+/// The first added group or data of a message that precedes one that old has, or is inside an entry.
 fn added_at_root(alloc: Global, version: u32, level: &Level) -> Result<Option<Text>, NoMem>
     ensures { IfOk result (λ path. path ≡ text (added_at_root version level.now)) }
 {
@@ -77,7 +77,7 @@ fn added_at_root(alloc: Global, version: u32, level: &Level) -> Result<Option<Te
     early_part(alloc, version, &level.parts)
 }
 
-/// The first added data that stands before one that old has.
+/// The first added data that precedes one that old has.
 fn early_part(alloc: Global, version: u32, parts: &List<DataField>) -> Result<Option<Text>, NoMem>
     ensures { IfOk result (λ path. path ≡ text (early_part version parts.now)) }
 {
@@ -101,7 +101,7 @@ fn added_in(alloc: Global, version: u32, level: &Level) -> Result<Option<Text>, 
     added_part(alloc, version, &level.parts)
 }
 
-/// The first of an entry's groups that is added, or of what is added inside them.
+/// The first of an entry's groups that was added, or the first addition inside them.
 #[cycle(added)]
 fn added_group(alloc: Global, version: u32, groups: &List<Group>) -> Result<Option<Text>, NoMem>
     ensures { IfOk result (λ path. path ≡ text (added_each version groups.now)) }
@@ -127,7 +127,7 @@ fn added_below(alloc: Global, version: u32, group: &Group) -> Result<Option<Text
     inside(alloc, &group.level.name, path)
 }
 
-/// The first of an entry's data that is added.
+/// The first of an entry's data that was added.
 fn added_part(alloc: Global, version: u32, parts: &List<DataField>) -> Result<Option<Text>, NoMem>
     ensures { IfOk result (λ path. path ≡ text (added_part version parts.now)) }
 {
@@ -147,7 +147,7 @@ fn named(alloc: Global, name: &Text) -> Result<Option<Text>, NoMem>
     Ok(Some(Text::from_slice(alloc, name.as_slice())?))
 }
 
-/// A path inside a part of that name: the name, a dot, and the path.
+/// A path inside a part with this name: the name, a dot, and the path.
 fn inside(alloc: Global, name: &Text, path: Option<Text>) -> Result<Option<Text>, NoMem>
     ensures { IfOk result (λ outer. outer ≡ inside_text name.now path) }
 {

@@ -12,7 +12,7 @@ use version_laws::Compat;
 ///
 /// # Errors
 ///
-/// Memory is wanting.
+/// If memory runs out.
 pub fn extends(alloc: Global, old: &Checked, new: &Checked) -> Result<Compat, NoMem>
     ensures { IfOk result (λ answer. answer ≡ compat old.now new.now) }
 {

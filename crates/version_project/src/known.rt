@@ -1,4 +1,4 @@
-//! Whether the older schema has a part behind others.
+//! Whether the older schema has a part after others.
 ghost use Rattle.std.specs.Prelude.{◌≡◌, drop};
 ghost use Rattle.std.specs.List.{list_any};
 ghost use Rattle.version_laws.specs.Projected.{old_part};

@@ -1,5 +1,5 @@
-//! Two versions of a schema: whether the later one extends the earlier one, and what the earlier one
-//! reads of a message of the later one.
+//! Two versions of a schema: whether the later one extends the earlier one, and what the earlier one reads of a message
+//! of the later one.
 #![tactic(auto)]
 
 mod added;

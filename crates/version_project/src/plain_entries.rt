@@ -31,7 +31,7 @@ fn plain_parts(version: u32, parts: &List<DataField>, values: &List<DataVal>) ->
     true
 }
 
-/// Whether no part of an entry is there that the version doesn't know.
+/// Whether an entry contains no part that the version doesn't know.
 #[cycle(plain)]
 fn plain_entry(version: u32, level: &Level, block: &Block) -> bool
     ensures { result ≡ entry_is_plain version level.now block.now }

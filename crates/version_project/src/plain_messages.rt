@@ -21,7 +21,7 @@ fn root_parts(version: u32, parts: &List<DataField>, values: &List<DataVal>) -> 
     true
 }
 
-/// Whether what a root has besides the version's parts stands behind all of these.
+/// Whether the parts of a root that the version doesn't have come after all those that it has.
 fn plain_root(version: u32, level: &Level, block: &Block) -> bool
     ensures { result ≡ root_is_plain version level.now block.now }
 {
@@ -37,7 +37,7 @@ fn plain_root(version: u32, level: &Level, block: &Block) -> bool
     root_parts(version, &level.parts, &block.parts)
 }
 
-/// Whether the message misleads no reader of the older schema.
+/// Whether no reader of the older schema misreads the message.
 pub(crate) fn is_plain(old: &WireSchema, new: &WireSchema, msg: &Msg) -> bool
     ensures { IsTrue result ↔ Plain old.now new.now msg.now }
 {

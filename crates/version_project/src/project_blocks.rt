@@ -109,7 +109,7 @@ fn project_entries(
     Ok(out)
 }
 
-/// The block as an older schema knows it: the values of the parts that are effective by its version.
+/// The block as the older schema knows it: the values of the parts that are effective by its version.
 #[cycle(project)]
 pub(crate) fn project_block(
     alloc: Global,

@@ -10,7 +10,7 @@ use lists::NoMem;
 use sbe_types::{LevelList, Msg, WireSchema};
 use std::alloc::Global;
 
-/// The number of the message of that id.
+/// The index of the message with this id.
 fn number_of(levels: &LevelList, id: u32) -> usize
     requires { IsSome (message_named 0 id levels.now) }
     ensures { (level : Level) × (message_named 0 id levels.now ≡ Some (result, level)) }
@@ -21,7 +21,7 @@ fn number_of(levels: &LevelList, id: u32) -> usize
     }
 }
 
-/// Whether there is a message of that id.
+/// Whether there is a message with this id.
 fn is_named(levels: &LevelList, id: u32) -> bool
     ensures { result ≡ is_some (message_named 0 id levels.now) }
 {

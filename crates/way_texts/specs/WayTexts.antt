@@ -1,4 +1,4 @@
--- The text of the way to a place: the names of parts, joined by dots, with `[i]` for an entry. Own profile.
+-- The text of the path to a place: the names of parts, joined by dots, with `[i]` for an entry. Own profile.
 use Rattle.std.specs.Prelude.{◌≡◌, ℕ, ◌==◌, if◌then◌else◌, List, [], ◌∷◌, ◌++◌, Option, Some, None, codes, slice_get}
 use Rattle.sbe_types.specs.declared.schema.Field.{Field}
 use Rattle.sbe_types.specs.declared.schema.DataField.{DataField}
@@ -19,48 +19,48 @@ abbrev pub field_name : Option Field → List ℕ
 field_name None = []
 field_name (Some f) = f.name
 
--- the name of data, if it is there
+-- the name of a data part, if it is there
 abbrev pub data_name : Option DataField → List ℕ
 data_name None = []
 data_name (Some d) = d.name
 
--- the name of a field or data
+-- the name of a field or data part
 abbrev pub place_name : Place → Level → List ℕ
 place_name (in_fields i) level = field_name (slice_get (out-Level level).fields i)
 place_name (in_data i) level = data_name (slice_get (out-Level level).parts i)
 
--- ---- ways
+-- ---- paths
 
--- the part that a way begins with
+-- the tag of the part that a path begins with, if it does
 abbrev pub first_part : List Way → Option ℕ
 first_part [] = None
 first_part (to_part tag ∷ way) = Some tag
 first_part (to_entry i ∷ way) = None
 
--- the entry that a way begins with
+-- the number of the entry that a path begins with, if it does
 abbrev pub first_entry : List Way → Option ℕ
 first_entry [] = None
 first_entry (to_part tag ∷ way) = None
 first_entry (to_entry i ∷ way) = Some i
 
--- from a part on inside an entry
+-- the text from a part on inside an entry
 abbrev pub inside_text : (ℕ → List Way → List ℕ) → List Way → List ℕ
 inside_text more [] = []
 inside_text more (to_part tag ∷ way) = codes "." ++ more tag way
 inside_text more (to_entry i ∷ way) = []
 
--- from an entry on
+-- the text from an entry on
 abbrev pub entry_text : (List Way → List ℕ) → List Way → List ℕ
 entry_text more [] = []
 entry_text more (to_part tag ∷ way) = []
 entry_text more (to_entry i ∷ way) = bracketed i ++ more way
 
--- from a group on
+-- the text from a group on
 abbrev pub group_text : Option Group → (Level → List Way → List ℕ) → List Way → List ℕ
 group_text None more way = []
 group_text (Some g) more way = (out-Level (out-Group g).level).name ++ entry_text (more (out-Group g).level) way
 
--- from the part with this tag on
+-- the text from the part with this tag on
 abbrev pub part_text : Plan → Level → ℕ → List Way → List ℕ
 part_text done level tag way = []
 part_text (single s rest) level tag way = if s.tag == tag then place_name s.place level else part_text rest level tag way
@@ -69,7 +69,7 @@ part_text (group g inner rest) level tag way =
     then group_text (slice_get (out-Level level).groups g.place) (λ below more. inside_text (λ t w. part_text inner below t w) more) way
     else part_text rest level tag way
 
--- the text of a way from the root on
+-- the text of a path from the root on
 abbrev pub way_text : Plan → Level → List Way → List ℕ
 way_text p level [] = []
 way_text p level (to_part tag ∷ way) = part_text p level tag way

@@ -1,4 +1,4 @@
-// The row of a part, and the steps of a way.
+// The row of a part, and the steps of a path.
 ghost use Rattle.std.specs.Prelude.{◌≡◌, ◌≤◌, ◌<◌, ℕ, drop, length, map, slice_get, take, None, Some};
 ghost use Rattle.sbe_types.specs.declared.schema.Level.{Level};
 ghost use Rattle.bridge_terms.specs.Parts.{TagLists};
@@ -9,7 +9,7 @@ ghost use Rattle.way_texts.specs.WayTexts.{first_entry, first_part, FromPart};
 
 use message_walk::{Part, PlanRow, PutValue, WayStep};
 
-/// The rows from the one with this tag on; none where the level has no such row.
+/// The rows from the one with this tag on; none if the level has no such row.
 pub(crate) fn rows_from<R: PutValue>(rows: &[PlanRow<R>], tag: u32) -> &[PlanRow<R>]
     ensures { (lists : TagLists) (p : Plan) (level : Level) → AreRows R.spells lists p rows.now → FromPart R.spells lists p tag level result.now }
 {
@@ -42,7 +42,7 @@ fn after_own<'a, R>(rest: &'a [PlanRow<R>], part: &Part<R>) -> &'a [PlanRow<R>]
     }
 }
 
-/// The rows of a group's entries, of which there are so many.
+/// The rows of a group's entries, of which there are `size`.
 pub(crate) fn own_rows<R>(rest: &[R], size: usize) -> &[R]
     ensures { size ≤ length rest.now → result.now ≡ take size rest.now }
 {
@@ -61,7 +61,7 @@ pub(crate) fn first<R>(rows: &[R]) -> &R
     &rows[0]
 }
 
-/// The rows from one on.
+/// The rows from row `n` on.
 #[inline(always)]
 #[tactic(auto, using(std::proofs::lemmas::List::take_rest))]
 pub(crate) fn rest_from<R>(rows: &[R], n: usize) -> &[R]
@@ -73,7 +73,7 @@ pub(crate) fn rest_from<R>(rows: &[R], n: usize) -> &[R]
 
 // ---- steps
 
-/// The tag of the part that a way begins with.
+/// The tag of the part that a path begins with.
 pub(crate) fn first_part(way: &[WayStep]) -> Option<u32>
     ensures { result ≡ first_part (map way_of way.now) }
 {
@@ -84,7 +84,7 @@ pub(crate) fn first_part(way: &[WayStep]) -> Option<u32>
     }
 }
 
-/// The number of the entry that a way begins with.
+/// The number of the entry that a path begins with.
 pub(crate) fn first_entry(way: &[WayStep]) -> Option<usize>
     ensures { result ≡ first_entry (map way_of way.now) }
 {
@@ -95,7 +95,7 @@ pub(crate) fn first_entry(way: &[WayStep]) -> Option<usize>
     }
 }
 
-/// A way after its first step.
+/// A path after its first step.
 pub(crate) fn after_first(way: &[WayStep]) -> &[WayStep]
     ensures steps { map way_of result.now ≡ drop 1 (map way_of way.now) }
     ensures shorter { 0 < length way.now → length result.now < length way.now }

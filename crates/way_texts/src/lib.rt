@@ -1,4 +1,4 @@
-//! The texts of ways: the way to a place of a message, as it is printed.
+//! The texts of paths: the path to a place of a message, as it is printed.
 #![tactic(auto)]
 
 mod find;

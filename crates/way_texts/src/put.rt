@@ -1,4 +1,4 @@
-// Ways, printed.
+// Prints paths.
 ghost use Rattle.std.specs.Prelude.{◌≡◌, ◌++◌, map, slice_get};
 ghost use Rattle.sbe_types.specs.declared.schema.Level.{out-Level};
 ghost use Rattle.layout_tables.specs.Paths.{bracketed};
@@ -16,8 +16,8 @@ use printers::Printer;
 use sbe_base::Sink;
 use sbe_types::Level;
 
-/// Prints the text of the way to a place of a message, as `legs[2].subs[0].price`: the names of its parts, by the rows of the
-/// message's plan and the root of its template. It takes no memory.
+/// Prints the text of the path to a place of a message, such as `legs[2].subs[0].price`: the names of its parts, by the
+/// rows of the message's plan and the root of its template. Allocates nothing.
 pub fn put_way<O: Sink, R: PutValue>(
     printer: &mut Printer<'_, O>,
     rows: &[PlanRow<R>],
@@ -33,7 +33,7 @@ pub fn put_way<O: Sink, R: PutValue>(
     }
 }
 
-/// Prints the way from the part of the first row on.
+/// Prints the path from the part of the first row on.
 #[cycle(way)]
 fn put_part<O: Sink, R: PutValue>(
     printer: &mut Printer<'_, O>,
@@ -60,7 +60,7 @@ fn put_part<O: Sink, R: PutValue>(
     }
 }
 
-/// Prints the way from a group on, by the rows of its entries.
+/// Prints the path from a group on, by the rows of its entries.
 #[cycle(way)]
 fn put_group<O: Sink, R: PutValue>(
     printer: &mut Printer<'_, O>,
@@ -80,7 +80,7 @@ fn put_group<O: Sink, R: PutValue>(
     }
 }
 
-/// Prints the way inside an entry.
+/// Prints the path inside an entry.
 #[cycle(way)]
 fn put_inside<O: Sink, R: PutValue>(
     printer: &mut Printer<'_, O>,
@@ -98,7 +98,7 @@ fn put_inside<O: Sink, R: PutValue>(
     }
 }
 
-/// Prints the name of a field, if it is there.
+/// Prints the name of a field, if there is one.
 fn put_field_name<O: Sink>(printer: &mut Printer<'_, O>, level: &Level, i: usize)
     ensures { Prints O.state printer.old printer.new (field_name (slice_get (out-Level level.now).fields i)) }
 {
@@ -108,7 +108,7 @@ fn put_field_name<O: Sink>(printer: &mut Printer<'_, O>, level: &Level, i: usize
     }
 }
 
-/// Prints the name of data, if it is there.
+/// Prints the name of a data part, if there is one.
 fn put_data_name<O: Sink>(printer: &mut Printer<'_, O>, level: &Level, i: usize)
     ensures { Prints O.state printer.old printer.new (data_name (slice_get (out-Level level.now).parts i)) }
 {

@@ -26,7 +26,7 @@ not_so true h = absurd (h refl)
 not_so false h = refl
 
 module _ (f : List ℕ → Member → Bool) (named : (n : List ℕ) (m : Member) → f n m ≡ true → n ≡ m.name) (G : Member → Type 0) where
-  -- a member that has the name, the ones before it and the ones behind it
+  -- a member that has the name, the ones before it and the ones after it
   abbrev Found : List ℕ → List Member → Type 0
   Found n ms = (xs : List Member) × (m : Member) × (ys : List Member) × (ms ≡ xs ++ (m ∷ ys)) × (f n m ≡ true)
 

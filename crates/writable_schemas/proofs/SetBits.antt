@@ -56,7 +56,7 @@ bit_listed names (suc m) n k h less =
           subst (λ j. (bit_at n j == 0 || is_listed names (pos j)) ≡ true) same two.1
     ]
 
--- no listed bit lies behind the primitive's
+-- no listed bit lies after the primitive's
 listed_within : (bits k : ℕ) (names : List Named) → AllByRecursion (λ (v : Named). IsBitOf bits v.number) names → 8 * bits ≤ k → is_listed names (pos k) ≡ false
 listed_within bits k [] all far = refl
 listed_within bits k (v ∷ vs) all far = by (int_eq v.number (pos k)) refl (listed_within bits k vs all.1 far)

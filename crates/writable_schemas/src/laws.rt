@@ -1,4 +1,4 @@
-//! Laws of the definitions, as functions without a body.
+//! Laws of the definitions, stated as functions without a body.
 
 ghost use Rattle.std.specs.Prelude.{◌≡◌, ℕ};
 ghost use Rattle.sbe_types.specs.declared.kind.Kind.{Kind};
@@ -7,13 +7,13 @@ ghost use Rattle.writing_laws.specs.Writable.{IsWritableKind, IsWritable};
 ghost use Rattle.schema_facts.specs.IsChecked.{IsChecked};
 ghost use Rattle.schema_facts.specs.InOrder.{IsKindFrom};
 
-/// Each number that may stand in a kind in order has bytes.
+/// Each number that may occur in a kind in order has bytes.
 pub fn kinds_in_order_are_writable()
     ensures { (least : ℕ) (kind : Kind) → IsKindFrom least kind → IsWritableKind kind }
 {}
 
-/// Each checked schema can be written: the header and the dimensions hold the numbers of their names, each number that may stand
-/// in a part has bytes, and each part is known at the schema's version.
+/// Each checked schema can be written: the header and the dimensions hold the numbers of their names, each number that
+/// may occur in a part has bytes, and each part exists at the schema's version.
 pub fn checked_schemas_are_writable()
     ensures { (schema : WireSchema) → IsChecked schema → IsWritable schema }
 {}

@@ -32,7 +32,7 @@ use Rattle.writing_laws.proofs.KindBack.{padded_long}
 use Rattle.writing_laws.proofs.Own.{alive_to}
 use Rattle.writing_laws.proofs.Takings.{Takes, takes_bytes, takes_same, takes_passed, Written, nothing_written, written_then, written_in}
 
--- no field ends behind the last end
+-- no field ends after the last end
 floor_ends : (version e reached : ℕ) (fs : List Field) → reached ≤ e → ArePlaced e fs → floor_from version e reached fs ≤ fields_end e fs
 floor_ends version e reached [] within placed = within
 floor_ends version e reached (f ∷ fs) within placed =
@@ -48,7 +48,7 @@ fields_good order i (f ∷ fs) (v ∷ vs) h =
 module _ (order : Order) (version : ℕ) where
   -- ---- fields
 
-  -- the fields behind fields that end at e have bytes up to their end, and lie in them behind any e bytes and in front of any
+  -- the fields after fields that end at e have bytes up to their end, and lie in them after any e bytes and in front of any
   abbrev FieldsWritten : ℕ → List Field → List Value → Type 0
   FieldsWritten e fs vs =
       (bytes : List ℕ) × (fields_bytes order e fs vs ≡ Some bytes) × (e + length bytes ≡ fields_end e fs)

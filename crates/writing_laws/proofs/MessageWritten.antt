@@ -38,7 +38,7 @@ module _ (schema : WireSchema) (m : Msg) (level : Level) where
   abbrev members : List Member
   members = schema.header.members
 
-  -- the header and the root's block as one step, and then the tail, behind any bytes
+  -- the header and the root's block as one step, and then the tail, after any bytes
   abbrev pub root_counted : ℕ → ℕ → Taken
   root_counted limit before = block_taken limit before (members_end 0 members + wide) fields values then (λ after. tail_taken limit after level m.block)
 

@@ -24,7 +24,7 @@ module _ (order : Order) (numbers : List ℕ → ℕ) where
   abbrev read_at : Spot → List ℕ → ℕ
   read_at s b = natural (number_of order s.leaf.prim (take (prim_width s.leaf.prim) (drop s.place b)))
 
-  -- behind any e bytes each member's number is that of its name
+  -- after any e bytes each member's number is that of its name
   abbrev Reads_names : ℕ → List Member → List ℕ → Type 0
   Reads_names e ms bytes =
       (front : List ℕ) → length front ≡ e → (name : List ℕ) (spot : Spot) → spot_named e name ms ≡ Some spot → read_at spot (front ++ bytes) ≡ numbers name

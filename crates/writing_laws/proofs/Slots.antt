@@ -1,4 +1,4 @@
--- Parts that are written one behind another, each at its place.
+-- Parts that are written one after another, each at its place.
 use Rattle.std.proofs.Common.{◌≡◌, ℕ, ◌+◌, ◌-◌, ◌≤◌, Bool, true, false, cond, List, [], ◌∷◌, ◌++◌, length, take, drop, Option, Some, refl, sym, ap, ◌∙◌, subst, arith, append_assoc, length-append}
 use Rattle.std.specs.Prelude.{replicate}
 use Rattle.std.proofs.lemmas.List.{length-replicate}
@@ -50,7 +50,7 @@ part_reaches e offset kind false c behind wire long =
     let begins : e ≤ begin_of e offset = behind c in
     omega (arith, long, begins, length-append (replicate (begin_of e offset - e) 0) wire, length-replicate {A = ℕ} (begin_of e offset - e) 0)
 
--- the members behind members that end at e have bytes up to their end, which show them behind any e bytes
+-- the members after members that end at e have bytes up to their end, which show them after any e bytes
 abbrev pub RowFits : Order → ℕ → {n : _} → Row_of-Member n → List Value → Type 0
 RowFits order e row vs =
     (bytes : List ℕ) × (row_bytes order e row (Some vs) ≡ Some bytes) × (e + length bytes ≡ row_end e row)

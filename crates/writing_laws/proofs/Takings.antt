@@ -1,4 +1,4 @@
--- How many bytes the parts take, one behind another.
+-- How many bytes the parts take, one after another.
 use Rattle.std.proofs.Common.{◌≡◌, ℕ, ◌+◌, ◌≤◌, Bool, true, false, cond, List, [], ◌++◌, length, Option, Some, None, Result, Ok, Err, refl, sym, ap, ◌∙◌, subst, arith, length-append}
 use Rattle.std.specs.Prelude.{nat_le}
 use Rattle.std.proofs.lemmas.Bool.Decides.{nat_tests}
@@ -26,7 +26,7 @@ pub passed_ok : (m : Option Misfit) (k n : ℕ) → passed k m ≡ Ok n → (m �
 passed_ok None k n h = (refl, ok_is h)
 passed_ok (Some m) k n h = absurd (err_ok h)
 
--- behind any bytes the parts take n more where the limit admits them, and never others
+-- after any bytes the parts take n more where the limit admits them, and never others
 pub record Takes (f : ℕ → ℕ → Taken) (n : ℕ) : Type 0 where
   pub room : (limit before : ℕ) → before + n ≤ limit → f limit before ≡ Ok (before + n)
   pub over : (limit before after : ℕ) → f limit before ≡ Ok after → (after ≡ before + n) × (before ≤ limit → after ≤ limit)

@@ -1,5 +1,5 @@
--- What the laws of writing ask of a schema, and the checker sees to: each number that may stand in a part has bytes there.
--- From SBE 1.0, Field encoding, Message structure and Repeating group encoding.
+-- What the laws of writing require of a schema, and the check ensures: each number that a part can have has bytes
+-- there. From SBE 1.0, Field encoding, Message structure and Repeating group encoding.
 use Rattle.std.specs.Prelude.{◌≡◌, ◌≤◌, ◌<◌, ℕ, ◌^◌, false, true, Some, None, List, [], ◌∷◌, ⊤, ℤ, pos, slice_get, codes}
 use Rattle.sbe_types.specs.declared.kind.LeafShape.TheVariants.{Number}
 use Rattle.sbe_types.specs.declared.kind.Leaf.{Leaf as LeafOf}
@@ -32,7 +32,7 @@ pub record IsWritableLeaf (leaf : LeafOf) : Type 0 where
   pub null : HasNumber leaf.prim leaf.null
   pub single : leaf.shape ≡ Number → leaf.length ≡ 1
 
--- The null and each valid value are numbers of the enum's primitive, and its leaf is no octets.
+-- The null and each valid value are numbers of the enum's primitive, and its leaf isn't octets.
 pub record IsWritableEnum (leaf : LeafOf) (names : List Named) : Type 0 where
   pub listed : (n : ℤ) → is_listed names n ≡ true → HasNumber leaf.prim n
   pub null : HasNumber leaf.prim leaf.null
@@ -44,7 +44,7 @@ pub record IsWritableSet (prim : Primitive) (names : List Named) : Type 0 where
   pub choices : (n : ℕ) → set_misfit names (value.Set n) ≡ None → HasNumber prim (pos n)
 
 abbrev mutual
-  -- each number that may stand in a value of this kind has bytes
+  -- each number that a value of this kind can have has bytes
   pub IsWritableKind : Kind → Type 0
   IsWritableKind (Leaf l) = IsWritableLeaf l
   IsWritableKind (Enum l names) = IsWritableEnum l names
@@ -52,14 +52,14 @@ abbrev mutual
   IsWritableKind (Const c) = ⊤
   IsWritableKind (Comp' n members) = IsWritableRow members
 
-  -- the same of members
+  -- the same for members
   pub IsWritableRow : {n : _} → Row_of-Member n → Type 0
   IsWritableRow end_of-Member = ⊤
   IsWritableRow (more_of-Member name offset kind rest) = IsWritableKind kind × IsWritableRow rest
 
 -- ---- numbers by name: the header, and dimensions
 
--- A member is one number of its primitive, which begins at e or behind, and has room for n.
+-- A member is one number of its primitive, begins at e or later, and can hold n.
 pub record IsRoomFor (e n : ℕ) (m : Member) : Type 0 where
   pub leaf : LeafOf
   pub number : m.kind ≡ Leaf leaf
@@ -67,16 +67,16 @@ pub record IsRoomFor (e n : ℕ) (m : Member) : Type 0 where
   pub behind : e ≤ begin_of e m.offset
   pub room : HasNumber leaf.prim (pos n)
 
--- members behind members that end at e, each with room for the number of its name
+-- members after members that end at e, each of which can hold the number of its name
 abbrev pub HoldNumbers : (List ℕ → ℕ) → ℕ → List Member → Type 0
 HoldNumbers numbers e [] = ⊤
 HoldNumbers numbers e (m ∷ ms) = IsRoomFor e (numbers m.name) m × HoldNumbers numbers (end_past e m.offset m.kind) ms
 
--- the members have a number of that name
+-- the members have a number with this name
 abbrev pub HasNamed : List Member → List ℕ → Type 0
 HasNamed members name = (spot : Spot) × (spot_named 0 name members ≡ Some spot)
 
--- A dimension has room for this block length and for each count that it admits, which is below 2^32.
+-- A dimension can hold this block length and each count that it admits, which is below 2^32.
 pub record IsWritableDimension (dim : List Member) (length : ℕ) : Type 0 where
   pub holds : (count : ℕ) → is_admitted dim (codes "numInGroup") count ≡ true → HoldNumbers (dimension_numbers length count) 0 dim
   pub block : HasNamed dim (codes "blockLength")
@@ -84,17 +84,17 @@ pub record IsWritableDimension (dim : List Member) (length : ℕ) : Type 0 where
 
 -- ---- levels, at a version
 
--- each field's numbers have bytes, and it is known at the version
+-- the numbers of each field have bytes, and the field is known at the version
 abbrev pub AreWritableFields : ℕ → List Field → Type 0
 AreWritableFields version [] = ⊤
 AreWritableFields version (f ∷ fs) = IsWritableKind f.kind × (f.since ≤ version) × AreWritableFields version fs
 
--- A data's length number has bytes for each length that is admitted, and the data is known at the version.
+-- The length number of a data part has bytes for each length that is admitted, and the part is known at the version.
 pub record IsWritablePart (version : ℕ) (part : DataField) : Type 0 where
   pub known : part.since ≤ version
   pub admitted : (n : ℕ) → admits part.length (pos n) ≡ true → HasNumber part.length.prim (pos n)
 
--- each data
+-- each data part is writable
 abbrev pub AreWritableParts : ℕ → List DataField → Type 0
 AreWritableParts version [] = ⊤
 AreWritableParts version (p ∷ ps) = IsWritablePart version p × AreWritableParts version ps
@@ -105,19 +105,19 @@ abbrev mutual
   IsWritableLevel version (Level' name id semantic since block_length fields _ groups parts) =
       AreWritableFields version fields × (fields_end 0 fields ≤ block_length) × AreWritableGroups version groups × AreWritableParts version parts
 
-  -- each group
+  -- each group is writable
   pub AreWritableGroups : ℕ → {n : _} → Row_of-Group n → Type 0
   AreWritableGroups version end_of-Group = ⊤
   AreWritableGroups version (more_of-Group g rest) = IsWritableGroup version g × AreWritableGroups version rest
 
-  -- the group is known at the version, its dimension holds its numbers, and the level of its entries is writable
+  -- the group is known at the version, its dimension can hold its numbers, and the level of its entries is writable
   pub IsWritableGroup : ℕ → Group → Type 0
   IsWritableGroup version (Group' dim level) =
       ((out-Level level).since ≤ version) × IsWritableDimension dim (out-Level level).block_length × IsWritableLevel version level
 
 -- ---- a schema
 
--- The levels of each message are writable at the schema's version, and the header holds the numbers of each message.
+-- The levels of each message are writable at the schema's version, and the header can hold the numbers of each message.
 pub record IsWritable (schema : WireSchema) : Type 0 where
   pub levels : (i : ℕ) (level : Level) → slice_get schema.messages i ≡ Some level → IsWritableLevel schema.version level
   pub header : (i : ℕ) (level : Level) → slice_get schema.messages i ≡ Some level → HoldNumbers (header_numbers schema level) 0 schema.header.members

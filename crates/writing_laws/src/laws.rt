@@ -1,4 +1,4 @@
-//! Laws of the definitions, as functions without a body.
+//! Laws of the definitions, stated as functions without a body.
 
 ghost use Rattle.std.specs.Prelude.{◌≡◌, ◌↔◌, ◌≤◌, ℕ, List, Some, None, Ok, true, length, slice_get};
 ghost use Rattle.byte_digits.specs.Digits.{IsBytes};
@@ -24,7 +24,7 @@ pub fn shown_values_fit()
         → Shows order true kind v b → FitsKind order kind v }
 {}
 
-/// A value has no misfit exactly where it fits.
+/// A value has no misfit exactly if it fits.
 pub fn values_without_misfit_fit()
     ensures { (order : Order) (kind : Kind) → IsPlacedKind kind → IsWritableKind kind → (v : Value)
         → (value_misfit kind v ≡ None) ↔ FitsKind order kind v }
@@ -36,7 +36,7 @@ pub fn what_lies_fits()
         → m.version ≡ schema.version → Lays schema m body → Fits schema m }
 {}
 
-/// A message that fits lies in its canonical body, and is what is read of it.
+/// A message that fits lies in its canonical body, and is the message that is read from it.
 pub fn what_fits_lies_in_its_body()
     ensures lies { (schema : WireSchema) → IsPlaced schema → IsWritable schema → (m : Msg) → Fits schema m
         → (body : List ℕ) × (canonical schema m ≡ Some body) × Lays schema m body }
@@ -44,7 +44,7 @@ pub fn what_fits_lies_in_its_body()
         → (body : List ℕ) → canonical schema m ≡ Some body → message_of schema body ≡ Ok m }
 {}
 
-/// A message has no misfit exactly where it fits and its canonical body is within the limit; its bytes are then counted as those
+/// A message has no misfit exactly if it fits and its canonical body is within the limit; its byte count is then that
 /// of its body.
 pub fn misfit_is_none_where_it_fits()
     ensures fits { (schema : WireSchema) → IsPlaced schema → IsWritable schema → (m : Msg) (limit : ℕ)
@@ -54,8 +54,8 @@ pub fn misfit_is_none_where_it_fits()
         → (body : List ℕ) → canonical schema m ≡ Some body → root_taken schema limit level m.block ≡ Ok (length body) }
 {}
 
-/// What was read of a body at the schema's own version is written as a body that is read as the same message, and as the body
-/// itself exactly where this is the canonical one of some message that fits.
+/// A message that was read from a body at the schema's own version is written as a body that is read as the same
+/// message. It is written as the same body exactly if that body is the canonical one of some message that fits.
 pub fn canonical_of_what_was_read()
     ensures again { (schema : WireSchema) → IsPlaced schema → IsWritable schema → (m : Msg) (body : List ℕ) → IsBytes body
         → m.version ≡ schema.version → Lays schema m body

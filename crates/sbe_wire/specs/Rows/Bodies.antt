@@ -26,7 +26,7 @@ with_data fields parts = record { fields = fields; groups = []; parts = parts }
 abbrev pub ping_body : List ℕ
 ping_body = 6 ∷ 0 ∷ 1 ∷ 0 ∷ 7 ∷ 0 ∷ 0 ∷ 0 ∷ 2 ∷ 1 ∷ 0 ∷ 0 ∷ 0 ∷ 128 ∷ []
 
--- the same with one byte behind it
+-- the same with one byte after it
 abbrev pub ping_trailed_body : List ℕ
 ping_trailed_body = 6 ∷ 0 ∷ 1 ∷ 0 ∷ 7 ∷ 0 ∷ 0 ∷ 0 ∷ 2 ∷ 1 ∷ 0 ∷ 0 ∷ 0 ∷ 128 ∷ 0 ∷ []
 
@@ -46,7 +46,7 @@ grp_body = 0 ∷ 0 ∷ 4 ∷ 0 ∷ 7 ∷ 0 ∷ 0 ∷ 0 ∷ 1 ∷ 0 ∷ 170 ∷ 1
 abbrev pub grp_written_body : List ℕ
 grp_written_body = 0 ∷ 0 ∷ 4 ∷ 0 ∷ 7 ∷ 0 ∷ 0 ∷ 0 ∷ 1 ∷ 0 ∷ 0 ∷ 0 ∷ 0 ∷ 0 ∷ 0 ∷ 1 ∷ 5 ∷ []
 
--- an entry whose inner group has no entry and says the block length 0
+-- an entry whose inner group has no entry and gives the block length 0
 abbrev pub nest_body : List ℕ
 nest_body = 0 ∷ 0 ∷ 5 ∷ 0 ∷ 7 ∷ 0 ∷ 0 ∷ 0 ∷ 1 ∷ 0 ∷ 1 ∷ 0 ∷ 1 ∷ 0 ∷ 0 ∷ 0 ∷ 0 ∷ 2 ∷ 0 ∷ 104 ∷ 105 ∷ []
 
@@ -122,7 +122,7 @@ event_later_message = record { template = 0; version = 2; block = flat (value.En
 abbrev pub event_earlier_message : Msg
 event_earlier_message = record { template = 0; version = 0; block = with_data (value.Enum (pos 49) ∷ value.Num (pos 7) ∷ value.Absent ∷ []) (dataval.Absent ∷ []) }
 
--- what an older reader takes `misread_body` for
+-- the message that an older reader reads in `misread_body`
 abbrev pub misread_message : Msg
 misread_message = record { template = 0; version = 1; block = with_data [] (dataval.Bytes (1 ∷ []) ∷ []) }
 
@@ -135,7 +135,7 @@ mixed_message = record {
       ∷ value.Nums (elem.Num (pos 1) ∷ elem.Num (pos 2) ∷ []) ∷ []);
 }
 
--- one byte too many, at offset 14
+-- one byte after the message, at offset 14
 abbrev pub ping_trailed_fault : Fault
 ping_trailed_fault = record { code = fault.Trailing; path = []; offset = 14; detail = pos 1 }
 
@@ -143,7 +143,7 @@ ping_trailed_fault = record { code = fault.Trailing; path = []; offset = 14; det
 abbrev pub one_fault : Fault
 one_fault = record { code = fault.Range; path = way.Part 0 ∷ []; offset = 8; detail = pos 255 }
 
--- the sixth entry needs four bytes
+-- four bytes are missing for the sixth entry
 abbrev pub big_cut_fault : Fault
 big_cut_fault = record { code = fault.Truncated; path = way.Part 0 ∷ way.Entry 5 ∷ []; offset = 32; detail = pos 4 }
 
@@ -155,6 +155,6 @@ big_count_fault = record { code = fault.Count; path = way.Part 0 ∷ []; offset 
 abbrev pub mixed_out_of_range_fault : Fault
 mixed_out_of_range_fault = record { code = fault.Range; path = way.Part 3 ∷ way.Elem 1 ∷ []; offset = 20; detail = pos 65535 }
 
--- the null's own number can't be written at an optional field
+-- the number of the null can't be written at an optional field
 abbrev pub nul_by_number_misfit : Misfit
 nul_by_number_misfit = record { code = misfit.Range; path = way.Part 0 ∷ []; detail = pos 127 }

@@ -79,7 +79,7 @@ ping =
     (field (codes "a") 1001 0 (Leaf uint16) ∷ field (codes "b") 1002 0 (Leaf (int32 Optional)) ∷ [])
     [] end_of-Group []
 
--- an optional int8 whose null 127 lies in its range
+-- an optional int8 whose null 127 is within its range
 abbrev pub nul : Level
 nul = Level' (codes "Nul") 2 [] 0 1 (field (codes "n") 1003 0 (Leaf (number I8 Optional (pos 127) (negsuc 126) (pos 127))) ∷ []) [] end_of-Group []
 
@@ -87,7 +87,7 @@ nul = Level' (codes "Nul") 2 [] 0 1 (field (codes "n") 1003 0 (Leaf (number I8 O
 abbrev pub one : Level
 one = Level' (codes "One") 3 [] 0 1 (field (codes "u") 1004 0 (Leaf uint8) ∷ []) [] end_of-Group []
 
--- the count of Grp's group stands behind five bytes of padding
+-- a group whose dimension has five bytes of padding before the count
 abbrev pub grp : Level
 grp =
     Level' (codes "Grp") 4 [] 0 0 [] (tt ∷ [])
@@ -120,7 +120,7 @@ schema7 =
       messages = ping ∷ nul ∷ one ∷ grp ∷ nest ∷ big ∷ [];
     }
 
--- ---- schema 8: Ev at version 0, and at version 2 with a further value, field and data
+-- ---- schema 8: Ev at version 0, and at version 2 with one more valid value, field and data
 
 -- an enum of two values, and a number
 abbrev pub event0 : WireSchema

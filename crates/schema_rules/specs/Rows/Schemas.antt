@@ -61,7 +61,7 @@ group dim level = roll-Group (record { dim = dim; level = level })
 abbrev pub ping : Level
 ping = level (codes "Ping") 1 6 (field (codes "a") 1001 uint16 ∷ (field (codes "b") 1002 int32 ∷ [])) [] []
 
--- A message of one field that may be null.
+-- A message of one field that can be null.
 abbrev pub nul : Level
 nul = level (codes "Nul") 2 1 (field (codes "n") 1003 (leaf I8 Optional (pos 127) (negsuc 126) (pos 127)) ∷ []) [] []
 
@@ -73,7 +73,7 @@ grp = level (codes "Grp") 4 0 [] (group size8 (level (codes "g") 2001 1 (field (
 abbrev pub subs : Group
 subs = group size16 (level (codes "subs") 2003 1 (field (codes "s") 1007 uint8 ∷ []) [] [])
 
--- A group that holds a field, a group and a data.
+-- A group of a field, a group and a data part.
 abbrev pub legs : Group
 legs =
     group size16

@@ -1,4 +1,4 @@
--- Schema trees that the rules are computed on: one in order, and one change of it for each rule.
+-- Schema trees on which the rules are computed: one in order, and one change of it for each rule.
 use Rattle.std.specs.Prelude.{ℕ, Option, Some, None, List, [], ◌∷◌, ◌++◌, pos, codes}
 use Rattle.sbe_types.specs.declared.kind.Order.TheVariants.{Little}
 use Rattle.sbe_types.specs.declared.kind.Primitive.{Primitive}
@@ -21,7 +21,7 @@ use Rattle.sbe_types.specs.declared.tree.MessageEl.{MessageEl}
 
 -- ---- elements
 
--- A type of so many primitives, with an offset.
+-- A type with this length and offset.
 abbrev pub simple : List ℕ → Primitive → ℕ → Option ℕ → TypeEl
 simple name prim length offset =
     record { name = name; primitive_type = Integral prim; length = length; presence = None; null_value = None; min_value = None; max_value = None; character_encoding = None; value_ref = None; text = None; offset = offset; since_version = 0 }
@@ -48,11 +48,11 @@ abbrev pub field_with : List ℕ → ℕ → List ℕ → Option Presence → Op
 field_with name id type_name presence offset =
     part.Field (record { name = name; id = id; type_name = type_name; since_version = 0; presence = presence; offset = offset; value_ref = None })
 
--- A field that states neither.
+-- A field that states neither presence nor offset.
 abbrev pub field : List ℕ → ℕ → List ℕ → PartItem
 field name id type_name = field_with name id type_name None None
 
--- A data.
+-- A data part.
 abbrev pub data_of : List ℕ → ℕ → List ℕ → PartItem
 data_of name id type_name = part.Data (record { name = name; id = id; type_name = type_name; since_version = 0 })
 
@@ -61,13 +61,13 @@ abbrev pub message_with : List ℕ → ℕ → Option ℕ → List PartItem → 
 message_with name id stated parts =
     record { name = name; id = id; semantic_type = []; since_version = 0; block_length = stated; children = parts }
 
--- A message without one.
+-- A message without a stated block length.
 abbrev pub message : List ℕ → ℕ → List PartItem → MessageEl
 message name id parts = message_with name id None parts
 
 -- ---- the schema in order
 
--- A header whose last member has that name.
+-- A header whose last member has this name.
 abbrev pub header_as : List ℕ → TypesItem
 header_as last =
     composite (codes "messageHeader")
@@ -86,7 +86,7 @@ abbrev pub groupSize8 : TypesItem
 groupSize8 =
     composite (codes "groupSize8") (number (codes "blockLength") U16 ∷ (member.Type (simple (codes "numInGroup") U8 1 (Some 7)) ∷ []))
 
--- The type of a data with a uint16 as length.
+-- The type of a data part with a uint16 as length.
 abbrev pub varData16 : TypesItem
 varData16 = composite (codes "varData16") (number (codes "length") U16 ∷ (member.Type (simple (codes "varData") U8 0 None) ∷ []))
 
@@ -111,11 +111,11 @@ ping_with parts = message (codes "Ping") 1 parts
 abbrev pub ping : MessageEl
 ping = ping_with (field (codes "a") 1001 (codes "uint16") ∷ (optional_b ∷ []))
 
--- A message of one field that may be null.
+-- A message of one field that can be null.
 abbrev pub nul : MessageEl
 nul = message (codes "Nul") 2 (field (codes "n") 1003 (codes "nullable") ∷ [])
 
--- groups of no part, of one, and of three
+-- A group without parts.
 abbrev pub group0 : List ℕ → ℕ → List ℕ → PartItem
 group0 name id dimension = part.Group' name id dimension 0 None [] end_of-PartItem
 
@@ -148,7 +148,7 @@ q = field (codes "q") 1006 (codes "uint8")
 abbrev pub subs : PartItem
 subs = group1 (codes "subs") 2003 (codes "groupSizeEncoding") (field (codes "s") 1007 (codes "uint8"))
 
--- A data.
+-- A data part.
 abbrev pub note : PartItem
 note = data_of (codes "note") 2004 (codes "varData16")
 
@@ -156,7 +156,7 @@ note = data_of (codes "note") 2004 (codes "varData16")
 abbrev pub nest_with : PartItem → PartItem → PartItem → MessageEl
 nest_with p q r = message (codes "Nest") 5 (group3 (codes "legs") 2002 (codes "groupSizeEncoding") p q r ∷ [])
 
--- A message with a group that holds a field, a group and a data.
+-- A message with a group of a field, a group and a data part.
 abbrev pub nest : MessageEl
 nest = nest_with q subs note
 
@@ -169,21 +169,21 @@ schema_of types messages =
 abbrev pub in_order : Schema
 in_order = schema_of types (child.Message ping ∷ (child.Message nul ∷ (child.Message grp ∷ (child.Message nest ∷ []))))
 
--- with one message, or with one more type in front
+-- The schema in order with only this message.
 abbrev pub with_message : MessageEl → Schema
 with_message m = schema_of types (child.Message m ∷ [])
 
--- One more type in front, and no message.
+-- The schema in order with one more type in front, and without messages.
 abbrev pub with_first_type : TypesItem → Schema
 with_first_type t = schema_of (t ∷ types) []
 
 -- ---- one change for each rule
 
--- Two types of one name.
+-- Two types of the same name.
 abbrev pub declared_twice : Schema
 declared_twice = schema_of (types ++ header ∷ []) []
 
--- Ping with a field a of that type
+-- Ping with this part as its field a.
 abbrev pub ping_a : PartItem → Schema
 ping_a a = with_message (ping_with (a ∷ (optional_b ∷ [])))
 
@@ -195,7 +195,7 @@ unknown_type = ping_a (field (codes "a") 1001 (codes "nope"))
 abbrev pub double_field : Schema
 double_field = ping_a (field (codes "a") 1001 (codes "double"))
 
--- a composite that lies in itself
+-- a composite that contains itself
 abbrev pub endless : Schema
 endless = with_first_type (composite (codes "Loop") (member.Ref (record { name = codes "again"; type_name = codes "Loop"; offset = None; since_version = 0 }) ∷ []))
 
@@ -207,7 +207,7 @@ wide_enum = with_first_type (enum (codes "E") (codes "uint32") (valid (codes "A"
 abbrev pub bit_8_of_8 : Schema
 bit_8_of_8 = with_first_type (item.Set (record { name = codes "W"; encoding_type = codes "uint8"; offset = None; since_version = 0; children = record { name = codes "A"; text = codes "8" } ∷ [] }))
 
--- An enum with two values of one name.
+-- An enum with two values of the same name.
 abbrev pub value_twice : Schema
 value_twice = with_first_type (enum (codes "E") (codes "uint8") (valid (codes "A") (codes "1") ∷ (valid (codes "A") (codes "2") ∷ [])))
 
@@ -232,15 +232,15 @@ header_without_version =
 abbrev pub header_as_dimension : Schema
 header_as_dimension = with_message (grp_with (group1 (codes "g") 2001 (codes "messageHeader") x))
 
--- A data whose type is a number.
+-- A data part whose type is a number.
 abbrev pub number_as_data : Schema
 number_as_data = with_message (nest_with q subs (data_of (codes "note") 2004 (codes "uint16")))
 
--- Two fields of one name.
+-- Two fields of the same name.
 abbrev pub named_twice : Schema
 named_twice = with_message (ping_with (a ∷ (field (codes "a") 1002 (codes "int32") ∷ [])))
 
--- A field behind a group.
+-- A field after a group.
 abbrev pub field_behind_group : Schema
 field_behind_group = with_message (nest_with subs q note)
 
@@ -248,21 +248,21 @@ field_behind_group = with_message (nest_with subs q note)
 abbrev pub later_than_schema : Schema
 later_than_schema = with_message (ping_with (a ∷ (part.Field (record { name = codes "b"; id = 1002; type_name = codes "int32"; since_version = 1; presence = None; offset = None; value_ref = None }) ∷ [])))
 
--- A group whose entries have no byte.
+-- A group whose entries have no bytes.
 abbrev pub empty_entries : Schema
 empty_entries = with_message (grp_with (group0 (codes "g") 2001 (codes "groupSize8")))
 
--- a group with field x and the group p
+-- a group of the field x and the group p
 abbrev pub around : List ℕ → PartItem → PartItem
 around name p = part.Group' name 1 (codes "groupSizeEncoding") 0 None (tt ∷ (tt ∷ [])) (more_of-PartItem x (more_of-PartItem p end_of-PartItem))
 
--- Seven groups inside one another.
+-- Seven nested groups.
 abbrev pub seven_groups : Schema
 seven_groups =
     with_message (message (codes "Dp") 7 (around (codes "g1") (around (codes "g2") (around (codes "g3") (around (codes "g4") (around (codes "g5")
     (around (codes "g6") (group1 (codes "g7") 1 (codes "groupSizeEncoding") x)))))) ∷ []))
 
--- A message id that a uint16 does not hold.
+-- A message id that doesn't fit a uint16.
 abbrev pub id_of_three_bytes : Schema
 id_of_three_bytes = with_message (message (codes "Ping") 70000 (a ∷ []))
 

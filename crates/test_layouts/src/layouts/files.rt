@@ -7,8 +7,8 @@ pub struct Row {
     pub outline: &'static str,
 }
 
-/// A message with a constant, an array, a stated offset, groups and data, some of them of later versions; and a message of one
-/// number, whose id is the smaller one.
+/// A message with a constant, an array, a stated offset, groups and data, some of them of later versions; and a message
+/// of one number, whose id is the smaller one.
 pub const ORDER: Row = Row {
     file: r#"{"messageSchema":{"package":"demo","id":77,"version":2,"content":[{"types":{"content":[
     {"composite":{"name":"messageHeader","content":[

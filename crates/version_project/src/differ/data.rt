@@ -38,7 +38,7 @@ pub(crate) fn parts_differ(
     Ok(None)
 }
 
-/// Why a data of new isn't that data of old.
+/// Why a data part of new differs from that of old.
 fn reason_of(old: &DataField, new: &DataField) -> Option<Reason>
     ensures { result ≡ data_reason old.now new.now }
 {

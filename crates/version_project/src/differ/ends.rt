@@ -22,7 +22,7 @@ fn width_of(kind: &Kind) -> u32
     }
 }
 
-/// Where a composite's members end.
+/// The end of a composite's members.
 #[cycle(width)]
 fn end_of(members: &List<Member>) -> u32
     requires { IsNarrow (Comp members.now) }
@@ -35,7 +35,7 @@ fn end_of(members: &List<Member>) -> u32
     end
 }
 
-/// Where the parts end when one more is added.
+/// The end of the parts when one more is added.
 #[cycle(width)]
 pub(crate) fn end_behind(end: u32, offset: Option<u32>, kind: &Kind) -> u32
     requires narrow { IsNarrow kind.now }
@@ -50,7 +50,7 @@ pub(crate) fn end_behind(end: u32, offset: Option<u32>, kind: &Kind) -> u32
     }
 }
 
-/// Where a part begins behind parts that end at `end`.
+/// The offset of a part after parts that end at `end`.
 pub(crate) fn begin_at(end: u32, offset: Option<u32>) -> u32
     ensures { result ≡ begin_of end offset }
 {

@@ -50,7 +50,7 @@ pub(crate) fn fields_differ(
     Ok(None)
 }
 
-/// Why a field of new isn't that field of old, behind fields that end there.
+/// Why a field of new differs from that of old, given the ends of the fields before them.
 fn reason_of(more: bool, end: u32, old: &Field, other_end: u32, new: &Field) -> Option<Reason>
     requires old { IsNarrow old.now.kind }
     requires new { IsNarrow new.now.kind }
@@ -71,7 +71,7 @@ fn reason_of(more: bool, end: u32, old: &Field, other_end: u32, new: &Field) -> 
     None
 }
 
-/// Whether two fields begin at one place, and so does each member of their composites.
+/// Whether two fields have the same offset, and so do the members of their composites.
 fn does_stay(end: u32, old: &Field, other_end: u32, new: &Field) -> bool
     requires old { IsNarrow old.now.kind }
     requires new { IsNarrow new.now.kind }

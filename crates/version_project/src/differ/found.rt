@@ -6,7 +6,7 @@ use lists::{NoMem, Text};
 use std::alloc::Global;
 use version_laws::{Difference, Reason};
 
-/// A difference at the part of that name.
+/// A difference at the part with this name.
 pub(crate) fn at_part(
     alloc: Global,
     name: &Text,
@@ -20,7 +20,7 @@ pub(crate) fn at_part(
     }))
 }
 
-/// Puts the name of a part and a dot in front of the path of a difference inside it.
+/// Puts the name of a part and a dot before the path of a difference inside it.
 pub(crate) fn inside(alloc: Global, name: &Text, found: &Difference) -> Result<Difference, NoMem>
     ensures { IfOk result (λ outer. Some outer ≡ in_part name.now (Some found.now)) }
 {

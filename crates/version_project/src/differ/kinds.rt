@@ -9,7 +9,7 @@ use crate::differ::leaves::{
 use lists::List;
 use sbe_types::{Kind, Member};
 
-/// Whether two kinds are equal. Where new may list more, an enum or set of it may have further values.
+/// Whether two kinds are equal. If new may list more, its enums and sets may have further values.
 #[cycle(same_kinds)]
 pub(crate) fn is_same_kind(more: bool, old: &Kind, new: &Kind) -> bool
     ensures { result ≡ same_kind more old.now new.now }

@@ -124,7 +124,7 @@ fn are_listed(old: &NamedList, new: &NamedList) -> bool
     old.as_slice().iter().all(|named| is_listed(named, new))
 }
 
-/// Whether new lists what old lists; where it may list more, in any order.
+/// Whether new lists what old lists. If it may list more, the order doesn't matter.
 pub(crate) fn lists_too(more: bool, old: &NamedList, new: &NamedList) -> bool
     ensures { result ≡ lists_too more old.now new.now }
 {

@@ -69,7 +69,7 @@ fn groups_differ(
     Ok(None)
 }
 
-/// The first difference between a group of old and one of new: of the groups themselves, or of their entries.
+/// The first difference between a group of old and one of new: in the groups themselves, or in their entries.
 #[cycle(levels)]
 fn group_differs(
     alloc: Global,
@@ -94,7 +94,7 @@ fn group_differs(
     }
 }
 
-/// Why a group of new isn't that group of old.
+/// Why a group of new differs from that of old.
 fn reason_of(old: &Group, new: &Group) -> Option<Reason>
     ensures { result ≡ group_reason old.now new.now }
 {

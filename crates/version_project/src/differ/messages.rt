@@ -1,4 +1,4 @@
-// The first difference between two schemas: what is of the whole, then message by message.
+// The first difference between two schemas: in what belongs to the whole schema, then message by message.
 ghost use Rattle.std.specs.Prelude.{◌≡◌, IfOk};
 ghost use Rattle.std.specs.List.{AllByRecursion};
 ghost use Rattle.sbe_types.specs.declared.kind.Kind.{Comp};
@@ -39,7 +39,7 @@ pub(crate) fn schemas_differ(
     }
 }
 
-/// Why the later schema as a whole isn't of the earlier one.
+/// Why the later schema as a whole doesn't belong to the earlier one.
 fn reason_of(old: &WireSchema, new: &WireSchema) -> Option<Reason>
     requires old { IsNarrow (Comp old.now.header.members) }
     requires new { IsNarrow (Comp new.now.header.members) }
@@ -75,7 +75,7 @@ fn is_same_order(a: Order, b: Order) -> bool
     }
 }
 
-/// The first difference between old's messages, in order, and those of their ids in new.
+/// The first difference between old's messages, in order, and those with the same ids in new.
 fn messages_differ(
     alloc: Global,
     version: u32,
@@ -95,7 +95,7 @@ fn messages_differ(
     Ok(None)
 }
 
-/// The first difference between a message of old and the one of its id in new.
+/// The first difference between a message of old and the one with its id in new.
 fn message_differs(
     alloc: Global,
     version: u32,
@@ -123,7 +123,7 @@ fn message_differs(
     }
 }
 
-/// The number of the message of that id.
+/// The index of the message with this id.
 pub(crate) fn message_of(messages: &List<Level>, id: u32) -> Option<usize>
     ensures { Finds messages.now (message_named 0 id messages.now) result }
 {

@@ -1,4 +1,4 @@
-// Whether parts begin at one place.
+// Whether parts begin at the same offset.
 ghost use Rattle.std.specs.Prelude.{◌≡◌, true};
 ghost use Rattle.sbe_types.specs.declared.kind.Kind.{Comp};
 ghost use Rattle.sbe_types.specs.Places.{is_const};
@@ -21,14 +21,14 @@ fn is_constant(kind: &Kind) -> bool
     }
 }
 
-/// Whether two parts that begin at these places have one place; a constant has none.
+/// Whether two parts that begin at these offsets have the same one; a constant has none.
 pub(crate) fn is_same_place(old: &Kind, place: u32, new: &Kind, other: u32) -> bool
     ensures { result ≡ same_place old.now place new.now other }
 {
     is_constant(old) || is_constant(new) || place == other
 }
 
-/// Whether the members at one position of two composites begin at one place.
+/// Whether the members at the same position of two composites begin at the same offset.
 #[cycle(places)]
 pub(crate) fn are_same_places(old: &Kind, new: &Kind) -> bool
     requires old { IsNarrow old.now }
@@ -44,7 +44,7 @@ pub(crate) fn are_same_places(old: &Kind, new: &Kind) -> bool
     }
 }
 
-/// Whether members at one position begin at one place.
+/// Whether members at the same position begin at the same offset.
 #[cycle(places)]
 fn do_stay(old: &List<Member>, new: &List<Member>) -> bool
     requires old { IsNarrow (Comp old.now) }
@@ -68,7 +68,8 @@ fn do_stay(old: &List<Member>, new: &List<Member>) -> bool
     true
 }
 
-/// Whether two members behind members that end there begin at one place, with all that is in them.
+/// Whether two members, after members that end at these offsets, begin at the same offset, and so does all that is in
+/// them.
 #[cycle(places)]
 fn does_stay(end: u32, old: &Member, other_end: u32, new: &Member) -> bool
     requires old { IsNarrow old.now.kind }
@@ -83,7 +84,7 @@ fn does_stay(end: u32, old: &Member, other_end: u32, new: &Member) -> bool
     ) && (is_constant(&old.kind) || is_constant(&new.kind) || are_same_places(&old.kind, &new.kind))
 }
 
-/// Whether two headers have the same members, at the same places and of the same types.
+/// Whether two headers have the same members, at the same offsets and of the same types.
 pub(crate) fn is_same_header(old: &List<Member>, new: &List<Member>) -> bool
     requires old { IsNarrow (Comp old.now) }
     requires new { IsNarrow (Comp new.now) }

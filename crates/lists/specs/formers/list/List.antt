@@ -1,4 +1,4 @@
--- A `List` may stand inside the type of its own items: how its value splits into a shape and those items.
+-- A `List` may occur inside the type of its own items: how its value splits into a shape and those items.
 use mathlib.Core.Path.{◌≡◌, refl, sym}
 use mathlib.Core.List as core
 use mathlib.Core.List.{[]}
@@ -30,7 +30,7 @@ the_weighed weights = w_list weights
 pub the_empty : core.List ⊥
 the_empty = []
 
--- the items, in order
+-- the items in order
 abbrev pub the_items : (X : Type 0) → core.List X → core.List X
 the_items X items = items
 
