@@ -7,3 +7,6 @@ pub mod Down
 pub mod Counting
 pub mod Entries
 pub mod Fit
+pub mod Effective
+pub mod Wholly
+pub mod Same

@@ -24,6 +24,12 @@ pub fn up_and_back()
         → (m n : Msg) → Fits from m → regraded from to m ≡ Ok n → regraded to from n ≡ Ok m }
 {}
 
+/// The same between two schemas of one version.
+pub fn there_and_back()
+    ensures { (from to : WireSchema) → differ from to ≡ None → IsChecked from → IsChecked to → from.version ≡ to.version
+        → (m n : Msg) → Fits from m → regraded from to m ≡ Ok n → regraded to from n ≡ Ok m }
+{}
+
 /// A later message, rewritten in an earlier version, is what that version knows of it, apart from the version number.
 pub fn down_is_projected()
     ensures { (from to : WireSchema) → differ to from ≡ None → IsPlaced from → to.version < from.version
