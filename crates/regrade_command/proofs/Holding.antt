@@ -17,7 +17,8 @@ use Rattle.writable_schemas.proofs.CheckedSchemas.{schema_writable}
 use Rattle.regrade_command.specs.Regrade.{Regrading, IsRegradable, IsRegraded, other_encoding, a_fault, no_template, no_fill, no_room, a_frame, HoldsRewritten}
 
 -- a message without a misfit is what is read of its body
-pub read_back : (schema : WireSchema) (n : Msg) (limit : ℕ) (body : List ℕ) → IsChecked schema → misfit schema n limit ≡ None → canonical schema n ≡ Some body → message_of schema body ≡ Ok n
+pub read_back : (schema : WireSchema) (n : Msg) (limit : ℕ) (body : List ℕ) → IsChecked schema → misfit schema n limit ≡ None →
+    canonical schema n ≡ Some body → message_of schema body ≡ Ok n
 read_back schema n limit body checked none there =
     let writable = schema_writable schema checked in
     body_read schema checked.placed writable n (none_fits schema n limit checked.placed writable none).0 body there

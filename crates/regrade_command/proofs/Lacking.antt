@@ -34,11 +34,13 @@ abbrev Lacks : (X : Type 0) → Inside → Fills X → Type 0
 Lacks X inside (Ok x) = ⊤
 Lacks X inside (Err path) = Leads inside path
 
-lacks_step : (X : Type 0) (inside : Inside) (step : Step) (below : Inside) (r : Fills X) → LeadsBy inside step below → Lacks X below r → Lacks X inside (in_step step r)
+lacks_step : (X : Type 0) (inside : Inside) (step : Step) (below : Inside) (r : Fills X) → LeadsBy inside step below → Lacks X below r →
+    Lacks X inside (in_step step r)
 lacks_step X inside step below (Ok x) leads h = tt
 lacks_step X inside step below (Err path) leads h = leads path h
 
-lacks_then : (X : Type 0) (inside : Inside) (r : Fills X) (more : Fills (List X)) → Lacks X inside r → Lacks (List X) inside more → Lacks (List X) inside (then_all r more)
+lacks_then : (X : Type 0) (inside : Inside) (r : Fills X) (more : Fills (List X)) → Lacks X inside r → Lacks (List X) inside more →
+    Lacks (List X) inside (then_all r more)
 lacks_then X inside (Ok x) (Ok xs) h k = tt
 lacks_then X inside (Ok x) (Err path) h k = k
 lacks_then X inside (Err path) more h k = h
@@ -58,7 +60,8 @@ part_lacks inside p dataval.Absent = lacks_here DataVal inside (if admits p.leng
 part_lacks inside p (dataval.Bytes bytes) = tt
 
 module _ (P V : Type 0) (part_of : P → NamedPart) (written : P → V → Fills V) (inside : Inside) (lacks : (p : P) (v : V) → Lacks V (part_of p).inside (written p v)) where
-  list_lacks : (i : ℕ) (ps : List P) (vs : List V) → Behind (parts_inside inside) i (map part_of ps) → Lacks (List V) inside (filled_list written i ps vs)
+  list_lacks : (i : ℕ) (ps : List P) (vs : List V) → Behind (parts_inside inside) i (map part_of ps) →
+      Lacks (List V) inside (filled_list written i ps vs)
   list_lacks i [] vs stand = tt
   list_lacks i (p ∷ ps) [] stand = tt
   list_lacks i (p ∷ ps) (v ∷ vs) stand =
@@ -66,7 +69,8 @@ module _ (P V : Type 0) (part_of : P → NamedPart) (written : P → V → Fills
       (lacks_step V inside (way.Part i) (part_of p).inside (written p v) (part_leads inside i (part_of p) (first_is (parts_inside inside) i (part_of p) (map part_of ps) stand)) (lacks p v))
       (list_lacks (suc i) ps vs (next_are (parts_inside inside) i (part_of p) (map part_of ps) stand))
 
-entries_lack : (level : Level) (written : Block → Fills Block) → ((entry : Block) → Lacks Block (in_level level) (written entry)) → (i : ℕ) (es : List Block) →
+entries_lack : (level : Level) (written : Block → Fills Block) → ((entry : Block) → Lacks Block (in_level level) (written entry)) →
+    (i : ℕ) (es : List Block) →
     Lacks (List Block) (in_group level) (filled_entries written i es)
 entries_lack level written lacks i [] = tt
 entries_lack level written lacks i (e ∷ es) =
@@ -104,7 +108,8 @@ mutual
       (list_lacks DataField DataVal data_part part_or_fill (in_level level) (λ p v. part_lacks (data_part p).inside p v) (length fields + row_length groups) parts old.parts
       (data_behind level (row_length groups) (ap length same ∙ row_items groups)))
 
-  groups_lack : (inside : Inside) (i : ℕ) {n : _} (row : Row_of-Group n) (vs : List GroupVal) → Behind (parts_inside inside) i (map group_part (items-the_row-Group _ row)) →
+  groups_lack : (inside : Inside) (i : ℕ) {n : _} (row : Row_of-Group n) (vs : List GroupVal) →
+      Behind (parts_inside inside) i (map group_part (items-the_row-Group _ row)) →
       Lacks (List GroupVal) inside (filled_groups i row vs)
   groups_lack inside i end_of-Group vs stand = tt
   groups_lack inside i (more_of-Group g rest) [] stand = tt
@@ -126,14 +131,16 @@ same_path : {X : Type 0} {a b : List Step} → ◌≡◌ {A = Result X Refusal} 
 same_path h = cc
 
 module _ (to : WireSchema) (path : List Step) where
-  in_block : (n : Msg) (level : Level) (r : Fills Block) → Lacks Block (in_level level) r → in_version to.version n r ≡ Err (NoFill path) → Leads (in_level level) path
+  in_block : (n : Msg) (level : Level) (r : Fills Block) → Lacks Block (in_level level) r → in_version to.version n r ≡ Err (NoFill path) →
+      Leads (in_level level) path
   in_block n level (Ok block) h e = cc
   in_block n level (Err other) h e = subst (Leads (in_level level)) (same_path e) h
 
   leads_there : (n : Msg) (level : Level) → slice_get to.messages n.template ≡ Some level → Leads (in_level level) path → IsPathOf to n.template path
   leads_there n level at leads = ap (λ o. is_some (option_and_then (λ l. path_from true (in_level l) path) o)) at ∙ leads true
 
-  by_level : (n : Msg) (o : Option Level) → slice_get to.messages n.template ≡ o → filled_by to.version n o ≡ Err (NoFill path) → IsPathOf to n.template path
+  by_level : (n : Msg) (o : Option Level) → slice_get to.messages n.template ≡ o → filled_by to.version n o ≡ Err (NoFill path) →
+      IsPathOf to n.template path
   by_level n None at e = cc
   by_level n (Some level) at e = leads_there n level at (in_block n level (filled_block level n.block) (block_lacks level n.block) e)
 

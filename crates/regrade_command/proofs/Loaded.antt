@@ -28,7 +28,8 @@ module _ (told : Option (List ℕ → Option (List ℕ))) (from to : List ℕ) (
   from_stopped Fault h = record { judges = λ contents same. tt; fails = tt; good = tt }
   from_stopped NoMemory h = record { judges = λ contents same. tt; fails = tt; good = tt }
 
-  pub to_stopped : (first : WireSchema) (why : LoadStop) → LoadsChecked told from (Ok first) → LoadsChecked told to (Err why) → LoadsFiles (regrade_files from to frame) told (Err (stop_of role.To why))
+  pub to_stopped : (first : WireSchema) (why : LoadStop) → LoadsChecked told from (Ok first) → LoadsChecked told to (Err why) →
+      LoadsFiles (regrade_files from to frame) told (Err (stop_of role.To why))
   to_stopped first (Refused why) h k = record {
     judges = λ contents same.
         sym (ap (λ f. regraded_for frame (pair_judged f (file_schema (contents to)))) (h contents same) ∙ ap (λ f. regraded_for frame (pair_judged (Ok first) f)) (k contents same));
@@ -42,7 +43,8 @@ module _ (told : Option (List ℕ → Option (List ℕ))) (from to : List ℕ) (
     abbrev pair : FromTo
     pair = record { from = first; to = second }
 
-    both : (contents : List ℕ → Option (List ℕ)) → told ≡ Some contents → pair_judged (file_schema (contents from)) (file_schema (contents to)) ≡ paired pair (way_of first second)
+    both : (contents : List ℕ → Option (List ℕ)) → told ≡ Some contents →
+        pair_judged (file_schema (contents from)) (file_schema (contents to)) ≡ paired pair (way_of first second)
     both contents same = ap (λ f. pair_judged f (file_schema (contents to))) (h contents same) ∙ ap (pair_judged (Ok first)) (k contents same)
 
     pub pair_loaded : (r : Result Regrading JobStop) → JudgesPairAs pair frame r → LoadsFiles (regrade_files from to frame) told r
@@ -54,7 +56,8 @@ module _ (told : Option (List ℕ → Option (List ℕ))) (from to : List ℕ) (
 -- ---- the judgement of a pair
 
 module _ (pair : FromTo) (frame : ℕ) where
-  pub pair_judges : (on : Regrading) (way : Way) → way_of pair.from pair.to ≡ Ok way → on ≡ record { pair = pair; frame = frame } → IsRegradable on.pair → JudgesPairAs pair frame (Ok on)
+  pub pair_judges : (on : Regrading) (way : Way) → way_of pair.from pair.to ≡ Ok way → on ≡ record { pair = pair; frame = frame } →
+      IsRegradable on.pair → JudgesPairAs pair frame (Ok on)
   pair_judges on way stands is good = (ap Ok is ∙ sym (ap (λ w. regraded_for frame (paired pair w)) stands), good)
 
   pub pair_stops : (why : WayErr) → GivesWay (Err why) (way_of pair.from pair.to) → JudgesPairAs pair frame (Err (way_stop why))
@@ -69,7 +72,8 @@ module _ (pair : FromTo) (frame before now : ℕ) where
   pair_caused (Err (stop.Fault role)) judged same = absurd judged
   pair_caused (Err stop.NoMemory) judged same = same
 
-  names_to : (file : RefusedFile) (way : Result Way (List ℕ)) → Err file ≡ paired pair way → now ≡ one_more (one_more before) → NamesLast {T = Regrading} before now (Err (stop.Refused file))
+  names_to : (file : RefusedFile) (way : Result Way (List ℕ)) → Err file ≡ paired pair way → now ≡ one_more (one_more before) →
+      NamesLast {T = Regrading} before now (Err (stop.Refused file))
   names_to file (Ok way) e count = cc
   names_to file (Err path) e count = let same : file.role ≡ role.To = cc in rw same count
 
@@ -82,7 +86,8 @@ module _ (pair : FromTo) (frame before now : ℕ) where
 -- ---- accepted files
 
 -- the schemas of accepted files are in order, and have a way
-pub regrade_good : (from to : List ℕ) (frame : ℕ) (contents : List ℕ → Option (List ℕ)) (on : Regrading) → JudgesPair from to frame contents (Ok on) → IsRegradable on.pair
+pub regrade_good : (from to : List ℕ) (frame : ℕ) (contents : List ℕ → Option (List ℕ)) (on : Regrading) → JudgesPair from to frame contents (Ok on) →
+    IsRegradable on.pair
 regrade_good from to frame contents on h = by (file_schema (contents from)) (file_schema (contents to)) refl refl h
   where
     by_way : (first second : WireSchema) → IsChecked first → IsChecked second → (way : Result Way (List ℕ)) → way_of first second ≡ way →
@@ -94,7 +99,8 @@ regrade_good from to frame contents on h = by (file_schema (contents from)) (fil
         subst IsRegradable (sym (ap (λ (o : Regrading). o.pair) same)) good
     by_way first second one other (Err path) e k = cc
 
-    by : (a b : Result WireSchema FileRefusal) → file_schema (contents from) ≡ a → file_schema (contents to) ≡ b → Ok on ≡ regraded_for frame (pair_judged a b) → IsRegradable on.pair
+    by : (a b : Result WireSchema FileRefusal) → file_schema (contents from) ≡ a → file_schema (contents to) ≡ b →
+        Ok on ≡ regraded_for frame (pair_judged a b) → IsRegradable on.pair
     by (Ok first) (Ok second) e f k = by_way first second (file_checked (contents from) first e) (file_checked (contents to) second f) (way_of first second) refl k
     by (Ok first) (Err why) e f k = cc
     by (Err why) b e f k = cc

@@ -33,7 +33,8 @@ module _ (from to : WireSchema) (m : Msg) (path : List Step) (item : ℕ) (lacks
     pub path_leads : (template : ℕ) → Some template ≡ number_of (message_named 0 id to.messages) → IsPathOf to template path
     path_leads template h = subst (λ t. IsPathOf to t path) (same_template template h) found.2
 
-    pub lack_is : (template : ℕ) → Some template ≡ number_of (message_named 0 id to.messages) → refused_line item (of_no_fill to template path) ≡ lack_line to item path (moved from to m)
+    pub lack_is : (template : ℕ) → Some template ≡ number_of (message_named 0 id to.messages) →
+        refused_line item (of_no_fill to template path) ≡ lack_line to item path (moved from to m)
     lack_is template h = ap (λ t. refused_line item (of_no_fill to t path)) (sym (same_template template h)) ∙ sym (ap (lack_line to item path) found.1)
 
     pub never_none : None ≡ number_of (message_named 0 id to.messages) → ⊥

@@ -17,7 +17,8 @@ pub to_is : (written : WireSchema) (inside pair : FromTo) → written ≡ inside
 to_is written inside pair is same = is ∙ ap (λ (p : FromTo). p.to) same
 
 -- the number of its byte order
-pub code_is : (read from : WireSchema) (order : Order) (code : ℕ) → code ≡ encoding_of order → order ≡ read.order → read ≡ from → code ≡ encoding_of from.order
+pub code_is : (read from : WireSchema) (order : Order) (code : ℕ) → code ≡ encoding_of order → order ≡ read.order → read ≡ from →
+    code ≡ encoding_of from.order
 code_is read from order code h k is = h ∙ ap encoding_of (k ∙ ap (λ (s : WireSchema). s.order) is)
 
 within : (xs : List Level) (i : ℕ) (o : Option Level) → slice_get xs i ≡ o → IsSome o → i < length xs
@@ -25,6 +26,7 @@ within xs i None at some = cc
 within xs i (Some x) at some = slice_get_within xs i x at
 
 -- a template of the schema
-pub template_within : (read from : WireSchema) (template : ℕ) → read ≡ from → IsSome (slice_get from.messages template) → template < length read.messages
+pub template_within : (read from : WireSchema) (template : ℕ) → read ≡ from → IsSome (slice_get from.messages template) →
+    template < length read.messages
 template_within read from template is known =
     within read.messages template (slice_get read.messages template) refl (subst (λ (s : WireSchema). IsSome (slice_get s.messages template)) (sym is) known)

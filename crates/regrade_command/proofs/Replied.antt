@@ -37,7 +37,8 @@ module _ (on : Regrading) (number : ℕ) (item : Item) (good : IsRegradable on.p
   same_type = item.encoding ≡ encoding_of on.pair.from.order
 
   module _ (same : same_type) (m : Msg) (lies : Lays on.pair.from m item.body) where
-    frame_there : (n : Msg) → regraded on.pair.from on.pair.to m ≡ Ok n → (found : Option Misfit) → misfit on.pair.to n (body_limit on.frame) ≡ found → IsRegraded on number item (written_reply on.pair.to number (rewritten_as on.pair m n) found)
+    frame_there : (n : Msg) → regraded on.pair.from on.pair.to m ≡ Ok n → (found : Option Misfit) → misfit on.pair.to n (body_limit on.frame) ≡ found →
+        IsRegraded on number item (written_reply on.pair.to number (rewritten_as on.pair m n) found)
     frame_there n told None e =
         let body = body_there on.pair.to n (body_limit on.frame) good.to e in
         a_frame same m n (lies, told) e body.0 body.1
@@ -45,7 +46,8 @@ module _ (on : Regrading) (number : ℕ) (item : Item) (good : IsRegradable on.p
         let r : Reply = record { output = frame (encoding_of on.pair.to.order) (unwrap_or b []); notes = []; verdict = verdict.Regraded (dropped on.pair.from on.pair.to m) (filled on.pair.from on.pair.to m) } in r) body.1)
     frame_there n told (Some why) e = no_room same m n (lies, told) why e refl
 
-    lack_there : (path : List Step) → regraded on.pair.from on.pair.to m ≡ Err (NoFill path) → IsRegraded on number item (refused_reply (lack_line on.pair.to number path (moved on.pair.from on.pair.to m)))
+    lack_there : (path : List Step) → regraded on.pair.from on.pair.to m ≡ Err (NoFill path) →
+        IsRegraded on number item (refused_reply (lack_line on.pair.to number path (moved on.pair.from on.pair.to m)))
     lack_there path told =
         let leads = lack_leads on.pair.to path (moved on.pair.from on.pair.to m) told in
         no_fill same m path (lies, told) leads.0 leads.1 (ap (λ o. refused_reply (lack_line on.pair.to number path o)) leads.1)
@@ -55,7 +57,8 @@ module _ (on : Regrading) (number : ℕ) (item : Item) (good : IsRegradable on.p
     told_there (Err NoTemplate) e = no_template same m (lies, e) refl
     told_there (Err (NoFill path)) e = lack_there path e
 
-  body_answered : same_type → (r : Result Msg Fault) → message_of on.pair.from item.body ≡ r → IsRegraded on number item (body_reply on number item.body r)
+  body_answered : same_type → (r : Result Msg Fault) → message_of on.pair.from item.body ≡ r →
+      IsRegraded on number item (body_reply on number item.body r)
   body_answered same (Ok m) e = told_there same m ((message_judges on.pair.from good.from.placed).sound item.body m tt e) (regraded on.pair.from on.pair.to m) refl
   body_answered same (Err f) e = a_fault same f ((message_judges on.pair.from good.from.placed).told item.body f tt e) refl
 
@@ -82,13 +85,16 @@ module _ (on : Regrading) (number : ℕ) (item : Item) (good : IsRegradable on.p
   abbrev framed : Msg → Option (List ℕ) → Reply
   framed m b = record { output = frame (encoding_of on.pair.to.order) (unwrap_or b []); notes = []; verdict = verdict.Regraded (dropped on.pair.from on.pair.to m) (filled on.pair.from on.pair.to m) }
 
-  right : item.encoding ≡ encoding_of on.pair.from.order → regrade_reply on number item ≡ body_reply on number item.body (message_of on.pair.from item.body)
+  right : item.encoding ≡ encoding_of on.pair.from.order →
+      regrade_reply on number item ≡ body_reply on number item.body (message_of on.pair.from item.body)
   right same = right_encoding on number item.encoding item.body same
 
-  read_as : (m : Msg) → item.encoding ≡ encoding_of on.pair.from.order → Lays on.pair.from m item.body → (r : Result Msg Refusal) → regraded on.pair.from on.pair.to m ≡ r → regrade_reply on number item ≡ told_reply on number m r
+  read_as : (m : Msg) → item.encoding ≡ encoding_of on.pair.from.order → Lays on.pair.from m item.body → (r : Result Msg Refusal) →
+      regraded on.pair.from on.pair.to m ≡ r → regrade_reply on number item ≡ told_reply on number m r
   read_as m same lies r told = message_read on number item.encoding item.body m same good.from.placed lies ∙ ap (told_reply on number m) told
 
-  fault_as : (f : Fault) → item.encoding ≡ encoding_of on.pair.from.order → FirstFault on.pair.from f item.body → regrade_reply on number item ≡ refused_reply (refused_line number (of_fault on.pair.from item.body f))
+  fault_as : (f : Fault) → item.encoding ≡ encoding_of on.pair.from.order → FirstFault on.pair.from f item.body →
+      regrade_reply on number item ≡ refused_reply (refused_line number (of_fault on.pair.from item.body f))
   fault_as f same first = right same ∙ ap (body_reply on number item.body) ((message_judges on.pair.from good.from.placed).only item.body f first)
 
   -- a reply that is shown is the one that is computed
@@ -125,7 +131,8 @@ module _ (on : Regrading) (number : ℕ) (item : Item) (good : IsRegradable on.p
   body_parts (Ok m) e = told_parts m ((message_judges on.pair.from good.from.placed).sound item.body m tt e) (regraded on.pair.from on.pair.to m)
   body_parts (Err f) e = refused_parts (length item.body)
 
-  either_parts : (t : Bool) → HasParts (length item.body) (cond t (body_reply on number item.body (message_of on.pair.from item.body)) (refused_reply (refused_line number (of_encoding item.encoding)))).verdict
+  either_parts : (t : Bool) →
+      HasParts (length item.body) (cond t (body_reply on number item.body (message_of on.pair.from item.body)) (refused_reply (refused_line number (of_encoding item.encoding)))).verdict
   either_parts true = body_parts (message_of on.pair.from item.body) refl
   either_parts false = refused_parts (length item.body)
 

@@ -43,7 +43,8 @@ some_bytes schema m body checked lies =
 few : (n : ℕ) (bytes : ℕ) → 1 ≤ bytes → n ≤ most_among bytes → n ≤ most_parts bytes
 few n bytes some most = omega (arith, some, most)
 
-pub regraded_parts : (pair : FromTo) (m : Msg) (body : List ℕ) → IsRegradable pair → Lays pair.from m body → HasParts (length body) (Regraded (dropped pair.from pair.to m) (filled pair.from pair.to m))
+pub regraded_parts : (pair : FromTo) (m : Msg) (body : List ℕ) → IsRegradable pair → Lays pair.from m body →
+    HasParts (length body) (Regraded (dropped pair.from pair.to m) (filled pair.from pair.to m))
 regraded_parts pair m body good lies =
     let some = some_bytes pair.from m body good.from lies in
     record {

@@ -43,7 +43,8 @@ in_version_keeps version m n (Ok block) h = let same : ◌≡◌ {A = Msg} (reco
 in_version_keeps version m n (Err path) h = cc
 
 module _ (to : WireSchema) (n : Msg) where
-  by_level : (m : Msg) (o : Option Level) → slice_get to.messages m.template ≡ o → filled_by to.version m o ≡ Ok n → IsSome (slice_get to.messages n.template)
+  by_level : (m : Msg) (o : Option Level) → slice_get to.messages m.template ≡ o → filled_by to.version m o ≡ Ok n →
+      IsSome (slice_get to.messages n.template)
   by_level m None at h = cc
   by_level m (Some level) at h =
       ap (λ i. is_some (slice_get to.messages i)) (sym (in_version_keeps to.version m n (filled_block level m.block) h)) ∙ ap is_some at
