@@ -4,3 +4,4 @@ mod Within
 mod OrderBytes
 mod OrderFits
 mod OrderRoom
+mod PriceLemmas

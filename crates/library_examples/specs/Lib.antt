@@ -3,3 +3,4 @@ pub mod Sums
 pub mod Orders
 pub mod Lines
 pub mod Bodies
+pub mod Prices

@@ -75,7 +75,7 @@ fn number_or_zero(block: &BlockView<'_>, i: usize) -> i128
 }
 
 /// Whether a field has a number. Requires a field in range.
-fn has_number(block: &BlockView<'_>, i: usize) -> bool
+pub(crate) fn has_number(block: &BlockView<'_>, i: usize) -> bool
     requires { i < length block.now.fields }
     ensures { result ≡ is_some (option_and_then number_in (slice_get (out-Block block.now.block).fields i)) }
 {

@@ -3,9 +3,11 @@
 use crate::bench::{layout_of, refused_text, with_bytes};
 use anyhow::{Result, bail};
 use layout_compile::compile;
+use layout_names::LayoutNames;
 use layout_tables::Layout;
 use library_examples::{
-    BodyErr, Order, OrderErr, SumErr, body_of_line, sum_entries, template_of, write_order,
+    BodyErr, EntryField, EntryNames, Order, OrderErr, SumErr, body_of_line, find_field, last_price,
+    sum_entries, template_of, write_order,
 };
 use line_values::LineFault;
 use row_tables::{Row, spelled};
@@ -114,4 +116,57 @@ pub fn sum_told(alloc: Global, checked: &Checked, row: &Row) -> Result<String> {
     let body = row.bytes(alloc, 1)?;
     let layout = layout_of(alloc, checked)?;
     sum_text(alloc, &layout, body.as_slice(), group, field)
+}
+
+/// The part of a level that has a name: a field, a group or data, and its number.
+fn part_told(alloc: Global, names: &LayoutNames, level: usize, name: &str) -> Result<String> {
+    let name = name.as_bytes();
+    if let Some(i) = names.field(level, name) {
+        return Ok(format!(in alloc; "field {i}")?);
+    }
+    if let Some(i) = names.group(level, name) {
+        return Ok(format!(in alloc; "group {i}")?);
+    }
+    match names.data(level, name) {
+        Some(i) => Ok(format!(in alloc; "data {i}")?),
+        None => Ok(format!(in alloc; "nothing")?),
+    }
+}
+
+/// A row: the schema, a message's name, and a name. The number of the message, and the part of its root that has the name.
+pub fn named_told(alloc: Global, checked: &Checked, row: &Row) -> Result<String> {
+    let layout = layout_of(alloc, checked)?;
+    let names = LayoutNames::new(alloc, &layout)?;
+    match names.template(row.text(1)?.as_bytes()) {
+        Some(template) if template < layout.templates() => {
+            let part = part_told(alloc, &names, layout.root(template), row.text(2)?)?;
+            Ok(format!(in alloc; "message {template}, {}", part.as_str())?)
+        }
+        _ => Ok(format!(in alloc; "no message")?),
+    }
+}
+
+fn price_text(alloc: Global, layout: &Layout, price: EntryField, body: &[u8]) -> Result<String> {
+    match last_price(layout, price, body) {
+        Ok(Some(price)) => Ok(format!(in alloc; "{price}")?),
+        Ok(None) => Ok(format!(in alloc; "none")?),
+        Err(refusal) => Ok(format!(in alloc; "refused at {}", refusal.offset)?),
+    }
+}
+
+/// A row: the schema, a body, and the names of a message, of one of its groups, and of a field of that one's entries. The last
+/// price of that field.
+pub fn price_told(alloc: Global, checked: &Checked, row: &Row) -> Result<String> {
+    let body = row.bytes(alloc, 1)?;
+    let layout = layout_of(alloc, checked)?;
+    let names = LayoutNames::new(alloc, &layout)?;
+    let path = EntryNames {
+        template: row.text(2)?.as_bytes(),
+        group: row.text(3)?.as_bytes(),
+        field: row.text(4)?.as_bytes(),
+    };
+    match find_field(&layout, &names, &path) {
+        Some(price) => price_text(alloc, &layout, price, body.as_slice()),
+        None => Ok(format!(in alloc; "no such field")?),
+    }
 }

@@ -46,6 +46,8 @@ fn told_of(rt: &HostRuntime, checked: &Checked, row: &Row) -> Result<String> {
         "body_of_line" => examples::body_told(alloc, checked, row),
         "write_order" => examples::order_told(alloc, checked, row),
         "sum_entries" => examples::sum_told(alloc, checked, row),
+        "named" => examples::named_told(alloc, checked, row),
+        "last_price" => examples::price_told(alloc, checked, row),
         "put_data" => places::put_told(alloc, checked, row),
         "skip_level" => places::skip_told(alloc, checked, row),
         "set" => fields::set_told(alloc, checked, row),
