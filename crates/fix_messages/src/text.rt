@@ -15,6 +15,7 @@ use message_walk::{Halt, PlanRow, PutValue, put_rows};
 use tagvalue_codec::FixWriter;
 
 /// A template as a mapping describes it: the type of its messages, and the rows of its plan.
+#[derive(Drop)]
 pub struct MessageRows<'a, R> {
     /// MsgType (35).
     pub msg_type: &'a [u8],
