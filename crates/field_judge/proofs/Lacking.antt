@@ -59,7 +59,7 @@ count_lacks levels r b fields place told (group_head g inner) here is none tells
     tells g (piece_missing inner) (ap (λ c. c.count) (sym same) ∙ is.2.count) is.2.tag
     ∙ ap (λ k. head_missing (group_head g inner) (located (group_head g inner) fields k)) (sym none)
 
-some_place : (fields : List AppField) (place : ℕ) → 0 < place → place ≤ length fields → (j : ℕ) × (f : AppField) × (place ≡ suc j) × (slice_get fields j ≡ Some f)
+pub some_place : (fields : List AppField) (place : ℕ) → 0 < place → place ≤ length fields → (j : ℕ) × (f : AppField) × (place ≡ suc j) × (slice_get fields j ≡ Some f)
 some_place fields zero some within = absurd (none some)
   where
     none : 0 < 0 → ⊥

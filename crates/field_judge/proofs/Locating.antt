@@ -45,7 +45,7 @@ head_row levels (group g inner rest) rows (suc k) h r numbered are at there =
     head_row levels rest are.3 k h r (after_numbered g inner rest numbered).1 are.9 at (sym (ap (λ ws. slice_get ws (suc k)) are.4) ∙ there)
 
 -- a part's tag is among the level's
-head_in : (p : Plan) (k : ℕ) (h : Head) → slice_get (heads p) k ≡ Some h → is_in (head_tag h) (tags p) ≡ true
+pub head_in : (p : Plan) (k : ℕ) (h : Head) → slice_get (heads p) k ≡ Some h → is_in (head_tag h) (tags p) ≡ true
 head_in done k h at = none_some at
 head_in (single s rest) zero h at = or_left (s.tag == head_tag h) (is_in (head_tag h) (tags rest)) (eq-eqb s.tag (head_tag h) (ap head_tag (some_is at)))
 head_in (single s rest) (suc k) h at = or_right (s.tag == head_tag h) (is_in (head_tag h) (tags rest)) (head_in rest k h at)

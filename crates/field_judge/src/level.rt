@@ -44,7 +44,7 @@ pub struct BackLevel {
 }
 
 /// The index of a tag among the rows of a level.
-pub(crate) fn place_in(level: &BackLevel, tag: u32) -> Option<usize>
+pub fn place_in(level: &BackLevel, tag: u32) -> Option<usize>
     ensures within { IfSome result (λ k. k < length level.now.rows) }
     ensures place { length level.now.tags ≡ length level.now.rows → result ≡ place_of tag level.now.tags }
 {

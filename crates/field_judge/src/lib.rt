@@ -15,7 +15,10 @@ mod slices;
 
 pub use field::AppField;
 pub use judge::judge_fields;
-pub use level::{BackGroup, BackLevel, BackPart, BackRow};
-pub use missing::missing_field;
+pub use level::{BackGroup, BackLevel, BackPart, BackRow, place_in};
+pub use missing::{missing_field, part_places};
+pub use pieces::piece_len;
 pub use refused::Refused;
 pub use refusing::first_refusal;
+pub use runs::owned_len;
+pub use slices::{field_at, front, level_at, rest_from};

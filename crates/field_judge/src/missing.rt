@@ -132,7 +132,11 @@ fn missing_count(group: &BackGroup, tag: u32) -> Option<Refused>
 }
 
 /// For each row of a level the number of the first field with its tag plus one, or 0 if there is none.
-fn part_places(
+///
+/// # Errors
+///
+/// Out of memory.
+pub fn part_places(
     alloc: Global,
     level: &BackLevel,
     fields: &[AppField<'_>],

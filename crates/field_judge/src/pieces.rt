@@ -41,7 +41,7 @@ fn counted(delimiter: u32, run: &[AppField<'_>], i: usize, count: usize) -> usiz
 }
 
 /// How many fields precede the first delimiter.
-pub(crate) fn piece_len(delimiter: u32, run: &[AppField<'_>]) -> usize
+pub fn piece_len(delimiter: u32, run: &[AppField<'_>]) -> usize
     ensures within { result ≤ length run.now }
     ensures front { (pieces_of delimiter (fields_of run.now)).front ≡ fields_of (take result run.now) }
     ensures pieces { (pieces_of delimiter (fields_of run.now)).pieces ≡ (pieces_of delimiter (fields_of (drop result run.now))).pieces }

@@ -27,7 +27,7 @@ pub(crate) fn run_len(row: &BackRow, fields: &[AppField<'_>]) -> usize
 }
 
 /// How many fields at the front have one of these tags.
-pub(crate) fn owned_len(owned: &IdTable, fields: &[AppField<'_>]) -> usize
+pub fn owned_len(owned: &IdTable, fields: &[AppField<'_>]) -> usize
     ensures within { result ≤ length fields.now }
     ensures run { fields_of (take result fields.now) ≡ run_of (owned_by owned.now) 0 (fields_of fields.now) }
     ensures rest { fields_of (drop result fields.now) ≡ rest_of (owned_by owned.now) 0 (fields_of fields.now) }

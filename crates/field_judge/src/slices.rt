@@ -6,7 +6,7 @@ use crate::field::AppField;
 use crate::level::BackLevel;
 
 /// The level with this number.
-pub(crate) fn level_at(levels: &[BackLevel], number: usize) -> Option<&BackLevel>
+pub fn level_at(levels: &[BackLevel], number: usize) -> Option<&BackLevel>
     ensures { (own : AnyLevel) → slice_get levels.now number ≡ Some own → MatchOption result ⊥ (λ level. level.now ≡ own) }
 {
     if number >= levels.len() {
@@ -25,7 +25,7 @@ pub(crate) fn first<'a>(fields: &[AppField<'a>]) -> AppField<'a>
 
 /// The fields from field `n` on.
 #[tactic(auto, using(std::proofs::lemmas::List::take_rest))]
-pub(crate) fn rest_from<'b, 'a>(fields: &'b [AppField<'a>], n: usize) -> &'b [AppField<'a>]
+pub fn rest_from<'b, 'a>(fields: &'b [AppField<'a>], n: usize) -> &'b [AppField<'a>]
     requires { n ≤ length fields.now }
     ensures { result.now ≡ drop n fields.now }
 {
@@ -33,7 +33,7 @@ pub(crate) fn rest_from<'b, 'a>(fields: &'b [AppField<'a>], n: usize) -> &'b [Ap
 }
 
 /// The fields before field `n`.
-pub(crate) fn front<'b, 'a>(fields: &'b [AppField<'a>], n: usize) -> &'b [AppField<'a>]
+pub fn front<'b, 'a>(fields: &'b [AppField<'a>], n: usize) -> &'b [AppField<'a>]
     requires { n ≤ length fields.now }
     ensures { result.now ≡ take n fields.now }
 {
@@ -41,7 +41,7 @@ pub(crate) fn front<'b, 'a>(fields: &'b [AppField<'a>], n: usize) -> &'b [AppFie
 }
 
 /// Field `i`.
-pub(crate) fn field_at<'a>(fields: &[AppField<'a>], i: usize) -> AppField<'a>
+pub fn field_at<'a>(fields: &[AppField<'a>], i: usize) -> AppField<'a>
     requires { i < length fields.now }
     ensures { slice_get fields.now i ≡ Some result }
 {
