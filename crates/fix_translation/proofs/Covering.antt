@@ -1,20 +1,17 @@
 -- What a message is translated to, by what its plan says of its template.
 use Rattle.std.proofs.Common.{◌≡◌, ◌<◌, ℕ, zero, suc, Bool, true, false, List, [], ◌∷◌, length, Option, Some, None, Result, Ok, Err, refl, sym, ap, subst, arith}
 use Rattle.std.specs.Prelude.{slice_get}
-use Rattle.sbe_types.specs.declared.message.Block.{Block}
-use Rattle.sbe_types.specs.declared.schema.Level.{Level, out-Level}
+use Rattle.sbe_types.specs.declared.schema.Level.{out-Level}
 use Rattle.tagvalue_codec.specs.Drafts.{Draft}
 use Rattle.bridge_terms.specs.Blocks.{values_of}
 use Rattle.bridge_terms.specs.Places.{Unsent, place_fields, places_of}
 use Rattle.bridge_terms.specs.Plans.{Plan}
 use Rattle.bridge_plan.specs.Covers.{Cover, covered_by, no_message, unmapped, cover_of}
-use Rattle.bridge_plan.specs.Mappings.{Mapping}
 use Rattle.message_walk.specs.declared.halt.Halt.{Halt}
-use Rattle.fix_messages.specs.Heads.{Head}
 use Rattle.fix_messages.specs.Texts.{message_text, text_refusal, IsTextBy}
 use Rattle.fix_translation.specs.declared.translate.ToFixErr.{ToFixErr}
 use Rattle.fix_translation.specs.declared.translate.ToFixErr.TheVariants as why
-use Rattle.fix_translation.specs.Translations.{IsTextSo, IsTranslated, IsTranslatedBy, TellsUncovered}
+use Rattle.fix_translation.specs.Translations.{Request, IsTextSo, IsTranslated, IsTranslatedBy, TellsUncovered}
 
 pub below : {X : Type 0} (xs : List X) (i : ℕ) (x : X) → slice_get xs i ≡ Some x → i < length xs
 below [] i x is = absurd cc
@@ -32,25 +29,27 @@ text_refused : (r : Option Unsent) (text : List ℕ) (d : Draft) (h : Halt) → 
 text_refused None text d h is = absurd (true_false (sym is.0))
 text_refused (Some u) text d h is = (ap (λ (h : Halt). Err (why.Unwritten h)) is.1, is.2)
 
-module _ (m : Mapping) (level : Level) (block : Block) (head : Head) (old new : Draft) where
-  by_cover : (c : Cover) (result : Result (Unit {0}) ToFixErr) → cover_of m level ≡ c → IsTranslatedBy c m level block head old new result → IsTranslated m level block head old new result
-  by_cover c result is so = subst (λ c. IsTranslatedBy c m level block head old new result) (sym is) so
+module _ (r : Request) (old new : Draft) where
+  by_cover : (c : Cover) (result : Result (Unit {0}) ToFixErr) → cover_of r.mapping r.level ≡ c → IsTranslatedBy c r old new result → IsTranslated r old new result
+  by_cover c result is so = subst (λ c. IsTranslatedBy c r old new result) (sym is) so
 
-  pub no_message_told : cover_of m level ≡ no_message → new ≡ old → IsTranslated m level block head old new (Err why.NoMessage)
+  pub no_message_told : cover_of r.mapping r.level ≡ no_message → new ≡ old → IsTranslated r old new (Err why.NoMessage)
   no_message_told is same = by_cover no_message (Err why.NoMessage) is (refl, same)
 
-  pub uncovered_told : (path : List (List ℕ)) (result : Result (Unit {0}) ToFixErr) → cover_of m level ≡ unmapped path → TellsUncovered path result → new ≡ old
-      → IsTranslated m level block head old new result
+  pub uncovered_told : (path : List (List ℕ)) (result : Result (Unit {0}) ToFixErr) → cover_of r.mapping r.level ≡ unmapped path → TellsUncovered path result
+      → new ≡ old → IsTranslated r old new result
   uncovered_told path result is tells same = by_cover (unmapped path) result is (tells, same)
 
   abbrev refusal : Plan → Option Unsent
-  refusal p = text_refusal m.lists old.limit (out-Level level).semantic head (places_of p (values_of p block))
+  refusal p = text_refusal r.mapping.lists old.limit (out-Level r.level).semantic r.head (places_of p (values_of p r.block))
 
   abbrev text : Plan → List ℕ
-  text p = message_text m.lists (out-Level level).semantic head (place_fields (places_of p (values_of p block)).places)
+  text p = message_text r.mapping.lists (out-Level r.level).semantic r.head (place_fields (places_of p (values_of p r.block)).places)
 
-  pub text_told : (p : Plan) (h : Halt) → cover_of m level ≡ covered_by p → IsTextBy (refusal p) (text p) true new h → IsTranslated m level block head old new (Ok tt)
+  pub text_told : (p : Plan) (h : Halt) → cover_of r.mapping r.level ≡ covered_by p → IsTextBy (refusal p) (text p) true new h
+      → IsTranslated r old new (Ok tt)
   text_told p h is put = by_cover (covered_by p) (Ok tt) is (text_done (refusal p) (text p) new h put)
 
-  pub refusal_told : (p : Plan) (h : Halt) → cover_of m level ≡ covered_by p → IsTextBy (refusal p) (text p) false new h → IsTranslated m level block head old new (Err (why.Unwritten h))
+  pub refusal_told : (p : Plan) (h : Halt) → cover_of r.mapping r.level ≡ covered_by p → IsTextBy (refusal p) (text p) false new h
+      → IsTranslated r old new (Err (why.Unwritten h))
   refusal_told p h is put = by_cover (covered_by p) (Err (why.Unwritten h)) is (text_refused (refusal p) (text p) new h put)

@@ -5,7 +5,7 @@ use Rattle.sbe_types.specs.declared.schema.Level.{Level, out-Level}
 use Rattle.reference_graph.specs.Expansion.{Structure}
 use Rattle.tagvalue_codec.specs.Drafts.{Draft, IsValue, finished}
 use Rattle.bridge_terms.specs.Blocks.{values_of}
-use Rattle.bridge_terms.specs.Places.{Places, Unsent, place_fields, places_of}
+use Rattle.bridge_terms.specs.Places.{Unsent, place_fields, places_of}
 use Rattle.bridge_terms.specs.Plans.{Plan}
 use Rattle.bridge_plan.specs.Covers.{Cover, covered_by, no_message, unmapped, cover_of}
 use Rattle.bridge_plan.specs.Mappings.{Mapping, structure_for}
@@ -48,18 +48,31 @@ TellsUncovered path (Err why.NoMessage) = ⊥
 TellsUncovered path (Err (why.Uncovered names)) = names.now ≡ path
 TellsUncovered path (Err (why.Unwritten h)) = ⊥
 
+-- a message that is to be translated: by which mapping, its level and block, and the head of its text
+pub record Request : Type 0 where
+  pub mapping : Mapping
+  pub level : Level
+  pub block : Block
+  pub head : Head
+
+-- the request for the text of a message that was seen
+abbrev pub request_of : Mapping → SeenMessage → Head → Request
+request_of m seen head = record { mapping = m; level = seen.level; block = seen.message.block; head = head }
+
 -- the text of a message of a template with this plan
-abbrev pub IsPlanText : Mapping → Level → Plan → Places → Head → Draft → Draft → Result (Unit {0}) ToFixErr → Type 0
-IsPlanText m level p all head old new result =
-    IsTextSo (text_refusal m.lists old.limit (out-Level level).semantic head all) (message_text m.lists (out-Level level).semantic head (place_fields all.places)) new result
+abbrev pub IsPlanText : Plan → Request → Draft → Draft → Result (Unit {0}) ToFixErr → Type 0
+IsPlanText p r old new result =
+    let kind = (out-Level r.level).semantic in
+    let all = places_of p (values_of p r.block) in
+    IsTextSo (text_refusal r.mapping.lists old.limit kind r.head all) (message_text r.mapping.lists kind r.head (place_fields all.places)) new result
 
 -- the same by what the mapping says of the template
-abbrev pub IsTranslatedBy : Cover → Mapping → Level → Block → Head → Draft → Draft → Result (Unit {0}) ToFixErr → Type 0
-IsTranslatedBy (covered_by p) m level block head old new result = IsPlanText m level p (places_of p (values_of p block)) head old new result
-IsTranslatedBy no_message m level block head old new result = (result ≡ Err why.NoMessage) × (new ≡ old)
-IsTranslatedBy (unmapped path) m level block head old new result = TellsUncovered path result × (new ≡ old)
+abbrev pub IsTranslatedBy : Cover → Request → Draft → Draft → Result (Unit {0}) ToFixErr → Type 0
+IsTranslatedBy (covered_by p) r old new result = IsPlanText p r old new result
+IsTranslatedBy no_message r old new result = (result ≡ Err why.NoMessage) × (new ≡ old)
+IsTranslatedBy (unmapped path) r old new result = TellsUncovered path result × (new ≡ old)
 
 -- A message is translated to the text of its head and its fields, or the first refusal is reported: the mapping has no message for
 -- its template, or doesn't cover all of it, or a place isn't written.
-abbrev pub IsTranslated : Mapping → Level → Block → Head → Draft → Draft → Result (Unit {0}) ToFixErr → Type 0
-IsTranslated m level block head old new result = IsTranslatedBy (cover_of m level) m level block head old new result
+abbrev pub IsTranslated : Request → Draft → Draft → Result (Unit {0}) ToFixErr → Type 0
+IsTranslated r old new result = IsTranslatedBy (cover_of r.mapping r.level) r old new result

@@ -4,7 +4,7 @@ ghost use Rattle.bridge_plan.specs.Mappings.{Mapping};
 ghost use Rattle.message_plans.specs.Plans.{ArePlans};
 ghost use Rattle.value_texts.specs.Rows.{Spells};
 ghost use Rattle.fix_messages.specs.Heads.{head_of, IsHeadReady};
-ghost use Rattle.fix_translation.specs.Translations.{IsPlanned, IsTranslated};
+ghost use Rattle.fix_translation.specs.Translations.{IsPlanned, IsTranslated, request_of};
 
 use fix_messages::{FixHead, MessageRows, write_text};
 use flyweight_view::MsgView;
@@ -41,7 +41,7 @@ pub fn to_fix<'a>(
     requires head { IsHeadReady (head_of head.now) }
     requires planned { IsPlanned plan.now view.now }
     ensures { (m : Mapping) (levels : List Level) → ArePlans Spells m levels plan.now → slice_get levels view.now.message.template ≡ Some view.now.level
-        → IsTranslated m view.now.level view.now.message.block (head_of head.now) out.old out.new result }
+        → IsTranslated (request_of m view.now (head_of head.now)) out.old out.new result }
 {
     let template = view.template();
     match plan.cover(template) {

@@ -10,6 +10,7 @@ use Rattle.message_plans.specs.Plans.{IsCover, IsMapped}
 use Rattle.value_texts.specs.Rows.{Spells}
 use Rattle.fix_messages.specs.Heads.{head_of}
 use Rattle.fix_messages.specs.Texts.{IsTextPut}
+use Rattle.fix_translation.specs.Translations.{request_of}
 use Rattle.fix_translation.proofs.Covering.{below, no_message_told, uncovered_told, text_told, refusal_told}
 use Rattle.fix_translation.proofs.translate.to_fix.Goals as goal
 
@@ -34,13 +35,13 @@ write_text-requires-clause-kind c =
 pub returns-in-NoMessage : goal.returns-in-NoMessage
 returns-in-NoMessage c = λ m levels are there.
     let level = c.args.view.now.level in
-    no_message_told m level c.args.view.now.message.block (head_of c.args.head.now) c.args.out.now c.args.out.now
+    no_message_told (request_of m c.args.view.now (head_of c.args.head.now)) c.args.out.now c.args.out.now
     (subst (IsCover Spells m level) c.in-NoMessage.is (c.cover.ensures m levels level are (ap (slice_get levels) c.template-template.ensures ∙ there))) refl
 
 pub returns-in-Unmapped : goal.returns-in-Unmapped
 returns-in-Unmapped c = λ m levels are there.
     let level = c.args.view.now.level in
-    uncovered_told m level c.args.view.now.message.block (head_of c.args.head.now) c.args.out.now c.args.out.now c.in-Unmapped.path _
+    uncovered_told (request_of m c.args.view.now (head_of c.args.head.now)) c.args.out.now c.args.out.now c.in-Unmapped.path _
     (subst (IsCover Spells m level) c.in-Unmapped.is (c.cover.ensures m levels level are (ap (slice_get levels) c.template-template.ensures ∙ there))) c.as_slice.ensures refl
 
 -- a covered message: what was written, by the plan of the template
@@ -55,7 +56,7 @@ returns-then-write_text c = λ m levels are there.
     let p = plan_of m mapped.structure level in
     let rows = subst (AreRows Spells m.lists p) (sym c.as_slice-in-Mapped.ensures.value) mapped.rows in
     let put = c.write_text.ensures.text m.lists p rows (subst (FitsSeen p) (sym c.root.ensures) mapped.fits) in
-    text_told m level block head c.args.out.now c.write_text.new.out p c.write_text.new.halt mapped.cover
+    text_told (request_of m c.args.view.now head) c.args.out.now c.write_text.new.out p c.write_text.new.halt mapped.cover
     (subst (λ b. IsTextPut m.lists limit (out-Level level).semantic head (places_of p (values_of p block)) b c.write_text.new.out c.write_text.new.halt) c.if-write_text.true
     (subst (λ kind. IsTextPut m.lists limit kind head (places_of p (values_of p block)) c.write_text.result c.write_text.new.out c.write_text.new.halt) (c.msg_type.ensures m levels level are at)
     (subst (λ seen. IsTextPut m.lists limit c.msg_type.result.now head (places_of p (values_of p seen.block)) c.write_text.result c.write_text.new.out c.write_text.new.halt) c.root.ensures put)))
@@ -71,7 +72,7 @@ returns-else-write_text c = λ m levels are there.
     let p = plan_of m mapped.structure level in
     let rows = subst (AreRows Spells m.lists p) (sym c.as_slice-in-Mapped.ensures.value) mapped.rows in
     let put = c.write_text.ensures.text m.lists p rows (subst (FitsSeen p) (sym c.root.ensures) mapped.fits) in
-    refusal_told m level block head c.args.out.now c.write_text.new.out p c.write_text.new.halt mapped.cover
+    refusal_told (request_of m c.args.view.now head) c.args.out.now c.write_text.new.out p c.write_text.new.halt mapped.cover
     (subst (λ b. IsTextPut m.lists limit (out-Level level).semantic head (places_of p (values_of p block)) b c.write_text.new.out c.write_text.new.halt) c.if-write_text.false
     (subst (λ kind. IsTextPut m.lists limit kind head (places_of p (values_of p block)) c.write_text.result c.write_text.new.out c.write_text.new.halt) (c.msg_type.ensures m levels level are at)
     (subst (λ seen. IsTextPut m.lists limit c.msg_type.result.now head (places_of p (values_of p seen.block)) c.write_text.result c.write_text.new.out c.write_text.new.halt) c.root.ensures put)))
