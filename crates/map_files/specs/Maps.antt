@@ -26,6 +26,10 @@ file_map (Some bytes) = in_file (map_of bytes)
 abbrev pub too_long : FileRefusal
 too_long = NoMap Limit []
 
+-- the repository is that of the bytes of some file
+abbrev pub WasRead : Repository → Type 0
+WasRead repository = (bytes : List ℕ) × (map_of bytes ≡ Ok repository)
+
 -- what bytes are judged as, unless it ran out of memory
 abbrev pub ReadsMap : List ℕ → Result Repository LoadStop → Type 0
 ReadsMap bytes (Ok repository) = in_file (map_of bytes) ≡ Ok repository

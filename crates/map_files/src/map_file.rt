@@ -1,7 +1,8 @@
-ghost use Rattle.std.specs.Prelude.{◌≡◌};
+ghost use Rattle.std.specs.Prelude.{◌≡◌, IfOk};
 ghost use Rattle.sbe_base.specs.Causes.{one_more};
+ghost use Rattle.orchestra_map.specs.Headers.{IsKept};
 ghost use Rattle.schema_files.specs.Files.{LoadCause};
-ghost use Rattle.map_files.specs.Maps.{LoadsMap, ReadsMap, too_long};
+ghost use Rattle.map_files.specs.Maps.{LoadsMap, ReadsMap, WasRead, too_long};
 
 use json_elements::FILE_LIMIT;
 use lists::Text;
@@ -17,6 +18,8 @@ pub fn load_map<F: Files>(alloc: Global, files: &mut F, name: &str) -> Result<Re
     ensures loads { LoadsMap (F.state files.old).told name.now result }
     ensures cause { LoadCause (F.state files.old).faults (F.state files.new).faults result }
     ensures count { F.load_count files.new ≡ one_more (F.load_count files.old) }
+    ensures rules { IfOk result (λ repository. IsKept repository) }
+    ensures read { IfOk result (λ repository. WasRead repository) }
 {
     let mut bytes = Vec::new(alloc);
     match files.load(alloc, name, FILE_LIMIT, &mut bytes) {
@@ -30,7 +33,9 @@ pub fn load_map<F: Files>(alloc: Global, files: &mut F, name: &str) -> Result<Re
 
 /// The mapping that the bytes of a file hold.
 fn read_repository(alloc: Global, bytes: &[u8]) -> Result<Repository, LoadStop>
-    ensures { ReadsMap bytes.now result }
+    ensures reads { ReadsMap bytes.now result }
+    ensures rules { IfOk result (λ repository. IsKept repository) }
+    ensures read { IfOk result (λ repository. WasRead repository) }
 {
     match read_map(alloc, bytes) {
         Ok(repository) => Ok(repository),

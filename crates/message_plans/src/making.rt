@@ -31,7 +31,8 @@ use structure_rows::PlaceRow;
 ///
 /// # Errors
 ///
-/// Out of memory. It is told too where the row of a covered part can't be made, which a mapping in order rules out.
+/// Out of memory. It is told too where the row of a covered part can't be made: no mapping in order is known for which that is so, but
+/// it isn't proved.
 pub fn make_plan<R: RuleRow>(
     alloc: Global,
     checked: &Checked,

@@ -89,7 +89,7 @@ goes_once : (r : FileRole) (one : Result WireSchema FileRefusal) (P : WireSchema
 goes_once r (Ok schema) P a b once h k = once schema h k
 goes_once r (Err why) P a b once h k = h ∙ sym k
 
-more_once : (contents : List ℕ → Option (List ℕ)) (names : List (List ℕ)) (schemas : Schemas) (number : ℕ) (a b : Result Schemas RefusedFile) → JudgesMore contents schemas number names a → JudgesMore contents schemas number names b → a ≡ b
+pub more_once : (contents : List ℕ → Option (List ℕ)) (names : List (List ℕ)) (schemas : Schemas) (number : ℕ) (a b : Result Schemas RefusedFile) → JudgesMore contents schemas number names a → JudgesMore contents schemas number names b → a ≡ b
 more_once contents [] schemas number a b h k = h ∙ sym k
 more_once contents (name ∷ names) schemas number a b h k =
     let same : k.0 ≡ h.0 = from_once schemas (file_schema (contents name)) k.0 h.0 k.1 h.1 in
@@ -107,7 +107,7 @@ goes_some : (r : FileRole) (one : Result WireSchema FileRefusal) (P : WireSchema
 goes_some r (Ok schema) P some = some schema
 goes_some r (Err why) P some = (Err (refused_as r why), refl)
 
-more_some : (contents : List ℕ → Option (List ℕ)) (names : List (List ℕ)) (schemas : Schemas) (number : ℕ) → (a : Result Schemas RefusedFile) × JudgesMore contents schemas number names a
+pub more_some : (contents : List ℕ → Option (List ℕ)) (names : List (List ℕ)) (schemas : Schemas) (number : ℕ) → (a : Result Schemas RefusedFile) × JudgesMore contents schemas number names a
 more_some contents [] schemas number = (Ok schemas, refl)
 more_some contents (name ∷ names) schemas number =
     let one = some_from schemas (file_schema (contents name)) in
@@ -119,7 +119,7 @@ schemas_some contents name also = goes_some role.Schema (file_schema (contents n
 
 -- ---- they are in order
 
-all_behind : (xs : List WireSchema) (x : WireSchema) → AllByRecursion IsChecked xs → IsChecked x → AllByRecursion IsChecked (xs ++ x ∷ [])
+pub all_behind : (xs : List WireSchema) (x : WireSchema) → AllByRecursion IsChecked xs → IsChecked x → AllByRecursion IsChecked (xs ++ x ∷ [])
 all_behind [] x all good = (good, tt)
 all_behind (y ∷ xs) x all good = (all.0, all_behind xs x all.1 good)
 
@@ -127,7 +127,7 @@ goes_good : (r : FileRole) (one : Result WireSchema FileRefusal) (Next : WireSch
 goes_good r (Ok schema) Next all good h = good schema refl h
 goes_good r (Err why) Next all good h = cc
 
-more_good : (contents : List ℕ → Option (List ℕ)) (names : List (List ℕ)) (schemas all : Schemas) (number : ℕ) → AreInOrder schemas → JudgesMore contents schemas number names (Ok all) → AreInOrder all
+pub more_good : (contents : List ℕ → Option (List ℕ)) (names : List (List ℕ)) (schemas all : Schemas) (number : ℕ) → AreInOrder schemas → JudgesMore contents schemas number names (Ok all) → AreInOrder all
 more_good contents [] schemas all number order h = subst AreInOrder (sym (all_same h)) order
   where
     all_same : ◌≡◌ {A = Result Schemas RefusedFile} (Ok all) (Ok schemas) → all ≡ schemas

@@ -13,7 +13,7 @@ use Rattle.schema_rules.specs.Checked.{checked_of}
 use Rattle.sbe_types.specs.declared.schema.WireSchema.{WireSchema}
 use Rattle.dump_lines.specs.declared.schemas.Schemas.{Schemas}
 use Rattle.schema_files.specs.Judged.{in_order, tree_in_order, schema_in, file_schema, refused_as, alone, with_one, JoinsFrom, GoesOn, JudgesMore}
-use Rattle.schema_files.specs.Files.{Reads, IsRead, after_loads, loads_up_to, NamesLast, LoadsAs, LoadsChecked, stop_of, JoinsAs, LoadsJoining, LoadsMore, LoadsSchemas, FailsAt}
+use Rattle.schema_files.specs.Files.{Reads, IsRead, after_loads, loads_up_to, loads_with_map, NamesLast, NamesLastBy, LoadsAs, LoadsChecked, stop_of, JoinsAs, LoadsJoining, LoadsMore, LoadsSchemas, FailsAt}
 use Rattle.schema_files.specs.declared.files.FileRefusal.{FileRefusal}
 use Rattle.schema_files.specs.declared.files.FileRefusal.TheVariants.{TooLong}
 use Rattle.schema_files.specs.declared.files.FileRole.{FileRole}
@@ -83,10 +83,15 @@ loads_more i first here now counted next =
     next ∙ ap one_more counted ∙ ap (λ n. after_loads n first) number
 
 -- a stop at the file in that role, as many loads after the first as its role says
+pub named_last_by : (T : Type 0) (loads : FileRole → ℕ) (at : FileRole) (before now : ℕ) (why : LoadStop) → now ≡ after_loads (loads at) before →
+    NamesLastBy {T = T} loads before now (Err (stop_of at why))
+named_last_by T loads at before now (Refused why) h = h
+named_last_by T loads at before now Fault h = h
+named_last_by T loads at before now NoMemory h = tt
+
+-- the same of a command without a mapping after its schema
 pub named_last : (T : Type 0) (at : FileRole) (before now : ℕ) (why : LoadStop) → now ≡ after_loads (loads_up_to at) before → NamesLast {T = T} before now (Err (stop_of at why))
-named_last T at before now (Refused why) h = h
-named_last T at before now Fault h = h
-named_last T at before now NoMemory h = tt
+named_last T at before now why h = named_last_by T loads_up_to at before now why h
 
 -- the same of a further file, which is loaded after the first and those before it
 pub also_named : (T : Type 0) (i first here now : ℕ) (why : LoadStop) → here ≡ after_loads i first → now ≡ one_more here →
@@ -95,6 +100,15 @@ also_named T i first here now why counted next before same =
     let number : suc i ≡ i + 1 = omega arith in
     named_last T (role.Also (i + 1)) before now why
     (next ∙ ap one_more (counted ∙ ap (after_loads i) same ∙ loads_after_one i before) ∙ ap (λ n. after_loads (suc n) before) number)
+
+-- the same where a mapping was loaded after the first
+pub also_named_with_map : (T : Type 0) (i first here now : ℕ) (why : LoadStop) → here ≡ after_loads i first → now ≡ one_more here →
+    (before : ℕ) → first ≡ one_more (one_more before) → NamesLastBy {T = T} loads_with_map before now (Err (stop_of (role.Also (i + 1)) why))
+also_named_with_map T i first here now why counted next before same =
+    let number : suc i ≡ i + 1 = omega arith in
+    let two : after_loads i (one_more (one_more before)) ≡ after_loads (suc (suc i)) before = loads_after_one i (one_more before) ∙ loads_after_one (suc i) before in
+    named_last_by T loads_with_map (role.Also (i + 1)) before now why
+    (next ∙ ap one_more (counted ∙ ap (after_loads i) same ∙ two) ∙ ap (λ n. after_loads (suc (suc n)) before) number)
 
 -- ---- several schemas
 

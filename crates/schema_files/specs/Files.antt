@@ -1,5 +1,5 @@
 -- What loading a file answers.
-use Rattle.std.specs.Prelude.{◌≡◌, ◌≤◌, ℕ, zero, suc, List, Option, Some, Result, Ok, Err, ⊤}
+use Rattle.std.specs.Prelude.{◌≡◌, ◌≤◌, ℕ, zero, suc, List, Option, Some, None, Result, Ok, Err, ⊤}
 use Rattle.sbe_base.specs.Causes.{Rose, one_more}
 use Rattle.sbe_types.specs.declared.schema.WireSchema.{WireSchema}
 use Rattle.schema_files.specs.Judged.{file_schema, refused_as, IsWithin, JoinsFrom, JudgesSchemas, JudgesMore}
@@ -81,14 +81,33 @@ abbrev pub after_loads : ℕ → ℕ → ℕ
 after_loads zero before = before
 after_loads (suc n) before = one_more (after_loads n before)
 
--- a stop that names a file names the one that was loaded last
+-- a stop that names a file names the one that was loaded last, where it takes so many loads up to each
+abbrev pub NamesLastBy : {T : Type 0} → (FileRole → ℕ) → ℕ → ℕ → Result T JobStop → Type 0
+NamesLastBy loads before now (Ok x) = ⊤
+NamesLastBy loads before now (Err (stop.Refused refused)) = now ≡ after_loads (loads refused.role) before
+NamesLastBy loads before now (Err (stop.Fault role)) = now ≡ after_loads (loads role) before
+NamesLastBy loads before now (Err stop.NoMemory) = ⊤
+
+-- the same of a command without a mapping after its schema
 abbrev pub NamesLast : {T : Type 0} → ℕ → ℕ → Result T JobStop → Type 0
-NamesLast before now (Ok x) = ⊤
-NamesLast before now (Err (stop.Refused refused)) = now ≡ after_loads (loads_up_to refused.role) before
-NamesLast before now (Err (stop.Fault role)) = now ≡ after_loads (loads_up_to role) before
-NamesLast before now (Err stop.NoMemory) = ⊤
+NamesLast {T} before now result = NamesLastBy {T = T} loads_up_to before now result
+
+-- the same of a command whose mapping follows the first schema
+abbrev pub loads_with_map : FileRole → ℕ
+loads_with_map role.Schema = 1
+loads_with_map (role.Also n) = suc (suc n)
+loads_with_map role.Old = 1
+loads_with_map role.New = 2
+loads_with_map role.Map = 2
+loads_with_map role.From = 1
+loads_with_map role.To = 2
 
 -- ---- several schemas
+
+-- the answer about a further schema: that it is taken, or why it isn't
+abbrev pub joined_so : WireSchema → Option FileRefusal → Result WireSchema FileRefusal
+joined_so schema None = Ok schema
+joined_so schema (Some why) = Err why
 
 -- what a further file is judged as, unless the files failed or it ran out of memory
 abbrev pub JoinsAs : Schemas → Result WireSchema FileRefusal → Result WireSchema LoadStop → Type 0

@@ -9,4 +9,4 @@ mod schemas;
 pub use files::{FileRefusal, FileRole, JobStop, LoadStop, RefusedFile};
 pub use refusal::{put_refusal, put_role, refusal_status};
 pub use schema_file::load_checked;
-pub use schemas::load_schemas;
+pub use schemas::{load_schemas, why_not_joined};

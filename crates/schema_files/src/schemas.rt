@@ -1,7 +1,9 @@
 ghost use Rattle.std.specs.Prelude.{◌≡◌, ℕ, length, IfOk};
 ghost use Rattle.dump_lines.specs.Dumped.{AreInOrder};
 ghost use Rattle.sbe_base.specs.Causes.{one_more};
-ghost use Rattle.schema_files.specs.Files.{FailsAt, JobCause, LoadCause, LoadsJoining, LoadsMore, LoadsSchemas, NamesLast};
+ghost use Rattle.dump_lines.specs.declared.schemas.Schemas.{Schemas as SchemaSet};
+ghost use Rattle.schema_files.specs.Judged.{is_taken, Joins};
+ghost use Rattle.schema_files.specs.Files.{joined_so, FailsAt, JobCause, LoadCause, LoadsJoining, LoadsMore, LoadsSchemas, NamesLast};
 
 use crate::files::{FileRefusal, FileRole, JobStop, LoadStop};
 use crate::schema_file::load_checked;
@@ -87,16 +89,28 @@ fn load_joining<F: Files>(
         Ok(checked) => checked,
         Err(stop) => return Err(stop),
     };
-    if schemas.has_id(checked.id()) {
-        return Err(LoadStop::Refused(FileRefusal::SameId));
-    }
-    if !first.same_form(&checked) {
-        return Err(LoadStop::Refused(FileRefusal::FormDiffers));
+    if let Some(why) = why_not_joined(first, schemas.has_id(checked.id()), &checked) {
+        return Err(LoadStop::Refused(why));
     }
     match line_layout(alloc, &checked) {
         Ok(lines) => Ok(lines),
         Err(_) => Err(LoadStop::NoMemory),
     }
+}
+
+/// Why a further schema isn't taken: an earlier one has its id, or its messages begin in another form than those of the
+/// first.
+pub fn why_not_joined(first: &Checked, taken: bool, further: &Checked) -> Option<FileRefusal>
+    ensures { (schemas : SchemaSet) → schemas.first ≡ first.now → taken ≡ is_taken schemas further.now.id
+        → Joins schemas further.now (joined_so further.now result) }
+{
+    if taken {
+        return Some(FileRefusal::SameId);
+    }
+    if !first.same_form(further) {
+        return Some(FileRefusal::FormDiffers);
+    }
+    None
 }
 
 /// The layout of a checked schema with the texts of its lines.

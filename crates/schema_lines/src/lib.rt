@@ -5,5 +5,5 @@ mod counts;
 mod messages;
 mod text;
 
-pub use messages::put_messages;
+pub use messages::{put_message, put_messages};
 pub use text::{put, put_count, put_json_text};

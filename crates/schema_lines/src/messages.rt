@@ -18,12 +18,17 @@ pub fn put_messages(messages: &[Level], out: &mut Vec<u8>) -> Result<(), NoMem>
     ensures { Puts result out.old.items out.new.items (message_lines messages.now) }
 {
     for message in messages {
-        put_line(message, out)?;
+        put_message(message, out)?;
     }
     Ok(())
 }
 
-fn put_line(message: &Level, out: &mut Vec<u8>) -> Result<(), NoMem>
+/// Appends the line of one message.
+///
+/// # Errors
+///
+/// As of `put_messages`.
+pub fn put_message(message: &Level, out: &mut Vec<u8>) -> Result<(), NoMem>
     ensures { Puts result out.old.items out.new.items (message_line message.now) }
 {
     let Some(counts) = count_level(message) else {

@@ -1,5 +1,5 @@
 use Rattle.schema_lines.proofs.Growing.{then_put}
-use Rattle.schema_lines.proofs.messages.put_line.Goals as goal
+use Rattle.schema_lines.proofs.messages.put_message.Goals as goal
 
 pub returns : goal.returns
 returns c =

@@ -1,0 +1,8 @@
+use Rattle.schema_lines.proofs.Growing.{then_put}
+use Rattle.coverage_command.proofs.lines.put_mapped.Goals as goal
+
+pub returns : goal.returns
+returns c =
+    let name = rw c.as_slice.ensures at c.in_ok-put_json_text.ensures in
+    let kind = rw c.as_slice-2.ensures at c.in_ok-put_json_text-2.ensures in
+    then_put c.in_ok-put.ensures (then_put name (then_put c.in_ok-put-2.ensures (then_put kind c.put-3.ensures)))

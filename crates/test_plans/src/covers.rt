@@ -1,0 +1,109 @@
+//! What a mapping says of the messages of a schema.
+
+ghost use Rattle.orchestra_map.specs.Headers.{IsKept};
+
+use anyhow::{Result, bail};
+use lists::Text;
+use map_types::Repository;
+use message_plans::{Cover, Plan, Template, make_plan};
+use orchestra_map::read_map;
+use row_tables::Row;
+use sbe_schema::read_schema;
+use sbe_types::Level;
+use schema_check::{Checked, check};
+use std::alloc::Global;
+use std::fs;
+use value_texts::ValueText;
+
+/// A row: the name of the files of a schema and of a mapping. Each message is told with what the mapping says of it.
+pub fn covers_told(rt: &HostRuntime, row: &Row) -> Result<String> {
+    let name = row.text(0)?;
+    let schema = format!(in rt.alloc(); "files/{name}.schema.json")?;
+    let checked = checked_of(rt, schema.as_str())?;
+    let map = format!(in rt.alloc(); "files/{name}.map.json")?;
+    mapping_told(rt, &checked, map.as_str())
+}
+
+fn mapping_told(rt: &HostRuntime, checked: &Checked, path: &str) -> Result<String> {
+    let text = fs::read_to_string(rt, path)?;
+    match read_map(rt.alloc(), text.as_bytes()) {
+        Ok(repository) => plans_told(rt.alloc(), checked, &repository),
+        Err(_) => bail!("the mapping is refused"),
+    }
+}
+
+fn plans_told(alloc: Global, checked: &Checked, repository: &Repository) -> Result<String>
+    requires kept { IsKept repository.now }
+{
+    let plan = make_plan::<ValueText>(alloc, checked, repository)?;
+    all_told(alloc, &plan, checked.messages().as_slice())
+}
+
+fn checked_of(rt: &HostRuntime, path: &str) -> Result<Checked> {
+    let text = fs::read_to_string(rt, path)?;
+    let schema = read_schema(rt.alloc(), text.as_bytes())?;
+    match check(rt.alloc(), schema) {
+        Ok(checked) => Ok(checked),
+        Err(_) => bail!("the schema is refused"),
+    }
+}
+
+fn all_told(alloc: Global, plan: &Plan<ValueText>, levels: &[Level]) -> Result<String> {
+    let mut told = String::new(alloc);
+    for (i, level) in levels.iter().enumerate() {
+        if i >= plan.templates() {
+            bail!("a message has no plan");
+        }
+        if i > 0 {
+            told.push_str("; ")?;
+        }
+        put_bytes(alloc, &mut told, level.name.as_slice())?;
+        put_cover(alloc, &mut told, plan, i)?;
+    }
+    Ok(told)
+}
+
+/// What the mapping says of a template: its MsgType with how often templates have it, where it is covered.
+fn put_cover(alloc: Global, told: &mut String, plan: &Plan<ValueText>, i: usize) -> Result<()> {
+    if i >= plan.templates() {
+        bail!("a message has no plan");
+    }
+    match plan.cover(i) {
+        Cover::Mapped(_) => put_kind(alloc, told, plan, i),
+        Cover::NoMessage => Ok(told.push_str(" B01")?),
+        Cover::Unmapped(path) => put_path(alloc, told, path.as_slice()),
+    }
+}
+
+/// The MsgType of a template, which finds it again unless others have it too.
+fn put_kind(alloc: Global, told: &mut String, plan: &Plan<ValueText>, i: usize) -> Result<()> {
+    if i >= plan.templates() {
+        bail!("a message has no plan");
+    }
+    let kind = plan.msg_type(i);
+    told.push_str(" ")?;
+    put_bytes(alloc, told, kind)?;
+    match plan.template_for(kind) {
+        Template::One(other) if other == i => Ok(()),
+        Template::Several => Ok(told.push_str(" several")?),
+        _ => bail!("another template has the MsgType"),
+    }
+}
+
+fn put_path(alloc: Global, told: &mut String, path: &[Text]) -> Result<()> {
+    told.push_str(" B02")?;
+    for (i, name) in path.iter().enumerate() {
+        if i == 0 {
+            told.push_str(" ")?;
+        } else {
+            told.push_str(".")?;
+        }
+        put_bytes(alloc, told, name.as_slice())?;
+    }
+    Ok(())
+}
+
+fn put_bytes(alloc: Global, told: &mut String, bytes: &[u8]) -> Result<()> {
+    let text = String::from_utf8_lossy(alloc, bytes)?;
+    Ok(told.push_str(text.as_str())?)
+}
