@@ -218,8 +218,8 @@ fn put_bytes<N: Sink>(printer: &mut Printer<'_, N>, needed: u64)
     put_refused_back(printer, bytes.as_bytes());
 }
 
-/// The code of why a value has no text.
-fn value_code(why: V) -> &'static str
+/// The code of why a value has no text, or a text no value.
+pub fn value_code(why: V) -> &'static str
     ensures { result.now ≡ value_code why }
 {
     match why {

@@ -1,0 +1,5 @@
+pub mod Judging
+pub mod Loaded
+pub mod Heads
+pub mod Finding
+pub mod Replied
