@@ -1,0 +1,3 @@
+pub mod Numbering
+pub mod Planning
+pub mod Translating

@@ -1,0 +1,3 @@
+pub mod Numbered
+pub mod Plans
+pub mod Translations
