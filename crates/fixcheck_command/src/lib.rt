@@ -7,3 +7,4 @@ mod lines;
 mod rows;
 
 pub use fixcheck::{FixChecker, load_fixcheck};
+pub use lines::{note_encoding, note_fault};

@@ -1,0 +1,5 @@
+pub mod Held
+pub mod Places
+pub mod Replied
+pub mod Told
+pub mod Loaded

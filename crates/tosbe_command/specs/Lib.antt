@@ -1,0 +1,3 @@
+pub mod Bridges
+pub mod ToSbe
+pub mod Unsent
