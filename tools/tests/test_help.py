@@ -13,12 +13,15 @@ PROGRAM = Path(os.environ.get("SBE", ROOT / "crates" / "sbe" / "out" / "sbe"))
 FORMS = ROOT / "crates" / "test_steps" / "data" / "runs.jsonl"
 EXAMPLES = [
     "  sbe check feed.json",
+    "  sbe check orders.json orders-map.json",
     "  sbe compat feed.json feed2.json",
     "  sbe dump feed.json < frames.bin",
     "  sbe dump feed.json --also orders.json < frames.bin",
     "  sbe build feed.json < lines.jsonl > frames.bin",
     "  sbe fixcheck orders-map.json < texts.bin",
     "  sbe rawframe orders-map.json < messages.log | sbe fixcheck orders-map.json",
+    "  sbe tofix orders.json orders-map.json --sender FIRM --target EXCH --seq 1 < frames.bin > texts.bin",
+    "  sbe tosbe orders.json orders-map.json < texts.bin > frames.bin",
     "  sbe selftest orders.json 1 10000",
     "  sbe regrade feed.json feed2.json < frames.bin > frames2.bin",
 ]

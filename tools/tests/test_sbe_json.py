@@ -10,6 +10,7 @@ import time
 import unittest
 
 PROGRAM = os.path.join(os.path.dirname(os.path.dirname(os.path.abspath(__file__))), "sbe-json")
+EXAMPLES = os.path.join(os.path.dirname(os.path.dirname(PROGRAM)), "examples")
 
 
 def loaded():
@@ -74,16 +75,32 @@ WHOLE_AS_JSON = {"messageSchema": {
                        "content": [{"field": {"name": "x", "id": "21", "type": "uint8"}}]}},
             {"data": {"name": "d", "id": "30", "type": "varData"}}]}}]}}
 
-REPOSITORY = """<fixr:repository xmlns:fixr="http://fixprotocol.io/2020/orchestra/repository" name="r">
+REPOSITORY = """<fixr:repository xmlns:fixr="http://fixprotocol.io/2020/orchestra/repository" name="r" version="1">
+  <fixr:datatypes><fixr:datatype name="Price" baseType="float"/></fixr:datatypes>
   <fixr:codeSets><fixr:codeSet name="SideCodeSet" type="char"><fixr:code name="Buy" value="1"/></fixr:codeSet></fixr:codeSets>
-  <fixr:messages><fixr:message name="O" msgType="D"><fixr:structure><fixr:fieldRef id="54"/></fixr:structure></fixr:message></fixr:messages>
+  <fixr:fields><fixr:field id="54" name="Side" type="SideCodeSet"/>
+    <fixr:field id="96" name="RawData" type="data" lengthId="95"/></fixr:fields>
+  <fixr:components><fixr:component id="1" name="Instrument"><fixr:fieldRef id="55"/>
+    <fixr:componentRef id="2"/></fixr:component></fixr:components>
+  <fixr:groups><fixr:group id="3" name="Parties"><fixr:numInGroup id="453"/><fixr:fieldRef id="448" presence="required"/>
+    <fixr:groupRef id="4"/></fixr:group></fixr:groups>
+  <fixr:messages><fixr:message name="O" msgType="D"><fixr:structure><fixr:componentRef id="1"/><fixr:groupRef id="3"/>
+    <fixr:fieldRef id="54"/></fixr:structure></fixr:message></fixr:messages>
 </fixr:repository>"""
 
-REPOSITORY_AS_JSON = {"repository": {"name": "r", "content": [
+REPOSITORY_AS_JSON = {"repository": {"name": "r", "version": "1", "content": [
+    {"datatypes": {"content": [{"datatype": {"name": "Price", "baseType": "float"}}]}},
     {"codeSets": {"content": [{"codeSet": {"name": "SideCodeSet", "type": "char",
                                            "content": [{"code": {"name": "Buy", "value": "1"}}]}}]}},
+    {"fields": {"content": [{"field": {"id": "54", "name": "Side", "type": "SideCodeSet"}},
+                            {"field": {"id": "96", "name": "RawData", "type": "data", "lengthId": "95"}}]}},
+    {"components": {"content": [{"component": {"id": "1", "name": "Instrument", "content": [
+        {"fieldRef": {"id": "55"}}, {"componentRef": {"id": "2"}}]}}]}},
+    {"groups": {"content": [{"group": {"id": "3", "name": "Parties", "content": [
+        {"numInGroup": {"id": "453"}}, {"fieldRef": {"id": "448", "presence": "required"}}, {"groupRef": {"id": "4"}}]}}]}},
     {"messages": {"content": [{"message": {"name": "O", "msgType": "D", "content": [
-        {"structure": {"content": [{"fieldRef": {"id": "54"}}]}}]}}]}}]}}
+        {"structure": {"content": [{"componentRef": {"id": "1"}}, {"groupRef": {"id": "3"}},
+                                   {"fieldRef": {"id": "54"}}]}}]}}]}}]}}
 
 LAUGHS = '<!DOCTYPE l [<!ENTITY a "ha">%s]><messageSchema>&z;</messageSchema>' % "".join(
     '<!ENTITY %s "%s">' % (chr(98 + i), "&%s;" % chr(97 + i) * 10) for i in range(25))
@@ -111,6 +128,12 @@ class Converts(unittest.TestCase):
 
     def test_a_repository(self):
         self.check(REPOSITORY, REPOSITORY_AS_JSON)
+
+    def test_the_examples(self):
+        for name in ("feed", "orders", "orders-map"):
+            done = run(os.path.join(EXAMPLES, name + ".xml"))
+            with open(os.path.join(EXAMPLES, name + ".json"), "rb") as kept:
+                self.assertEqual((done.returncode, done.stdout), (0, kept.read()), name)
 
     def test_both_byte_orders(self):
         for order in ("littleEndian", "bigEndian"):

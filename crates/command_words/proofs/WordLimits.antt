@@ -1,12 +1,15 @@
 -- The limits that options give lie in their ranges.
-use Rattle.std.proofs.Common.{◌≡◌, ◌≤◌, ◌^◌, ℕ, Bool, true, false, ◌&&◌, nat_le, List, [], ◌∷◌, Option, Some, None, IfSome, refl, sym, subst, arith, if◌then◌else◌}
+use Rattle.std.proofs.Common.{◌≡◌, ◌≤◌, ◌^◌, ℕ, Bool, true, false, ◌&&◌, nat_le, List, [], ◌∷◌, Option, Some, None, IfSome, unwrap_or, cond, refl, sym, subst, arith, if◌then◌else◌}
 use Rattle.std.proofs.lemmas.Bool.{leb-true}
+use Rattle.std.specs.Option.{option_map}
 use Rattle.std.specs.Str.Parse.{digits_value}
 use Rattle.sbe_base.specs.declared.status.Limits.{Limits}
 use Rattle.command_words.specs.declared.options.NumberRange.{NumberRange}
 use Rattle.command_words.specs.declared.options.Draws.{Draws}
+use Rattle.command_words.specs.declared.options.HeadWords.{HeadWords}
+use Rattle.command_words.specs.declared.options.TheConstants.{BEGIN, DEFAULT_BEGIN, SENDER, SEQ, SEQ_RANGE, TARGET, TIME}
 use Rattle.command_words.specs.declared.options.TheConstants.{FRAME_RANGE, INPUT_RANGE, SEED_RANGE, COUNT_RANGE, MAX_FRAME, MAX_INPUT, MOST_MESSAGES}
-use Rattle.command_words.specs.Words.{draws_from, draws_of, is_number, limits_from, limits_of, number_by, number_given, number_within, values_of}
+use Rattle.command_words.specs.Words.{begin_given, draws_from, draws_of, head_of, head_with, is_field_text, text_by, text_given, text_in, HasFields, IsField, is_number, limits_from, limits_of, number_by, number_given, number_within, values_of}
 
 abbrev InRange : NumberRange → ℕ → Type 0
 InRange range n = (range.least ≤ n) × (n ≤ range.most)
@@ -60,3 +63,39 @@ small_draws (seed ∷ count ∷ word ∷ more) = tt
 
 pub draws_within : (words : List (List ℕ)) (draws : Draws) → Some draws ≡ draws_of words → draws.count ≤ MOST_MESSAGES
 draws_within words draws is = subst (λ o. IfSome o (λ draws. IsSmall draws)) (sym is) (small_draws words)
+
+-- ---- header fields
+
+word_field : (word : List ℕ) → IfSome (text_in word) (λ text. IsField text)
+word_field word = by (is_field_text word) refl
+  where
+    by : (t : Bool) → is_field_text word ≡ t → IfSome (cond t (Some (Some word)) None) (λ text. IsField text)
+    by true is = is
+    by false is = tt
+
+given_field : (values : List (List ℕ)) → IfSome (text_by values) (λ text. IsField text)
+given_field [] = tt
+given_field (value ∷ []) = word_field value
+given_field (value ∷ again ∷ more) = tt
+
+begin_field : (text : Option (Option (List ℕ))) → IfSome text (λ text. IsField text) → IfSome (option_map (λ begin. unwrap_or begin DEFAULT_BEGIN.now) text) (λ begin. is_field_text begin ≡ true)
+begin_field None h = tt
+begin_field (Some None) h = refl
+begin_field (Some (Some begin)) h = h
+
+all_fields : (seq : Option ℕ) (begin : Option (List ℕ)) (sender target time : Option (Option (List ℕ))) → IfSome begin (λ begin. is_field_text begin ≡ true) →
+    IfSome sender (λ text. IsField text) → IfSome target (λ text. IsField text) → IfSome time (λ text. IsField text) → IfSome (head_with seq begin sender target time) (λ head. HasFields head)
+all_fields None begin sender target time b s t m = tt
+all_fields (Some seq) None sender target time b s t m = tt
+all_fields (Some seq) (Some begin) None target time b s t m = tt
+all_fields (Some seq) (Some begin) (Some sender) None time b s t m = tt
+all_fields (Some seq) (Some begin) (Some sender) (Some target) None b s t m = tt
+all_fields (Some seq) (Some begin) (Some sender) (Some target) (Some time) b s t m = record { begin = b; sender = s; target = t; time = m }
+
+-- the header fields that options give are such
+pub fields_given : (pairs : List (List ℕ)) (head : HeadWords) → head_of pairs ≡ Some head → HasFields head
+fields_given pairs head is =
+    let field : (option : List ℕ) → IfSome (text_given option pairs) (λ text. IsField text) = λ option. given_field (values_of option pairs) in
+    subst (λ o. IfSome o (λ head. HasFields head)) is
+    (all_fields (number_given SEQ.now SEQ_RANGE pairs) (begin_given pairs) (text_given SENDER.now pairs) (text_given TARGET.now pairs) (text_given TIME.now pairs)
+    (begin_field (text_given BEGIN.now pairs) (field BEGIN.now)) (field SENDER.now) (field TARGET.now) (field TIME.now))

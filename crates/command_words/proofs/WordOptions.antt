@@ -7,7 +7,7 @@ use Rattle.std.specs.Prelude.{String, string_bytes}
 use Rattle.std.specs.declared.alloc.Global.{Global}
 use Rattle.std.specs.Str.{bytes_eq}
 use Rattle.command_words.specs.declared.options.NumberRange.{NumberRange}
-use Rattle.command_words.specs.Words.{is_file_name, names_by, number_by, number_within, values_of}
+use Rattle.command_words.specs.Words.{is_file_name, names_by, text_by, text_in, number_by, number_within, values_of}
 use Rattle.command_words.proofs.WordLists.{texts, behind_two, pair_front}
 
 -- the number of an option that had none so far, or this one, and has these values yet
@@ -105,3 +105,19 @@ values_ended option (word ∷ value ∷ more) so all few so_far = absurd (omega 
 
 pub names_taken : (most : ℕ) (values : List (List ℕ)) → length values ≤ most → list_all is_file_name values ≡ true → names_by most values ≡ Some values
 names_taken most values few good = ap (λ t. cond (t && list_all is_file_name values) (Some values) None) (le-leb (length values) most few) ∙ ap (λ t. cond t (Some values) None) good
+
+-- ---- header fields that an option gives
+
+pub none_given : (values : List (List ℕ)) → length values ≡ 0 → text_by values ≡ Some None
+none_given [] none = refl
+none_given (value ∷ more) none = absurd (omega (arith, none))
+
+pub one_given : (values : List (List ℕ)) (value : List ℕ) → length values ≡ 1 → value ≡ get_or values 0 value → text_by values ≡ text_in value
+one_given [] value one is = absurd (omega (arith, one))
+one_given (first ∷ []) value one is = ap text_in (sym is)
+one_given (first ∷ again ∷ more) value one is = absurd (omega (arith, one))
+
+pub more_given : (values : List (List ℕ)) → 2 ≤ length values → text_by values ≡ None
+more_given [] many = absurd (omega (arith, many))
+more_given (value ∷ []) many = absurd (omega (arith, many))
+more_given (value ∷ again ∷ more) many = refl

@@ -1,6 +1,6 @@
 -- What words say.
-use Rattle.std.specs.Prelude.{◌≡◌, ◌≤◌, ◌^◌, ℕ, Bool, true, false, ◌&&◌, ◌==◌, not, nat_lt, nat_le, if◌then◌else◌, List, [], ◌∷◌, length, map, get_or, codes, take, drop, filter, find, Option, Some, None, Result, Ok, Err, ⊤}
-use Rattle.std.specs.Option.{option_and_then}
+use Rattle.std.specs.Prelude.{◌≡◌, ◌≤◌, ◌^◌, ℕ, Bool, true, false, ◌&&◌, ◌==◌, not, nat_lt, nat_le, if◌then◌else◌, List, [], ◌∷◌, length, map, get_or, codes, take, drop, filter, find, Option, Some, None, unwrap_or, Result, Ok, Err, ⊤}
+use Rattle.std.specs.Option.{option_and_then, option_map}
 use Rattle.std.specs.List.{list_all, list_any}
 use Rattle.std.specs.Str.{bytes_eq, all_ascii_digits}
 use Rattle.std.specs.Str.Parse.{digits_value}
@@ -12,6 +12,8 @@ use Rattle.command_words.specs.declared.forms.Form.{Form}
 use Rattle.command_words.specs.declared.forms.TheConstants.{FORMS}
 use Rattle.command_words.specs.declared.options.NumberRange.{NumberRange}
 use Rattle.command_words.specs.declared.options.Draws.{Draws}
+use Rattle.command_words.specs.declared.options.HeadWords.{HeadWords}
+use Rattle.command_words.specs.declared.options.TheConstants.{BEGIN, DEFAULT_BEGIN, MOST_FIELD_BYTES, SENDER, SEQ, SEQ_RANGE, TARGET, TIME}
 use Rattle.command_words.specs.declared.options.TheConstants.{ALSO, MOST_ALSO, MOST_MESSAGES, MAX_FRAME, MAX_INPUT, FRAME_RANGE, INPUT_RANGE, SEED_RANGE, COUNT_RANGE}
 
 -- ---- one word
@@ -94,6 +96,49 @@ names_by most values = if nat_le (length values) most && list_all is_file_name v
 abbrev pub names_given : List ℕ → ℕ → List (List ℕ) → Option (List (List ℕ))
 names_given option most pairs = names_by most (values_of option pairs)
 
+-- ---- the head of a text
+
+-- it is a printable ASCII character, a space included
+abbrev pub is_printed : ℕ → Bool
+is_printed byte = nat_le 32 byte && nat_le byte 126
+
+-- A header field has 1 to 64 bytes, each of them printable.
+abbrev pub is_field_text : List ℕ → Bool
+is_field_text word = nat_lt 0 (length word) && nat_le (length word) MOST_FIELD_BYTES && list_all is_printed word
+
+-- the header field that an argument gives
+abbrev pub text_in : List ℕ → Option (Option (List ℕ))
+text_in word = if is_field_text word then Some (Some word) else None
+
+-- the header field that these values give: none if there is no value
+abbrev pub text_by : List (List ℕ) → Option (Option (List ℕ))
+text_by [] = Some None
+text_by (value ∷ []) = text_in value
+text_by (value ∷ again ∷ more) = None
+
+-- the header field that pairs give for this option
+abbrev pub text_given : List ℕ → List (List ℕ) → Option (Option (List ℕ))
+text_given option pairs = text_by (values_of option pairs)
+
+-- the version of the encoding that pairs give, or its default
+abbrev pub begin_given : List (List ℕ) → Option (List ℕ)
+begin_given pairs = option_map (λ begin. unwrap_or begin DEFAULT_BEGIN.now) (text_given BEGIN.now pairs)
+
+-- a head of these, if all are there
+abbrev pub head_with : Option ℕ → Option (List ℕ) → Option (Option (List ℕ)) → Option (Option (List ℕ)) → Option (Option (List ℕ)) → Option HeadWords
+head_with None begin sender target time = None
+head_with (Some seq) None sender target time = None
+head_with (Some seq) (Some begin) None target time = None
+head_with (Some seq) (Some begin) (Some sender) None time = None
+head_with (Some seq) (Some begin) (Some sender) (Some target) None = None
+head_with (Some seq) (Some begin) (Some sender) (Some target) (Some time) =
+    Some (record { begin = begin; sender = sender; target = target; seq = seq; time = time })
+
+-- What pairs give for the head of a text.
+abbrev pub head_of : List (List ℕ) → Option HeadWords
+head_of pairs =
+    head_with (number_given SEQ.now SEQ_RANGE pairs) (begin_given pairs) (text_given SENDER.now pairs) (text_given TARGET.now pairs) (text_given TIME.now pairs)
+
 -- ---- forms: a command's word, names of files, numbers, and options
 
 -- A row of the table of forms: the first word of the form, how many names of files and numbers follow, and which
@@ -125,16 +170,19 @@ fits row (word ∷ rest) =
     && list_all is_file_name (take row.files rest) && fits_values row (drop row.files rest)
 
 -- a command of this form over these files, where its numbers and the values of its options are there
-abbrev pub command_with : Form → List (List ℕ) → Option Draws → Option Limits → Option (List (List ℕ)) → Option Command
-command_with form files None limits also = None
-command_with form files (Some draws) None also = None
-command_with form files (Some draws) (Some limits) None = None
-command_with form files (Some draws) (Some limits) (Some also) = Some (record { form = form; files = files; draws = draws; also = also; limits = limits })
+abbrev pub command_with : Form → List (List ℕ) → Option Draws → Option Limits → Option (List (List ℕ)) × Option HeadWords → Option Command
+command_with form files None limits given = None
+command_with form files (Some draws) None given = None
+command_with form files (Some draws) (Some limits) (None, head) = None
+command_with form files (Some draws) (Some limits) (Some also, None) = None
+command_with form files (Some draws) (Some limits) (Some also, Some head) =
+    Some (record { form = form; files = files; draws = draws; also = also; head = head; limits = limits })
 
 -- a command of this form over these files, with the numbers that the first words give, and the options that the others
 -- give
 abbrev pub command_from : Form → List (List ℕ) → List (List ℕ) → List (List ℕ) → Option Command
-command_from form files numbers options = command_with form files (draws_of numbers) (limits_of options) (names_given ALSO.now MOST_ALSO options)
+command_from form files numbers options =
+    command_with form files (draws_of numbers) (limits_of options) (names_given ALSO.now MOST_ALSO options, head_of options)
 
 -- the command by the words after its files: the numbers, and then the options
 abbrev pub said_after : FormRow → List (List ℕ) → List (List ℕ) → Option Command
@@ -164,7 +212,20 @@ file_at command place = get_or command.files place []
 abbrev pub AreInRange : Limits → Type 0
 AreInRange limits = (64 ≤ limits.frame) × (limits.frame ≤ 16_777_216) × (1 ≤ limits.input) × (limits.input ≤ 2 ^ 40)
 
--- The limits of a command are in their ranges, and it draws no more than so many messages.
+-- a header field that is given is one
+abbrev pub IsField : Option (List ℕ) → Type 0
+IsField None = ⊤
+IsField (Some text) = is_field_text text ≡ true
+
+-- the head's texts are header fields
+pub record HasFields (head : HeadWords) : Type 0 where
+  pub begin : is_field_text head.begin ≡ true
+  pub sender : IsField head.sender
+  pub target : IsField head.target
+  pub time : IsField head.time
+
+-- The limits of a command are in their ranges, it draws no more than so many messages, and its head's texts are header fields.
 pub record HasLimits (command : Command) : Type 0 where
   pub limits : AreInRange command.limits
   pub count : command.draws.count ≤ MOST_MESSAGES
+  pub head : HasFields command.head

@@ -3,7 +3,7 @@ ghost use Rattle.std.specs.List.{list_all, list_any};
 ghost use Rattle.std.specs.Str.{bytes_eq};
 ghost use Rattle.command_words.specs.Words.{fits, fits_values, are_options, is_file_name};
 
-use crate::options::{ALSO, MAX_FRAME, MAX_INPUT};
+use crate::options::{ALSO, BEGIN, MAX_FRAME, MAX_INPUT, SENDER, SEQ, TARGET, TIME};
 use std::marker::Model;
 
 /// A form of the arguments. A command with two forms is two of these.
@@ -11,6 +11,8 @@ use std::marker::Model;
 pub enum Form {
     /// `check S`
     Check,
+    /// `check S M`
+    Coverage,
     /// `compat OLD NEW`
     Compat,
     /// `dump S`, with further schemas
@@ -19,6 +21,10 @@ pub enum Form {
     Build,
     /// `fixcheck M`
     FixCheck,
+    /// `tofix S M`, with further schemas
+    ToFix,
+    /// `tosbe S M`
+    ToSbe,
     /// `selftest S SEED COUNT`
     SelfTest,
     /// `regrade FROM TO`
@@ -58,12 +64,21 @@ impl Model for Row {
 
 /// All forms, in the order in which they are tried: the form, its word, how many files it names, how many numbers
 /// follow them, and its options.
-pub const FORMS: [(Form, &str, usize, usize, &[&str]); 8] = [
+pub const FORMS: [(Form, &str, usize, usize, &[&str]); 11] = [
     (Form::Check, "check", 1, 0, &[]),
+    (Form::Coverage, "check", 2, 0, &[]),
     (Form::Compat, "compat", 2, 0, &[]),
     (Form::Dump, "dump", 1, 0, &[MAX_FRAME, MAX_INPUT, ALSO]),
     (Form::Build, "build", 1, 0, &[MAX_FRAME, MAX_INPUT]),
     (Form::FixCheck, "fixcheck", 1, 0, &[MAX_FRAME, MAX_INPUT]),
+    (
+        Form::ToFix,
+        "tofix",
+        2,
+        0,
+        &[MAX_FRAME, MAX_INPUT, BEGIN, SENDER, TARGET, SEQ, TIME, ALSO],
+    ),
+    (Form::ToSbe, "tosbe", 2, 0, &[MAX_FRAME, MAX_INPUT]),
     (Form::SelfTest, "selftest", 1, 2, &[MAX_FRAME]),
     (Form::Regrade, "regrade", 2, 0, &[MAX_FRAME, MAX_INPUT]),
     (Form::RawFrame, "rawframe", 1, 0, &[MAX_FRAME, MAX_INPUT]),

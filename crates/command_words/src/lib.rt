@@ -7,5 +7,5 @@ mod rows;
 mod words;
 
 pub use forms::{FORMS, Form};
-pub use options::{Draws, MOST_MESSAGES};
+pub use options::{Draws, HeadWords, MOST_MESSAGES};
 pub use words::{Command, Name, NameList, WordsErr, read_words};

@@ -1,5 +1,8 @@
 ghost use Rattle.std.specs.Prelude.{◌≡◌, ◌↔◌, IsTrue, map, string_bytes, slice_index_or};
-ghost use Rattle.command_words.specs.Words.{begins_a_number, draws_of, number_given, number_within};
+ghost use Rattle.std.specs.List.{list_all};
+ghost use Rattle.command_words.specs.Words.{begins_a_number, draws_of, is_field_text, is_printed, number_given, number_within};
+
+use lists::Text;
 
 /// The option for the most bytes of a frame, including its head.
 pub const MAX_FRAME: &str = "--max-frame";
@@ -9,6 +12,27 @@ pub const MAX_INPUT: &str = "--max-input";
 
 /// The option for a further schema.
 pub const ALSO: &str = "--also";
+
+/// The option for the version of the encoding of texts.
+pub const BEGIN: &str = "--begin";
+
+/// The option for the sender of texts.
+pub const SENDER: &str = "--sender";
+
+/// The option for the target of texts.
+pub const TARGET: &str = "--target";
+
+/// The option for the sequence number of the first text.
+pub const SEQ: &str = "--seq";
+
+/// The option for the sending time of texts.
+pub const TIME: &str = "--time";
+
+/// The version of the encoding if the arguments don't give one.
+pub const DEFAULT_BEGIN: &str = "FIX.4.4";
+
+/// The most bytes of a header field that is given in the arguments.
+pub const MOST_FIELD_BYTES: usize = 64;
 
 /// How many times `--also` may be given.
 pub const MOST_ALSO: usize = 15;
@@ -53,6 +77,13 @@ pub const COUNT_RANGE: NumberRange = NumberRange {
     default: 0,
 };
 
+/// The sequence numbers that the first text may have; it has none if the arguments don't give one.
+pub const SEQ_RANGE: NumberRange = NumberRange {
+    least: 1,
+    most: 4_000_000_000,
+    default: 0,
+};
+
 /// Which messages are drawn.
 #[derive(Clone, Copy, Debug, PartialEq, Eq)]
 pub struct Draws {
@@ -60,6 +91,19 @@ pub struct Draws {
     pub seed: u64,
     /// The number of messages.
     pub count: u64,
+}
+
+/// What the arguments give for the head of a text.
+#[derive(Drop)]
+pub struct HeadWords {
+    /// The version of the encoding.
+    pub begin: Text,
+    pub sender: Option<Text>,
+    pub target: Option<Text>,
+    /// The sequence number of the first text; 0 if it has none.
+    pub seq: u64,
+    /// The sending time.
+    pub time: Option<Text>,
 }
 
 /// The seed and the count in the arguments, or no draws if there are no arguments. `None` if one of them isn't a number
@@ -117,6 +161,30 @@ fn number_within(range: &NumberRange, word: &str) -> Option<u64>
         return None;
     }
     Some(number)
+}
+
+/// Whether an argument may be a header field: it has 1 to 64 bytes, each of them printable.
+pub(crate) fn is_field_text(word: &[u8]) -> bool
+    ensures { result ≡ is_field_text word.now }
+{
+    if word.is_empty() || word.len() > MOST_FIELD_BYTES {
+        return false;
+    }
+    are_printed(word)
+}
+
+/// Whether each of these bytes is printable.
+fn are_printed(bytes: &[u8]) -> bool
+    ensures { result ≡ list_all is_printed bytes.now }
+{
+    bytes.iter().all(|byte| is_printed(*byte))
+}
+
+/// Whether a byte is a printable ASCII character, a space included.
+fn is_printed(byte: u8) -> bool
+    ensures { result ≡ is_printed byte }
+{
+    byte >= 0x20 && byte <= 0x7e
 }
 
 /// Whether an argument isn't empty, and doesn't begin with a zero followed by more.

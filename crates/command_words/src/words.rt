@@ -1,14 +1,15 @@
 ghost use Rattle.std.specs.Prelude.{◌≡◌, ◌<◌, map, string_bytes, IfOk, Some, length, slice_get};
 ghost use Rattle.std.specs.List.{list_all};
-ghost use Rattle.command_words.specs.Words.{Says, HasLimits, command_from, command_of, file_at, is_file_name, limits_of};
-ghost use Rattle.command_words.specs.Words.{names_given, rows, said_by, said_after, values_of};
+ghost use Rattle.command_words.specs.Words.{Says, HasLimits, begin_given, command_from, command_of, file_at, head_of, is_file_name, limits_of};
+ghost use Rattle.command_words.specs.Words.{names_given, rows, said_by, said_after, text_given, text_in, values_of};
 ghost use Rattle.command_words.specs.declared.forms.TheConstants.{FORMS};
 
 use crate::forms::{FORMS, Form, Row, names_file};
 use crate::options::{
-    ALSO, Draws, FRAME_RANGE, INPUT_RANGE, MAX_FRAME, MAX_INPUT, MOST_ALSO, draws_of, number_given,
+    ALSO, BEGIN, DEFAULT_BEGIN, Draws, FRAME_RANGE, HeadWords, INPUT_RANGE, MAX_FRAME, MAX_INPUT,
+    MOST_ALSO, SENDER, SEQ, SEQ_RANGE, TARGET, TIME, draws_of, is_field_text, number_given,
 };
-use lists::{List, NoMem};
+use lists::{List, NoMem, Text};
 use sbe_base::Limits;
 use std::alloc::Global;
 use std::marker::Model;
@@ -58,6 +59,8 @@ pub struct Command {
     pub draws: Draws,
     /// Further schemas.
     pub also: NameList,
+    /// What is given for the head of a text. A form that writes no texts has a head that is given nothing.
+    pub head: HeadWords,
     /// The limits of its input.
     pub limits: Limits,
 }
@@ -175,12 +178,17 @@ fn read_command(
         Ok(also) => also,
         Err(e) => return Err(e),
     };
+    let head = match read_head(alloc, options) {
+        Ok(head) => head,
+        Err(e) => return Err(e),
+    };
     match names_of(alloc, files) {
         Ok(files) => Ok(Command {
             form,
             files,
             draws,
             also,
+            head,
             limits,
         }),
         Err(NoMem) => Err(WordsErr::Memory),
@@ -208,6 +216,85 @@ fn read_limits(options: &[String]) -> Option<Limits>
         frame: frame as usize,
         input,
     })
+}
+
+/// What options give for the head of a text.
+fn read_head(alloc: Global, options: &[String]) -> Result<HeadWords, WordsErr>
+    ensures { Says result (head_of (map (λ word. string_bytes word) options.now)) }
+{
+    let Some(seq) = number_given(SEQ, &SEQ_RANGE, options) else {
+        return Err(WordsErr::Usage);
+    };
+    let begin = match begin_given(alloc, options) {
+        Ok(begin) => begin,
+        Err(e) => return Err(e),
+    };
+    let sender = match text_given(alloc, SENDER, options) {
+        Ok(sender) => sender,
+        Err(e) => return Err(e),
+    };
+    let target = match text_given(alloc, TARGET, options) {
+        Ok(target) => target,
+        Err(e) => return Err(e),
+    };
+    match text_given(alloc, TIME, options) {
+        Ok(time) => Ok(HeadWords {
+            begin,
+            sender,
+            target,
+            seq,
+            time,
+        }),
+        Err(e) => Err(e),
+    }
+}
+
+/// The version of the encoding that options give, or its default.
+fn begin_given(alloc: Global, options: &[String]) -> Result<Text, WordsErr>
+    ensures { Says result (begin_given (map (λ word. string_bytes word) options.now)) }
+{
+    match text_given(alloc, BEGIN, options) {
+        Ok(Some(begin)) => Ok(begin),
+        Ok(None) => copied(alloc, DEFAULT_BEGIN.as_bytes()),
+        Err(e) => Err(e),
+    }
+}
+
+/// The header field that options give for one of them, which may be given at most once.
+fn text_given(alloc: Global, option: &str, options: &[String]) -> Result<Option<Text>, WordsErr>
+    ensures { Says result (text_given option.now (map (λ word. string_bytes word) options.now)) }
+{
+    let Ok(values) = values_of(alloc, option, options) else {
+        return Err(WordsErr::Memory);
+    };
+    match values.as_slice() {
+        [] => Ok(None),
+        [value] => text_in(alloc, value.as_str().as_bytes()),
+        _ => Err(WordsErr::Usage),
+    }
+}
+
+/// The header field that an argument gives.
+fn text_in(alloc: Global, word: &[u8]) -> Result<Option<Text>, WordsErr>
+    ensures { Says result (text_in word.now) }
+{
+    if !is_field_text(word) {
+        return Err(WordsErr::Usage);
+    }
+    match copied(alloc, word) {
+        Ok(text) => Ok(Some(text)),
+        Err(e) => Err(e),
+    }
+}
+
+/// A copy of these bytes.
+fn copied(alloc: Global, bytes: &[u8]) -> Result<Text, WordsErr>
+    ensures { Says result (Some bytes.now) }
+{
+    match Text::from_slice(alloc, bytes) {
+        Ok(text) => Ok(text),
+        Err(NoMem) => Err(WordsErr::Memory),
+    }
 }
 
 /// The names of files that options give for one of them, which may be given at most `most` times.

@@ -6,23 +6,32 @@ const HELP: &str = "sbe: FIX Simple Binary Encoding on the command line
 
 Usage:
   sbe check SCHEMA
+  sbe check SCHEMA MAP
   sbe compat OLD NEW
   sbe dump SCHEMA [OPTION VALUE]..
   sbe build SCHEMA [OPTION VALUE]..
   sbe fixcheck MAP [OPTION VALUE]..
+  sbe tofix SCHEMA MAP [OPTION VALUE]..
+  sbe tosbe SCHEMA MAP [OPTION VALUE]..
   sbe selftest SCHEMA SEED COUNT [OPTION VALUE]..
   sbe regrade FROM TO [OPTION VALUE]..
   sbe rawframe MAP [OPTION VALUE]..
   sbe --help | -h
   sbe --version
 
-check judges a message schema, and prints a line of JSON for each of its messages.
+check judges a message schema, and prints a line of JSON for each of its messages. With a mapping it
+prints a second line after each: whether the mapping covers the message, and else the first part that
+it doesn't cover.
 compat prints whether a reader of OLD and a reader of NEW understand each other's messages: both ways,
 one way (NEW reads those of OLD), or not, with the first difference.
 dump reads SBE frames from standard input, and prints each message as a line of JSON.
 build reads such lines from standard input, and writes each message as an SBE frame.
 fixcheck reads frames of FIX tag-value texts from standard input, and prints a line of JSON for each
 text: its number, its type, and how many fields it has.
+tofix reads SBE frames from standard input, and writes the text of each message in a frame of its own:
+its head, and the fields that the mapping gives its parts.
+tosbe reads such texts too, and writes the message of each as an SBE frame of the schema, or notes the
+first field that can't be translated.
 selftest draws COUNT messages of a schema (1 to 10000) from SEED (0 to 18446744073709551615), encodes
 each in a frame of its own, and decodes its body with one byte altered. It prints a line of JSON: how
 many frames these are, how many messages were skipped because a frame has no room for them or a count
@@ -37,17 +46,23 @@ frame; it passes over bytes that are none.
 SCHEMA, OLD, NEW, FROM and TO are files of message schemas, MAP is a mapping file: a FIX Orchestra repository.
 Their names don't begin with `--`.
 
-Options of dump, build, fixcheck, selftest, regrade and rawframe, last and in any order:
-  --also SCHEMA      one more schema, for dump alone; a frame is read by the one whose id
-                     it has (at most 15 times; the schema of a message is then printed)
+Options of dump, build, fixcheck, tofix, tosbe, selftest, regrade and rawframe, last and in any order:
+  --also SCHEMA      one more schema, for dump and tofix; a frame is read by the one whose id it
+                     has (at most 15 times; dump then prints the schema of a message)
   --max-frame BYTES  the most bytes of a frame, its head included
                      (64 to 16777216, default 65536; at most once)
   --max-input BYTES  the most bytes of the input, not for selftest
                      (1 to 1099511627776, default 4294967296; at most once)
+  --begin TEXT       what a text begins with, for tofix (BeginString, default FIX.4.4)
+  --sender TEXT      SenderCompID, for tofix (no field without the option; the same for the next three)
+  --target TEXT      TargetCompID, for tofix
+  --seq NUMBER       MsgSeqNum of the first text, for tofix (1 to 4000000000; each text has the next)
+  --time TEXT        SendingTime of each text, for tofix
+                     (these texts have 1 to 64 printed ASCII bytes; each option at most once)
 
 Answers go to standard output, each before the next frame or line is waited for. Why a run
-ends early is noted on standard error, as a line of JSON; and why build refuses a line, fixcheck or
-regrade a frame, and rawframe some bytes.
+ends early is noted on standard error, as a line of JSON; and why build refuses a line, fixcheck,
+tofix, tosbe or regrade a frame, and rawframe some bytes.
 
 Exit status:
    0  the files are in order; the input, if any, was read to its end, and nothing was refused
@@ -65,12 +80,15 @@ Exit status:
 
 Examples:
   sbe check feed.json
+  sbe check orders.json orders-map.json
   sbe compat feed.json feed2.json
   sbe dump feed.json < frames.bin
   sbe dump feed.json --also orders.json < frames.bin
   sbe build feed.json < lines.jsonl > frames.bin
   sbe fixcheck orders-map.json < texts.bin
   sbe rawframe orders-map.json < messages.log | sbe fixcheck orders-map.json
+  sbe tofix orders.json orders-map.json --sender FIRM --target EXCH --seq 1 < frames.bin > texts.bin
+  sbe tosbe orders.json orders-map.json < texts.bin > frames.bin
   sbe selftest orders.json 1 10000
   sbe regrade feed.json feed2.json < frames.bin > frames2.bin
 ";

@@ -106,7 +106,7 @@ module _ (words : List (List ℕ)) (old new : Outside) where
         | refuses file judged last files told ↦
             let is = refused_apart file.why in
             noted_early (refusal_line file) (refusal_status file.why) (refused_report file judged) output code is.1 is.2 files told
-        | fails role has last f told ↦ file_failed code role ((command, is_command, has), last) f output told
+        | fails role has last f told ↦ file_failed code role (command, is_command, has, last) f output told
         | wants c files notes ↦ subst (λ (x : Status). Runs words old new x) (sym c) (wanted_early output notes)
       ]
 

@@ -11,6 +11,8 @@ use Rattle.command_words.specs.declared.forms.Form.TheVariants as form
 use Rattle.command_words.specs.Words.{file_at}
 use Rattle.command_steps.proofs.Folding.{AnswersOnce}
 use Rattle.check_command.proofs.Checked.{check_answers}
+use Rattle.coverage_command.specs.Coverage.{both_judged}
+use Rattle.coverage_command.proofs.Told.{coverage_answers}
 use Rattle.compat_command.specs.Compat.{two_judged}
 use Rattle.compat_command.proofs.Compared.{compat_answers}
 use Rattle.dump_command.proofs.Replied.{dump_answers}
@@ -19,14 +21,20 @@ use Rattle.build_command.proofs.Replied.{build_answers, build_checked}
 use Rattle.map_files.specs.Maps.{file_map}
 use Rattle.fixcheck_command.specs.FixCheck.{tags_judged}
 use Rattle.fixcheck_command.proofs.Replied.{fixcheck_answers}
+use Rattle.tofix_command.specs.Bridges.{JudgesTranslating, bridge_of}
+use Rattle.tofix_command.proofs.Judging.{translating_once, translating_some, translating_good}
+use Rattle.tofix_replies.proofs.Replied.{tofix_answers}
 use Rattle.raw_steps.proofs.Replied.{raw_answers}
 use Rattle.selftest_command.specs.Tests.{tested_by}
 use Rattle.selftest_command.proofs.Tested.{selftest_answers}
+use Rattle.tosbe_command.specs.Bridges.{bridge_judged}
+use Rattle.tosbe_command.proofs.Loaded.{bridge_good}
+use Rattle.tosbe_command.proofs.Replied.{tosbe_answers}
 use Rattle.regrade_command.specs.Regrades.{pair_judged, regraded_for}
 use Rattle.regrade_command.proofs.Loaded.{regrade_good}
 use Rattle.regrade_command.proofs.Replied.{regrade_answers}
 use Rattle.sbe_cli.specs.Jobs as jobs
-use Rattle.sbe_cli.specs.Jobs.{Job, answering_of, Makes, commanding_by, Judges, trial_of}
+use Rattle.sbe_cli.specs.Jobs.{Job, answering_of, Makes, commanding_by, tofix_words, Judges, trial_of}
 
 -- ---- one judgement of the files
 
@@ -68,6 +76,8 @@ module _ {X : Type 0} (result : Result X RefusedFile) (make : X → Job) (good :
 -- One line a form.
 judging_by : (form : Form) (command : Command) (contents : List ℕ → Option (List ℕ)) → IsJudging ((commanding_by form command).files.AreJudged contents)
 judging_by form.Check command contents = computed (judged_in role.Schema (file_schema (contents (file_at command 0)))) jobs.Check (λ schema h. check_answers schema)
+judging_by form.Coverage command contents =
+    computed (both_judged (file_schema (contents (file_at command 0))) (file_map (contents (file_at command 1)))) jobs.Coverage (λ pair h. coverage_answers pair)
 judging_by form.Compat command contents =
     computed (two_judged (file_schema (contents (file_at command 0))) (file_schema (contents (file_at command 1)))) jobs.Compat (λ pair h. compat_answers pair)
 judging_by form.Dump command contents =
@@ -79,6 +89,13 @@ judging_by form.Build command contents =
     (λ building h. build_answers building command.limits.input (build_checked (file_at command 0) command.limits.frame contents building h))
 judging_by form.FixCheck command contents =
     computed (tags_judged (judged_in role.Map (file_map (contents (file_at command 0))))) (λ tags. jobs.FixCheck tags command.limits) (λ tags h. fixcheck_answers tags command.limits)
+judging_by form.ToFix command contents =
+    made (JudgesTranslating (tofix_words command) contents) (λ translating. jobs.ToFix translating command.limits)
+    (translating_once (tofix_words command) contents) (translating_some (tofix_words command) contents)
+    (λ translating h. tofix_answers (bridge_of translating) command.limits (translating_good (tofix_words command) contents translating h))
+judging_by form.ToSbe command contents =
+    computed (bridge_judged command.limits.frame (file_schema (contents (file_at command 0))) (file_map (contents (file_at command 1))))
+    (λ bridge. jobs.ToSbe bridge command.limits) (λ bridge h. tosbe_answers bridge command.limits (bridge_good (file_at command 0) (file_at command 1) command.limits.frame contents bridge h))
 judging_by form.SelfTest command contents =
     computed (tested_by (trial_of command) (judged_in role.Schema (file_schema (contents (file_at command 0))))) jobs.SelfTest (λ test h. selftest_answers test)
 judging_by form.Regrade command contents =

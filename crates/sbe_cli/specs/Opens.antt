@@ -3,7 +3,7 @@ use Rattle.std.specs.Prelude.{◌≡◌, ℕ, Option, Some, Result, Ok, Err, Lis
 use Rattle.sbe_base.specs.declared.status.Status.{Status}
 use Rattle.sbe_base.specs.declared.status.Status.TheVariants as status
 use Rattle.command_steps.specs.Steps.{Moment, opened}
-use Rattle.sbe_cli.specs.Jobs.{Job, IsReadAs, IsReady, Judges, HasFile}
+use Rattle.sbe_cli.specs.Jobs.{Job, IsReadAs, IsReady, Judges, HasFile, loads_of}
 use Rattle.sbe_cli.specs.Stops.{unopened_line, unopened_status}
 use Rattle.sbe_base.specs.Objects.{Failed}
 use Rattle.replies.specs.Outside.{Told}
@@ -34,9 +34,9 @@ NotesWhy why before after code = Told (unopened_line why) (unopened_status why) 
 -- A file is refused, the files failed, or it is out of memory. The file that is reported is the last one that was
 -- loaded.
 pub data Declines (command : Command) (before after : Desk) (code : Status) : Type 0 where
-  refuses : (file : RefusedFile) → JudgedAs command before (Err file) → IsLast file.role before.loads after.loads → after.files ≡ before.files
+  refuses : (file : RefusedFile) → JudgedAs command before (Err file) → IsLast (loads_of command) file.role before.loads after.loads → after.files ≡ before.files
       → NotesWhy (unopened.Refused file) before after code → Declines command before after code
-  fails : (role : FileRole) → HasFile command role → IsLast role before.loads after.loads → Failed before.files after.files
+  fails : (role : FileRole) → HasFile command role → IsLast (loads_of command) role before.loads after.loads → Failed before.files after.files
       → NotesWhy (unopened.FileFault role) before after code → Declines command before after code
   wants : code ≡ status.NoMemory → after.files ≡ before.files → after.notes ≡ before.notes → Declines command before after code
 

@@ -2,7 +2,7 @@
 use Rattle.std.specs.Prelude.{◌≡◌, ℕ, List, Option}
 use Rattle.sbe_base.specs.Objects.{Object}
 use Rattle.replies.specs.Outside.{Streams}
-use Rattle.schema_files.specs.Files.{after_loads, loads_up_to}
+use Rattle.schema_files.specs.Files.{after_loads}
 use Rattle.schema_files.specs.declared.files.FileRole.{FileRole}
 
 -- The contents of the files by name, as modelled, how often one was loaded, and the streams.
@@ -25,6 +25,6 @@ outside_of files loads streams = record { files = files; loads = loads; streams 
 abbrev pub desk_of : Object (List ℕ → Option (List ℕ)) → ℕ → Object (List ℕ) → Desk
 desk_of files loads notes = record { files = files; loads = loads; notes = notes }
 
--- the file in that role was the last one that was loaded, after so many loads
-abbrev pub IsLast : FileRole → ℕ → ℕ → Type 0
-IsLast role before now = now ≡ after_loads (loads_up_to role) before
+-- the file in that role was the last one that was loaded, where a command takes so many loads up to each
+abbrev pub IsLast : (FileRole → ℕ) → FileRole → ℕ → ℕ → Type 0
+IsLast loads role before now = now ≡ after_loads (loads role) before

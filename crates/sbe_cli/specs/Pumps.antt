@@ -32,10 +32,13 @@ pub record OnJob : Type 0 where
 -- The job and the feed of each work: one line for each command.
 abbrev pub on_job : Work → OnJob
 on_job (work.Check on) = record { job = jobs.Check on.command; feed = nothing }
+on_job (work.Coverage on) = record { job = jobs.Coverage on.command; feed = nothing }
 on_job (work.Compat on) = record { job = jobs.Compat on.command; feed = nothing }
 on_job (work.Dump on) = record { job = jobs.Dump on.command on.limits; feed = frames on.limits on.stream }
 on_job (work.Build on) = record { job = jobs.Build on.command on.limits.input; feed = lines on.limits on.stream }
 on_job (work.FixCheck on) = record { job = jobs.FixCheck on.command on.limits; feed = frames on.limits on.stream }
+on_job (work.ToFix on) = record { job = jobs.ToFix on.command on.limits; feed = frames on.limits on.stream }
+on_job (work.ToSbe on) = record { job = jobs.ToSbe on.command on.limits; feed = frames on.limits on.stream }
 on_job (work.SelfTest on) = record { job = jobs.SelfTest on.command; feed = nothing }
 on_job (work.Regrade on) = record { job = jobs.Regrade on.command on.limits; feed = frames on.limits on.stream }
 on_job (work.RawFrame on) = record { job = jobs.RawFrame on.command on.limits; feed = items on.limits on.stream }

@@ -12,7 +12,7 @@ use Rattle.replies.specs.Reply.{Written, Reply, written_of}
 use Rattle.command_steps.specs.Replies.{none_kept, Replies}
 use Rattle.command_steps.specs.Ends.{Outcome, stop_line}
 use Rattle.sbe_cli.specs.Report.{Report}
-use Rattle.sbe_cli.specs.Jobs.{Job, answering_of, reading_of, Judges, HasFile, IsReadAs, IsReady, reads_input, spares_memory}
+use Rattle.sbe_cli.specs.Jobs.{Job, answering_of, reading_of, Judges, HasFile, IsReadAs, IsReady, loads_of, reads_input, spares_memory}
 use Rattle.sbe_cli.specs.Stops.{unopened_line}
 use Rattle.sbe_base.specs.Objects.{Failed}
 use Rattle.replies.specs.Outside.{Sinks, Streams, Wrote, Breaks, Calm}
@@ -76,13 +76,10 @@ Reports words old new code =
     WhenKnown old (λ contents input. (outcome : Outcome) × Report words contents input outcome
     × (code ≡ outcome.status) × Wrote old.streams.sinks new.streams.sinks (written_in outcome))
 
--- the words are a command that has a file in that role
-abbrev pub NamesFile : List (List ℕ) → FileRole → Type 0
-NamesFile words role = (command : Command) × (command_of words ≡ Some command) × HasFile command role
-
--- the same, and the run loaded that file last
+-- the words are a command that has a file in that role, and the run loaded that file last
 abbrev pub NamesLoaded : List (List ℕ) → Outside → Outside → FileRole → Type 0
-NamesLoaded words old new role = NamesFile words role × IsLast role old.loads new.loads
+NamesLoaded words old new role =
+    (command : Command) × (command_of words ≡ Some command) × HasFile command role × IsLast (loads_of command) role old.loads new.loads
 
 -- ---- what is written after a fault
 

@@ -55,7 +55,12 @@ fn carry_out<F: Files, I: Source, O: Sink, N: Sink>(
         result }
 {
     match Pump::open(alloc, command, files, notes) {
-        Ok(mut pump) => drain(&mut pump, input, output, notes),
+        Ok(mut pump) => {
+            let status = drain(&mut pump, input, output, notes);
+            // It is dropped by a call, since the check of a function that drops all of it itself doesn't end.
+            drop(pump);
+            status
+        }
         Err(status) => status,
     }
 }

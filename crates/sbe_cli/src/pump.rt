@@ -1,13 +1,14 @@
 ghost use Rattle.std.specs.Prelude.{◌≡◌, IfOk};
 ghost use Rattle.replies.specs.Outside.{streams_of};
 ghost use Rattle.sbe_cli.specs.Outside.{desk_of};
-ghost use Rattle.schema_files.specs.Files.{JobCause, NamesLast};
+ghost use Rattle.schema_files.specs.Files.{JobCause, NamesLastBy};
 ghost use Rattle.command_words.specs.Words.{HasLimits};
 ghost use Rattle.selftest_command.specs.Selftest.{IsBoundedTrial};
+ghost use Rattle.tofix_command.specs.Bridges.{words_in};
 ghost use Rattle.command_steps.specs.Replies.{counted_by};
 ghost use Rattle.command_steps.specs.Stands.{CanCount};
 ghost use Rattle.command_steps.specs.Steps.{Steps, Answers, passage, running};
-ghost use Rattle.sbe_cli.specs.Jobs.{LoadsJob, answering_of, made_so, trial_of};
+ghost use Rattle.sbe_cli.specs.Jobs.{LoadsJob, answering_of, loads_of, made_so, tofix_words, trial_of};
 ghost use Rattle.sbe_cli.specs.Opens.{Opens, opened_for};
 ghost use Rattle.sbe_cli.specs.Pumps.{ahead_of, job_of, IsSoundWork, StandsSo, EndsAs, IsOpened};
 
@@ -17,6 +18,7 @@ use check_command::{Checker, load_check};
 use command_steps::{FrameWork, Kept, LineWork, Step, Tally, WholeWork, count};
 use command_words::{Command, Form};
 use compat_command::{Comparer, load_compat};
+use coverage_command::{CoverageChecker, load_coverage};
 use dump_command::{Dumper, load_dump};
 use fixcheck_command::{FixChecker, load_fixcheck};
 use raw_steps::RawWork;
@@ -27,15 +29,20 @@ use schema_files::JobStop;
 use selftest_command::{Tester, Trial, load_selftest};
 use std::alloc::Global;
 use std::marker::Model;
+use tofix_command::{ToFixWords, Translator, load_tofix};
+use tosbe_command::{BackTranslator, load_tosbe};
 
 /// A command at work.
 #[derive(Drop)]
 pub enum Work {
     Check(WholeWork<Checker>),
+    Coverage(WholeWork<CoverageChecker>),
     Compat(WholeWork<Comparer>),
     Dump(FrameWork<Dumper>),
     Build(LineWork<Builder>),
     FixCheck(FrameWork<FixChecker>),
+    ToFix(FrameWork<Translator>),
+    ToSbe(FrameWork<BackTranslator>),
     SelfTest(WholeWork<Tester>),
     Regrade(FrameWork<Regrader>),
     RawFrame(RawWork),
@@ -127,12 +134,16 @@ impl Work {
         ensures kept { (F.state files.new).told ≡ (F.state files.old).told }
         ensures loads { LoadsJob (F.state files.old).told command (made_so job_of result) }
         ensures cause { JobCause (F.state files.old).faults (F.state files.new).faults result }
-        ensures names { NamesLast (F.load_count files.old) (F.load_count files.new) result }
+        ensures names { NamesLastBy (loads_of command) (F.load_count files.old) (F.load_count files.new) result }
         ensures opened { IfOk result (λ work. IsOpened work) }
     {
         match command.form {
             Form::Check => match load_check(alloc, command.file(0), files) {
                 Ok(checker) => Ok(Work::Check(WholeWork::open(alloc, checker))),
+                Err(stop) => Err(stop),
+            },
+            Form::Coverage => match load_coverage(alloc, command.file(0), command.file(1), files) {
+                Ok(checker) => Ok(Work::Coverage(WholeWork::open(alloc, checker))),
                 Err(stop) => Err(stop),
             },
             Form::Compat => match load_compat(alloc, command.file(0), command.file(1), files) {
@@ -160,6 +171,13 @@ impl Work {
                 },
                 Err(stop) => Err(stop),
             },
+            Form::ToFix => match load_tofix(alloc, &tofix_words(&command), files) {
+                Ok(translator) => match FrameWork::open(alloc, translator, command.limits) {
+                    Ok(work) => Ok(Work::ToFix(work)),
+                    Err(_) => Err(JobStop::NoMemory),
+                },
+                Err(stop) => Err(stop),
+            },
             Form::RawFrame => match load_rawframe(alloc, command.file(0), files) {
                 Ok(framer) => match RawWork::open(alloc, framer, command.limits) {
                     Ok(work) => Ok(Work::RawFrame(work)),
@@ -179,6 +197,16 @@ impl Work {
                 match load_regrade(alloc, from, to, command.limits, files) {
                     Ok(regrader) => match FrameWork::open(alloc, regrader, command.limits) {
                         Ok(work) => Ok(Work::Regrade(work)),
+                        Err(_) => Err(JobStop::NoMemory),
+                    },
+                    Err(stop) => Err(stop),
+                }
+            }
+            Form::ToSbe => {
+                let limits = command.limits;
+                match load_tosbe(alloc, command.file(0), command.file(1), limits, files) {
+                    Ok(translator) => match FrameWork::open(alloc, translator, limits) {
+                        Ok(work) => Ok(Work::ToSbe(work)),
                         Err(_) => Err(JobStop::NoMemory),
                     },
                     Err(stop) => Err(stop),
@@ -209,14 +237,32 @@ impl Work {
     {
         match self {
             Work::Check(work) => work.answer_next(kept, input, output, notes),
+            Work::Coverage(work) => work.answer_next(kept, input, output, notes),
             Work::Compat(work) => work.answer_next(kept, input, output, notes),
             Work::Dump(work) => work.answer_next(kept, input, output, notes),
             Work::Build(work) => work.answer_next(kept, input, output, notes),
             Work::FixCheck(work) => work.answer_next(kept, input, output, notes),
+            Work::ToFix(work) => work.answer_next(kept, input, output, notes),
+            Work::ToSbe(work) => work.answer_next(kept, input, output, notes),
             Work::SelfTest(work) => work.answer_next(kept, input, output, notes),
             Work::Regrade(work) => work.answer_next(kept, input, output, notes),
             Work::RawFrame(work) => work.answer_next(kept, input, output, notes),
         }
+    }
+}
+
+/// What the arguments give to the translation of messages.
+fn tofix_words(command: &Command) -> ToFixWords<'_>
+    ensures words { words_in result ≡ tofix_words command.now }
+    ensures head { result.head.now ≡ command.now.head }
+    ensures frame { result.frame ≡ command.now.limits.frame }
+{
+    ToFixWords {
+        schema: command.file(0),
+        map: command.file(1),
+        also: &command.also,
+        head: &command.head,
+        frame: command.limits.frame,
     }
 }
 

@@ -101,5 +101,8 @@ pub fn steps_told(rt: &HostRuntime, row: &Row) -> Result<String> {
     let bytes = row.bytes(alloc, 0)?;
     let mut input = MemSource::new(alloc, bytes.as_slice(), PIECE, &[failing])?;
     let mut pump = pump_of(rt, row)?;
-    steps_over(alloc, &mut pump, &mut input, many)
+    let told = steps_over(alloc, &mut pump, &mut input, many);
+    // It is dropped by a call, since the check of a function that drops all of it itself doesn't end.
+    drop(pump);
+    told
 }
