@@ -47,16 +47,16 @@ class Streams(unittest.TestCase):
     def test_each_stream_is_measured_twice(self):
         with tempfile.TemporaryDirectory() as folder:
             lines, status = self.run_on(self.script(folder, COUNTS % (sys.executable, "")))
-        self.assertEqual((status, len(lines)), (0, 6), lines)
-        for line, start in zip(lines[2:], ("frames without a body: 250 items, 1506 bytes: ", "frames without a body: 1000 items, 6006 bytes: ")):
+        self.assertEqual((status, len(lines)), (0, 8), lines)
+        for line, start in zip(lines[4:], ("frames without a body: 250 items, 1506 bytes: ", "frames without a body: 1000 items, 6006 bytes: ")):
             self.assertTrue(line.startswith(start), line)
-        for line, start in zip(lines[4:], ("empty lines: 250 items, 253 bytes: ", "empty lines: 1000 items, 1003 bytes: ")):
+        for line, start in zip(lines[6:], ("empty lines: 250 items, 253 bytes: ", "empty lines: 1000 items, 1003 bytes: ")):
             self.assertTrue(line.startswith(start), line)
 
     def test_a_wrong_number_is_found(self):
         with tempfile.TemporaryDirectory() as folder:
             lines, status = self.run_on(self.script(folder, COUNTS % (sys.executable, "% 100")))
-        self.assertEqual((status, [line.startswith("  the last line is ") for line in lines if line.startswith("  ")]), (1, [True] * 5), lines)
+        self.assertEqual((status, [line.startswith("  the last line is ") for line in lines if line.startswith("  ")]), (1, [True] * 6), lines)
 
     def test_growth_is_found(self):
         """Runs as they may be measured: memory and seconds of a quarter and of the whole."""
@@ -67,7 +67,7 @@ class Streams(unittest.TestCase):
             ((3000, 2000), (1.0, 6.1), ["  a byte takes longer"]),
         ):
             with self.subTest(memory=memory, seconds=seconds):
-                runs = [CHECK.Measured(1, b'{"item":%d}' % count, count, *it) for count, it in zip((10, 40), zip(memory, seconds))]
+                runs = [CHECK.Measured(1, b'{"refused":"F01","item":%d}' % count, count, *it) for count, it in zip((10, 40), zip(memory, seconds))]
                 told, stream = io.StringIO(), CHECK.Stream("items", [], b"x", 1, 40, b"y")
                 with mock.patch.object(CHECK, "measure", side_effect=runs), contextlib.redirect_stdout(told):
                     held = CHECK.judge("sbe", stream, 1)
@@ -76,12 +76,12 @@ class Streams(unittest.TestCase):
     def test_a_program_that_reads_nothing_is_found(self):
         with tempfile.TemporaryDirectory() as folder:
             lines, status = self.run_on(self.script(folder, "#!/bin/sh\nexit 2\n"))
-        self.assertEqual((status, lines.count("  the last line is b''")), (1, 6), lines)
+        self.assertEqual((status, lines.count("  the last line is b''")), (1, 8), lines)
 
     @unittest.skipUnless(os.access(PROGRAM, os.X_OK), "needs the built program")
     def test_the_program_holds(self):
         lines, status = self.run_on(PROGRAM)
-        self.assertEqual((status, len(lines)), (0, 6), lines)
+        self.assertEqual((status, len(lines)), (0, 8), lines)
 
 
 if __name__ == "__main__":

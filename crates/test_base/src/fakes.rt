@@ -1,11 +1,11 @@
 //! A reader and a writer of which the listed calls fail.
 
 use anyhow::{Result, bail};
-use row_tables::Row;
 use std::alloc::Global;
 use std::cell::RefCell;
 use std::io;
 use std::io::{ErrorKind, Read, Write};
+use test_tables::Row;
 
 /// How often a reader or a writer was called, how much it handles per call, and which calls fail, each with this kind.
 #[derive(Drop)]

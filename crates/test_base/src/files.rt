@@ -2,10 +2,10 @@
 
 use crate::fakes::numbers_of;
 use anyhow::{Result, bail};
-use row_tables::{Row, spelled};
 use sbe_base::{DirFiles, Files, MemFiles};
 use std::alloc::Global;
 use std::{env, fs};
+use test_tables::{Row, spelled};
 
 /// Loads like a caller that knows only the trait: a name and a limit, into a buffer that isn't empty.
 fn load_told<F: Files>(alloc: Global, files: &mut F, name: &str, limit: usize) -> Result<String> {

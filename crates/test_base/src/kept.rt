@@ -2,9 +2,9 @@
 
 use anyhow::Result;
 use lists::{List, NoMem};
-use row_tables::Row;
 use sbe_base::Status;
 use std::alloc::Global;
+use test_tables::Row;
 
 /// A row: bytes, from which a list is made in each possible manner. Answers its contents.
 pub fn list_told(alloc: Global, row: &Row) -> Result<String> {

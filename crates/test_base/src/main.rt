@@ -9,7 +9,7 @@ mod sinks;
 mod sources;
 
 use anyhow::{Result, bail};
-use row_tables::{Calls, Row, judge_tables};
+use test_tables::{Calls, Row, judge_tables};
 
 /// The calls of all tables.
 struct AllCalls;

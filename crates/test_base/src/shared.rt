@@ -3,11 +3,11 @@
 use crate::fakes::{FakeWriter, Taken};
 use crate::sinks::{taken_of, taken_text};
 use anyhow::{Result, bail};
-use row_tables::{Row, spelled};
 use sbe_base::{FlushFirst, SharedWriter, Status, settled};
 use std::alloc::Global;
 use std::cell::RefCell;
 use std::io::{Read, Write};
+use test_tables::{Row, spelled};
 
 /// One step over the writer: a write, a flush, a read or a note that flushes it first, a flush of notes, or the status
 /// that ends a run.

@@ -2,11 +2,11 @@
 
 use crate::fakes::{FakeReader, FakeWriter, Taken, course_of, numbers_of};
 use anyhow::Result;
-use row_tables::{Row, spelled};
 use sbe_base::{MemSink, Sink, StdSink, read_retried, write_all_to, write_retried};
 use std::alloc::Global;
 use std::cell::RefCell;
 use std::io;
+use test_tables::{Row, spelled};
 
 /// Writes once, like a caller that knows only the trait: after `all ` each byte of the text, otherwise what is accepted
 /// of it.

@@ -2,10 +2,10 @@
 
 use crate::fakes::{FakeReader, course_of, numbers_of};
 use anyhow::{Result, bail};
-use row_tables::{Row, spelled};
 use sbe_base::{BufferedSource, MemSource, Source, StdSource};
 use std::alloc::Global;
 use std::io::BufReader;
+use test_tables::{Row, spelled};
 
 /// The most bytes that a read asks for.
 const MOST: usize = 16;

@@ -7,12 +7,12 @@ use lists::Text;
 use map_types::Repository;
 use message_plans::{Cover, Plan, Template, make_plan};
 use orchestra_map::read_map;
-use row_tables::Row;
 use sbe_schema::read_schema;
 use sbe_types::Level;
 use schema_check::{Checked, check};
 use std::alloc::Global;
 use std::fs;
+use test_tables::Row;
 use value_texts::ValueText;
 
 /// A row: the name of the files of a schema and of a mapping. Each message is told with what the mapping says of it.

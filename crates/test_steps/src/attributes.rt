@@ -5,8 +5,8 @@ use crate::refused::refused_text;
 use anyhow::{Result, bail};
 use json_data::{Json, JsonSpace};
 use json_elements::{IdNumber, needed, optional, with_default};
-use row_tables::Row;
 use std::alloc::Global;
+use test_tables::Row;
 
 /// The answer to a row, or `None` if it names another call.
 pub fn told(alloc: Global, row: &Row) -> Result<Option<String>> {

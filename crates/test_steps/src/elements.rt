@@ -7,9 +7,9 @@ use json_elements::{
     Cause, ElementErr, Form, IdNumber, JsonText, TextOrNumber, WholeNumber, at_child, content_of,
     inside, limit_children, lone_of, read_limited, read_value, refuse, refuse_children, str_of,
 };
-use row_tables::{Row, spelled};
 use schema_lines::put_json_text;
 use std::alloc::Global;
+use test_tables::{Row, spelled};
 
 /// The answer to a row, or `None` if it names another call.
 pub fn told(alloc: Global, row: &Row) -> Result<Option<String>> {

@@ -2,8 +2,8 @@
 
 use anyhow::{Result, bail};
 use json_elements::{ElementErr, path_of};
-use row_tables::spelled;
 use std::alloc::Global;
+use test_tables::spelled;
 
 /// The cause of a refusal, and the pointer to its place.
 pub fn refused_text(alloc: Global, e: ElementErr) -> Result<String> {

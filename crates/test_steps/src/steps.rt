@@ -4,11 +4,11 @@ ghost use Rattle.command_words.specs.Words.{HasLimits};
 
 use crate::words::words_of;
 use anyhow::{Result, bail};
-use row_tables::{Row, spelled};
 use sbe_base::{MemFiles, MemSink, MemSource};
 use sbe_cli::{Command, Pump, Step, read_words};
 use std::alloc::Global;
 use std::fs;
+use test_tables::{Row, spelled};
 
 /// How many bytes the input gives per read.
 const PIECE: usize = 64;

@@ -1,10 +1,10 @@
 //! Arguments that become commands.
 
 use anyhow::{Result, bail};
-use row_tables::Row;
 use sbe_base::Limits;
 use sbe_cli::{Command, Draws, FORMS, WordsErr, read_words};
 use std::alloc::Global;
+use test_tables::Row;
 
 /// The arguments that a row gives from index `first` on.
 pub fn words_of(alloc: Global, row: &Row, first: usize) -> Result<Vec<String>> {

@@ -3,10 +3,10 @@
 use crate::sources::{limits_of, range_of, source_of};
 use anyhow::Result;
 use frame_stream::{FrameStream, Taken};
-use row_tables::Row;
 use sbe_base::{BufferedSource, MemSource, Source};
 use std::alloc::Global;
 use std::io::BufReader;
+use test_tables::Row;
 
 /// Takes once: the answer, the frame's body, and what is held of the next one.
 fn take_told<I: Source>(alloc: Global, stream: &mut FrameStream, source: &mut I) -> Result<String> {

@@ -4,9 +4,9 @@ use crate::sources::{range_of, source_of};
 use anyhow::Result;
 use frame_stream::{LineStream, LineTaken};
 use open_framing::HEAD_BYTES;
-use row_tables::{Row, spelled};
 use sbe_base::{Limits, MemSource};
 use std::alloc::Global;
+use test_tables::{Row, spelled};
 
 /// A line longer than this is shown by its length, if its bytes are all the same.
 const TOLD_WHOLE: usize = 64;

@@ -7,10 +7,10 @@ ghost use Rattle.raw_fix.specs.declared.items.TheConstants.{LEAST_FRAME};
 use crate::sources::{limits_of, range_of, source_of};
 use anyhow::{Result, bail};
 use raw_fix::{LEAST_FRAME, RawStream, RawTaken};
-use row_tables::Row;
 use sbe_base::{Limits, MemSource};
 use std::alloc::Global;
 use tagvalue_codec::{DataTags, FieldTable};
+use test_tables::Row;
 
 /// What a stream is given with each take: the pairs of data tags, and a table.
 #[derive(Drop)]

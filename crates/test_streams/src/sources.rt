@@ -5,9 +5,9 @@ ghost use Rattle.std.specs.Prelude.{◌≤◌, IfOk};
 use anyhow::{Result, bail};
 use frame_stream::LONGEST_FRAME;
 use open_framing::HEAD_BYTES;
-use row_tables::Row;
 use sbe_base::{Limits, MemSource};
 use std::alloc::Global;
+use test_tables::Row;
 
 /// The least and the greatest number of a range, such as `1-39`.
 pub fn range_of(text: &str) -> Result<(usize, usize)> {

@@ -9,9 +9,9 @@ use library_examples::load;
 use lists::List;
 use map_types::CodeEl;
 use message_walk::{Cause, Halt, Lead, Put, PutValue};
-use row_tables::{Calls, Row, judge_tables, spelled};
 use std::alloc::Global;
 use tagvalue_codec::FixWriter;
+use test_tables::{Calls, Row, judge_tables, spelled};
 use value_texts::ValueText;
 
 /// The calls of all tables.

@@ -10,9 +10,9 @@ use library_examples::{
     sum_entries, template_of, write_order,
 };
 use line_values::LineFault;
-use row_tables::{Row, spelled};
 use schema_check::Checked;
 use std::alloc::Global;
+use test_tables::{Row, spelled};
 use typed_writer::FrameBuf;
 
 fn fault_text(alloc: Global, fault: &LineFault) -> Result<String> {

@@ -3,10 +3,10 @@
 use crate::bench::{layout_of, path_text, with_bytes};
 use anyhow::{Result, bail};
 use layout_tables::Layout;
-use row_tables::{Row, value_of};
 use sbe_types::Value;
 use schema_check::Checked;
 use std::alloc::Global;
+use test_tables::{Row, value_of};
 use typed_writer::{FieldErr, FrameBuf, start};
 
 /// Begins the first message and sets one field. `None` if the schema has no such field.

@@ -14,8 +14,8 @@ mod written;
 
 use anyhow::{Result, bail};
 use bench::checked_of;
-use row_tables::{Calls, Row, judge_tables};
 use schema_check::Checked;
+use test_tables::{Calls, Row, judge_tables};
 
 /// The calls of all tables.
 struct AllCalls;

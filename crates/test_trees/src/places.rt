@@ -5,9 +5,9 @@ use anyhow::{Result, bail};
 use json_rows::Codes;
 use layout_tables::Layout;
 use level_skip::skip_level;
-use row_tables::{Row, spelled};
 use schema_check::Checked;
 use std::alloc::Global;
+use test_tables::{Row, spelled};
 use tree_json::LineLayout;
 use var_data::put_data;
 

@@ -2,10 +2,10 @@
 
 use crate::bench::{checked_of, layout_of};
 use anyhow::{Result, bail};
-use row_tables::Row;
 use sbe_types::Msg;
 use schema_check::Checked;
 use std::alloc::Global;
+use test_tables::Row;
 use tree_codec::decode;
 use version_project::{knows, plain, project};
 

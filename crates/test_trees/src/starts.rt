@@ -4,9 +4,9 @@ use crate::bench::{layout_of, with_bytes};
 use crate::states::{begin_entry, end_first, unset_first, write_first};
 use anyhow::{Result, bail};
 use layout_tables::Layout;
-use row_tables::Row;
 use schema_check::Checked;
 use std::alloc::Global;
+use test_tables::Row;
 use typed_writer::{FrameBuf, start};
 
 fn begin_text(

@@ -5,10 +5,10 @@ use crate::written::msg_in;
 use anyhow::{Result, bail};
 use layout_tables::Layout;
 use lists::List;
-use row_tables::{Row, value_of};
 use sbe_types::{Block, DataVal, GroupVal, Msg, Value};
 use schema_check::Checked;
 use std::alloc::Global;
+use test_tables::{Row, value_of};
 use tree_codec::{DecodeErr, body_size, decode};
 
 fn no_parts(alloc: Global) -> Block {

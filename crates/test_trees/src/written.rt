@@ -4,11 +4,11 @@ use crate::bench::{layout_of, written_text};
 use anyhow::{Result, bail};
 use layout_tables::Layout;
 use line_reading::msg_of_line;
-use row_tables::Row;
 use sbe_types::Msg;
 use schema_check::Checked;
 use std::alloc::Global;
 use std::fs;
+use test_tables::Row;
 use tree_codec::{decode, encode};
 use typed_writer::FrameBuf;
 

@@ -7,8 +7,8 @@ use fix_dates::{
     show_month, show_stamp, show_time,
 };
 use fix_values::V;
-use row_tables::Row;
 use std::alloc::Global;
+use test_tables::Row;
 
 /// The answer to a row, or `None` if it names another call.
 pub fn told(alloc: Global, row: &Row) -> Result<Option<String>> {

@@ -2,8 +2,8 @@
 
 use anyhow::Result;
 use open_framing::{HEAD_BYTES, Head, HeadErr, put_head, read_head};
-use row_tables::{Row, spelled};
 use std::alloc::Global;
+use test_tables::{Row, spelled};
 
 /// The answer to a row, or `None` if it names another call.
 pub fn told(alloc: Global, row: &Row) -> Result<Option<String>> {

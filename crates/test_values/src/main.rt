@@ -10,7 +10,7 @@ mod texts;
 mod widths;
 
 use anyhow::{Result, bail};
-use row_tables::{Calls, Row, judge_tables};
+use test_tables::{Calls, Row, judge_tables};
 
 /// The calls of all tables.
 struct AllCalls;

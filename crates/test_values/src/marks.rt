@@ -2,8 +2,8 @@
 
 use anyhow::Result;
 use fix_values::{Short, V};
-use row_tables::spelled;
 use std::alloc::Global;
+use test_tables::spelled;
 
 /// The text that a call wrote, or the code of its refusal, which leaves no text.
 pub fn shown(alloc: Global, answer: std::result::Result<(), V>, out: &Short) -> Result<String> {

@@ -11,8 +11,8 @@ use fix_values::{
     show_num, show_text,
 };
 use lists::{Bytes, List};
-use row_tables::Row;
 use std::alloc::Global;
+use test_tables::Row;
 
 /// The answer to a row, or `None` if it names another call.
 pub fn told(alloc: Global, row: &Row) -> Result<Option<String>> {

@@ -6,10 +6,10 @@ use json_values::{
     put_char, put_constant, put_count, put_enum, put_number, put_set, put_string, put_text,
 };
 use printers::{Chunk, Printer};
-use row_tables::{Row, spelled};
 use sbe_base::MemSink;
 use sbe_types::{Bytes, ConstValue, Named};
 use std::alloc::Global;
+use test_tables::{Row, spelled};
 
 /// How many bytes the sink of a row accepts.
 const ROOM: usize = 8192;

@@ -9,11 +9,11 @@ ghost use Rattle.field_bytes.specs.Faults.{is_single};
 use crate::leaves::{leaf_of, names_of, prim_of};
 use anyhow::{Result, bail};
 use field_bytes::{FieldCause, ValueFault, leaf_writes, put_num, value_judge};
-use row_tables::{Row, spelled, value_of};
 use sbe_types::{
     Kind, Leaf, LeafFault, LeafShape, Order, Presence, Prim, Value, get_num, leaf_reads,
 };
 use std::alloc::Global;
+use test_tables::{Row, spelled, value_of};
 
 /// The answer to a row, or `None` if it names another call.
 pub fn told(alloc: Global, row: &Row) -> Result<Option<String>> {

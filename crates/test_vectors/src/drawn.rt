@@ -3,12 +3,12 @@
 use anyhow::{Result, bail};
 use layout_compile::compile;
 use layout_tables::Layout;
-use row_tables::Row;
 use sbe_schema::read_schema;
 use sbe_types::Msg;
 use schema_check::{Checked, check};
 use std::alloc::Global;
 use std::fs;
+use test_tables::Row;
 use tree_codec::encode;
 use typed_writer::FrameBuf;
 use vectors::{alter, generate};

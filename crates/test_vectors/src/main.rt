@@ -4,7 +4,7 @@
 mod drawn;
 
 use anyhow::{Result, bail};
-use row_tables::{Calls, Row, judge_tables};
+use test_tables::{Calls, Row, judge_tables};
 
 /// The calls of all tables.
 struct AllCalls;

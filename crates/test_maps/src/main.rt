@@ -5,8 +5,8 @@ mod answers;
 mod made;
 
 use anyhow::{Result, bail};
-use row_tables::{Calls, Row, judge_tables};
 use std::fs;
+use test_tables::{Calls, Row, judge_tables};
 
 /// The mapping that most rows change.
 const ORDERS: &str = "orders.json";

@@ -5,8 +5,8 @@
 mod answers;
 
 use anyhow::{Result, bail};
-use row_tables::{Calls, Row, judge_tables};
 use std::fs;
+use test_tables::{Calls, Row, judge_tables};
 
 /// The schema with a message for each kind of field, and one of data.
 const KINDS: &str = "kinds.json";

@@ -2,7 +2,7 @@ use Rattle.std.proofs.Common.{length, refl, sym, ap, arith, ◌∙◌}
 use Rattle.std.specs.Prelude.{slice_get}
 use Rattle.std.proofs.lemmas.Option.{slice_get_read}
 use Rattle.sbe_types.specs.declared.schema.WireSchema.{WireSchema}
-use Rattle.cover_rows.proofs.answers.messages_told.Goals as goal
+use Rattle.test_coverage.proofs.answers.messages_told.Goals as goal
 
 pub message_told-requires : goal.message_told-requires
 message_told-requires c =

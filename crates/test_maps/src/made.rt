@@ -1,8 +1,8 @@
 //! Mapping files that are made for a row.
 
 use anyhow::{Result, bail};
-use row_tables::Row;
 use std::alloc::Global;
+use test_tables::Row;
 
 /// A text in which the row's first old text, which occurs once, is replaced by its new one.
 pub fn changed(alloc: Global, text: &str, row: &Row) -> Result<String> {

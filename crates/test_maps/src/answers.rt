@@ -2,9 +2,9 @@
 
 use anyhow::{Result, bail};
 use orchestra_map::{MCode, MapErr, data_tags, header_tags, read_map};
-use row_tables::Row;
 use std::alloc::Global;
 use tagvalue_codec::{DataTags, Role};
+use test_tables::Row;
 
 /// `read`, or the code and the path of the refusal.
 pub fn read_told(alloc: Global, bytes: &[u8]) -> Result<String> {
