@@ -46,18 +46,18 @@ use Rattle.bridge_plan.proofs.Covered.{each_both}
 use Rattle.bridge_plan.proofs.Counting.{repeat_count}
 use Rattle.bridge_plan.proofs.PlanParts.{Steps, plan_by, repeat_is}
 
-at_zero : (i : ℕ) → i ≡ i + 0
+pub at_zero : (i : ℕ) → i ≡ i + 0
 at_zero i = omega arith
 
-from_zero : (j : ℕ) → 0 + j ≡ j
+pub from_zero : (j : ℕ) → 0 + j ≡ j
 from_zero j = omega arith
 
-one_later : (i j : ℕ) → suc i + j ≡ i + suc j
+pub one_later : (i j : ℕ) → suc i + j ≡ i + suc j
 one_later i j = omega arith
 
 -- ---- fields and data
 
-abbrev slot_by : ℕ → ℕ → Rule → Slot
+abbrev pub slot_by : ℕ → ℕ → Rule → Slot
 slot_by tag i rule = record { tag = tag; place = in_fields i; rule = rule }
 
 field_at : (order : Order) (m : Mapping) (tag i : ℕ) (fs : List Field) (vs : List Value) (slot : Slot) → AreOrdered fs → IsMapped (datatype_of m tag) → FieldsFit order fs vs → field_slot m tag i fs ≡ Some slot →
@@ -99,7 +99,7 @@ data_written d (code_set cs) rule h v fits = none_some h
 data_written d (character_set cs) rule h v fits = none_some h
 data_written d unbridged rule h v fits = none_some h
 
-abbrev data_by : ℕ → ℕ → Rule → Slot
+abbrev pub data_by : ℕ → ℕ → Rule → Slot
 data_by tag i rule = record { tag = tag; place = in_data i; rule = rule }
 
 data_at : (m : Mapping) (tag i : ℕ) (ds : List DataField) (vs : List DataVal) (slot : Slot) → PartsFit ds vs → data_slot m tag i ds ≡ Some slot →
@@ -123,7 +123,7 @@ data_at m tag i (d ∷ ds) (v ∷ vs) slot fits h = elim (either (d.id == tag)) 
 
 -- ---- the parts of a block
 
-abbrev AreGroups : Order → List Group → List GroupVal → Type 0
+abbrev pub AreGroups : Order → List Group → List GroupVal → Type 0
 AreGroups order [] [] = ⊤
 AreGroups order [] (v ∷ vs) = ⊥
 AreGroups order (g ∷ gs) [] = ⊥
@@ -135,12 +135,12 @@ groups_list order end_of-Group (v ∷ vs) h = absurd h
 groups_list order (more_of-Group g rest) [] h = absurd h
 groups_list order (more_of-Group g rest) (v ∷ vs) h = (h.0, groups_list order rest vs h.1)
 
-record HasParts (order : Order) (level : Level) (block : Block) : Type 0 where
-  fields : FieldsFit order (out-Level level).fields (out-Block block).fields
-  groups : AreGroups order (groups_in level) (out-Block block).groups
-  parts : PartsFit (out-Level level).parts (out-Block block).parts
+pub record HasParts (order : Order) (level : Level) (block : Block) : Type 0 where
+  pub fields : FieldsFit order (out-Level level).fields (out-Block block).fields
+  pub groups : AreGroups order (groups_in level) (out-Block block).groups
+  pub parts : PartsFit (out-Level level).parts (out-Block block).parts
 
-block_parts : (order : Order) (level : Level) (block : Block) → BlockFits order level block → HasParts order level block
+pub block_parts : (order : Order) (level : Level) (block : Block) → BlockFits order level block → HasParts order level block
 unfolding levels.out-Level carrier.out
 block_parts order (Level' name id semantic since block_length fields n groups parts) block h =
     record { fields = h.0; groups = groups_list order groups (out-Block block).groups h.1; parts = h.2 }
@@ -180,17 +180,17 @@ each_map : {X Y : Type 0} (f : X → Y) (P : X → Type 0) (Q : Y → Type 0) �
 each_map f P Q turn [] all = tt
 each_map f P Q turn (x ∷ xs) all = (turn x all.0, each_map f P Q turn xs all.1)
 
-record HasBlocks (order : Order) (g : Group) (v : GroupVal) : Type 0 where
-  blocks : List Block
-  are : v ≡ groupval.Entries blocks
-  admitted : is_admitted (out-Group g).dim (codes "numInGroup") (length blocks) ≡ true
-  fit : Each (λ block. BlockFits order (level_in g) block) blocks
+pub record HasBlocks (order : Order) (g : Group) (v : GroupVal) : Type 0 where
+  pub blocks : List Block
+  pub are : v ≡ groupval.Entries blocks
+  pub admitted : is_admitted (out-Group g).dim (codes "numInGroup") (length blocks) ≡ true
+  pub fit : Each (λ block. BlockFits order (level_in g) block) blocks
 
-group_blocks : (order : Order) (g : Group) (v : GroupVal) → GroupFits order g v → HasBlocks order g v
+pub group_blocks : (order : Order) (g : Group) (v : GroupVal) → GroupFits order g v → HasBlocks order g v
 unfolding grouped.out-Group carrier.out
 group_blocks order (Group' dim level) v h = record { blocks = h.0; are = h.1; admitted = h.2; fit = each_is (λ block. BlockFits order level block) h.0 h.3 }
 
-count_admits : (g : Group) (leaf : LeafOf) (n : ℕ) → count_leaf g ≡ Some leaf → is_admitted (out-Group g).dim (codes "numInGroup") n ≡ true → admits leaf (pos n) ≡ true
+pub count_admits : (g : Group) (leaf : LeafOf) (n : ℕ) → count_leaf g ≡ Some leaf → is_admitted (out-Group g).dim (codes "numInGroup") n ≡ true → admits leaf (pos n) ≡ true
 count_admits g leaf n is h = by_spot (spot_named 0 (codes "numInGroup") (out-Group g).dim) is h
   where
     by_spot : (o : Option Spot) → and_then o (λ (spot : Spot). Some spot.leaf) ≡ Some leaf → option_map_or (λ (spot : Spot). admits spot.leaf (pos n)) o false ≡ true → admits leaf (pos n) ≡ true

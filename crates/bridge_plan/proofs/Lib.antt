@@ -8,4 +8,6 @@ pub mod Counting
 pub mod Passing
 pub mod Translating
 pub mod FittingMessages
+pub mod BackFits
+pub mod Canonical
 pub mod Computing

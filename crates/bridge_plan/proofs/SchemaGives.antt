@@ -147,6 +147,28 @@ checked_covered schema m s i level checked codes_short distinct at h =
       };
     }
 
+-- ---- kinds
+
+-- the kinds of a level's fields are in order
+abbrev pub HasFieldKinds : Level → Type 0
+HasFieldKinds level = AllByRecursion (λ (f : Field). IsKindInOrder f.kind) (out-Level level).fields
+
+-- the same for the fields of a group
+abbrev pub HaveFieldKinds : Structure → Group → Type 0
+HaveFieldKinds inner g = HasFieldKinds (level_in g)
+
+have_kinds : (t : ℕ) (inner : Structure) (g : Group) → HasFacts (node t (Some (out-Group g).dim) (out-Group g).level) → HaveFieldKinds inner g
+have_kinds t inner g facts = subst HasFieldKinds (level_same g) facts.kinds.fields
+
+-- a message of a checked schema, and the groups of a structure in it
+pub checked_kinds : (schema : WireSchema) (s : Structure) (i : ℕ) (level : Level) → IsChecked schema → slice_get schema.messages i ≡ Some level → HasFieldKinds level × EachGroup HaveFieldKinds s level
+checked_kinds schema s i level checked at =
+    let facts = all_facts (all_nodes schema) checked.kinds.levels checked.measured.levels in
+    let own = all_of_message HasFacts 0 i schema.messages level facts at in
+    let two = holds_below HasFacts (0 + i) None level own in
+    let inside : Below HasFacts (0 + i) (groups_in level) = subst (Below HasFacts (0 + i)) (groups_same level) two.1 in
+    (two.0.kinds.fields, deep HasFacts HaveFieldKinds (0 + i) (have_kinds (0 + i)) s level inside)
+
 -- ---- codes
 
 mapped_in : (tag : ℕ) (ds : List (ℕ × Datatype)) → AllByRecursion (λ (d : ℕ × Datatype). IsMapped d.1) ds → IsMapped (datatype_in tag ds)

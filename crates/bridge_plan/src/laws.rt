@@ -18,8 +18,9 @@ ghost use Rattle.reference_graph.specs.Structures.{is_ambiguous};
 ghost use Rattle.bridge_rules.specs.Again.{HasText};
 ghost use Rattle.bridge_rules.specs.Bounds.{IsMapped};
 ghost use Rattle.bridge_rules.specs.Datatypes.{Datatype};
+ghost use Rattle.bridge_rules.specs.Good.{IsItemForm};
 ghost use Rattle.bridge_rules.specs.Sound.{IsSound, ShowsGood};
-ghost use Rattle.bridge_terms.specs.PlanFacts.{EachRule, IsPlaced, IsRoot};
+ghost use Rattle.bridge_terms.specs.PlanFacts.{EachRule, EachValue, IsPlaced, IsRoot};
 ghost use Rattle.bridge_terms.specs.Parts.{application_fields};
 ghost use Rattle.bridge_terms.specs.Gathering.{items_of_fields, items_of, message_application_items, field_application_items};
 ghost use Rattle.bridge_terms.specs.WayBack.{back_refused};
@@ -30,6 +31,8 @@ ghost use Rattle.bridge_plan.specs.Covers.{uncovered, plan_of};
 ghost use Rattle.bridge_plan.specs.StructureFacts.{IsDistinct};
 ghost use Rattle.bridge_plan.specs.CheckedLevels.{IsCovered, HasShortCodes};
 ghost use Rattle.bridge_plan.specs.Translation.{Values, Draft, whole_text, IsMessageOf, IsHead, IsTranslated, ComesBack, IsCanonicalBlock};
+
+use writable_schemas::laws::kinds_in_order_are_writable;
 
 /// A structure that names no tag twice has each tag at one place.
 pub fn unambiguous_structures_are_distinct()
@@ -119,11 +122,32 @@ pub fn blocks_that_fit_come_back()
         → ComesBack m s level (values_of (plan_of m s level) block) draft }
 {}
 
+/// The message that a text is translated to fits its template.
+pub fn messages_of_texts_fit()
+    ensures { (order : Order) (schema : WireSchema) (m : Mapping) (s : Structure) (i : ℕ) (level : Level)
+        (text : List Field) (b : Block) → IsChecked schema → slice_get schema.messages i ≡ Some level
+        → IsCovered m s level → IsMessageOf m s level text b → BlockFits order level b }
+{
+    kinds_in_order_are_writable();
+}
+
 /// A message of canonical values comes back as it was.
 pub fn a_canonical_message_comes_back()
     ensures { (m : Mapping) (s : Structure) (level : Level) (block : Block) (draft : Draft)
         → IsCanonicalBlock m s level block draft → IsMessageOf m s level (whole_text m draft) block }
 {}
+
+/// A block that fits its template, with each value in the one form of its item, is canonical.
+pub fn fitting_blocks_of_item_forms_are_canonical()
+    ensures { (order : Order) (schema : WireSchema) (m : Mapping) (s : Structure) (i : ℕ) (level : Level) (block : Block)
+        (draft : Draft) → IsChecked schema → slice_get schema.messages i ≡ Some level → IsCovered m s level
+        → IsHead m draft.head → BlockFits order level block
+        → EachValue IsItemForm (plan_of m s level) (values_of (plan_of m s level) block)
+        → fields_of (plan_of m s level) (values_of (plan_of m s level) block) ≡ Ok draft.fields
+        → IsCanonicalBlock m s level block draft }
+{
+    kinds_in_order_are_writable();
+}
 
 /// The message of a text can be written again, unless a decimal's exponent is outside the range that is written. Its
 /// text then has the same items, and is translated to the same message.

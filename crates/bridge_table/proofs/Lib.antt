@@ -1,2 +1,4 @@
 pub mod NamedTexts
+pub mod TextsApart
+pub mod Truths
 pub mod Bytes

@@ -1,6 +1,7 @@
 ghost use Rattle.std.specs.Prelude.{◌≡◌, ◌++◌, ◌<◌, ◌==◌, All, IfOk, OnOk, length};
 ghost use Rattle.std.specs.List.{list_any, list_all};
 ghost use Rattle.sbe_types.specs.Numbers.{natural};
+ghost use Rattle.sbe_types.specs.declared.kind.Named.{Named};
 ghost use Rattle.fix_values.specs.Codes.{boolean_text, is_apart, is_truth, same_text, same_truth};
 ghost use Rattle.bridge_rules.specs.Rules.{is_char};
 ghost use Rattle.bridge_rules.specs.Datatypes.{NamedCode};
@@ -9,6 +10,7 @@ ghost use Rattle.bridge_table.specs.Codes.{named_codes, option_list, IsByteOf};
 
 use crate::datatype::CodeTable;
 use fix_values::{Code, CodeList};
+use indexmap::IndexSet;
 use itoa::Buffer;
 use lists::{List, NoMem, Text};
 use map_types::CodeEl;
@@ -174,26 +176,23 @@ pub fn are_digits(names: &[Named]) -> bool
         .all(|name| 48 <= name.number && name.number <= 57)
 }
 
-/// Whether no two codes have the same text.
-pub fn are_texts_apart(list: &[Code]) -> bool
-    ensures { result ≡ is_apart same_text list.now }
+/// Whether no two codes have the same text: each is looked up once among those after it.
+pub fn are_texts_apart(alloc: Global, list: &[Code]) -> Result<bool, NoMem>
+    ensures { IfOk result (λ apart. apart ≡ is_apart same_text list.now) }
 {
-    for i in 0..list.len() {
-        if has_text(&list[i + 1..], &list[i]) {
-            return false;
+    let mut texts = IndexSet::with_capacity(alloc, list.len())?;
+    let mut i = list.len();
+    'codes: while i > 0 {
+        i -= 1;
+        if !texts.insert(list[i].text.as_slice())? {
+            return Ok(false);
         }
     }
-    true
+    Ok(true)
 }
 
-fn has_text(list: &[Code], other: &Code) -> bool
-    ensures { result ≡ list_any (same_text other.now) list.now }
-{
-    list.iter()
-        .any(|code| other.text.as_slice() == code.text.as_slice())
-}
-
-/// Whether no two valid values are written as the same Boolean.
+/// Whether no two valid values are written as the same Boolean. Linear, since of three that are written as one two are
+/// the same.
 pub fn are_truths_apart(list: &[Named]) -> bool
     ensures { result ≡ is_apart same_truth list.now }
 {
@@ -208,16 +207,24 @@ pub fn are_truths_apart(list: &[Named]) -> bool
 fn has_truth(list: &[Named], other: &Named) -> bool
     ensures { result ≡ list_any (same_truth other.now) list.now }
 {
-    list.iter().any(|name| is_same_truth(other, name))
-}
-
-fn is_same_truth(one: &Named, other: &Named) -> bool
-    ensures { result ≡ same_truth one.now other.now }
-{
-    match truth_of(one.number) {
-        Some(byte) => is_truth(byte, truth_of(other.number)),
+    match truth_in(other) {
+        Some(byte) => has_byte(list, byte),
         None => false,
     }
+}
+
+/// Whether a valid value is written as this byte.
+fn has_byte(list: &[Named], byte: u8) -> bool
+    ensures { result ≡ list_any (λ (name : Named). is_truth byte (boolean_text name.number)) list.now }
+{
+    list.iter().any(|name| is_truth(byte, truth_in(name)))
+}
+
+/// The Boolean as which a valid value is written.
+fn truth_in(name: &Named) -> Option<u8>
+    ensures { result ≡ boolean_text name.now.number }
+{
+    truth_of(name.number)
 }
 
 fn is_truth(byte: u8, other: Option<u8>) -> bool

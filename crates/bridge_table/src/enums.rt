@@ -32,11 +32,11 @@ pub fn enum_rule(
     match datatype {
         Datatype::CodeSet(table) => {
             let codes = codes_of(alloc, leaf.prim, table, names)?;
-            Ok(by_codes(leaf, codes))
+            by_codes(alloc, leaf, codes)
         }
         Datatype::Character | Datatype::Text => {
             let codes = number_codes(alloc, leaf.prim, names)?;
-            Ok(by_codes(leaf, codes))
+            by_codes(alloc, leaf, codes)
         }
         Datatype::WholeNumber => number_rule(alloc, leaf, names),
         Datatype::Boolean => truth_rule(alloc, leaf, names),
@@ -45,13 +45,13 @@ pub fn enum_rule(
 }
 
 /// An enum with the codes of its valid values, if no two have the same text.
-fn by_codes(leaf: &Leaf, codes: CodeList) -> Option<EnumRule>
-    ensures { (names : List Named) → option_map (enum_with names) result ≡ by_codes enum_code leaf.now names codes }
+fn by_codes(alloc: Global, leaf: &Leaf, codes: CodeList) -> Result<Option<EnumRule>, NoMem>
+    ensures { IfOk result (λ rule. (names : List Named) → option_map (enum_with names) rule ≡ by_codes enum_code leaf.now names codes) }
 {
-    if !are_texts_apart(codes.as_slice()) {
-        return None;
+    if !are_texts_apart(alloc, codes.as_slice())? {
+        return Ok(None);
     }
-    Some(EnumRule::Code(*leaf, codes))
+    Ok(Some(EnumRule::Code(*leaf, codes)))
 }
 
 /// An enum among integers: its encoding is a number, or each valid value is a digit.
@@ -64,7 +64,7 @@ fn number_rule(alloc: Global, leaf: &Leaf, names: &[Named]) -> Result<Option<Enu
         return Ok(None);
     }
     let codes = number_codes(alloc, leaf.prim, names)?;
-    if !are_texts_apart(codes.as_slice()) {
+    if !are_texts_apart(alloc, codes.as_slice())? {
         return Ok(None);
     }
     Ok(Some(EnumRule::Number(*leaf, codes)))
@@ -118,7 +118,7 @@ fn choice_rule(
         return Ok(None);
     }
     let codes = choice_codes(alloc, table, names)?;
-    if !are_texts_apart(codes.as_slice()) {
+    if !are_texts_apart(alloc, codes.as_slice())? {
         return Ok(None);
     }
     Ok(Some(FieldRule::ChoiceSet(codes)))

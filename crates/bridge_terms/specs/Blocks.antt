@@ -198,8 +198,8 @@ pub record IsPlanOf (level : Level) (p : Plan) : Type 0 where
   pub all_separate : AreSeparate p
   pub holds : HoldsData p
 
--- the block of the message that fields are translated to: it fits, has the fields' items, and is in the one form of
--- these
+-- the block of the message that fields are translated to: it has a value for each part of the level, its values are
+-- good, and their items are those of the fields
 pub record IsBackBlock (level : Level) (p : Plan) (fields : List Field) (block : Block) : Type 0 where
   pub lengths : HasLengths level block
   pub entries : HasEntries p block

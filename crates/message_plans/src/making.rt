@@ -26,8 +26,8 @@ use std::alloc::Global;
 use structure_rows::PlaceRow;
 
 /// The plans of the templates of a checked schema by a mapping whose members keep their rules, as those of a file that was read
-/// do. Linear in the parts of the schema and in the places of the messages that its templates have, but for the MsgTypes, each of
-/// which is compared with those of later templates.
+/// do. Linear in the places of the messages that the templates have, and in the parts of the schema with the listed values of each
+/// part's kind, but for the MsgTypes, each of which is compared with those of later templates.
 ///
 /// # Errors
 ///

@@ -1,4 +1,4 @@
--- The text over fields that may stand is a text of them.
+-- The text over fields that may follow one another is a text of them.
 use Rattle.std.proofs.Common.{◌≡◌, ◌≢◌, ℕ, ◌≤◌, ◌<◌, true, List, [], ◌∷◌, ◌++◌, length, refl, ap, ◌∙◌, arith, append_assoc}
 use Rattle.std.specs.Prelude.{decimal, nat_lt, nat_le}
 use Rattle.std.specs.List.{AllByRecursion}
@@ -10,7 +10,7 @@ use Rattle.std.proofs.lemmas.Fmt.{digits_value-decimal, digits_decimal, decimal_
 use Rattle.std.proofs.lemmas.Str.Parse.{numerals_by_value, tells_all_ascii_digits}
 use Rattle.tagvalue_codec.specs.declared.data_tags.Pair.{Pair}
 use Rattle.tagvalue_codec.specs.Fields.{soh, Field, field_bytes}
-use Rattle.tagvalue_codec.specs.Texts.{Free, Body, most_between, sum_over, sum_field, IsAt, IsSize, parts, front_of, FixText, text_over}
+use Rattle.tagvalue_codec.specs.Texts.{Free, Body, most_between, sum_over, sum_field, IsAt, IsSize, parts, front_of, FixText, size_field, fields_over, text_over}
 use Rattle.tagvalue_codec.proofs.Judging.{last_bytes}
 
 no_soh : (c : ℕ) → is_ascii_digit c ≡ true → c ≢ soh
@@ -21,11 +21,7 @@ digits_plain : (ds : List ℕ) → all_ascii_digits ds ≡ true → AllByRecursi
 digits_plain [] h = tt
 digits_plain (c ∷ ds) h = (no_soh c (both (is_ascii_digit c) (all_ascii_digits ds) h).0, digits_plain ds (both (is_ascii_digit c) (all_ascii_digits ds) h).1)
 
--- the field 9 of a length
-abbrev pub size_of : ℕ → Field
-size_of n = record { tag = 9; value = decimal n }
-
-size_is : (n : ℕ) → n < 1000000000 → IsSize (size_of n)
+size_is : (n : ℕ) → n < 1000000000 → IsSize (size_field n)
 size_is n small =
     let model = numerals_by_value _ tells_all_ascii_digits in
     let all : all_ascii_digits (decimal n) ≡ true = digits_decimal model n (omega arith) in
@@ -39,25 +35,19 @@ size_is n small =
 regroup : (a b c d : List ℕ) → (a ++ (b ++ c)) ++ d ≡ a ++ (b ++ (c ++ d))
 regroup a b c d = append_assoc a (b ++ c) d ∙ ap (λ x. a ++ x) (append_assoc b c d)
 
--- the fields of a text over a value after 8, a type and others
-abbrev pub fields_over : List ℕ → Field → List Field → List ℕ → List Field
-fields_over begin kind others rest =
-    let body = field_bytes kind ++ rest in
-    record { tag = 8; value = begin } ∷ size_of (length body) ∷ kind ∷ (others ++ (sum_field (front_of (record { tag = 8; value = begin }) (size_of (length body)) kind rest) ∷ []))
-
 pub written_is_text : (tags : List Pair) (begin : List ℕ) (kind : Field) (others : List Field) (rest : List ℕ) → IsAt 8 (record { tag = 8; value = begin }) → IsAt 35 kind → Body tags Free others rest → length others ≤ most_between →
-    length (field_bytes kind ++ rest) < 1000000000 → FixText tags (fields_over begin kind others rest) (text_over begin (field_bytes kind ++ rest))
+    length (field_bytes kind ++ rest) < 1000000000 → FixText tags (fields_over begin kind others (field_bytes kind ++ rest)) (text_over begin (field_bytes kind ++ rest))
 written_is_text tags begin kind others rest first third body few small =
     let b : Field = record { tag = 8; value = begin } in
     let n = length (field_bytes kind ++ rest) in
-    let last = field_bytes (sum_field (front_of b (size_of n) kind rest)) in
+    let last = field_bytes (sum_field (front_of b (size_field n) kind rest)) in
     record {
-      parts = parts b (size_of n) kind rest last;
+      parts = parts b (size_field n) kind rest last;
       others = others;
       typed = record {
         spans = record {
-          opens = record { text_is = regroup (field_bytes b) (field_bytes (size_of n)) (field_bytes kind ++ rest) last; first = first; second = size_is n small };
-          seven = ap length (last_bytes (sum_over (front_of b (size_of n) kind rest)));
+          opens = record { text_is = regroup (field_bytes b) (field_bytes (size_field n)) (field_bytes kind ++ rest) last; first = first; second = size_is n small };
+          seven = ap length (last_bytes (sum_over (front_of b (size_field n) kind rest)));
           right = digits_value-decimal (numerals_by_value _ tells_all_ascii_digits) n (omega arith);
         };
         third = third;

@@ -214,11 +214,19 @@ IsFirstFault tags text fault = FaultOf tags text fault.code fault.offset fault.d
 
 -- ---- the text of fields
 
--- Everything before the last field: the value after `8=`, the right number after `9=` without a leading zero, and the
--- body.
+-- the field 9 of a body of this many bytes, without a leading zero
+abbrev pub size_field : ℕ → Field
+size_field n = record { tag = 9; value = decimal n }
+
+-- everything before the last field: the value after `8=`, the right number after `9=`, and the body
 abbrev pub sized : List ℕ → List ℕ → List ℕ
-sized begin body = field_bytes (record { tag = 8; value = begin }) ++ (field_bytes (record { tag = 9; value = decimal (length body) }) ++ body)
+sized begin body = field_bytes (record { tag = 8; value = begin }) ++ (field_bytes (size_field (length body)) ++ body)
 
 -- the text with this value after `8=`, the body's bytes, and the right sum
 abbrev pub text_over : List ℕ → List ℕ → List ℕ
 text_over begin body = sized begin body ++ field_bytes (sum_field (sized begin body))
+
+-- the fields of the text over a body: the value after `8=`, the right length, the type and others, and the right sum
+abbrev pub fields_over : List ℕ → Field → List Field → List ℕ → List Field
+fields_over begin kind others body =
+    record { tag = 8; value = begin } ∷ size_field (length body) ∷ kind ∷ (others ++ (sum_field (sized begin body) ∷ []))

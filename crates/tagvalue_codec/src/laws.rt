@@ -5,7 +5,7 @@ ghost use Rattle.tagvalue_codec.specs.declared.read.FixFault.{FixFault};
 ghost use Rattle.tagvalue_codec.specs.declared.room.TheConstants.{TEXT_LIMIT};
 ghost use Rattle.tagvalue_codec.specs.declared.table.TheConstants.{FIELD_LIMIT};
 ghost use Rattle.tagvalue_codec.specs.Fields.{Field, field_bytes};
-ghost use Rattle.tagvalue_codec.specs.Texts.{FixText, IsFirstFault, IsAt, Body, Free, most_between, text_over};
+ghost use Rattle.tagvalue_codec.specs.Texts.{FixText, IsFirstFault, IsAt, Body, Free, most_between, fields_over, text_over};
 
 /// A text has at most one list of fields.
 pub fn at_most_one_list()
@@ -30,7 +30,8 @@ pub fn fields_or_fault()
 /// The text that a writer finishes, from fields that are allowed to follow one another, has these fields.
 pub fn what_is_written_is_a_text()
     ensures { (tags : List Pair) (begin : List ℕ) (kind : Field) (others : List Field) (rest : List ℕ) → IsAt 8 (record { tag = 8; value = begin }) → IsAt 35 kind → Body tags Free others rest → length others ≤ most_between →
-        length (field_bytes kind ++ rest) < 1000000000 → (fields : List Field) × FixText tags fields (text_over begin (field_bytes kind ++ rest)) }
+        length (field_bytes kind ++ rest) < 1000000000 →
+        FixText tags (fields_over begin kind others (field_bytes kind ++ rest)) (text_over begin (field_bytes kind ++ rest)) }
 {}
 
 /// The most fields of a table, and the most bytes of a writer.
