@@ -4,6 +4,7 @@ pub mod Fields
 pub mod Leads
 pub mod Messages
 pub mod Nth
+pub mod ReachedLemmas
 pub mod RowLemmas
 pub mod Slots
 pub mod Steps

@@ -64,6 +64,7 @@ fn put_passage(lead: &Lead, found: Option<&[u8]>, out: &mut FixWriter, halt: &mu
 }
 
 /// Writes the field of a text, if the text may be written.
+#[inline(always)]
 #[tactic(auto, using(crate::proofs::DataPuts::judged_fine, crate::proofs::DataPuts::judged_bad, crate::proofs::Values::shown_value))]
 pub fn put_judged(lead: &Lead, text: &[u8], out: &mut FixWriter, halt: &mut Halt) -> Put
     requires { out.old.phase ≡ Open }

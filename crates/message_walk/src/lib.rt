@@ -11,6 +11,7 @@ mod message;
 mod places;
 mod plan;
 mod put;
+mod reached;
 mod trail;
 mod walk;
 

@@ -1,15 +1,7 @@
 // What is at the places of a block.
-ghost use Rattle.std.specs.Prelude.{◌≡◌, ◌<◌, ◌≤◌, nat_lt, drop, length, map, slice_get, take, Some};
-ghost use Rattle.std.specs.Option.{option_map};
-ghost use Rattle.sbe_types.specs.declared.message.Block.{out-Block};
-ghost use Rattle.sbe_types.specs.declared.message.DataVal.TheVariants as dataval;
-ghost use Rattle.sbe_types.specs.declared.message.GroupVal.TheVariants as groupval;
-ghost use Rattle.sbe_types.specs.declared.schema.Group.{Group, out-Group};
-ghost use Rattle.bridge_terms.specs.Blocks.{data_value, entries_of, nth_or};
-ghost use Rattle.flyweight_view.specs.Seen.{seen_level};
-ghost use Rattle.message_walk.specs.Rows.{entries_seen, value_seen};
+ghost use Rattle.std.specs.Prelude.{◌≡◌, ◌<◌, ◌≤◌, nat_lt, drop, length, slice_get, take, Some};
 
-use flyweight_view::{BlockView, EntriesView};
+use flyweight_view::BlockView;
 
 /// Whether the block has a field with this number.
 #[inline(always)]
@@ -18,32 +10,6 @@ pub(crate) fn has_field(block: &BlockView<'_>, number: usize) -> bool
 {
     let (count, _, _) = block.counts();
     number < count
-}
-
-/// The data with this number, or `None` if it is absent.
-#[tactic(auto, using(crate::proofs::Nth::data_seen))]
-pub(crate) fn data_at<'a>(block: &BlockView<'a>, number: usize) -> Option<&'a [u8]>
-    ensures { number < length block.now.parts
-        → value_seen (option_map (λ b. b.now) result) ≡ data_value (nth_or dataval.Absent number (out-Block block.now.block).parts) }
-{
-    let (_, _, count) = block.counts();
-    if number >= count {
-        return None;
-    }
-    block.data(number)
-}
-
-/// The entries of the group with this number, or `None` if it is absent.
-#[tactic(auto, using(crate::proofs::Nth::group_seen_at))]
-pub(crate) fn entries_at<'a>(block: &BlockView<'a>, number: usize) -> Option<EntriesView<'a>>
-    ensures { (group : Group) → slice_get block.now.groups number ≡ Some group
-        → entries_seen result ≡ map (seen_level (out-Group group).level) (entries_of (nth_or groupval.Absent number (out-Block block.now.block).groups)) }
-{
-    let (_, count, _) = block.counts();
-    if number >= count {
-        return None;
-    }
-    block.group(number)
 }
 
 // ---- rows

@@ -10,15 +10,17 @@ ghost use Rattle.bridge_terms.specs.Places.{entries_places, places_of, run_place
 ghost use Rattle.bridge_terms.specs.Plans.{Each, Plan, Slot};
 ghost use Rattle.message_walk.specs.declared.put.Put.TheVariants.{Nothing};
 ghost use Rattle.message_walk.specs.Halts.{undelimited_here};
+ghost use Rattle.message_walk.specs.Reached.{IsReached};
 ghost use Rattle.message_walk.specs.Rows.{entries_seen, entry_places, run_inside, size_of, AreRows, FitsSeen, IsSlotAt, IsThere};
 ghost use Rattle.message_walk.specs.States.{after, outcome, IsPut};
 
 use crate::data::put_data;
 use crate::halt::{Cause, Halt};
 use crate::lead::Lead;
-use crate::places::{at_most, data_at, entries_at, first, front, has_field, rest_from};
+use crate::places::{at_most, first, front, has_field, rest_from};
 use crate::plan::{Part, PlanRow};
 use crate::put::{Put, PutValue, put_count};
+use crate::reached::Reached;
 use crate::trail::WayStep;
 use flyweight_view::{BlockView, EntriesView};
 use tagvalue_codec::FixWriter;
@@ -38,19 +40,20 @@ pub fn put_rows<R: PutValue>(
         → outcome result out.new halt.new ≡ after lists out.old (places_of p (values_of p block.now.block)) }
 {
     let mut left = rows;
+    let mut reached = Reached::new();
     while left.len() > 0 {
         let row = first(left);
         let rest = rest_from(left, 1);
         match size_of(&row.part) {
             None => {
-                if !put_row(row, block, out, halt) {
+                if !put_row(row, block, &mut reached, out, halt) {
                     return false;
                 }
                 left = rest;
             }
             Some(size) => {
                 let size = at_most(size, rest.len());
-                let entries = entries_at(block, row.number);
+                let entries = reached.entries_at(block, row.number);
                 if !put_group(&row.lead, front(rest, size), entries, out, halt) {
                     return false;
                 }
@@ -74,19 +77,23 @@ fn size_of<R>(part: &Part<R>) -> Option<usize>
 }
 
 /// Writes the field of a field or data, if its value has one.
-fn put_row<R: PutValue>(
+#[inline(always)]
+fn put_row<'a, R: PutValue>(
     row: &PlanRow<R>,
-    block: &BlockView<'_>,
+    block: &BlockView<'a>,
+    reached: &mut Reached<'a>,
     out: &mut FixWriter,
     halt: &mut Halt,
 ) -> bool
-    requires { out.old.phase ≡ Open }
+    requires open { out.old.phase ≡ Open }
+    requires reached { IsReached block.now reached.old }
+    ensures reached { IsReached block.now reached.new }
     ensures open { out.new.phase ≡ Open }
     ensures put { (lists : TagLists) (s : Slot) → IsSlotAt R.spells (length_in row.now.lead lists.lengths) s row.now.number row.now.part
         → IsThere s.rule s.place block.now.fields block.now.parts
         → outcome result out.new halt.new ≡ after lists out.old (slot_places row.now.lead (text_by s.rule (value_at s.place block.now.block))) }
 {
-    match put_slot(row, block, out, halt) {
+    match put_slot(row, block, reached, out, halt) {
         Put::Written => true,
         Put::Nothing => true,
         Put::Refused => {
@@ -98,13 +105,16 @@ fn put_row<R: PutValue>(
 
 /// The same, but returns what became of the field. Groups are left out.
 #[inline(always)]
-fn put_slot<R: PutValue>(
+fn put_slot<'a, R: PutValue>(
     row: &PlanRow<R>,
-    block: &BlockView<'_>,
+    block: &BlockView<'a>,
+    reached: &mut Reached<'a>,
     out: &mut FixWriter,
     halt: &mut Halt,
 ) -> Put
-    requires { out.old.phase ≡ Open }
+    requires open { out.old.phase ≡ Open }
+    requires reached { IsReached block.now reached.old }
+    ensures reached { IsReached block.now reached.new }
     ensures open { out.new.phase ≡ Open }
     ensures put { (lists : TagLists) (s : Slot) → IsSlotAt R.spells (length_in row.now.lead lists.lengths) s row.now.number row.now.part
         → IsThere s.rule s.place block.now.fields block.now.parts
@@ -118,7 +128,13 @@ fn put_slot<R: PutValue>(
             }
             rule.put(&row.lead, block, row.number, out, halt)
         }
-        Part::Data(length) => put_data(length, &row.lead, data_at(block, row.number), out, halt),
+        Part::Data(length) => put_data(
+            length,
+            &row.lead,
+            reached.data_at(block, row.number),
+            out,
+            halt,
+        ),
         Part::Group(_) => Put::Nothing,
     }
 }
@@ -223,7 +239,8 @@ fn put_entry<R: PutValue>(
         return undelimited(halt);
     }
     let row = first(rows);
-    match put_slot(row, entry, out, halt) {
+    let mut reached = Reached::new();
+    match put_slot(row, entry, &mut reached, out, halt) {
         Put::Written => put_rows(rest_from(rows, 1), entry, out, halt),
         Put::Nothing => undelimited(halt),
         Put::Refused => {

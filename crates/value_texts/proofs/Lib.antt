@@ -1,7 +1,10 @@
+pub mod Codes
 pub mod Dates
+pub mod FirstMembers
 pub mod Leaving
 pub mod MadeRows
 pub mod Members
 pub mod Plain
 pub mod Rows
+pub mod SmallDecimals
 pub mod Values

@@ -6,7 +6,6 @@ use Rattle.sbe_types.specs.declared.kind.Leaf.{Leaf as LeafOf}
 use Rattle.sbe_types.specs.declared.message.Value.{Value}
 use Rattle.sbe_types.specs.Numbers.{natural}
 use Rattle.fix_values.specs.declared.rule.NumRule.{NumRule}
-use Rattle.fix_values.specs.Decimals.{dec, decimal_text}
 use Rattle.fix_values.specs.Values.{text_of}
 use Rattle.tagvalue_codec.specs.Drafts.{Draft}
 use Rattle.flyweight_view.specs.declared.values.FieldBytes.{FieldBytes}
@@ -51,11 +50,6 @@ pub choices_row : (lists : TagLists) (d : Draft) (tag : ℕ) (r : PutResult) (ru
     → AsksWords (row.Choices rule) → (CanAsk rule n → IsPut lists d tag (text_if_any n (λ n. text_of rule n)) r) → IsPut lists d tag (row_text (row.Choices rule) v) r
 choices_row lists d tag r rule v n read small asks puts =
     subst (λ n. IsPut lists d tag (text_if_any n (λ n. text_of rule n)) r) (sym read) (puts (word_asked rule n small asks))
-
-pub decimal_row : (lists : TagLists) (d : Draft) (tag : ℕ) (r : PutResult) (v : Value) (exponent : ℤ) (vs : List Value) → members_in v ≡ vs
-    → IsPut lists d tag (text_if_any (nth_number 0 vs) (λ m. decimal_text (dec m exponent))) r → IsPut lists d tag (row_text (row.Decimal exponent) v) r
-decimal_row lists d tag r v exponent vs members put =
-    subst (λ n. IsPut lists d tag (text_if_any n (λ m. decimal_text (dec m exponent))) r) (sym (mantissa_is v ∙ ap (nth_number 0) members)) put
 
 pub floating_row : (lists : TagLists) (d : Draft) (tag : ℕ) (r : PutResult) (v : Value) (m e : LeafOf) (vs : List Value) → members_in v ≡ vs
     → IsPut lists d tag (text_if_any (nth_number 0 vs) (λ n. floating_text m e (nth_number 1 vs) n)) r → IsPut lists d tag (row_text (row.Floating m e) v) r

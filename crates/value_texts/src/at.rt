@@ -8,7 +8,7 @@ ghost use Rattle.message_walk.specs.States.{IsPut};
 ghost use Rattle.value_texts.specs.declared.row.ValueText.TheVariants as row;
 ghost use Rattle.value_texts.specs.Rows.{row_text, CanAskOf};
 
-use crate::composite::members_at;
+use crate::composite::{mantissa_of, members_at};
 use crate::decimals::{put_fixed_decimal, put_floating};
 use crate::fixed::put_constant;
 use crate::moments::{put_day, put_moment, put_month};
@@ -23,6 +23,7 @@ use sbe_types::Leaf;
 use tagvalue_codec::FixWriter;
 
 /// Writes the field of a number, if there is one.
+#[inline(always)]
 pub(crate) fn number_at(
     rule: &Spelling,
     lead: &Lead,
@@ -43,6 +44,7 @@ pub(crate) fn number_at(
 }
 
 /// Writes the field of a set, unless it is empty.
+#[inline(never)]
 pub(crate) fn choices_at(
     rule: &Spelling,
     lead: &Lead,
@@ -63,6 +65,7 @@ pub(crate) fn choices_at(
 }
 
 /// Writes the field of a text, if there is one.
+#[inline(always)]
 pub(crate) fn passage_at(
     lead: &Lead,
     block: &BlockView<'_>,
@@ -82,6 +85,7 @@ pub(crate) fn passage_at(
 }
 
 /// Writes the field of a day, if there is one.
+#[inline(never)]
 pub(crate) fn day_at(
     lead: &Lead,
     block: &BlockView<'_>,
@@ -101,6 +105,7 @@ pub(crate) fn day_at(
 }
 
 /// Writes the field of a constant, if the field is one.
+#[inline(never)]
 pub(crate) fn constant_at(
     text: &ConstText,
     lead: &Lead,
@@ -120,6 +125,7 @@ pub(crate) fn constant_at(
 }
 
 /// Writes the field of a decimal with this exponent, if it has a mantissa.
+#[inline(always)]
 pub(crate) fn decimal_at(
     exponent: i128,
     lead: &Lead,
@@ -134,11 +140,13 @@ pub(crate) fn decimal_at(
     ensures put { (lists : TagLists) → length_in lead.now lists.lengths ≡ None
         → IsPut lists out.old lead.now (row_text (row.Decimal exponent) (field_of block.now number)) (record { put = result; draft = out.new; halt = halt.new }) }
 {
-    let members = members_at(block, number);
-    put_fixed_decimal(&members, exponent, lead, out, halt)
+    let field = field_at(block, number);
+    let mantissa = mantissa_of(field);
+    put_fixed_decimal(mantissa, exponent, lead, out, halt)
 }
 
 /// Writes the field of a decimal whose exponent is a member, if it has a mantissa.
+#[inline(never)]
 pub(crate) fn floating_at(
     mantissa: &Leaf,
     exponent: &Leaf,
@@ -159,6 +167,7 @@ pub(crate) fn floating_at(
 }
 
 /// Writes the field of a time and its unit, if there is a time.
+#[inline(never)]
 pub(crate) fn moment_at(
     epoch: Epoch,
     unit: &Unit,
@@ -179,6 +188,7 @@ pub(crate) fn moment_at(
 }
 
 /// Writes the field of a month, if there is a year.
+#[inline(never)]
 pub(crate) fn month_at(
     lead: &Lead,
     block: &BlockView<'_>,

@@ -13,6 +13,7 @@ ghost use Rattle.value_texts.specs.Seen.{members_seen, nth_number, HasMembers};
 
 use crate::composite::member_number;
 use crate::shown::put_shown;
+use crate::small::{MOST_PLACES, show_small};
 use fix_values::{Short, V, read_decimal, show_decimal};
 use flyweight_view::BlockView;
 use message_walk::{Halt, Lead, Put};
@@ -20,21 +21,21 @@ use sbe_types::Leaf;
 use tagvalue_codec::FixWriter;
 
 /// Writes the field of a decimal with this exponent, if it has a mantissa.
+#[inline(always)]
 pub(crate) fn put_fixed_decimal(
-    members: &Option<BlockView<'_>>,
+    mantissa: Option<i128>,
     exponent: i128,
     lead: &Lead,
     out: &mut FixWriter,
     halt: &mut Halt,
 ) -> Put
-    requires open { out.old.phase ≡ Open }
-    requires members { HasMembers members.now }
+    requires { out.old.phase ≡ Open }
     ensures open { out.new.phase ≡ Open }
     ensures put { (lists : TagLists) → length_in lead.now lists.lengths ≡ None
-        → IsPut lists out.old lead.now (text_if_any (nth_number 0 (members_seen members.now)) (λ m. decimal_text (dec m exponent)))
+        → IsPut lists out.old lead.now (text_if_any mantissa (λ m. decimal_text (dec m exponent)))
         (record { put = result; draft = out.new; halt = halt.new }) }
 {
-    match member_number(members, 0) {
+    match mantissa {
         None => Put::Nothing,
         Some(mantissa) => {
             let mut text = Short::new();
@@ -45,15 +46,34 @@ pub(crate) fn put_fixed_decimal(
 }
 
 /// Writes a decimal with any exponent as text.
+#[inline(never)]
 fn show_any_decimal(mantissa: i128, exponent: i128, out: &mut Short) -> Result<(), V>
     ensures { Leaves result out.new (decimal_text (dec mantissa exponent)) }
 {
     match i32::try_from(exponent) {
-        Ok(exponent) => show_decimal(mantissa, exponent, out),
+        Ok(exponent) => show_with(mantissa, exponent, out),
         Err(_) => {
             out.clear();
             Err(V::Range)
         }
+    }
+}
+
+/// Writes a decimal as text, with numbers of 64 bits if they are enough.
+#[inline(always)]
+fn show_with(mantissa: i128, exponent: i32, out: &mut Short) -> Result<(), V>
+    ensures { Leaves result out.new (decimal_text (dec mantissa exponent)) }
+{
+    if exponent < -MOST_PLACES || exponent > 0 {
+        return show_decimal(mantissa, exponent, out);
+    }
+    let places = exponent.unsigned_abs();
+    match u64::try_from(mantissa.unsigned_abs()) {
+        Ok(size) => {
+            show_small(mantissa < 0, size, places, out);
+            Ok(())
+        }
+        Err(_) => show_decimal(mantissa, exponent, out),
     }
 }
 

@@ -5,12 +5,14 @@ mod at;
 mod composite;
 mod decimals;
 mod fixed;
+mod fronts;
 mod making;
 mod moments;
 mod numbers;
 mod row;
 mod seen;
 mod shown;
+mod small;
 mod spelling;
 
 pub use row::{ConstText, ValueText};

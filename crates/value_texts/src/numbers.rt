@@ -16,6 +16,7 @@ use message_walk::{Halt, Lead, Put, put_judged, put_text};
 use tagvalue_codec::FixWriter;
 
 /// Writes the field of a number, if there is one.
+#[inline(always)]
 pub(crate) fn put_number(
     rule: &Spelling,
     number: Option<i128>,
@@ -48,6 +49,7 @@ pub(crate) fn put_digits(n: i128, lead: &Lead, out: &mut FixWriter, halt: &mut H
 }
 
 /// Writes the field of a text, if there is one and it may be written.
+#[inline(always)]
 pub(crate) fn put_passage(
     text: Option<&[u8]>,
     lead: &Lead,

@@ -53,6 +53,7 @@ pub enum ConstText {
 impl PutValue for ValueText {
     ghost spells = { Spells };
 
+    #[inline(always)]
     fn put(
         &self,
         lead: &Lead,
@@ -66,6 +67,7 @@ impl PutValue for ValueText {
 }
 
 /// Writes the field of the value of field `number` of a block, if the value has one.
+#[inline(always)]
 fn put_field(
     row: &ValueText,
     lead: &Lead,

@@ -14,7 +14,7 @@ ghost use Rattle.bridge_rules.specs.Members.{is_const, not_zero, number_in, text
 ghost use Rattle.message_walk.specs.Rows.{field_of};
 ghost use Rattle.value_texts.specs.Seen.{choices_in, is_word, CanReadAny, IsSeenOf};
 
-use field_values::before_zero;
+use crate::fronts::front_of;
 use flyweight_view::{BlockView, FieldBytes};
 use sbe_types::{Kind, Leaf, LeafShape, Order, Presence, Prim, get_num};
 
@@ -30,6 +30,7 @@ pub(crate) fn field_at<'a>(block: &BlockView<'a>, number: usize) -> Option<Field
 }
 
 /// The number of a field that is a single number or an enum, and not null.
+#[inline(always)]
 pub(crate) fn number_of(field: Option<FieldBytes<'_>>) -> Option<i128>
     requires { CanReadAny field }
     ensures { (v : Value) → IsSeenOf field.entry v → number_in v ≡ result }
@@ -41,7 +42,8 @@ pub(crate) fn number_of(field: Option<FieldBytes<'_>>) -> Option<i128>
 }
 
 /// The same for the bytes of a kind.
-fn kind_number(order: Order, kind: &Kind, bytes: &[u8]) -> Option<i128>
+#[inline(always)]
+pub(crate) fn kind_number(order: Order, kind: &Kind, bytes: &[u8]) -> Option<i128>
     requires ready { IsKindInOrder kind.now }
     requires wide { length bytes.now ≡ width kind.now }
     ensures { (known : Bool) (v : Value) → Shows order known kind.now v bytes.now → number_in v ≡ result }
@@ -56,6 +58,7 @@ fn kind_number(order: Order, kind: &Kind, bytes: &[u8]) -> Option<i128>
 }
 
 /// The number of a leaf that is a number, and not null.
+#[inline(always)]
 fn leaf_number(order: Order, leaf: &Leaf, bytes: &[u8]) -> Option<i128>
     requires order { IsLeafInOrder leaf.now }
     requires wide { length bytes.now ≡ width (LeafKind leaf.now) }
@@ -71,6 +74,7 @@ fn leaf_number(order: Order, leaf: &Leaf, bytes: &[u8]) -> Option<i128>
 }
 
 /// The number that the bytes of one primitive encode, unless it is the leaf's null.
+#[inline(always)]
 fn number_unless_null(order: Order, leaf: &Leaf, bytes: &[u8]) -> Option<i128>
     requires { length bytes.now ≡ prim_width leaf.now.prim }
     ensures { result ≡ seen_element leaf.now (number_of order leaf.now.prim bytes.now) }
@@ -136,6 +140,7 @@ fn set_number(order: Order, prim: Prim, bytes: &[u8]) -> u64
 }
 
 /// The text of a field that is a text, and not null.
+#[inline(always)]
 pub(crate) fn text_of<'a>(field: Option<FieldBytes<'a>>) -> Option<&'a [u8]>
     ensures { (v : Value) → IsSeenOf field.entry v → text_in v ≡ option_map (λ b. b.now) result }
 {
@@ -146,6 +151,7 @@ pub(crate) fn text_of<'a>(field: Option<FieldBytes<'a>>) -> Option<&'a [u8]>
 }
 
 /// The same for the bytes of a kind.
+#[inline(always)]
 fn kind_text<'a>(kind: &Kind, bytes: &'a [u8]) -> Option<&'a [u8]>
     ensures { (order : AnyOrder) (known : Bool) (v : Value) → Shows order known kind.now v bytes.now → text_in v ≡ option_map (λ b. b.now) result }
 {
@@ -159,6 +165,7 @@ fn kind_text<'a>(kind: &Kind, bytes: &'a [u8]) -> Option<&'a [u8]>
 }
 
 /// The text of a leaf that is a text, and not null.
+#[inline(always)]
 fn leaf_text<'a>(leaf: &Leaf, bytes: &'a [u8]) -> Option<&'a [u8]>
     ensures { (order : AnyOrder) (v : Value) → ShowsLeaf order leaf.now.shape leaf.now v bytes.now → text_in v ≡ option_map (λ b. b.now) result }
 {
@@ -172,10 +179,11 @@ fn leaf_text<'a>(leaf: &Leaf, bytes: &'a [u8]) -> Option<&'a [u8]>
 }
 
 /// The text before the first 00, unless it is empty and the leaf is optional.
+#[inline(always)]
 fn text_unless_null<'a>(leaf: &Leaf, bytes: &'a [u8]) -> Option<&'a [u8]>
     ensures { text_in (text_value leaf.now (before_zero bytes.now)) ≡ option_map (λ b. b.now) result }
 {
-    let text = before_zero(bytes);
+    let text = front_of(bytes);
     if leaf.presence == Presence::Optional && text.is_empty() {
         None
     } else {

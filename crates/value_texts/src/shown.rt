@@ -14,6 +14,7 @@ use message_walk::{Cause, Halt, Lead, Put, put_text};
 use tagvalue_codec::FixWriter;
 
 /// Writes the field of a text that was written, or records why there is none.
+#[inline(always)]
 #[tactic(auto, using(crate::proofs::Leaving::shown_fine, crate::proofs::Leaving::shown_bad))]
 pub(crate) fn put_shown(
     shown: Result<(), V>,
@@ -35,6 +36,7 @@ pub(crate) fn put_shown(
 }
 
 /// Records that a value has no text.
+#[cold]
 #[tactic(auto, using(crate::proofs::Leaving::refused))]
 pub(crate) fn refuse(why: V, halt: &mut Halt) -> Put
     ensures { (lists : TagLists) (d : Draft) (tag : ℕ) → IsPut lists d tag (Err why) (record { put = result; draft = d; halt = halt.new }) }

@@ -1,17 +1,19 @@
 // How a number is written.
-ghost use Rattle.std.specs.Prelude.{◌≡◌, true, None, IfSome};
+ghost use Rattle.std.specs.Prelude.{◌≡◌, true, None, Some, IfSome};
 ghost use Rattle.tagvalue_codec.specs.declared.write.Phase.TheVariants.{Open};
 ghost use Rattle.bridge_terms.specs.MessageFields.{length_in};
 ghost use Rattle.bridge_terms.specs.Parts.{TagLists};
 ghost use Rattle.message_walk.specs.States.{IsPut};
+ghost use Rattle.std.specs.List.{list_all};
+ghost use Rattle.fix_values.specs.Codes.{code_text, found_text, has_short_text};
 ghost use Rattle.fix_values.specs.Values.{is_asked, text_of, Leaves};
 ghost use Rattle.bridge_rules.specs.Texts.{field_text};
 ghost use Rattle.value_texts.specs.Spelled.{is_plain};
 
 use crate::numbers::put_digits;
-use crate::shown::put_shown;
-use fix_values::{NumRule, Short, V, show_num};
-use message_walk::{Halt, Lead, Put};
+use crate::shown::{put_shown, refuse};
+use fix_values::{Code, CodeList, NumRule, Short, V, show_num};
+use message_walk::{Halt, Lead, Put, put_judged};
 use std::marker::Model;
 use tagvalue_codec::FixWriter;
 
@@ -45,6 +47,7 @@ impl Spelling {
     }
 
     /// Writes the field of a number. A number that the rule can't be given is left out.
+    #[inline(always)]
     pub(crate) fn put(&self, n: i128, lead: &Lead, out: &mut FixWriter, halt: &mut Halt) -> Put
         requires { out.old.phase ≡ Open }
         ensures open { out.new.phase ≡ Open }
@@ -53,6 +56,9 @@ impl Spelling {
     {
         if is_plain(&self.rule) {
             return put_digits(n, lead, out, halt);
+        }
+        if let NumRule::Code(codes) = &self.rule {
+            return put_code(codes, n, lead, out, halt);
         }
         if !is_asked(&self.rule, n) {
             return Put::Nothing;
@@ -71,6 +77,35 @@ impl Spelling {
         }
         show_num(&self.rule, n, out)
     }
+}
+
+/// Writes the field of the first code with this number.
+#[inline(always)]
+fn put_code(codes: &CodeList, n: i128, lead: &Lead, out: &mut FixWriter, halt: &mut Halt) -> Put
+    requires open { out.old.phase ≡ Open }
+    requires short { list_all has_short_text codes.now ≡ true }
+    ensures open { out.new.phase ≡ Open }
+    ensures put { (lists : TagLists) → length_in lead.now lists.lengths ≡ None
+        → IsPut lists out.old lead.now (field_text (code_text codes.now n)) (record { put = result; draft = out.new; halt = halt.new }) }
+{
+    for code in codes.as_slice() {
+        if code.number == n {
+            return put_code_text(code, lead, out, halt);
+        }
+    }
+    refuse(V::UnknownCode, halt)
+}
+
+/// Writes the field of a code's text, unless it contains SOH.
+#[inline(always)]
+fn put_code_text(code: &Code, lead: &Lead, out: &mut FixWriter, halt: &mut Halt) -> Put
+    requires open { out.old.phase ≡ Open }
+    requires short { has_short_text code.now ≡ true }
+    ensures open { out.new.phase ≡ Open }
+    ensures put { (lists : TagLists) → length_in lead.now lists.lengths ≡ None
+        → IsPut lists out.old lead.now (field_text (found_text (Some code.now))) (record { put = result; draft = out.new; halt = halt.new }) }
+{
+    put_judged(lead, code.text.as_slice(), out, halt)
 }
 
 /// Whether numbers are written as digits.

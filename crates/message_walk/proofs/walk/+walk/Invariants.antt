@@ -4,6 +4,7 @@ use Rattle.bridge_terms.specs.Blocks.{values_of}
 use Rattle.bridge_terms.specs.Parts.{TagLists}
 use Rattle.bridge_terms.specs.Places.{places_of, entries_places}
 use Rattle.bridge_terms.specs.Plans.{Plan, Each}
+use Rattle.message_walk.specs.Reached.{IsReached}
 use Rattle.message_walk.specs.Rows.{AreRows, FitsSeen, entry_places}
 use Rattle.message_walk.specs.States.{after}
 use Rattle.message_walk.proofs.walk.+walk.Given as goal
@@ -27,6 +28,7 @@ abbrev pub invariant-put_rows-loop-left : goal.invariant-put_rows-loop-left
 invariant-put_rows-loop-left g l =
     record {
       shorter : length l.left ≤ length l.rows;
+      reached : IsReached l.block l.reached;
       begun : l.out.phase ≡ Open;
       put : (lists : TagLists) (p : Plan) → AreRows g.R.PutValue.spells lists p l.rows → FitsSeen p l.block
           → (q : Plan) × AreRows g.R.PutValue.spells lists q l.left × FitsSeen q l.block

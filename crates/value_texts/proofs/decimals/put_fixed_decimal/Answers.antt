@@ -21,4 +21,4 @@ returns-in-Some-clause-put c = λ lists unpaired.
     let left = whole (λ e. Leaves c.show_any_decimal-shown.result c.show_any_decimal-shown.new.out (decimal_text (dec c.in-Some.mantissa e))) c.args.exponent c.ranges.exponent
     (whole (λ m. Leaves c.show_any_decimal-shown.result c.show_any_decimal-shown.new.out (decimal_text (dec m (to_z w128 (of_z w128 c.args.exponent))))) c.in-Some.mantissa fits c.show_any_decimal-shown.ensures) in
     subst (λ o. IsPut lists c.args.out.now c.args.lead.now (text_if_any o (λ m. decimal_text (dec m c.args.exponent))) (record { put = c.put_shown.result; draft = c.put_shown.new.out; halt = c.put_shown.new.halt }))
-    (sym (c.member_number.ensures ∙ c.in-Some.is)) (c.put_shown.ensures.put lists (decimal_text (dec c.in-Some.mantissa c.args.exponent)) unpaired left)
+    (sym c.in-Some.is) (c.put_shown.ensures.put lists (decimal_text (dec c.in-Some.mantissa c.args.exponent)) unpaired left)

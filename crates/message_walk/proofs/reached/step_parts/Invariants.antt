@@ -1,0 +1,5 @@
+use Rattle.std.proofs.Common.{◌≡◌, drop}
+use Rattle.message_walk.proofs.reached.step_parts.Given as goal
+
+abbrev pub invariant-loop : goal.invariant-loop
+invariant-loop l = record { left : l.parts ≡ drop l.counter l.fn.parts }
