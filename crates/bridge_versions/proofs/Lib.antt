@@ -1,0 +1,11 @@
+pub mod AbsentValues
+pub mod RawValues
+pub mod ShownKinds
+pub mod LyingLevels
+pub mod NeededParts
+pub mod VersionParts
+pub mod OnlyNeeded
+pub mod Returning
+pub mod LaterMessages
+pub mod FarExponents
+pub mod Computing
