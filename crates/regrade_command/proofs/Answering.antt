@@ -50,6 +50,20 @@ pub delivered_as : (reply other : Reply) (old new : Sinks) (r : Result Verdict S
     DeliversDraft other old new r
 delivered_as reply other old new r same h = subst (λ (x : Reply). DeliversDraft x old new r) same h
 
+-- ---- the body
+
+module _ (on : Regrading) (number : ℕ) (body : List ℕ) where
+  -- a body that is a message
+  pub body_read : (m : Msg) → IsPlaced on.pair.from → Lays on.pair.from m body → body_reply on number body (message_of on.pair.from body) ≡ rewritten_reply on number m
+  body_read m placed lies = ap (body_reply on number body) ((message_judges on.pair.from placed).complete body m lies)
+
+  -- or none
+  pub body_fault : (read : WireSchema) (template : Option ℕ) (f : Fault) → read ≡ on.pair.from → IsPlaced on.pair.from → FirstFault read f body →
+      template ≡ message_meant read body → body_reply on number body (message_of on.pair.from body) ≡ refused_reply (refused_line number (of_fault_in read template f))
+  body_fault read template f is placed first meant =
+      ap (body_reply on number body) ((message_judges on.pair.from placed).only body f (subst (λ s. FirstFault s f body) is first))
+      ∙ sym (ap (λ o. refused_reply (refused_line number (of_fault_in read o f))) meant ∙ ap (λ s. refused_reply (refused_line number (of_fault s body f))) is)
+
 -- ---- the encoding type
 
 module _ (on : Regrading) (number encoding : ℕ) (body : List ℕ) where
@@ -73,18 +87,9 @@ module _ (on : Regrading) (number encoding : ℕ) (body : List ℕ) where
       by true e = let same : encoding ≡ encoding_of on.pair.from.order = grind (arith, nat_tests) in absurd (differs same)
       by false e = refl
 
-  -- ---- the body
-
   pub message_read : (m : Msg) → encoding ≡ encoding_of on.pair.from.order → IsPlaced on.pair.from → Lays on.pair.from m body →
       regrade_reply on number item ≡ rewritten_reply on number m
-  message_read m same placed lies = right_encoding same ∙ ap (body_reply on number body) ((message_judges on.pair.from placed).complete body m lies)
-
-  pub fault_read : (read : WireSchema) (template : Option ℕ) (f : Fault) → read ≡ on.pair.from → encoding ≡ encoding_of on.pair.from.order →
-      IsPlaced on.pair.from → FirstFault read f body →
-      template ≡ message_meant read body → regrade_reply on number item ≡ refused_reply (refused_line number (of_fault_in read template f))
-  fault_read read template f is same placed first meant =
-      right_encoding same ∙ ap (body_reply on number body) ((message_judges on.pair.from placed).only body f (subst (λ s. FirstFault s f body) is first))
-      ∙ sym (ap (λ o. refused_reply (refused_line number (of_fault_in read o f))) meant ∙ ap (λ s. refused_reply (refused_line number (of_fault s body f))) is)
+  message_read m same placed lies = right_encoding same ∙ body_read on number body m placed lies
 
 -- the way of a refusal leads to a part of the message that is meant
 pub way_there : (schema : WireSchema) (body : List ℕ) (template : Option ℕ) (f : Fault) → FirstFault schema f body →

@@ -7,3 +7,4 @@ pub mod Noting
 pub mod Replied
 pub mod Loaded
 pub mod Holding
+pub mod CopyAnswers

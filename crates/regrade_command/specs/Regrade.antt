@@ -61,6 +61,10 @@ regraded_reply pair m body = record {
   verdict = verdict.Regraded (dropped pair.from pair.to m) (filled pair.from pair.to m);
 }
 
+-- a message in another version that is written as these bytes, with no part dropped or filled
+abbrev pub copy_reply : WireSchema → List ℕ → Reply
+copy_reply to bytes = record { output = frame (encoding_of to.order) bytes; notes = []; verdict = verdict.Regraded 0 0 }
+
 -- the item is noted so
 abbrev pub IsNoted : ℕ → RefusedItem → Reply → Type 0
 IsNoted number why reply = reply ≡ refused_reply (refused_line number why)

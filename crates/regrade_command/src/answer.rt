@@ -7,12 +7,14 @@ ghost use Rattle.replies.specs.Outside.{sinks_of};
 ghost use Rattle.sbe_base.specs.Objects.{Object};
 ghost use Rattle.sbe_base.specs.Writes.{Writes};
 ghost use Rattle.sbe_wire.specs.Misfit.{misfit};
+ghost use Rattle.sbe_wire.specs.Reading.{message_of};
 ghost use Rattle.build_command.specs.Build.{body_limit};
 ghost use Rattle.regrade_laws.specs.Regraded.{moved, regraded, NoFill};
 ghost use Rattle.regrade_laws.specs.Counts.{dropped, filled};
 ghost use Rattle.regrade.specs.Regrades.{LiesInFrame};
-ghost use Rattle.regrade_command.specs.Regrade.{counted_verdict, lack_line, refused_so, regrade_reply, rewritten_reply, told_reply, written_reply};
+ghost use Rattle.regrade_command.specs.Regrade.{body_reply, counted_verdict, lack_line, refused_so, regrade_reply, rewritten_reply, told_reply, written_reply};
 
+use crate::copies::answer_copy;
 use crate::lines::{note_encoding, note_fault, note_no_fill, note_no_template};
 use crate::pair::SchemaPair;
 use crate::space::FrameSpace;
@@ -25,7 +27,7 @@ use sbe_types::{Msg, Path};
 use tree_codec::{DecodeErr, decode};
 
 /// Writes the answer to a frame: that of its message in the other version to the output, or the line of a refused item to the
-/// notes.
+/// notes. Where nothing has to change but the version, the body is copied, and no message is made of it.
 ///
 /// # Errors
 ///
@@ -51,6 +53,31 @@ pub(crate) fn answer_frame<O: Sink, N: Sink>(
     if encoding != encoding_of(pair.read.order()) {
         return refused(note_encoding(notes, item, encoding));
     }
+    let limit = space.buffer.limit();
+    if let Some(copy) = pair.copied(body, limit, &mut space.last) {
+        return answer_copy(&pair.written, &copy, output);
+    }
+    answer_body(pair, item, body, space, output, notes)
+}
+
+/// Writes the answer to a body by its message.
+fn answer_body<O: Sink, N: Sink>(
+    pair: &SchemaPair,
+    item: u64,
+    body: &[u8],
+    space: &mut FrameSpace,
+    output: &mut O,
+    notes: &mut N,
+) -> Result<Verdict, Status>
+    requires room { space.old.buffer.limit < 2 ^ 24 }
+    requires body { length body.now ≤ 16_777_216 }
+    ensures answers { (limit : ℕ) → space.old.buffer.limit ≡ body_limit limit
+        → DeliversDraft (body_reply (record { pair = pair.now; frame = limit }) item body.now (message_of pair.now.from body.now))
+        (sinks_of (O.state output.old) (N.state notes.old))
+        (sinks_of (O.state output.new) (N.state notes.new))
+        result }
+    ensures limit { space.new.buffer.limit ≡ space.old.buffer.limit }
+{
     match decode(space.alloc, &pair.read, body) {
         Ok(message) => answer_read(pair, item, &message, space, output, notes),
         Err(DecodeErr::Refused(refusal)) => {

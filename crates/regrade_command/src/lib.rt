@@ -3,6 +3,7 @@
 #![tactic(auto)]
 
 mod answer;
+mod copies;
 pub mod laws;
 mod lines;
 mod pair;

@@ -1,5 +1,6 @@
 ghost use Rattle.std.specs.Prelude.{◌≡◌, IfOk};
 
+use flyweight_view::LastRefusal;
 use lists::NoMem;
 use std::alloc::Global;
 use typed_writer::FrameBuf;
@@ -10,6 +11,8 @@ pub(crate) struct FrameSpace {
     pub(crate) alloc: Global,
     /// The body of a rewritten message.
     pub(crate) buffer: FrameBuf,
+    /// The place of the refusal of a body.
+    pub(crate) last: LastRefusal,
 }
 
 impl FrameSpace {
@@ -18,6 +21,10 @@ impl FrameSpace {
         ensures { IfOk result (λ space. space.buffer.limit ≡ limit) }
     {
         let buffer = FrameBuf::new(alloc, limit)?;
-        Ok(FrameSpace { alloc, buffer })
+        Ok(FrameSpace {
+            alloc,
+            buffer,
+            last: LastRefusal::new(),
+        })
     }
 }
