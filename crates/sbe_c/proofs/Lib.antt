@@ -1,0 +1,3 @@
+pub mod CompositeThere
+pub mod NumberThere
+pub mod Values

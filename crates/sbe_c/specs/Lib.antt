@@ -1,0 +1,7 @@
+pub mod Handles
+pub mod Answers
+pub mod Filling
+pub mod Opening
+pub mod Dumping
+pub mod Reading
+pub mod Exports

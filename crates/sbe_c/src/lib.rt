@@ -1,0 +1,13 @@
+//! The library for C: a schema is opened as a handle, and bodies are read with it. `sbe.h` declares the exports.
+#![tactic(auto)]
+
+mod answers;
+mod dumping;
+mod exports;
+mod filling;
+mod handle;
+mod opened;
+mod opening;
+mod parts;
+mod reading;
+mod text_sink;
