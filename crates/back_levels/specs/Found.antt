@@ -1,26 +1,14 @@
 -- What a level has for a tag, and the rows that precede those of a plan. Own profile.
-use Rattle.std.specs.Prelude.{◌≡◌, ℕ, Bool, true, false, List, [], ◌∷◌, ◌++◌, map, length, slice_get, Option, None, Some, ⊤}
-use Rattle.std.specs.Borrow.{Bor}
+use Rattle.std.specs.Prelude.{◌≡◌, ℕ, Bool, true, false, List, [], ◌∷◌, ◌++◌, slice_get, Option, None, Some, ⊤}
 use Rattle.sbe_types.specs.declared.kind.Kind.{Kind, Leaf, Enum, Set, Const, Comp'}
 use Rattle.sbe_types.specs.declared.kind.Leaf.{Leaf as LeafOf}
-use Rattle.sbe_types.specs.declared.schema.DataField.{DataField}
-use Rattle.sbe_types.specs.declared.schema.Field.{Field}
-use Rattle.sbe_types.specs.declared.schema.Level.{Level, out-Level}
 use Rattle.structure_rows.specs.declared.row.PlaceRow.{PlaceRow}
 use Rattle.bridge_terms.specs.Plans.{Plan, Slot}
-use Rattle.plan_rows.specs.Found.{group_id}
 use Rattle.field_judge.specs.declared.level.BackLevel.{BackLevel}
 use Rattle.field_judge.specs.declared.level.BackRow.{BackRow}
 use Rattle.field_judge.specs.Levels.{AreRows, IsSlotRow}
-use Rattle.back_levels.specs.declared.ids.LevelIds.{LevelIds}
 use Rattle.back_levels.specs.declared.found.Found.{Found as FoundRow}
 use Rattle.back_levels.specs.declared.found.Found.TheVariants as found
-
--- the ids are those of the level's parts
-pub record HasIds (level : Level) (ids : LevelIds) : Type 0 where
-  pub fields : ids.fields ≡ map (λ (f : Field). f.id) (out-Level level).fields
-  pub parts : ids.parts ≡ map (λ (d : DataField). d.id) (out-Level level).parts
-  pub groups : ids.groups ≡ map group_id (out-Level level).groups
 
 -- what was found is the row of the slot, if there is one; nothing is required of one that can't be made
 abbrev pub IsFound : Option Slot → FoundRow → Type 0
@@ -57,11 +45,6 @@ GoesFound levels whole rest f = is_made f ≡ true → Goes levels whole rest (f
 -- the rows are those of a part that is put before a plan, whatever it is
 abbrev pub AreFront : List BackLevel → (Plan → Plan) → FoundRow → Type 0
 AreFront levels before f = (p : Plan) → GoesFound levels (before p) p f
-
--- how many places a group's entries have
-abbrev pub own_length : Option (Bor (List PlaceRow)) → ℕ
-own_length None = 0
-own_length (Some places) = length places.now
 
 -- ---- groups
 

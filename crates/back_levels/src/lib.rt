@@ -4,7 +4,6 @@
 
 mod found;
 mod groups;
-mod ids;
 mod level;
 mod slots;
 

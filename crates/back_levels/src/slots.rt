@@ -9,15 +9,15 @@ ghost use Rattle.bridge_plan.specs.Covers.{data_slot, field_slot, slot_of};
 ghost use Rattle.bridge_plan.specs.Mappings.{Mapping};
 ghost use Rattle.bridge_cover.specs.Kinds.{HasKindsInOrder};
 ghost use Rattle.bridge_cover.specs.Tables.{AreTables};
-ghost use Rattle.plan_rows.specs.Found.{data_slot_by, field_slot_by};
-ghost use Rattle.back_levels.specs.Found.{HasIds, IsFound};
+ghost use Rattle.plan_rows.specs.Found.{data_slot_by, field_slot_by, HasIds};
+ghost use Rattle.back_levels.specs.Found.{IsFound};
 
 use crate::found::Found;
-use crate::ids::LevelIds;
 use bridge_cover::Tables;
 use bridge_table::{FieldRule, data_rule, field_rule};
 use field_judge::{BackPart, BackRow};
 use lists::NoMem;
+use plan_rows::LevelIds;
 use sbe_types::{DataField, Kind, Level};
 use std::alloc::Global;
 use text_values::TextValue;

@@ -8,7 +8,7 @@ use std::alloc::Global;
 
 /// The fields, data and groups of a level, found by id.
 #[derive(Drop)]
-pub(crate) struct LevelIds {
+pub struct LevelIds {
     pub fields: IdTable,
     pub parts: IdTable,
     pub groups: IdTable,
@@ -16,7 +16,11 @@ pub(crate) struct LevelIds {
 
 impl LevelIds {
     /// Creates the tables of a level.
-    pub(crate) fn new(alloc: Global, level: &Level) -> Result<LevelIds, NoMem>
+    ///
+    /// # Errors
+    ///
+    /// If memory runs out.
+    pub fn new(alloc: Global, level: &Level) -> Result<LevelIds, NoMem>
         ensures { IfOk result (HasIds level.now) }
     {
         let fields = IdTable::new(alloc, field_ids(alloc, level.fields.as_slice())?)?;

@@ -9,5 +9,6 @@ mod level;
 mod row;
 mod slots;
 
+pub use ids::LevelIds;
 pub use level::level_rows;
 pub use row::RuleRow;

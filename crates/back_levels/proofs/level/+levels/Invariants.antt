@@ -4,7 +4,8 @@ use Rattle.structure_rows.specs.Rows.{rows_of}
 use Rattle.bridge_plan.specs.Mappings.{Mapping}
 use Rattle.bridge_plan.specs.Covers.{plan_of}
 use Rattle.bridge_cover.specs.Tables.{AreTables}
-use Rattle.back_levels.specs.Found.{own_length, AreKept, Goes}
+use Rattle.plan_rows.specs.Found.{own_length}
+use Rattle.back_levels.specs.Found.{AreKept, Goes}
 use Rattle.back_levels.proofs.level.+levels.Given as goal
 
 abbrev pub decreases-level_of : goal.decreases-level_of
