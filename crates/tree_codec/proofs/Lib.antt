@@ -1,4 +1,3 @@
-pub mod MembersFit
 pub mod FromBytes
 pub mod MembersShown
 pub mod Steps

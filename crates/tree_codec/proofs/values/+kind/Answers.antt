@@ -2,7 +2,7 @@ use Rattle.std.proofs.Common.{◌≡◌, ◌+◌, ◌∙◌, [], arith, sym, ap,
 use Rattle.std.proofs.lemmas.List.{drop_all}
 use Rattle.sbe_types.specs.Places.{end_past}
 use Rattle.tree_codec.proofs.FromBytes.{enum_is, set_is, value_as}
-use Rattle.tree_codec.proofs.MembersFit.{AreFit, members_fit, fit_first}
+use Rattle.flat_rows.proofs.MembersFit.{AreFit, members_fit, fit_first}
 use Rattle.tree_codec.proofs.MembersShown.{Goes, goes_first, goes_next, goes_over}
 use Rattle.tree_codec.proofs.Steps.{there}
 use Rattle.tree_codec.proofs.values.+kind.Goals as goal

@@ -1,5 +1,5 @@
 use Rattle.std.proofs.Common.{drop, length}
-use Rattle.tree_codec.proofs.MembersFit.{AreFit}
+use Rattle.flat_rows.proofs.MembersFit.{AreFit}
 use Rattle.tree_codec.proofs.MembersShown.{Goes}
 use Rattle.tree_codec.proofs.values.+kind.Given as goal
 
