@@ -4,11 +4,11 @@ ghost use Rattle.schema_facts.specs.Measured.{IsNarrow, AreNarrowFields};
 ghost use Rattle.version_laws.specs.Differ.{no_fields, field_stays, field_reason, fields_differ};
 ghost use Rattle.version_project.specs.Pairwise.{ends_at};
 
-use crate::differ::ends::{begin_at, end_behind};
 use crate::differ::found::at_part;
 use crate::differ::kinds::is_same_kind;
 use crate::differ::leaves::is_same_name;
 use crate::differ::places::{are_same_places, is_same_place};
+use flat_rows::{begin_of, end_behind};
 use lists::{List, NoMem};
 use sbe_types::Field;
 use std::alloc::Global;
@@ -79,8 +79,8 @@ fn does_stay(end: u32, old: &Field, other_end: u32, new: &Field) -> bool
 {
     is_same_place(
         &old.kind,
-        begin_at(end, old.offset),
+        begin_of(end, old.offset),
         &new.kind,
-        begin_at(other_end, new.offset),
+        begin_of(other_end, new.offset),
     ) && are_same_places(&old.kind, &new.kind)
 }

@@ -1,7 +1,6 @@
 //! The first difference between two schemas.
 
 mod data;
-mod ends;
 mod fields;
 mod found;
 mod kinds;

@@ -6,9 +6,9 @@ ghost use Rattle.schema_facts.specs.Measured.{IsNarrow};
 ghost use Rattle.version_laws.specs.Same.{same_place, same_places, same_header};
 ghost use Rattle.version_project.specs.Pairwise.{ends_at, all_stay, member_stays, is_header_member};
 
-use crate::differ::ends::{begin_at, end_behind};
 use crate::differ::kinds::is_same_kind;
 use crate::differ::leaves::is_same_name;
+use flat_rows::{begin_of, end_behind};
 use lists::List;
 use sbe_types::{Kind, Member};
 
@@ -78,9 +78,9 @@ fn does_stay(end: u32, old: &Member, other_end: u32, new: &Member) -> bool
 {
     is_same_place(
         &old.kind,
-        begin_at(end, old.offset),
+        begin_of(end, old.offset),
         &new.kind,
-        begin_at(other_end, new.offset),
+        begin_of(other_end, new.offset),
     ) && (is_constant(&old.kind) || is_constant(&new.kind) || are_same_places(&old.kind, &new.kind))
 }
 
@@ -113,9 +113,9 @@ fn is_same_member(end: u32, old: &Member, other_end: u32, new: &Member) -> bool
     is_same_name(old.name.as_slice(), new.name.as_slice())
         && is_same_place(
             &old.kind,
-            begin_at(end, old.offset),
+            begin_of(end, old.offset),
             &new.kind,
-            begin_at(other_end, new.offset),
+            begin_of(other_end, new.offset),
         )
         && is_same_kind(false, &old.kind, &new.kind)
 }

@@ -2,18 +2,19 @@ use Rattle.std.proofs.Common.{refl, sym, ap, ◌∙◌, arith}
 use Rattle.std.specs.Prelude.{true}
 use Rattle.sbe_types.specs.declared.kind.Kind.{Comp}
 use Rattle.version_laws.specs.Same.{same_places}
+use Rattle.schema_facts.proofs.KindLists.{narrow_members}
 use Rattle.version_project.specs.Pairwise.{member_stays}
 use Rattle.sbe_types.proofs.kind.Member.TheLaws.{the_size}
 use Rattle.version_project.proofs.Sizes.{size_at}
-use Rattle.version_project.proofs.NarrowRows.{narrow_comp, narrow_next, narrow_goes}
+use Rattle.version_project.proofs.NarrowRows.{narrow_next, narrow_goes}
 use Rattle.version_project.proofs.StayWalk.{stay_goes, stay_stops, old_ends, new_ends, composites_stay}
 use Rattle.version_project.proofs.differ.places.+places.Goals as goal
 
 pub do_stay-loop-i-init : goal.do_stay-loop-i-init
 do_stay-loop-i-init t c = record {
   so_far = refl;
-  old = narrow_comp _ c.requires.old;
-  new = narrow_comp _ c.requires.new;
+  old = narrow_members _ c.requires.old;
+  new = narrow_members _ c.requires.new;
 }
 
 pub do_stay-end_behind-end-requires-clause-narrow : goal.do_stay-end_behind-end-requires-clause-narrow

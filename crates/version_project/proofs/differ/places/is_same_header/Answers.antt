@@ -1,15 +1,16 @@
 use Rattle.std.proofs.Common.{refl, sym, ◌∙◌, arith}
 use Rattle.std.specs.Prelude.{false}
+use Rattle.schema_facts.proofs.KindLists.{narrow_members}
 use Rattle.version_project.specs.Pairwise.{is_header_member}
-use Rattle.version_project.proofs.NarrowRows.{narrow_comp, narrow_next, narrow_goes}
+use Rattle.version_project.proofs.NarrowRows.{narrow_next, narrow_goes}
 use Rattle.version_project.proofs.StayWalk.{stay_goes, stay_stops, stay_ends, unlike_header, headers_stay}
 use Rattle.version_project.proofs.differ.places.is_same_header.Goals as goal
 
 pub loop-i-init : goal.loop-i-init
 loop-i-init c = record {
   so_far = refl;
-  old = narrow_comp _ c.requires.old;
-  new = narrow_comp _ c.requires.new;
+  old = narrow_members _ c.requires.old;
+  new = narrow_members _ c.requires.new;
 }
 
 pub end_behind-end-requires-clause-narrow : goal.end_behind-end-requires-clause-narrow
