@@ -1,4 +1,3 @@
-pub mod Trails
 pub mod Bits
 pub mod LeafTold
 pub mod KindTold

@@ -1,4 +1,3 @@
-pub mod Trails
 pub mod Composites
 pub mod Elements
 pub mod MemberBytes

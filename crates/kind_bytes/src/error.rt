@@ -1,9 +1,8 @@
 ghost use Rattle.std.specs.Prelude.{◌≡◌, ◌∷◌, [], ◌<◌, length};
 ghost use Rattle.kind_bytes.specs.Misfits.{misfit_of, unfit_of};
 
-use crate::trail::Trail;
 use field_bytes::FieldCause;
-use sbe_types::{Path, Step};
+use sbe_types::{Path, Step, Trail};
 
 /// Why a field can't be set to a value.
 #[derive(Drop)]

@@ -4,11 +4,9 @@
 mod error;
 mod judge;
 mod put;
-mod trail;
 mod writes;
 
 pub use error::{FieldErr, ValueMisfit};
 pub use judge::{fits_kind, judge_field};
 pub use put::put_kind;
-pub use trail::Trail;
 pub use writes::field_writes;

@@ -1,31 +1,14 @@
 -- Steps at the end of an array.
-use Rattle.std.proofs.Common.{◌≡◌, ◌<◌, ◌≤◌, ◌+◌, ◌-◌, ℕ, zero, suc, List, [], ◌∷◌, length, drop, take, refl, sym, ap, ◌∙◌, arith, length-drop}
+use Rattle.std.proofs.Common.{◌≡◌, ◌<◌, ◌≤◌, ◌-◌, ℕ, suc, List, [], ◌∷◌, length, drop, take, refl, sym, ap, ◌∙◌, arith, length-drop}
 use Rattle.std.specs.Prelude.{slice_set, map, if◌then◌else◌}
 use Rattle.std.proofs.lemmas.Bool.{le-ltb, lt-ltb}
 use Rattle.std.proofs.lemmas.List.{take_rest}
+use Rattle.sbe_types.proofs.Trails.{none_left, one_in_front}
 use Rattle.message_walk.specs.declared.trail.WayStep.{WayStep}
 use Rattle.message_walk.specs.Ways.{way_of, steps_from, pushed}
 
-none_left : (steps : List WayStep) (n : ℕ) → length steps ≡ n → drop n steps ≡ []
-none_left [] zero h = refl
-none_left [] (suc n) h = refl
-none_left (s ∷ steps) zero h = absurd (omega (arith, h))
-none_left (s ∷ steps) (suc n) h = none_left steps n (omega (arith, h))
-
 pub no_steps : (steps : List WayStep) (n : ℕ) → length steps ≡ n → steps_from n steps ≡ []
 no_steps steps n h = ap (map way_of) (none_left steps n h)
-
-set_here : (steps : List WayStep) (n : ℕ) (s : WayStep) → n < length steps → drop n (slice_set steps n s) ≡ s ∷ drop (n + 1) steps
-set_here [] n s h = absurd (omega (arith, h))
-set_here (x ∷ steps) zero s h = refl
-set_here (x ∷ steps) (suc n) s h =
-    let next : suc n + 1 ≡ suc (n + 1) = omega arith in
-    rw next (set_here steps n s (omega (arith, h)))
-
-one_in_front : (steps : List WayStep) (n : ℕ) (s : WayStep) → 1 ≤ n → n ≤ length steps → drop (n - 1) (slice_set steps (n - 1) s) ≡ s ∷ drop n steps
-one_in_front steps n s low high =
-    let before : n - 1 + 1 ≡ n = omega arith in
-    set_here steps (n - 1) s (omega arith) ∙ ap (λ k. s ∷ drop k steps) before
 
 map_long : (xs : List WayStep) → length (map way_of xs) ≡ length xs
 map_long [] = refl

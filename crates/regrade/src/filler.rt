@@ -1,8 +1,7 @@
 ghost use Rattle.std.specs.Prelude.{◌≡◌, []};
 ghost use Rattle.regrade.specs.Fillings.{IsInside, IsShort};
 
-use kind_bytes::Trail;
-use sbe_types::Step;
+use sbe_types::{Step, Trail};
 use std::alloc::Global;
 
 /// Why the absent parts of a message can't be filled.

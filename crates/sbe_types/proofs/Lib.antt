@@ -4,3 +4,4 @@ pub mod PlaceLemmas
 pub mod TextLemmas
 pub mod BadLemmas
 pub mod ListSame
+pub mod Trails

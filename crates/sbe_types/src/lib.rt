@@ -12,6 +12,7 @@ mod message_same;
 mod number;
 mod path;
 mod schema;
+mod trail;
 mod tree;
 
 pub use kind::{
@@ -34,6 +35,7 @@ pub use schema::{
     DataField, DataFieldList, Field, FieldList, Group, GroupList, Header, Level, LevelList,
     WireSchema,
 };
+pub use trail::Trail;
 pub use tree::{
     ChoiceEl, CompositeEl, DataEl, EnumEl, FieldEl, GroupEl, MemberItem, MessageEl, PartItem,
     PrimitiveType, RefEl, Schema, SchemaItem, SetEl, TypeEl, TypesEl, TypesItem, ValidValueEl,

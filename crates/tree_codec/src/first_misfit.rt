@@ -6,8 +6,8 @@ ghost use Rattle.sbe_wire.specs.Misfit.{inside_step, is_full};
 ghost use Rattle.tree_codec.specs.Shapes.{misfit_of};
 
 use field_bytes::FieldCause;
-use kind_bytes::{Trail, ValueMisfit};
-use sbe_types::Step;
+use kind_bytes::ValueMisfit;
+use sbe_types::{Step, Trail};
 use sbe_wire::NCode;
 
 /// The first misfit found, lent to the walk over a message so that nothing wide is returned.

@@ -1,10 +1,10 @@
 ghost use Rattle.std.specs.Prelude.{◌≡◌, ◌∷◌, [], ◌<◌, length};
 
-use sbe_types::{Path, Step};
+use crate::path::{Path, Step};
 use std::marker::Model;
 
-/// The steps to a part that doesn't fit. They are at the end of the array, since each composite prepends its own on the
-/// way out.
+/// The steps to a part, gathered from the part outwards: up to 20, without allocation. They are at the end of the array,
+/// since each level prepends its own on the way out.
 #[derive(Drop)]
 pub struct Trail {
     steps: [Step; 20],

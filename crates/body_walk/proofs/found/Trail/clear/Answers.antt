@@ -1,5 +1,0 @@
-use Rattle.body_walk.proofs.Trails.{none_left}
-use Rattle.body_walk.proofs.found.Trail.clear.Goals as goal
-
-pub returns : goal.returns
-returns c = none_left c.self.inside.steps 20 c.self.invariant.1
