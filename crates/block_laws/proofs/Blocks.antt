@@ -7,7 +7,7 @@ use Rattle.sbe_types.specs.declared.message.Value.{Value}
 use Rattle.sbe_types.specs.Places.{is_const, end_past, fields_end, field_place, width}
 use Rattle.sbe_types.specs.Wire.{padded, wire_bytes}
 use Rattle.sbe_wire.specs.Canonical.{block_bytes}
-use Rattle.typed_writer.specs.Empty.{behind}
+use Rattle.typed_writer.specs.Empty.{followed_by}
 use Rattle.typed_writer.specs.Held.{spliced}
 use Rattle.typed_writer.specs.Ready.{FieldsStand}
 use Rattle.typed_writer.specs.Steps.{IsWritten}
@@ -67,7 +67,7 @@ module _ (task : Task) (front bytes : List ℕ) (i : ℕ) (f : Field) (v : Value
 
 -- a block that holds all its values is the block of these values
 pub all_set : (task : Task) (front bytes : List ℕ) → Ascend 0 task.fields → length task.values ≡ length task.fields → HoldsFirst task (length task.fields) front bytes →
-    behind front (block_bytes task.order task.long task.fields task.values) ≡ Some bytes
+    followed_by front (block_bytes task.order task.long task.fields task.values) ≡ Some bytes
 all_set task front bytes up same holds =
     let fs = task.fields in
     let vs = task.values in
@@ -79,6 +79,6 @@ all_set task front bytes up same holds =
     ap (λ z. wires task.order z vs) (sym fields) ∙ ap (λ z. wires task.order (take (length fs) fs) z) (sym values) ∙ holds.set ∙ ap Some pieces in
     let ends = laid_long 0 fs ps up holds.wide in
     let long : length (laid 0 fs ps) ≡ fields_end 0 fs = omega (arith, ends) in
-    ap (λ o. behind front (option_map (padded task.long) o)) (laid_is task.order 0 fs vs ps all)
+    ap (λ o. followed_by front (option_map (padded task.long) o)) (laid_is task.order 0 fs vs ps all)
     ∙ ap (λ n. Some (front ++ (laid 0 fs ps ++ replicate (task.long - n) 0))) long
     ∙ ap Some (sym holds.whole)

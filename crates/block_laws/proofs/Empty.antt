@@ -12,7 +12,7 @@ use Rattle.sbe_types.specs.Places.{end_past, fields_end, width}
 use Rattle.sbe_types.specs.Shown.{is_optional}
 use Rattle.sbe_types.specs.Wire.{both, padded, elements_bytes}
 use Rattle.sbe_types.proofs.Inverse.{bytes_of-width}
-use Rattle.typed_writer.specs.Empty.{behind, empty_block, empty_bytes, empty_field, empty_fields, has_null_elements}
+use Rattle.typed_writer.specs.Empty.{followed_by, empty_block, empty_bytes, empty_field, empty_fields, has_null_elements}
 use Rattle.block_laws.specs.Pieces.{gap, laid, AreWide, Ascend}
 use Rattle.block_laws.specs.Blocks.{Task, HoldsFirst}
 use Rattle.block_laws.proofs.Pieces.{laid_long}
@@ -69,7 +69,7 @@ apart order e (f ∷ fs) x h =
     let here : two.0 ≡ zeros ++ p = one.4 ∙ ap (λ q. q ++ p) (sym (some_is one.2)) in
     (p ∷ rest.0, (empty_wide order f.kind p one.3, rest.1), two.4 ∙ ap₂ (λ a b. a ++ b) here rest.2 ∙ append_assoc zeros p (laid next fs rest.0))
 
-begun_by : (task : Task) (front bytes : List ℕ) (o : Option (List ℕ)) → empty_fields task.order 0 task.fields ≡ o → Ascend 0 task.fields → behind front (option_map (padded task.long) o) ≡ Some bytes →
+begun_by : (task : Task) (front bytes : List ℕ) (o : Option (List ℕ)) → empty_fields task.order 0 task.fields ≡ o → Ascend 0 task.fields → followed_by front (option_map (padded task.long) o) ≡ Some bytes →
     HoldsFirst task 0 front bytes
 begun_by task front bytes None is up h = absurd (none_some h)
 begun_by task front bytes (Some x) is up h =
@@ -84,5 +84,5 @@ begun_by task front bytes (Some x) is up h =
     }
 
 -- an empty block holds none of its values yet
-pub begun : (task : Task) (front bytes : List ℕ) → Ascend 0 task.fields → behind front (empty_block task.order task.long task.fields) ≡ Some bytes → HoldsFirst task 0 front bytes
+pub begun : (task : Task) (front bytes : List ℕ) → Ascend 0 task.fields → followed_by front (empty_block task.order task.long task.fields) ≡ Some bytes → HoldsFirst task 0 front bytes
 begun task front bytes up h = begun_by task front bytes (empty_fields task.order 0 task.fields) refl up h

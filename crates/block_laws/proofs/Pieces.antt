@@ -12,7 +12,7 @@ use Rattle.sbe_types.specs.Wire.{both, wire_bytes}
 use Rattle.sbe_wire.specs.Placed.{BeginsBehind}
 use Rattle.sbe_wire.specs.Canonical.{fields_bytes}
 use Rattle.typed_writer.specs.Held.{spliced}
-use Rattle.block_laws.specs.Pieces.{gap, laid, AreWide, joined, wires, Ascend}
+use Rattle.block_laws.specs.Pieces.{gap, laid, AreWide, piece_and_others, wires, Ascend}
 
 none_some : {A : Type 0} {x : A} → ◌≡◌ {A = Option A} None (Some x) → ⊥
 none_some h = cc
@@ -134,7 +134,7 @@ wide_set (g ∷ fs) (p ∷ ps) (suc i) f w wide is same = (wide.0, wide_set fs p
 -- ---- the pieces of values
 
 laid_step : (g : List ℕ) (w : Option (List ℕ)) (ws : Option (List (List ℕ))) (b : Option (List ℕ)) (lay : List (List ℕ) → List ℕ) →
-    ((qs : List (List ℕ)) → ws ≡ Some qs → b ≡ Some (lay qs)) → (ps : List (List ℕ)) → joined w ws ≡ Some ps →
+    ((qs : List (List ℕ)) → ws ≡ Some qs → b ≡ Some (lay qs)) → (ps : List (List ℕ)) → piece_and_others w ws ≡ Some ps →
     (p : List ℕ) × (qs : List (List ℕ)) × (ps ≡ p ∷ qs) × (both (both (Some g) w) b ≡ Some (g ++ (p ++ lay qs)))
 laid_step g None ws b lay go ps h = absurd (none_some h)
 laid_step g (Some p) None b lay go ps h = absurd (none_some h)
@@ -151,10 +151,10 @@ laid_is order e (f ∷ fs) (v ∷ vs) ps h =
     r.3 ∙ ap (λ z. Some (laid e (f ∷ fs) z)) (sym r.2)
 
 grown : (p : Option (List ℕ)) (a b : Option (List (List ℕ))) (w : List ℕ) (ws : List (List ℕ)) → ((qs : List (List ℕ)) → a ≡ Some qs → b ≡ Some (qs ++ w ∷ [])) →
-    joined p a ≡ Some ws → joined p b ≡ Some (ws ++ w ∷ [])
+    piece_and_others p a ≡ Some ws → piece_and_others p b ≡ Some (ws ++ w ∷ [])
 grown None a b w ws go k = absurd (none_some k)
 grown (Some p) None b w ws go k = absurd (none_some k)
-grown (Some p) (Some qs) b w ws go k = ap (joined (Some p)) (go qs refl) ∙ ap (λ (z : List (List ℕ)). Some (z ++ w ∷ [])) (some_is k)
+grown (Some p) (Some qs) b w ws go k = ap (piece_and_others (Some p)) (go qs refl) ∙ ap (λ (z : List (List ℕ)). Some (z ++ w ∷ [])) (some_is k)
 
 -- one value more
 pub wires_more : (order : Order) (fs : List Field) (vs : List Value) (i : ℕ) (f : Field) (v : Value) (w : List ℕ) (ws : List (List ℕ)) → slice_get fs i ≡ Some f → slice_get vs i ≡ Some v →
@@ -164,7 +164,7 @@ wires_more order (g ∷ fs) [] i f v w ws fi vi wi h = absurd (none_some vi)
 wires_more order (g ∷ fs) (u ∷ vs) zero f v w ws fi vi wi h =
     let here : wire_bytes order g.kind u ≡ Some w =
     ap (λ (x : Field). wire_bytes order x.kind u) (some_is fi) ∙ ap (λ (x : Value). wire_bytes order f.kind x) (some_is vi) ∙ wi in
-    ap (λ z. joined z (Some [])) here ∙ ap (λ (z : List (List ℕ)). Some (z ++ w ∷ [])) (some_is h)
+    ap (λ z. piece_and_others z (Some [])) here ∙ ap (λ (z : List (List ℕ)). Some (z ++ w ∷ [])) (some_is h)
 wires_more order (g ∷ fs) (u ∷ vs) (suc i) f v w ws fi vi wi h =
     grown (wire_bytes order g.kind u) (wires order (take i fs) (take i vs)) (wires order (take (suc i) fs) (take (suc i) vs)) w ws
     (λ qs k. wires_more order fs vs i f v w qs fi vi wi k) h

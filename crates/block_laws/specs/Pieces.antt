@@ -25,17 +25,17 @@ AreWide (f ∷ fs) [] = ⊥
 AreWide (f ∷ fs) (p ∷ ps) = (length p ≡ width f.kind) × AreWide fs ps
 
 -- a piece and others after it, if all are there
-abbrev pub joined : Option (List ℕ) → Option (List (List ℕ)) → Option (List (List ℕ))
-joined None ps = None
-joined (Some p) None = None
-joined (Some p) (Some ps) = Some (p ∷ ps)
+abbrev pub piece_and_others : Option (List ℕ) → Option (List (List ℕ)) → Option (List (List ℕ))
+piece_and_others None ps = None
+piece_and_others (Some p) None = None
+piece_and_others (Some p) (Some ps) = Some (p ∷ ps)
 
 -- the bytes of each field's value, if there are as many values as fields
 abbrev pub wires : Order → List Field → List Value → Option (List (List ℕ))
 wires order [] [] = Some []
 wires order [] (v ∷ vs) = None
 wires order (f ∷ fs) [] = None
-wires order (f ∷ fs) (v ∷ vs) = joined (wire_bytes order f.kind v) (wires order fs vs)
+wires order (f ∷ fs) (v ∷ vs) = piece_and_others (wire_bytes order f.kind v) (wires order fs vs)
 
 -- each field that takes bytes begins at the end of those before it, which is e, or later
 abbrev pub Ascend : ℕ → List Field → Type 0

@@ -4,7 +4,7 @@ ghost use Rattle.sbe_types.specs.declared.message.Value.{Value};
 ghost use Rattle.sbe_types.specs.Places.{is_const, field_place};
 ghost use Rattle.sbe_types.specs.Wire.{wire_bytes};
 ghost use Rattle.sbe_wire.specs.Canonical.{block_bytes};
-ghost use Rattle.typed_writer.specs.Empty.{behind, empty_block};
+ghost use Rattle.typed_writer.specs.Empty.{followed_by, empty_block};
 ghost use Rattle.typed_writer.specs.Steps.{IsWritten};
 ghost use Rattle.block_laws.specs.Blocks.{HoldsFirst, Task};
 ghost use Rattle.block_laws.specs.Pieces.{Ascend};
@@ -12,7 +12,7 @@ ghost use Rattle.block_laws.specs.Pieces.{Ascend};
 /// An empty block holds none of its values yet.
 pub fn an_empty_block_holds_none()
     ensures { (task : Task) (front bytes : List ℕ) → Ascend 0 task.fields
-        → behind front (empty_block task.order task.long task.fields) ≡ Some bytes → HoldsFirst task 0 front bytes }
+        → followed_by front (empty_block task.order task.long task.fields) ≡ Some bytes → HoldsFirst task 0 front bytes }
 {}
 
 /// When the next field is set, the block holds one more value.
@@ -33,5 +33,5 @@ pub fn a_constant_is_held()
 pub fn a_full_block_is_canonical()
     ensures { (task : Task) (front bytes : List ℕ) → Ascend 0 task.fields → length task.values ≡ length task.fields
         → HoldsFirst task (length task.fields) front bytes
-        → behind front (block_bytes task.order task.long task.fields task.values) ≡ Some bytes }
+        → followed_by front (block_bytes task.order task.long task.fields task.values) ≡ Some bytes }
 {}

@@ -22,8 +22,8 @@ use Rattle.sbe_wire.specs.declared.codes.FCode.TheVariants as code
 use Rattle.sbe_wire.specs.Faults.{Fault}
 use Rattle.sbe_wire.specs.Reading.{inside, value_read}
 use Rattle.sbe_wire.specs.declared.mode.Mode.{Mode}
-use Rattle.body_walk.specs.inner.Told.{piece, settled}
-use Rattle.body_walk.specs.inner.Kinds.{answered, leaf_answer, leaf_told, kind_told, part_told}
+use Rattle.body_walk.specs.inner.Told.{piece, check_at}
+use Rattle.body_walk.specs.inner.Kinds.{answered, leaf_answer, leaf_check, kind_check, part_check}
 use Rattle.body_walk.proofs.KindTold.{leaf_is, enum_is}
 use Rattle.body_walk.proofs.LeafTold.{leaf_shown}
 
@@ -62,22 +62,22 @@ char_is (negsuc m) h = cc
 
 -- ---- kinds
 
-pub leaf_looks : (mode : Mode) (kind : Kind) (l : LeafOf) (b : List ℕ) (at : ℕ) → kind ≡ Leaf l → leaf_bad mode.order l b ≡ None → kind_told mode kind (piece at b) ≡ Ok tt
-leaf_looks mode kind l b at is h = ap (λ (k : Kind). kind_told mode k (piece at b)) is ∙ leaf_is mode l (piece at b) ∙ leaf_shown mode.order l at b ∙ ap (leaf_answer l at) h
+pub leaf_looks : (mode : Mode) (kind : Kind) (l : LeafOf) (b : List ℕ) (at : ℕ) → kind ≡ Leaf l → leaf_bad mode.order l b ≡ None → kind_check mode kind (piece at b) ≡ Ok tt
+leaf_looks mode kind l b at is h = ap (λ (k : Kind). kind_check mode k (piece at b)) is ∙ leaf_is mode l (piece at b) ∙ leaf_shown mode.order l at b ∙ ap (leaf_answer l at) h
 
 pub enum_looks : (mode : Mode) (kind : Kind) (l : LeafOf) (names : List Named) (b : List ℕ) (at : ℕ) → kind ≡ Enum l names →
-    (is_null l (number_of mode.order l.prim b) || (is_listed names (number_of mode.order l.prim b) || not mode.known)) ≡ true → kind_told mode kind (piece at b) ≡ Ok tt
+    (is_null l (number_of mode.order l.prim b) || (is_listed names (number_of mode.order l.prim b) || not mode.known)) ≡ true → kind_check mode kind (piece at b) ≡ Ok tt
 enum_looks mode kind l names b at is h =
-    ap (λ (k : Kind). kind_told mode k (piece at b)) is ∙ enum_is mode l names (piece at b) ∙ ap (answered code.EnumUnknown at (number_of mode.order l.prim b)) h
+    ap (λ (k : Kind). kind_check mode k (piece at b)) is ∙ enum_is mode l names (piece at b) ∙ ap (answered code.EnumUnknown at (number_of mode.order l.prim b)) h
 
 -- a part shows what its kind shows
-pub part_looks : (mode : Mode) (kind : Kind) (i at : ℕ) (b : List ℕ) → kind_told mode kind (piece at b) ≡ Ok tt → part_told mode kind i (piece at b) ≡ Ok tt
+pub part_looks : (mode : Mode) (kind : Kind) (i at : ℕ) (b : List ℕ) → kind_check mode kind (piece at b) ≡ Ok tt → part_check mode kind i (piece at b) ≡ Ok tt
 part_looks mode kind i at b h = shows (value_read mode.order mode.known kind b) h
   where
-    shows : (r : Result Value Fault) → settled at r ≡ Ok tt → settled at (inside (way.Part i) r) ≡ Ok tt
+    shows : (r : Result Value Fault) → check_at at r ≡ Ok tt → check_at at (inside (way.Part i) r) ≡ Ok tt
     shows (Ok v) h = refl
     shows (Err f) h = cc
 
 -- a leaf shows a value where it has no fault
-pub leaf_good : (order : Order) (l : LeafOf) (at : ℕ) (b : List ℕ) → leaf_bad order l b ≡ None → leaf_told order l (piece at b) ≡ Ok tt
+pub leaf_good : (order : Order) (l : LeafOf) (at : ℕ) (b : List ℕ) → leaf_bad order l b ≡ None → leaf_check order l (piece at b) ≡ Ok tt
 leaf_good order l at b h = leaf_shown order l at b ∙ ap (leaf_answer l at) h

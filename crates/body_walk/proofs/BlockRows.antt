@@ -20,9 +20,9 @@ use Rattle.layout_tables.specs.Rowed.{RowFor, FieldsAre, newest_of}
 use Rattle.sbe_wire.specs.declared.mode.Mode.{Mode}
 use Rattle.body_walk.specs.inner.Blocks.{IsBlockRow, ShowsEach}
 use Rattle.body_walk.specs.inner.Cursor.{skim, entries_read}
-use Rattle.body_walk.specs.inner.Fields.{fields_told}
+use Rattle.body_walk.specs.inner.Fields.{fields_check}
 use Rattle.body_walk.specs.inner.Ready.{IsReadySchema}
-use Rattle.body_walk.specs.inner.Told.{piece, settled}
+use Rattle.body_walk.specs.inner.Told.{piece, check_at}
 use Rattle.body_walk.proofs.Alive.{all_alive}
 use Rattle.body_walk.proofs.FieldsTold.{fields_are, rows_ready}
 use Rattle.body_walk.proofs.LevelsReady.{level_ready, same_node}
@@ -54,14 +54,14 @@ block_fits version k level row is newest =
 
 -- where the bytes of each value show one, the walk finds no fault
 fields_good : (mode : Mode) (fields : List Field) (rows : List FieldRow) (at : ℕ) (block : List ℕ) → ArePlaced 0 fields → FieldsAre 0 fields rows → AllAlive mode.version fields →
-    floor mode.version fields ≤ length block → ScalarsShow mode.order mode.known (scalars_of fields) block → fields_told mode (piece at block) 0 fields rows ≡ Ok tt
+    floor mode.version fields ≤ length block → ScalarsShow mode.order mode.known (scalars_of fields) block → fields_check mode (piece at block) 0 fields rows ≡ Ok tt
 fields_good mode fields rows at block placed are alive reaches shows =
     let found = block_shown mode fields block placed alive reaches shows in
     let read = (fields_judges mode 0 0 0 fields (omega arith) placed).complete block found.0 found.1.1 in
-    sym (fields_are mode (piece at block) 0 0 fields rows are) ∙ ap (settled at) read
+    sym (fields_are mode (piece at block) 0 0 fields rows are) ∙ ap (check_at at) read
 
 pub block_good : (mode : Mode) (level : Level) (row : LevelRow) (at : ℕ) (block : List ℕ) → IsBlockRow mode.version (length block) level row → ShowsEach mode row block →
-    fields_told mode (piece at block) 0 (out-Level level).fields row.fields.items ≡ Ok tt
+    fields_check mode (piece at block) 0 (out-Level level).fields row.fields.items ≡ Ok tt
 block_good mode level row at block is shows =
     let fs = (out-Level level).fields in
     fields_good mode fs row.fields.items at block is.placed is.are

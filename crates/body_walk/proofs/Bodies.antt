@@ -11,7 +11,7 @@ use Rattle.sbe_types.specs.declared.schema.Level.{Level, out-Level}
 use Rattle.sbe_types.specs.declared.schema.WireSchema.{WireSchema}
 use Rattle.sbe_wire.specs.declared.codes.FCode.TheVariants as code
 use Rattle.sbe_wire.specs.Faults.{Fault, fault_at, shifted, message_named, Heading}
-use Rattle.sbe_wire.specs.Reading.{◌>>=◌, later, and_then, and_judged, heading_of, root_read, headed, rest_judged, message_of, message_judged, floor_judged}
+use Rattle.sbe_wire.specs.Reading.{◌>>=◌, later, and_then, and_check, heading_of, root_read, headed, rest_check, message_of, message_check, floor_check}
 use Rattle.sbe_wire.specs.Versions.{acting, floor, mode_of}
 use Rattle.schema_facts.specs.Levels.{Node, nodes, nodes_from, node, root_of, level_at}
 use Rattle.layout_tables.specs.Heads.{header_width}
@@ -22,8 +22,8 @@ use Rattle.sbe_wire.proofs.Combine.{err_is}
 use Rattle.body_walk.specs.declared.header.Start.{Start}
 use Rattle.sbe_wire.specs.declared.mode.Mode.{Mode}
 use Rattle.body_walk.specs.inner.Cursor.{placed, entries_read}
-use Rattle.body_walk.specs.Heads.{head_number, head_place, found_told, named_told, template_told}
-use Rattle.body_walk.specs.inner.Starts.{rest_told, root_told, message_told}
+use Rattle.body_walk.specs.Heads.{head_number, head_place, found_template, named_template, header_template}
+use Rattle.body_walk.specs.inner.Starts.{rest_check, root_end, message_end}
 use Rattle.body_walk.proofs.Cursor.{EndOf}
 use Rattle.body_walk.proofs.Walks.{entry_leaves, tail_leaves}
 
@@ -55,10 +55,10 @@ module _ (schema : WireSchema) (body : List ℕ) (h : Heading) (fits : header_wi
   entry = entries_read mode h.level h.block (drop w body)
 
   abbrev after : Result (Block × List ℕ) Fault → Result Msg Fault
-  after r = later (length body - length (drop w body)) (and_then (drop w body) r (λ block rest. rest_judged mode.known (headed h block) rest))
+  after r = later (length body - length (drop w body)) (and_then (drop w body) r (λ block rest. rest_check mode.known (headed h block) rest))
 
   abbrev told : Result (Block × List ℕ) Fault → Result ℕ Fault
-  told r = placed (length body) w r >>= (λ next. rest_told mode.known h.version body next)
+  told r = placed (length body) w r >>= (λ next. rest_check mode.known h.version body next)
 
   header_is : length body - length (drop w body) ≡ w
   header_is = omega (arith, length-drop w body)
@@ -165,7 +165,7 @@ named_within id t ls h = within (message_named 0 id ls) (λ m. named_at 0 id ls 
         let place = all m refl in
         omega (arith, place.1, slice_get_within ls place.0 m.1 place.2)
 
-found_is : (schema : WireSchema) (id t : ℕ) (o : Option (ℕ × Level)) → found_told schema id o ≡ Ok t → (level : Level) × (o ≡ Some (t, level))
+found_is : (schema : WireSchema) (id t : ℕ) (o : Option (ℕ × Level)) → found_template schema id o ≡ Ok t → (level : Level) × (o ≡ Some (t, level))
 found_is schema id t None h = cc
 found_is schema id t (Some m) h = let same : m.0 ≡ t = cc in (m.1, ap (λ k. Some (k, m.1)) same)
 
@@ -192,10 +192,10 @@ module _ (schema : WireSchema) (body : List ℕ) where
   }
 
   abbrev headed_by : Bool → Option (ℕ × Level) → Result Heading Fault
-  headed_by s o = cond s (message_judged schema head id o) (Err (fault_at code.SchemaId (head_place schema (codes "schemaId")) (pos schema_id)))
+  headed_by s o = cond s (message_check schema head id o) (Err (fault_at code.SchemaId (head_place schema (codes "schemaId")) (pos schema_id)))
 
   abbrev named_by : Bool → Option (ℕ × Level) → Result ℕ Fault
-  named_by s o = cond s (found_told schema id o) (Err (fault_at code.SchemaId (head_place schema (codes "schemaId")) (pos schema_id)))
+  named_by s o = cond s (found_template schema id o) (Err (fault_at code.SchemaId (head_place schema (codes "schemaId")) (pos schema_id)))
 
   abbrev read_by : Bool → Result Heading Fault → Result Msg Fault
   read_by t h = and_then body (cond t (h >>= (λ y. Ok (y, drop wide body))) (Err (fault_at code.ShortHeader 0 (pos (length body))))) (root_read schema)
@@ -205,7 +205,7 @@ module _ (schema : WireSchema) (body : List ℕ) where
   unfolding message_of
   by_header = if_fits (nat_le wide (length body))
     where
-      if_fits : (t : Bool) → and_then body (and_judged (heading_of schema) (cond t (Ok (head, drop wide body)) (Err (fault_at code.ShortHeader 0 (pos (length body)))))) (root_read schema) ≡ read_by t (heading_of schema head)
+      if_fits : (t : Bool) → and_then body (and_check (heading_of schema) (cond t (Ok (head, drop wide body)) (Err (fault_at code.ShortHeader 0 (pos (length body)))))) (root_read schema) ≡ read_by t (heading_of schema head)
       if_fits true = refl
       if_fits false = refl
 
@@ -219,13 +219,13 @@ module _ (schema : WireSchema) (body : List ℕ) where
   unread true h n f same e = ap (read_by true) (same e)
   unread false h n f same e = ap Err (err_is e)
 
-  pub refused_early : (f : Fault) → template_told schema body ≡ Err f → message_of schema body ≡ Err f
+  pub refused_early : (f : Fault) → header_template schema body ≡ Err f → message_of schema body ≡ Err f
   refused_early f h =
-      by_header ∙ unread (nat_le wide (length body)) (heading_of schema head) (named_told schema head) f
+      by_header ∙ unread (nat_le wide (length body)) (heading_of schema head) (named_template schema head) f
       (λ e. unnamed (schema_id == schema.id) (message_named 0 id schema.messages) f e) h
 
   -- a header that names one
-  named : (s : Bool) (o : Option (ℕ × Level)) (t : ℕ) → named_by s o ≡ Ok t → (level : Level) × (o ≡ Some (t, level)) × (headed_by s o ≡ floor_judged schema (heading t level))
+  named : (s : Bool) (o : Option (ℕ × Level)) (t : ℕ) → named_by s o ≡ Ok t → (level : Level) × (o ≡ Some (t, level)) × (headed_by s o ≡ floor_check schema (heading t level))
   named true o t h = let found = found_is schema id t o h in (found.0, found.1, ap (headed_by true) found.1)
   named false o t h = cc
 
@@ -237,11 +237,11 @@ module _ (schema : WireSchema) (body : List ℕ) where
   record Behind (t : ℕ) (level : Level) : Type 0 where
     fits : wide ≤ length body
     there : slice_get schema.messages t ≡ Some level
-    reads : message_of schema body ≡ read_by true (floor_judged schema (heading t level))
+    reads : message_of schema body ≡ read_by true (floor_check schema (heading t level))
 
-  behind : (t : ℕ) (level : Level) → template_told schema body ≡ Ok t → slice_get schema.messages t ≡ Some level → Behind t level
+  behind : (t : ℕ) (level : Level) → header_template schema body ≡ Ok t → slice_get schema.messages t ≡ Some level → Behind t level
   behind t level h at =
-      let fits = fitting (nat_le wide (length body)) (named_told schema head) t refl h in
+      let fits = fitting (nat_le wide (length body)) (named_template schema head) t refl h in
       let found = named (schema_id == schema.id) (message_named 0 id schema.messages) t fits.2 in
       let place = named_at 0 id schema.messages (t, found.0) found.1 in
       let here : t ≡ place.0 = omega (arith, place.1) in
@@ -250,7 +250,7 @@ module _ (schema : WireSchema) (body : List ℕ) where
       record {
         fits = fits.0;
         there = at;
-        reads = by_header ∙ ap (λ b. read_by b (heading_of schema head)) fits.1 ∙ ap (read_by true) (found.2 ∙ ap (λ (l : Level). floor_judged schema (heading t l)) same);
+        reads = by_header ∙ ap (λ b. read_by b (heading_of schema head)) fits.1 ∙ ap (read_by true) (found.2 ∙ ap (λ (l : Level). floor_check schema (heading t l)) same);
       }
 
   module _ (t : ℕ) (level : Level) (is : Behind t level) where
@@ -263,20 +263,20 @@ module _ (schema : WireSchema) (body : List ℕ) where
     abbrev floor_by : Bool → Result Heading Fault
     floor_by s = cond s (Err (fault_at code.BlockShort (head_place schema (codes "blockLength")) (pos says.block))) (Ok says)
 
-    late_if : (s : Bool) (f : Fault) → (block_by s >>= (λ start. root_told schema level body start)) ≡ Err f → read_by true (floor_by s) ≡ Err f
+    late_if : (s : Bool) (f : Fault) → (block_by s >>= (λ start. root_end schema level body start)) ≡ Err f → read_by true (floor_by s) ≡ Err f
     late_if true f h = ap Err (err_is h)
     late_if false f h = fault_is schema body says is.fits (entry schema body says is.fits) f (ends_here schema body says is.fits) h
 
-    read_if : (s : Bool) (version : ℕ) → (block_by s >>= (λ start. root_told schema level body start)) ≡ Ok version → (m : Msg) × (read_by true (floor_by s) ≡ Ok m) × (m.template ≡ t) × (m.version ≡ version)
+    read_if : (s : Bool) (version : ℕ) → (block_by s >>= (λ start. root_end schema level body start)) ≡ Ok version → (m : Msg) × (read_by true (floor_by s) ≡ Ok m) × (m.template ≡ t) × (m.version ≡ version)
     read_if true version h = cc
     read_if false version h = read_is schema body says is.fits (entry schema body says is.fits) version (ends_here schema body says is.fits) h
 
-  pub refused_late : (t : ℕ) (level : Level) (f : Fault) → template_told schema body ≡ Ok t → slice_get schema.messages t ≡ Some level → message_told schema level body ≡ Err f → message_of schema body ≡ Err f
+  pub refused_late : (t : ℕ) (level : Level) (f : Fault) → header_template schema body ≡ Ok t → slice_get schema.messages t ≡ Some level → message_end schema level body ≡ Err f → message_of schema body ≡ Err f
   refused_late t level f h at told =
       let is = behind t level h at in
       is.reads ∙ late_if t level is (nat_lt (heading t level).block (floor (acting schema (heading t level).version) (out-Level level).fields)) f told
 
-  pub body_read : (t version : ℕ) (level : Level) → template_told schema body ≡ Ok t → slice_get schema.messages t ≡ Some level → message_told schema level body ≡ Ok version → IsMessage schema body t version
+  pub body_read : (t version : ℕ) (level : Level) → header_template schema body ≡ Ok t → slice_get schema.messages t ≡ Some level → message_end schema level body ≡ Ok version → IsMessage schema body t version
   body_read t version level h at told =
       let is = behind t level h at in
       let found = read_if t level is (nat_lt (heading t level).block (floor (acting schema (heading t level).version) (out-Level level).fields)) version told in

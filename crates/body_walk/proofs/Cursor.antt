@@ -7,8 +7,8 @@ use Rattle.sbe_types.specs.declared.path.Step.{Step}
 use Rattle.sbe_types.specs.declared.path.Step.TheVariants as way
 use Rattle.sbe_wire.specs.Faults.{Fault, fault_at}
 use Rattle.sbe_wire.specs.declared.codes.FCode.TheVariants as code
-use Rattle.sbe_wire.specs.Reading.{Reader, ◌>>=◌, later, inside, and_then, then_read, nothing, and_judged, read_judged, bytes_read, read_in, times_read, each_read}
-use Rattle.body_walk.specs.inner.Cursor.{placed, skim, steps_told}
+use Rattle.sbe_wire.specs.Reading.{Reader, ◌>>=◌, later, inside, and_then, then_read, nothing, and_check, read_and_check, bytes_read, read_in, times_read, each_read}
+use Rattle.body_walk.specs.inner.Cursor.{placed, skim, steps_end}
 
 -- ---- what is left after a reader is an end of the bytes
 
@@ -63,11 +63,11 @@ at_made : {X Y : Type 0} (b rest : List ℕ) (o : Result Y Fault) (x : X) → En
 at_made b rest (Err f) x e y last is = cc
 at_made b rest (Ok z) x e y last is = let found = e x rest refl in (found.0, found.1, sym (snd_is is) ∙ found.2)
 
-pub at_judged : {X Y : Type 0} (b : List ℕ) (q : X → Result Y Fault) (r : Result (X × List ℕ) Fault) → EndOf b r → EndOf b (and_judged q r)
+pub at_judged : {X Y : Type 0} (b : List ℕ) (q : X → Result Y Fault) (r : Result (X × List ℕ) Fault) → EndOf b r → EndOf b (and_check q r)
 at_judged b q (Err f) h x rest is = cc
 at_judged b q (Ok r) h x rest is = at_made b r.1 (q r.0) r.0 h x rest is
 
-pub leaves_judged : {X Y : Type 0} (p : Reader X) (q : X → Result Y Fault) → Leaves p → Leaves (read_judged p q)
+pub leaves_judged : {X Y : Type 0} (p : Reader X) (q : X → Result Y Fault) → Leaves p → Leaves (read_and_check p q)
 leaves_judged p q h = record { left = λ b. at_judged b q (p b) (h.left b) }
 
 pub at_bytes : (t : Bool) (n : ℕ) (b : List ℕ) (f : Fault) → (t ≡ true → n ≤ length b) → EndOf b (cond t (Ok (take n b, drop n b)) (Err f))
@@ -133,18 +133,18 @@ skim_nothing x body at h = ap Ok (omega (arith, length-drop at body))
 pub skim_made : {X Y : Type 0} (p : Reader X) (make : X → Y) (body : List ℕ) (at : ℕ) → at ≤ length body → Leaves p → skim (then_read p (λ x. nothing (make x))) body at ≡ skim p body at
 skim_made p make body at h leaves = skim_then p (λ x. nothing (make x)) (λ n. Ok n) body at h leaves (λ x n near e. skim_nothing (make x) body n near) ∙ bind_last (skim p body at)
 
-pub times_walked : {X : Type 0} (p : Reader X) (i n : ℕ) (body : List ℕ) (at : ℕ) → at ≤ length body → Leaves p → skim (times_read p i n) body at ≡ steps_told (skim p body) i n at
+pub times_walked : {X : Type 0} (p : Reader X) (i n : ℕ) (body : List ℕ) (at : ℕ) → at ≤ length body → Leaves p → skim (times_read p i n) body at ≡ steps_end (skim p body) i n at
 unfolding times_read
 times_walked {X} p i zero body at h leaves = skim_nothing {X = List X} [] body at h
 times_walked {X} p i (suc n) body at h leaves =
     let next_i : suc i ≡ i + 1 = omega arith in
-    skim_then (read_in (way.Entry i) p) (λ x. then_read (times_read p (suc i) n) (λ xs. nothing (x ∷ xs))) (λ next. steps_told (skim p body) (i + 1) n next) body at h (leaves_in (way.Entry i) p leaves)
-    (λ x m near e. skim_made (times_read p (suc i) n) (λ xs. x ∷ xs) body m near (leaves_times p (suc i) n leaves) ∙ times_walked p (suc i) n body m near leaves ∙ ap (λ k. steps_told (skim p body) k n m) next_i)
-    ∙ ap (λ r. r >>= (λ next. steps_told (skim p body) (i + 1) n next)) (placed_inside (length body) at (way.Entry i) (p (drop at body)))
+    skim_then (read_in (way.Entry i) p) (λ x. then_read (times_read p (suc i) n) (λ xs. nothing (x ∷ xs))) (λ next. steps_end (skim p body) (i + 1) n next) body at h (leaves_in (way.Entry i) p leaves)
+    (λ x m near e. skim_made (times_read p (suc i) n) (λ xs. x ∷ xs) body m near (leaves_times p (suc i) n leaves) ∙ times_walked p (suc i) n body m near leaves ∙ ap (λ k. steps_end (skim p body) k n m) next_i)
+    ∙ ap (λ r. r >>= (λ next. steps_end (skim p body) (i + 1) n next)) (placed_inside (length body) at (way.Entry i) (p (drop at body)))
 
 judged_went : {X Y : Type 0} (t : Bool) (k : ℕ) (q : List ℕ → Result X Fault) (s : X → Reader Y) (g : X → Result ℕ Fault) (body : List ℕ) (at : ℕ) (r : Result X Fault) → q (take k (drop at body)) ≡ r → at ≤ length body → (t ≡ true → k ≤ length body - at) →
     ((x : X) → at + k ≤ length body → skim (s x) body (at + k) ≡ g x) →
-    placed (length body) at (and_then (drop at body) (and_judged q (cond t (Ok (take k (drop at body), drop k (drop at body))) (Err (fault_at code.Truncated 0 (pos k))))) s)
+    placed (length body) at (and_then (drop at body) (and_check q (cond t (Ok (take k (drop at body), drop k (drop at body))) (Err (fault_at code.Truncated 0 (pos k))))) s)
     ≡ cond t (later at r >>= g) (Err (fault_at code.Truncated at (pos k)))
 judged_went false k q s g body at r is h fits same = ap (λ n. Err (fault_at code.Truncated n (pos k))) (omega arith)
 judged_went {X} true k q s g body at (Err f) is h fits same =
@@ -164,7 +164,7 @@ judged_went {X} true k q s g body at (Ok x) is h fits same =
 -- so many bytes that are judged, and then a reader
 pub skim_judged : {X Y : Type 0} (k : ℕ) (q : List ℕ → Result X Fault) (s : X → Reader Y) (g : X → Result ℕ Fault) (body : List ℕ) (at : ℕ) → at ≤ length body →
     ((x : X) → at + k ≤ length body → skim (s x) body (at + k) ≡ g x) →
-    skim (then_read (read_judged (bytes_read k) q) s) body at ≡ cond (nat_le k (length body - at)) (later at (q (take k (drop at body))) >>= g) (Err (fault_at code.Truncated at (pos k)))
+    skim (then_read (read_and_check (bytes_read k) q) s) body at ≡ cond (nat_le k (length body - at)) (later at (q (take k (drop at body))) >>= g) (Err (fault_at code.Truncated at (pos k)))
 skim_judged k q s g body at h same =
-    ap (λ n. placed (length body) at (and_then (drop at body) (and_judged q (cond (nat_le k n) (Ok (take k (drop at body), drop k (drop at body))) (Err (fault_at code.Truncated 0 (pos k))))) s)) (length-drop at body)
+    ap (λ n. placed (length body) at (and_then (drop at body) (and_check q (cond (nat_le k n) (Ok (take k (drop at body), drop k (drop at body))) (Err (fault_at code.Truncated 0 (pos k))))) s)) (length-drop at body)
     ∙ judged_went (nat_le k (length body - at)) k q s g body at (q (take k (drop at body))) refl h (leb-true k (length body - at)) same

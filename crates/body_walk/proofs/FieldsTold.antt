@@ -17,9 +17,9 @@ use Rattle.layout_tables.specs.declared.rows.FieldRow.{FieldRow}
 use Rattle.layout_tables.specs.Rowed.{FieldIs, FieldsAre}
 use Rattle.layout_tables.proofs.Items.{drop_is}
 use Rattle.sbe_wire.specs.declared.mode.Mode.{Mode}
-use Rattle.body_walk.specs.inner.Told.{Piece, piece, settled}
-use Rattle.body_walk.specs.inner.Kinds.{part_told, IsReady}
-use Rattle.body_walk.specs.inner.Fields.{field_told, fields_told, IsFieldRow, AreFieldRows}
+use Rattle.body_walk.specs.inner.Told.{Piece, piece, check_at}
+use Rattle.body_walk.specs.inner.Kinds.{part_check, IsReady}
+use Rattle.body_walk.specs.inner.Fields.{field_check, fields_check, IsFieldRow, AreFieldRows}
 use Rattle.body_walk.proofs.KindTold.{settled_later, settled_two}
 
 -- ---- what the reader says of a field is what its row tells
@@ -32,9 +32,9 @@ module _ (mode : Mode) (b : Piece) where
   there e i f = later (begin_of e f.offset) (inside (way.Part i) (reads f.kind (take (width f.kind) (drop (begin_of e f.offset) b.bytes))))
 
   abbrev by_row : ℕ → Field → FieldRow → Result Unit Fault
-  by_row i f r = part_told mode f.kind i (piece (b.at + r.place) (take (r.end - r.place) (drop r.place b.bytes)))
+  by_row i f r = part_check mode f.kind i (piece (b.at + r.place) (take (r.end - r.place) (drop r.place b.bytes)))
 
-  fixed_is : (kind : Kind) (n i : ℕ) (bytes : List ℕ) → is_const kind ≡ true → settled b.at (later n (inside (way.Part i) (reads kind bytes))) ≡ Ok tt
+  fixed_is : (kind : Kind) (n i : ℕ) (bytes : List ℕ) → is_const kind ≡ true → check_at b.at (later n (inside (way.Part i) (reads kind bytes))) ≡ Ok tt
   unfolding value_read
   fixed_is (Leaf l) n i bytes h = cc
   fixed_is (Enum l names) n i bytes h = cc
@@ -42,28 +42,28 @@ module _ (mode : Mode) (b : Piece) where
   fixed_is (Const c) n i bytes h = refl
   fixed_is (Comp' n' members) n i bytes h = cc
 
-  moving_is : (e i : ℕ) (f : Field) (r : FieldRow) → FieldIs e f r → is_const f.kind ≡ false → settled b.at (there e i f) ≡ by_row i f r
+  moving_is : (e i : ℕ) (f : Field) (r : FieldRow) → FieldIs e f r → is_const f.kind ≡ false → check_at b.at (there e i f) ≡ by_row i f r
   moving_is e i f r is moves =
       let begin = begin_of e f.offset in
       let past : end_past e f.offset f.kind ≡ begin + width f.kind = ap (λ t. cond t e (begin + width f.kind)) moves in
       let wide : width f.kind ≡ r.end - r.place = omega (arith, past, is.end, is.place) in
       settled_later b.at begin (inside (way.Part i) (reads f.kind (take (width f.kind) (drop begin b.bytes))))
-      ∙ ap (λ p. part_told mode f.kind i (piece (b.at + p) (take (width f.kind) (drop p b.bytes)))) (sym is.place)
-      ∙ ap (λ w. part_told mode f.kind i (piece (b.at + r.place) (take w (drop r.place b.bytes)))) wide
+      ∙ ap (λ p. part_check mode f.kind i (piece (b.at + p) (take (width f.kind) (drop p b.bytes)))) (sym is.place)
+      ∙ ap (λ w. part_check mode f.kind i (piece (b.at + r.place) (take w (drop r.place b.bytes)))) wide
 
   field_by : (e i : ℕ) (f : Field) (r : FieldRow) (alive fixed : Bool) → FieldIs e f r → is_alive mode.version f.since ≡ alive → is_const f.kind ≡ fixed →
-      settled b.at (cond alive (there e i f) (Ok value.Absent)) ≡ cond (alive && not fixed) (by_row i f r) (Ok tt)
+      check_at b.at (cond alive (there e i f) (Ok value.Absent)) ≡ cond (alive && not fixed) (by_row i f r) (Ok tt)
   field_by e i f r false fixed is a c = refl
   field_by e i f r true true is a c = fixed_is f.kind (begin_of e f.offset) i (take (width f.kind) (drop (begin_of e f.offset) b.bytes)) c
   field_by e i f r true false is a c = moving_is e i f r is c
 
-  field_is : (e i : ℕ) (f : Field) (r : FieldRow) → FieldIs e f r → settled b.at (field_read mode e i f b.bytes) ≡ field_told mode b i f r
+  field_is : (e i : ℕ) (f : Field) (r : FieldRow) → FieldIs e f r → check_at b.at (field_read mode e i f b.bytes) ≡ field_check mode b i f r
   field_is e i f r is =
       field_by e i f r (is_alive mode.version f.since) (is_const f.kind) is refl refl
       ∙ ap (λ s. cond (is_alive mode.version s && not (is_const f.kind)) (by_row i f r) (Ok tt)) (sym is.since)
       ∙ ap (λ t. cond (is_alive mode.version r.since && not t) (by_row i f r) (Ok tt)) (sym is.constant)
 
-  pub fields_are : (e i : ℕ) (fs : List Field) (rs : List FieldRow) → FieldsAre e fs rs → settled b.at (fields_read mode e i fs b.bytes) ≡ fields_told mode b i fs rs
+  pub fields_are : (e i : ℕ) (fs : List Field) (rs : List FieldRow) → FieldsAre e fs rs → check_at b.at (fields_read mode e i fs b.bytes) ≡ fields_check mode b i fs rs
   unfolding fields_read
   fields_are e i [] [] h = refl
   fields_are e i [] (r ∷ rs) h = absurd h
@@ -71,9 +71,9 @@ module _ (mode : Mode) (b : Piece) where
   fields_are e i (f ∷ fs) (r ∷ rs) h =
       let next = end_past e f.offset f.kind in
       let step : suc i ≡ i + 1 = omega arith in
-      settled_two b.at (field_read mode e i f b.bytes) (λ v. fields_read mode next (suc i) fs b.bytes) (fields_told mode b (i + 1) fs rs)
-      (λ v. fields_are next (suc i) fs rs h.1 ∙ ap (λ k. fields_told mode b k fs rs) step)
-      ∙ ap (λ r. r >>= (λ _. fields_told mode b (i + 1) fs rs)) (field_is e i f r h.0)
+      settled_two b.at (field_read mode e i f b.bytes) (λ v. fields_read mode next (suc i) fs b.bytes) (fields_check mode b (i + 1) fs rs)
+      (λ v. fields_are next (suc i) fs rs h.1 ∙ ap (λ k. fields_check mode b k fs rs) step)
+      ∙ ap (λ r. r >>= (λ _. fields_check mode b (i + 1) fs rs)) (field_is e i f r h.0)
 
 -- ---- rows whose fields lie in the block
 
@@ -123,7 +123,7 @@ module _ (mode : Mode) (b : Piece) (n : ℕ) (fs : List Field) (rs : List FieldR
       subst (λ rows. AreFieldRows mode.version n (f ∷ drop (i + 1) fs) rows) (drop_is rs i r (omega (arith, same, more)) row)
       (subst (λ fields. AreFieldRows mode.version n fields (drop i rs)) (drop_is fs i f more field) h)
 
-  pub next_told : fields_told mode b i (drop i fs) (drop i rs) ≡ (field_told mode b i f r >>= (λ _. fields_told mode b (i + 1) (drop (i + 1) fs) (drop (i + 1) rs)))
+  pub next_told : fields_check mode b i (drop i fs) (drop i rs) ≡ (field_check mode b i f r >>= (λ _. fields_check mode b (i + 1) (drop (i + 1) fs) (drop (i + 1) rs)))
   next_told =
-      ap (λ fields. fields_told mode b i fields (drop i rs)) (drop_is fs i f more field)
-      ∙ ap (λ rows. fields_told mode b i (f ∷ drop (i + 1) fs) rows) (drop_is rs i r (omega (arith, same, more)) row)
+      ap (λ fields. fields_check mode b i fields (drop i rs)) (drop_is fs i f more field)
+      ∙ ap (λ rows. fields_check mode b i (f ∷ drop (i + 1) fs) rows) (drop_is rs i r (omega (arith, same, more)) row)

@@ -27,12 +27,12 @@ use Rattle.sbe_wire.specs.declared.codes.FCode.TheVariants as code
 use Rattle.sbe_wire.specs.Faults.{Fault, fault_at}
 use Rattle.sbe_wire.specs.Reading.{◌>>=◌, later, inside, leaf_read, text_ended, elements_read}
 use Rattle.schema_facts.specs.InOrder.{IsLeafInOrder, IsShapeOf}
-use Rattle.body_walk.specs.inner.Told.{settled, piece}
-use Rattle.body_walk.specs.inner.Kinds.{shape_answer, leaf_answer, leaf_told, IsLeafFault}
+use Rattle.body_walk.specs.inner.Told.{check_at, piece}
+use Rattle.body_walk.specs.inner.Kinds.{shape_answer, leaf_answer, leaf_check, IsLeafFault}
 
 -- ---- numbers
 
-number_is : (leaf : LeafOf) (at : ℕ) (n : ℤ) (o : Option Value) → settled at (ok_or o (fault_at code.Range 0 n)) ≡ shape_answer Number leaf at (unshown 0 n o)
+number_is : (leaf : LeafOf) (at : ℕ) (n : ℤ) (o : Option Value) → check_at at (ok_or o (fault_at code.Range 0 n)) ≡ shape_answer Number leaf at (unshown 0 n o)
 number_is leaf at n (Some v) = refl
 number_is leaf at n None = ap (λ k. Err (fault_at code.Range k n)) (omega arith)
 
@@ -44,11 +44,11 @@ ended leaf text x t = cond t (Ok (text_value leaf text)) (Err (fault_at code.Tex
 abbrev stopped : List ℕ → ℕ → Bool → Option LeafFault
 stopped text x t = cond t None (Some (record { cause = TextByte; at = length text; number = pos x }))
 
-byte_is : (leaf : LeafOf) (at : ℕ) (text : List ℕ) (x : ℕ) (t : Bool) → settled at (ended leaf text x t) ≡ shape_answer RangedText leaf at (stopped text x t)
+byte_is : (leaf : LeafOf) (at : ℕ) (text : List ℕ) (x : ℕ) (t : Bool) → check_at at (ended leaf text x t) ≡ shape_answer RangedText leaf at (stopped text x t)
 byte_is leaf at text x true = refl
 byte_is leaf at text x false = refl
 
-text_is : (leaf : LeafOf) (at : ℕ) (text after : List ℕ) → settled at (text_ended leaf text after) ≡ shape_answer RangedText leaf at (stopped_at (length text) after)
+text_is : (leaf : LeafOf) (at : ℕ) (text after : List ℕ) → check_at at (text_ended leaf text after) ≡ shape_answer RangedText leaf at (stopped_at (length text) after)
 text_is leaf at text [] = refl
 text_is leaf at text (x ∷ after) = byte_is leaf at text x (x == 0)
 
@@ -58,11 +58,11 @@ any_text leaf at (Some f) = refl
 
 -- ---- arrays
 
-settled_more : {X : Type 0} (a w : ℕ) (x : X) (r : Result (List X) Fault) → settled a (later w r >>= (λ xs. Ok (x ∷ xs))) ≡ settled (a + w) r
+settled_more : {X : Type 0} (a w : ℕ) (x : X) (r : Result (List X) Fault) → check_at a (later w r >>= (λ xs. Ok (x ∷ xs))) ≡ check_at (a + w) r
 settled_more a w x (Ok xs) = refl
 settled_more a w x (Err f) = ap (λ n. Err (record { code = f.code; path = f.path; offset = n; detail = f.detail })) (omega arith)
 
-settled_made : {X Y : Type 0} (a : ℕ) (make : X → Y) (r : Result X Fault) → settled a (r >>= (λ x. Ok (make x))) ≡ settled a r
+settled_made : {X Y : Type 0} (a : ℕ) (make : X → Y) (r : Result X Fault) → check_at a (r >>= (λ x. Ok (make x))) ≡ check_at a r
 settled_made a make (Ok x) = refl
 settled_made a make (Err f) = refl
 
@@ -77,27 +77,27 @@ module _ (order : Order) (leaf : LeafOf) (c : ℕ) where
   abbrev number : List ℕ → ℤ
   number b = number_of order leaf.prim (take w b)
 
-  element_step : (i : ℕ) (n : ℤ) (o : Option Elem) (r : Result (List Elem) Fault) (rest : Option LeafFault) → settled (c + w * i + w) r ≡ shape_answer Numbers leaf c rest →
-      settled (c + w * i) (inside (way.Elem i) (ok_or o (fault_at code.Range 0 n)) >>= (λ e. later w r >>= (λ es. Ok (e ∷ es)))) ≡ shape_answer Numbers leaf c (option_or (unshown i n o) rest)
+  element_step : (i : ℕ) (n : ℤ) (o : Option Elem) (r : Result (List Elem) Fault) (rest : Option LeafFault) → check_at (c + w * i + w) r ≡ shape_answer Numbers leaf c rest →
+      check_at (c + w * i) (inside (way.Elem i) (ok_or o (fault_at code.Range 0 n)) >>= (λ e. later w r >>= (λ es. Ok (e ∷ es)))) ≡ shape_answer Numbers leaf c (option_or (unshown i n o) rest)
   element_step i n None r rest h = ap (λ k. Err (record { code = code.Range; path = way.Elem i ∷ []; offset = k; detail = n })) (omega arith)
   element_step i n (Some e) r rest h = settled_more (c + w * i) w e r ∙ h
 
-  elements_are : (i n : ℕ) (b : List ℕ) → settled (c + w * i) (elements_read order leaf i n b) ≡ shape_answer Numbers leaf c (elements_bad order leaf i n b)
+  elements_are : (i n : ℕ) (b : List ℕ) → check_at (c + w * i) (elements_read order leaf i n b) ≡ shape_answer Numbers leaf c (elements_bad order leaf i n b)
   unfolding elements_read
   elements_are i zero b = refl
   elements_are i (suc n) b =
       let step : c + w * i + w ≡ c + w * suc i = grind arith in
       element_step i (number b) (shown_element leaf (number b)) (elements_read order leaf (suc i) n (drop w b)) (elements_bad order leaf (suc i) n (drop w b))
-      (ap (λ k. settled k (elements_read order leaf (suc i) n (drop w b))) step ∙ elements_are (suc i) n (drop w b))
+      (ap (λ k. check_at k (elements_read order leaf (suc i) n (drop w b))) step ∙ elements_are (suc i) n (drop w b))
 
-  array_is : (b : List ℕ) → settled c (elements_read order leaf 0 leaf.length b >>= (λ es. Ok (value.Nums es))) ≡ shape_answer Numbers leaf c (elements_bad order leaf 0 leaf.length b)
+  array_is : (b : List ℕ) → check_at c (elements_read order leaf 0 leaf.length b >>= (λ es. Ok (value.Nums es))) ≡ shape_answer Numbers leaf c (elements_bad order leaf 0 leaf.length b)
   array_is b =
       let start : c ≡ c + w * 0 = omega arith in
       settled_made c (λ es. value.Nums es) (elements_read order leaf 0 leaf.length b)
-      ∙ ap (λ k. settled k (elements_read order leaf 0 leaf.length b)) start
+      ∙ ap (λ k. check_at k (elements_read order leaf 0 leaf.length b)) start
       ∙ elements_are 0 leaf.length b
 
-  shape_is : (s : LeafShape) (b : List ℕ) → settled c (leaf_read order s leaf b) ≡ shape_answer s leaf c (shape_bad order s leaf b)
+  shape_is : (s : LeafShape) (b : List ℕ) → check_at c (leaf_read order s leaf b) ≡ shape_answer s leaf c (shape_bad order s leaf b)
   shape_is Number b = number_is leaf c (number_of order leaf.prim b) (shown (Leaf leaf) true (number_of order leaf.prim b))
   shape_is RangedText b = let text = take_while (is_text_byte leaf) b in text_is leaf c text (drop (length text) b)
   shape_is EncodedText b = let text = take_while (is_text_byte leaf) b in text_is leaf c text (drop (length text) b) ∙ any_text leaf c (text_bad leaf b)
@@ -105,7 +105,7 @@ module _ (order : Order) (leaf : LeafOf) (c : ℕ) where
   shape_is Numbers b = array_is b
 
 -- what a leaf shows is told by its first fault
-pub leaf_shown : (order : Order) (leaf : LeafOf) (at : ℕ) (b : List ℕ) → leaf_told order leaf (piece at b) ≡ leaf_answer leaf at (leaf_bad order leaf b)
+pub leaf_shown : (order : Order) (leaf : LeafOf) (at : ℕ) (b : List ℕ) → leaf_check order leaf (piece at b) ≡ leaf_answer leaf at (leaf_bad order leaf b)
 leaf_shown order leaf at b = shape_is order leaf at leaf.shape b
 
 -- ---- where the first fault lies

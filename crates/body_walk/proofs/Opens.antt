@@ -27,10 +27,10 @@ use Rattle.layout_tables.proofs.Items.{drop_is}
 use Rattle.layout_tables.proofs.GroupWalk.{GroupsFrom, groups_go, here}
 use Rattle.group_codec.proofs.DimRows.{row_dim}
 use Rattle.sbe_wire.specs.declared.mode.Mode.{Mode}
-use Rattle.body_walk.specs.inner.Cursor.{skim, entries_read, groups_told, steps_told, parts_told, data_told, dim_told, block_told}
+use Rattle.body_walk.specs.inner.Cursor.{skim, entries_read, groups_end, steps_end, parts_end, data_end, dim_from, block_end}
 use Rattle.body_walk.specs.inner.Blocks.{IsBlockAt}
-use Rattle.body_walk.specs.inner.Fields.{fields_told}
-use Rattle.body_walk.specs.inner.Told.{piece, settled}
+use Rattle.body_walk.specs.inner.Fields.{fields_check}
+use Rattle.body_walk.specs.inner.Told.{piece, check_at}
 use Rattle.body_walk.proofs.FieldsTold.{fields_are}
 use Rattle.body_walk.proofs.LevelsReady.{row_parts}
 use Rattle.body_walk.proofs.Walks.{block_walked, entry_walked, group_walked, tail_walked}
@@ -40,24 +40,24 @@ use Rattle.body_walk.proofs.Walks.{block_walked, entry_walked, group_walked, tai
 one_more : (n i : ℕ) → i < n → n - i ≡ suc (n - (i + 1))
 one_more n i h = omega arith
 
-pub steps_more : (f : ℕ → Result ℕ Fault) (i n at next : ℕ) → i < n → Ok next ≡ f at → steps_told f (i + 1) (n - (i + 1)) next ≡ steps_told f i (n - i) at
+pub steps_more : (f : ℕ → Result ℕ Fault) (i n at next : ℕ) → i < n → Ok next ≡ f at → steps_end f (i + 1) (n - (i + 1)) next ≡ steps_end f i (n - i) at
 steps_more f i n at next h is =
-    ap (λ r. inside (way.Entry i) r >>= (λ m. steps_told f (i + 1) (n - (i + 1)) m)) is
-    ∙ ap (λ k. steps_told f i k at) (sym (one_more n i h))
+    ap (λ r. inside (way.Entry i) r >>= (λ m. steps_end f (i + 1) (n - (i + 1)) m)) is
+    ∙ ap (λ k. steps_end f i k at) (sym (one_more n i h))
 
-pub steps_err : (f : ℕ → Result ℕ Fault) (i n at : ℕ) (e : Fault) → i < n → Err e ≡ f at → Err (under (way.Entry i) e) ≡ steps_told f i (n - i) at
+pub steps_err : (f : ℕ → Result ℕ Fault) (i n at : ℕ) (e : Fault) → i < n → Err e ≡ f at → Err (under (way.Entry i) e) ≡ steps_end f i (n - i) at
 steps_err f i n at e h is =
-    ap (λ r. inside (way.Entry i) r >>= (λ m. steps_told f (i + 1) (n - (i + 1)) m)) is
-    ∙ ap (λ k. steps_told f i k at) (sym (one_more n i h))
+    ap (λ r. inside (way.Entry i) r >>= (λ m. steps_end f (i + 1) (n - (i + 1)) m)) is
+    ∙ ap (λ k. steps_end f i k at) (sym (one_more n i h))
 
 -- ---- data parts
 
 pub parts_next : (mode : Mode) (first i : ℕ) (rows : List PartRow) (r : PartRow) (body : List ℕ) (at : ℕ) → i < length rows → r ≡ get_or rows i r →
-    parts_told mode (first + i) (drop i rows) body at ≡ (inside (way.Part (first + i)) (data_told mode r body at) >>= (λ next. parts_told mode (first + (i + 1)) (drop (i + 1) rows) body next))
+    parts_end mode (first + i) (drop i rows) body at ≡ (inside (way.Part (first + i)) (data_end mode r body at) >>= (λ next. parts_end mode (first + (i + 1)) (drop (i + 1) rows) body next))
 parts_next mode first i rows r body at h is =
     let next : first + i + 1 ≡ first + (i + 1) = omega arith in
-    ap (λ rs. parts_told mode (first + i) rs body at) (drop_is rows i r h is)
-    ∙ ap (λ k. inside (way.Part (first + i)) (data_told mode r body at) >>= (λ n. parts_told mode k (drop (i + 1) rows) body n)) next
+    ap (λ rs. parts_end mode (first + i) rs body at) (drop_is rows i r h is)
+    ∙ ap (λ k. inside (way.Part (first + i)) (data_end mode r body at) >>= (λ n. parts_end mode k (drop (i + 1) rows) body n)) next
 
 pub all_next : {X : Type 0} (P : X → Type 0) (xs : List X) (i : ℕ) (x : X) → i < length xs → x ≡ get_or xs i x → AllByRecursion P (drop i xs) → P x × AllByRecursion P (drop (i + 1) xs)
 all_next P xs i x h is all = subst (AllByRecursion P) (drop_is xs i x h is) all
@@ -66,18 +66,18 @@ all_next P xs i x h is all = subst (AllByRecursion P) (drop_is xs i x h is) all
 
 module _ (schema : WireSchema) (n : ℕ) (row : LevelRow) (level : Level) (is : RowFor schema n row) (there : level_at schema n ≡ Some level) (mode : Mode) (body : List ℕ) (at : ℕ) (near : at ≤ length body) where
   pub tail_told : (first : ℕ) (rows : List PartRow) (next : ℕ) → first ≡ length (out-Level level).fields + length (out-Level level).groups → rows ≡ row.parts.items →
-      Ok next ≡ groups_told mode (length (out-Level level).fields) (out-Level level).groups body at →
-      parts_told mode first rows body next ≡ skim (tail_read mode level) body at
+      Ok next ≡ groups_end mode (length (out-Level level).fields) (out-Level level).groups body at →
+      parts_end mode first rows body next ≡ skim (tail_read mode level) body at
   tail_told first rows next begins same went =
-      ap (λ k. parts_told mode k rows body next) begins
-      ∙ ap (λ rs. parts_told mode (length (out-Level level).fields + length (out-Level level).groups) rs body next) (same ∙ row_parts schema n row level is there)
-      ∙ ap (λ r. r >>= (λ m. parts_told mode (length (out-Level level).fields + length (out-Level level).groups) (map part_row (out-Level level).parts) body m)) went
+      ap (λ k. parts_end mode k rows body next) begins
+      ∙ ap (λ rs. parts_end mode (length (out-Level level).fields + length (out-Level level).groups) rs body next) (same ∙ row_parts schema n row level is there)
+      ∙ ap (λ r. r >>= (λ m. parts_end mode (length (out-Level level).fields + length (out-Level level).groups) (map part_row (out-Level level).parts) body m)) went
       ∙ sym (tail_walked mode level body at near)
 
-pub tail_refused : (mode : Mode) (level : Level) (body : List ℕ) (at : ℕ) (f : Fault) → at ≤ length body → Err f ≡ groups_told mode (length (out-Level level).fields) (out-Level level).groups body at →
+pub tail_refused : (mode : Mode) (level : Level) (body : List ℕ) (at : ℕ) (f : Fault) → at ≤ length body → Err f ≡ groups_end mode (length (out-Level level).fields) (out-Level level).groups body at →
     Err f ≡ skim (tail_read mode level) body at
 tail_refused mode level body at f near went =
-    ap (λ r. r >>= (λ m. parts_told mode (length (out-Level level).fields + length (out-Level level).groups) (map part_row (out-Level level).parts) body m)) went
+    ap (λ r. r >>= (λ m. parts_end mode (length (out-Level level).fields + length (out-Level level).groups) (map part_row (out-Level level).parts) body m)) went
     ∙ sym (tail_walked mode level body at near)
 
 -- a level without groups and data ends where its block does
@@ -85,8 +85,8 @@ pub tail_flat : (mode : Mode) (level : Level) (body : List ℕ) (at : ℕ) → a
 tail_flat mode level body at near no_groups no_parts =
     let fields = length (out-Level level).fields in
     sym (tail_walked mode level body at near
-    ∙ ap (λ gs. groups_told mode fields gs body at >>= (λ m. parts_told mode (fields + length gs) (map part_row (out-Level level).parts) body m)) no_groups
-    ∙ ap (λ ps. parts_told mode (fields + 0) (map part_row ps) body at) no_parts)
+    ∙ ap (λ gs. groups_end mode fields gs body at >>= (λ m. parts_end mode (fields + length gs) (map part_row (out-Level level).parts) body m)) no_groups
+    ∙ ap (λ ps. parts_end mode (fields + 0) (map part_row ps) body at) no_parts)
 
 pub none_there : {X : Type 0} (xs : List X) → length xs ≡ 0 → xs ≡ []
 none_there [] h = refl
@@ -96,7 +96,7 @@ none_there (x ∷ xs) h = absurd (omega (arith, h))
 
 module _ (mode : Mode) (level : Level) (k : ℕ) (body : List ℕ) (at : ℕ) (near : at ≤ length body) where
   abbrev block : Result Unit Fault
-  block = settled at (fields_read mode 0 0 (out-Level level).fields (take k (drop at body)))
+  block = check_at at (fields_read mode 0 0 (out-Level level).fields (take k (drop at body)))
 
   abbrev short : Fault
   short = fault_at code.Truncated at (pos k)
@@ -104,18 +104,18 @@ module _ (mode : Mode) (level : Level) (k : ℕ) (body : List ℕ) (at : ℕ) (n
   abbrev tail : ℕ → Result ℕ Fault
   tail next = skim (tail_read mode level) body next
 
-  pub block_short : length body - at < k → Err short ≡ block_told mode level k body at
+  pub block_short : length body - at < k → Err short ≡ block_end mode level k body at
   block_short few =
       let below : nat_le k (length body - at) ≡ false = grind (arith, nat_tests) in
       sym (block_walked mode level k body at near ∙ ap (λ t. cond t (block >>= (λ _. Ok (at + k))) (Err short)) below)
 
   -- where the block lies, its row tells the same
   pub block_known : (row : LevelRow) (bytes : List ℕ) (r : Result Unit Fault) → FieldsAre 0 (out-Level level).fields row.fields.items → IsBlockAt body at k bytes →
-      r ≡ fields_told mode (piece at bytes) 0 (out-Level level).fields row.fields.items → (r >>= (λ _. Ok (at + k))) ≡ block_told mode level k body at
+      r ≡ fields_check mode (piece at bytes) 0 (out-Level level).fields row.fields.items → (r >>= (λ _. Ok (at + k))) ≡ block_end mode level k body at
   block_known row bytes r are lies told =
       let fields = (out-Level level).fields in
       let fits : nat_le k (length body - at) ≡ true = le-leb k (length body - at) (omega (arith, lies.room)) in
-      let same : r ≡ block = told ∙ ap (λ b. fields_told mode (piece at b) 0 fields row.fields.items) lies.bytes_are ∙ sym (fields_are mode (piece at (take k (drop at body))) 0 0 fields row.fields.items are) in
+      let same : r ≡ block = told ∙ ap (λ b. fields_check mode (piece at b) 0 fields row.fields.items) lies.bytes_are ∙ sym (fields_are mode (piece at (take k (drop at body))) 0 0 fields row.fields.items are) in
       ap (λ t. t >>= (λ _. Ok (at + k))) same
       ∙ sym (block_walked mode level k body at near ∙ ap (λ t. cond t (block >>= (λ _. Ok (at + k))) (Err short)) fits)
 
@@ -126,7 +126,7 @@ module _ (mode : Mode) (level : Level) (k : ℕ) (body : List ℕ) (at : ℕ) (n
   then_tail true (Err f) = refl
   then_tail false r = refl
 
-  pub entry_told : (r : Result ℕ Fault) → r ≡ block_told mode level k body at → (r >>= tail) ≡ skim (entries_read mode level k) body at
+  pub entry_told : (r : Result ℕ Fault) → r ≡ block_end mode level k body at → (r >>= tail) ≡ skim (entries_read mode level k) body at
   entry_told r told =
       ap (λ s. s >>= tail) (told ∙ block_walked mode level k body at near)
       ∙ then_tail (nat_le k (length body - at)) block
@@ -138,7 +138,7 @@ module _ (mode : Mode) (level : Level) (k : ℕ) (body : List ℕ) (at : ℕ) (n
   flat_by true (Err f) h = refl
   flat_by false r h = refl
 
-  pub flat_told : length (out-Level level).groups ≡ 0 → length (out-Level level).parts ≡ 0 → block_told mode level k body at ≡ skim (entries_read mode level k) body at
+  pub flat_told : length (out-Level level).groups ≡ 0 → length (out-Level level).parts ≡ 0 → block_end mode level k body at ≡ skim (entries_read mode level k) body at
   flat_told no_groups no_parts =
       block_walked mode level k body at near
       ∙ flat_by (nat_le k (length body - at)) block
@@ -163,32 +163,32 @@ module _ (mode : Mode) (g : Group) (body : List ℕ) (at : ℕ) (near : at ≤ l
   level = (out-Group g).level
 
   abbrev behind : ℕ × ℕ → Result ℕ Fault
-  behind d = steps_told (skim (entries_read mode level d.0) body) 0 d.1 (at + members_end 0 (out-Group g).dim)
+  behind d = steps_end (skim (entries_read mode level d.0) body) 0 d.1 (at + members_end 0 (out-Group g).dim)
 
   group_opens : skim (group_read mode g) body at
-      ≡ cond (is_alive mode.version (out-Level level).since) (dim_told mode.order (out-Group g).dim (floor mode.version (out-Level level).fields) body at >>= behind) (Ok at)
+      ≡ cond (is_alive mode.version (out-Level level).since) (dim_from mode.order (out-Group g).dim (floor mode.version (out-Level level).fields) body at >>= behind) (Ok at)
   group_opens = ap (λ p. skim p body at) (open_group mode g) ∙ group_walked mode (out-Group g).dim level body at near
 
   pub group_dead : (since : ℕ) → since ≡ (out-Level level).since → mode.version < since → Ok at ≡ skim (group_read mode g) body at
   group_dead since is dead =
       let below : is_alive mode.version (out-Level level).since ≡ false = grind (arith, nat_tests) in
-      sym (group_opens ∙ ap (λ t. cond t (dim_told mode.order (out-Group g).dim (floor mode.version (out-Level level).fields) body at >>= behind) (Ok at)) below)
+      sym (group_opens ∙ ap (λ t. cond t (dim_from mode.order (out-Group g).dim (floor mode.version (out-Level level).fields) body at >>= behind) (Ok at)) below)
 
   pub group_told : (since least : ℕ) (r : Result (ℕ × ℕ) Fault) → since ≡ (out-Level level).since → since ≤ mode.version → least ≡ floor mode.version (out-Level level).fields →
-      r ≡ dim_told mode.order (out-Group g).dim least body at → (r >>= behind) ≡ skim (group_read mode g) body at
+      r ≡ dim_from mode.order (out-Group g).dim least body at → (r >>= behind) ≡ skim (group_read mode g) body at
   group_told since least r is alive floors told =
       let here : is_alive mode.version (out-Level level).since ≡ true = le-leb (out-Level level).since mode.version (omega arith) in
-      ap (λ t. t >>= behind) (told ∙ ap (λ k. dim_told mode.order (out-Group g).dim k body at) floors)
-      ∙ sym (group_opens ∙ ap (λ t. cond t (dim_told mode.order (out-Group g).dim (floor mode.version (out-Level level).fields) body at >>= behind) (Ok at)) here)
+      ap (λ t. t >>= behind) (told ∙ ap (λ k. dim_from mode.order (out-Group g).dim k body at) floors)
+      ∙ sym (group_opens ∙ ap (λ t. cond t (dim_from mode.order (out-Group g).dim (floor mode.version (out-Level level).fields) body at >>= behind) (Ok at)) here)
 
 -- ---- the groups of a level
 
 pub groups_next : (mode : Mode) (first i : ℕ) (gs : List Group) (g : Group) (body : List ℕ) (at : ℕ) → i < length gs → g ≡ get_or gs i g →
-    groups_told mode (first + i) (drop i gs) body at ≡ (inside (way.Part (first + i)) (skim (group_read mode g) body at) >>= (λ next. groups_told mode (first + (i + 1)) (drop (i + 1) gs) body next))
+    groups_end mode (first + i) (drop i gs) body at ≡ (inside (way.Part (first + i)) (skim (group_read mode g) body at) >>= (λ next. groups_end mode (first + (i + 1)) (drop (i + 1) gs) body next))
 groups_next mode first i gs g body at h is =
     let next : first + i + 1 ≡ first + (i + 1) = omega arith in
-    ap (λ l. groups_told mode (first + i) l body at) (drop_is gs i g h is)
-    ∙ ap (λ k. inside (way.Part (first + i)) (skim (group_read mode g) body at) >>= (λ n. groups_told mode k (drop (i + 1) gs) body n)) next
+    ap (λ l. groups_end mode (first + i) l body at) (drop_is gs i g h is)
+    ∙ ap (λ k. inside (way.Part (first + i)) (skim (group_read mode g) body at) >>= (λ n. groups_end mode k (drop (i + 1) gs) body n)) next
 
 level_of : (schema : WireSchema) (n : ℕ) (level : Level) (this : Node) → level_at schema n ≡ Some level → slice_get (all_nodes schema) n ≡ Some this → this.level ≡ level
 level_of schema n level this there at =

@@ -22,13 +22,13 @@ use Rattle.sbe_types.specs.Shown.{admits}
 use Rattle.sbe_wire.specs.declared.codes.FCode.TheVariants as code
 use Rattle.sbe_wire.specs.Versions.{is_alive, floor}
 use Rattle.sbe_wire.specs.Faults.{Fault, fault_at, count_of}
-use Rattle.sbe_wire.specs.Reading.{Reader, ◌>>=◌, later, inside, and_then, then_read, nothing, read_judged, and_judged, bytes_read, read_in, times_read, each_read, fields_read, block_read, data_bytes, data_whole, data_read, dimension_read, dimension_of, Tail, block_of, tail_read, groups_read, group_read}
+use Rattle.sbe_wire.specs.Reading.{Reader, ◌>>=◌, later, inside, and_then, then_read, nothing, read_and_check, and_check, bytes_read, read_in, times_read, each_read, fields_read, block_read, data_bytes, data_whole, data_read, dimension_read, dimension_of, Tail, block_of, tail_read, groups_read, group_read}
 use Rattle.layout_tables.specs.Rowed.{part_row}
 use Rattle.var_data.specs.declared.data.DataErr.TheVariants as bad
 use Rattle.var_data.specs.Ranges.{data_range, range_behind}
 use Rattle.sbe_wire.specs.declared.mode.Mode.{Mode}
-use Rattle.body_walk.specs.inner.Told.{settled}
-use Rattle.body_walk.specs.inner.Cursor.{placed, skim, steps_told, groups_told, parts_told, data_told, range_answer, dim_told, block_told, entries_read}
+use Rattle.body_walk.specs.inner.Told.{check_at}
+use Rattle.body_walk.specs.inner.Cursor.{placed, skim, steps_end, groups_end, parts_end, data_end, range_answer, dim_from, block_end, entries_read}
 use Rattle.sbe_wire.proofs.Combine.{later_ok}
 use Rattle.body_walk.proofs.Cursor.{fst_is, Leaves, at_if, at_err, at_all, leaves_then, leaves_nothing, leaves_in, leaves_judged, leaves_bytes, leaves_times, leaves_each, skim_then, skim_made, skim_nothing, placed_inside, times_walked, skim_judged}
 
@@ -44,7 +44,7 @@ data_leaves order version part = record {
       let count = count_of order part b in
       at_if (is_alive version part.since) b (data_whole order part b) (Ok (dataval.Absent, b))
       (at_if (nat_le n (length b)) b (data_bytes order part count b) (Err (fault_at code.Truncated 0 (pos n)))
-      (at_if (admits part.length (pos count)) b (read_judged (bytes_read (n + count)) (bytes_in part) b) (Err (fault_at code.Length 0 (pos count)))
+      (at_if (admits part.length (pos count)) b (read_and_check (bytes_read (n + count)) (bytes_in part) b) (Err (fault_at code.Length 0 (pos count)))
       ((leaves_judged (bytes_read (n + count)) (bytes_in part) (leaves_bytes (n + count))).left b) (at_err b _))
       (at_err b _))
       (at_all b dataval.Absent);
@@ -96,7 +96,7 @@ step_ok : {X Y : Type 0} (b : List ℕ) (r : Result (X × List ℕ) Fault) (q : 
 step_ok b (Err f) q y h = cc
 step_ok b (Ok p) q y h = (p, refl, later_ok (length b - length p.1) (q p.0 p.1) y h)
 
-later_settled : {X : Type 0} (at : ℕ) (r : Result X Fault) (t : Result ℕ Fault) → (later at r >>= (λ _. t)) ≡ (settled at r >>= (λ _. t))
+later_settled : {X : Type 0} (at : ℕ) (r : Result X Fault) (t : Result ℕ Fault) → (later at r >>= (λ _. t)) ≡ (check_at at r >>= (λ _. t))
 later_settled at (Ok x) t = refl
 later_settled at (Err f) t = refl
 
@@ -112,7 +112,7 @@ group_alive false p body at h = skim_nothing groupval.Absent body at h
 -- ---- data
 
 abbrev bytes_told : DataField → ℕ → List ℕ → Result (DataVal × List ℕ) Fault
-bytes_told part n b = read_judged (bytes_read (prim_width part.length.prim + n)) (bytes_in part) b
+bytes_told part n b = read_and_check (bytes_read (prim_width part.length.prim + n)) (bytes_in part) b
 
 data_fits : (part : DataField) (n : ℕ) (body : List ℕ) (at : ℕ) (t u : Bool) → at + prim_width part.length.prim ≤ length body →
     nat_le (prim_width part.length.prim + n) (length (drop at body)) ≡ t → nat_le n (length body - (at + prim_width part.length.prim)) ≡ u →
@@ -125,13 +125,13 @@ data_fits part n body at true true near e f =
     let room : w + n ≤ length b = leb-true (w + n) (length b) e in
     let rest : length (drop (w + n) b) ≡ length b - (w + n) = length-drop (w + n) b in
     let there : length body - length (drop (w + n) b) ≡ at + w + n = omega arith in
-    ap (λ t. placed (length body) at (and_judged (bytes_in part) (cond t (Ok (take (w + n) b, drop (w + n) b)) (Err (fault_at code.Truncated 0 (pos (w + n))))))) e
+    ap (λ t. placed (length body) at (and_check (bytes_in part) (cond t (Ok (take (w + n) b, drop (w + n) b)) (Err (fault_at code.Truncated 0 (pos (w + n))))))) e
     ∙ ap Ok there
 data_fits part n body at false false near e f =
     let w = prim_width part.length.prim in
     let b = drop at body in
     let here : at + 0 ≡ at = omega arith in
-    ap (λ t. placed (length body) at (and_judged (bytes_in part) (cond t (Ok (take (w + n) b, drop (w + n) b)) (Err (fault_at code.Truncated 0 (pos (w + n))))))) e
+    ap (λ t. placed (length body) at (and_check (bytes_in part) (cond t (Ok (take (w + n) b, drop (w + n) b)) (Err (fault_at code.Truncated 0 (pos (w + n))))))) e
     ∙ ap (λ k. Err (fault_at code.Truncated k (pos (w + n)))) here
 data_fits part n body at true false near e f =
     let w = prim_width part.length.prim in
@@ -170,28 +170,28 @@ module _ (order : Order) (part : DataField) (body : List ℕ) (at : ℕ) (near :
   data_alive false = skim_nothing dataval.Absent body at near
 
 module _ (mode : Mode) where
-  pub part_walked : (part : DataField) (body : List ℕ) (at : ℕ) → at ≤ length body → skim (data_read mode.order mode.version part) body at ≡ data_told mode (part_row part) body at
+  pub part_walked : (part : DataField) (body : List ℕ) (at : ℕ) → at ≤ length body → skim (data_read mode.order mode.version part) body at ≡ data_end mode (part_row part) body at
   part_walked part body at near = data_alive mode.order part body at near (is_alive mode.version part.since)
 
-  pub parts_walked : (i : ℕ) (parts : List DataField) (body : List ℕ) (at : ℕ) → at ≤ length body → skim (each_read (data_read mode.order mode.version) i parts) body at ≡ parts_told mode i (map part_row parts) body at
+  pub parts_walked : (i : ℕ) (parts : List DataField) (body : List ℕ) (at : ℕ) → at ≤ length body → skim (each_read (data_read mode.order mode.version) i parts) body at ≡ parts_end mode i (map part_row parts) body at
   unfolding each_read
   parts_walked i [] body at h = skim_nothing {X = List DataVal} [] body at h
   parts_walked i (p ∷ ps) body at h =
       let next_i : suc i ≡ i + 1 = omega arith in
-      let next : ℕ → Result ℕ Fault = λ n. parts_told mode (i + 1) (map part_row ps) body n in
+      let next : ℕ → Result ℕ Fault = λ n. parts_end mode (i + 1) (map part_row ps) body n in
       skim_then (read_in (way.Part i) (data_read mode.order mode.version p)) (λ y. then_read (each_read (data_read mode.order mode.version) (suc i) ps) (λ ys. nothing (y ∷ ys))) next body at h
       (leaves_in (way.Part i) (data_read mode.order mode.version p) (data_leaves mode.order mode.version p))
       (λ y n near e. skim_made (each_read (data_read mode.order mode.version) (suc i) ps) (λ ys. y ∷ ys) body n near (leaves_each (data_read mode.order mode.version) (suc i) ps (λ part. data_leaves mode.order mode.version part))
-      ∙ parts_walked (suc i) ps body n near ∙ ap (λ k. parts_told mode k (map part_row ps) body n) next_i)
+      ∙ parts_walked (suc i) ps body n near ∙ ap (λ k. parts_end mode k (map part_row ps) body n) next_i)
       ∙ ap (λ r. r >>= next) (placed_inside (length body) at (way.Part i) (data_read mode.order mode.version p (drop at body)))
       ∙ ap (λ r. inside (way.Part i) r >>= next) (part_walked p body at h)
 
   -- ---- entries, groups and tails
 
   pub block_walked : (level : Level) (k : ℕ) (body : List ℕ) (at : ℕ) → at ≤ length body →
-      block_told mode level k body at
+      block_end mode level k body at
       ≡ cond (nat_le k (length body - at))
-      (settled at (fields_read mode 0 0 (out-Level level).fields (take k (drop at body))) >>= (λ _. Ok (at + k)))
+      (check_at at (fields_read mode 0 0 (out-Level level).fields (take k (drop at body))) >>= (λ _. Ok (at + k)))
       (Err (fault_at code.Truncated at (pos k)))
   block_walked level k body at h =
       let fields = (out-Level level).fields in
@@ -203,7 +203,7 @@ module _ (mode : Mode) where
   pub entry_walked : (level : Level) (k : ℕ) (body : List ℕ) (at : ℕ) → at ≤ length body →
       skim (entries_read mode level k) body at
       ≡ cond (nat_le k (length body - at))
-      (settled at (fields_read mode 0 0 (out-Level level).fields (take k (drop at body))) >>= (λ _. skim (tail_read mode level) body (at + k)))
+      (check_at at (fields_read mode 0 0 (out-Level level).fields (take k (drop at body))) >>= (λ _. skim (tail_read mode level) body (at + k)))
       (Err (fault_at code.Truncated at (pos k)))
   entry_walked level k body at h =
       let fields = (out-Level level).fields in
@@ -215,13 +215,13 @@ module _ (mode : Mode) where
   pub group_walked : (dim : List Member) (level : Level) (body : List ℕ) (at : ℕ) → at ≤ length body →
       skim (group_read mode (Group' dim level)) body at
       ≡ cond (is_alive mode.version (out-Level level).since)
-      (dim_told mode.order dim (floor mode.version (out-Level level).fields) body at >>= (λ d. steps_told (skim (entries_read mode level d.0) body) 0 d.1 (at + members_end 0 dim)))
+      (dim_from mode.order dim (floor mode.version (out-Level level).fields) body at >>= (λ d. steps_end (skim (entries_read mode level d.0) body) 0 d.1 (at + members_end 0 dim)))
       (Ok at)
   unfolding group_read
   group_walked dim level body at h =
       let least = floor mode.version (out-Level level).fields in
       let w = members_end 0 dim in
-      let behind : ℕ × ℕ → ℕ → Result ℕ Fault = λ d n. steps_told (skim (entries_read mode level d.0) body) 0 d.1 n in
+      let behind : ℕ × ℕ → ℕ → Result ℕ Fault = λ d n. steps_end (skim (entries_read mode level d.0) body) 0 d.1 n in
       group_alive (is_alive mode.version (out-Level level).since) (then_read (dimension_read mode.order dim least) (group_behind mode level)) body at h
       ∙ ap (λ r. cond (is_alive mode.version (out-Level level).since) r (Ok at))
       (skim_judged w (dimension_of mode.order dim least) (group_behind mode level) (λ d. behind d (at + w)) body at h
@@ -231,16 +231,16 @@ module _ (mode : Mode) where
       ∙ times_walked (entries_read mode level d.0) 0 d.1 body (at + w) near leaves)
       ∙ cond_bind (nat_le w (length body - at)) (later at (dimension_of mode.order dim least (take w (drop at body)))) (fault_at code.Truncated at (pos w)) (λ d. behind d (at + w)))
 
-  groups_walked : (i : ℕ) {n : _} (row : Row_of-Group n) (body : List ℕ) (at : ℕ) → at ≤ length body → skim (groups_read mode i row) body at ≡ groups_told mode i (items-the_row-Group _ row) body at
+  groups_walked : (i : ℕ) {n : _} (row : Row_of-Group n) (body : List ℕ) (at : ℕ) → at ≤ length body → skim (groups_read mode i row) body at ≡ groups_end mode i (items-the_row-Group _ row) body at
   unfolding groups_read
   groups_walked i end_of-Group body at h = skim_nothing {X = List GroupVal} [] body at h
   groups_walked i (more_of-Group g rest) body at h =
       let next_i : suc i ≡ i + 1 = omega arith in
-      let next : ℕ → Result ℕ Fault = λ n. groups_told mode (i + 1) (items-the_row-Group _ rest) body n in
+      let next : ℕ → Result ℕ Fault = λ n. groups_end mode (i + 1) (items-the_row-Group _ rest) body n in
       skim_then (read_in (way.Part i) (group_read mode g)) (λ v. then_read (groups_read mode (suc i) rest) (λ vs. nothing (v ∷ vs))) next body at h
       (leaves_in (way.Part i) (group_read mode g) (group_leaves mode g))
       (λ v n near e. skim_made (groups_read mode (suc i) rest) (λ vs. v ∷ vs) body n near (groups_leave mode (suc i) rest)
-      ∙ groups_walked (suc i) rest body n near ∙ ap (λ k. groups_told mode k (items-the_row-Group _ rest) body n) next_i)
+      ∙ groups_walked (suc i) rest body n near ∙ ap (λ k. groups_end mode k (items-the_row-Group _ rest) body n) next_i)
       ∙ ap (λ r. r >>= next) (placed_inside (length body) at (way.Part i) (group_read mode g (drop at body)))
 
   -- as many groups are read as there are
@@ -254,18 +254,18 @@ module _ (mode : Mode) where
 
   pub tail_walked : (level : Level) (body : List ℕ) (at : ℕ) → at ≤ length body →
       skim (tail_read mode level) body at
-      ≡ (groups_told mode (length (out-Level level).fields) (out-Level level).groups body at
-      >>= (λ next. parts_told mode (length (out-Level level).fields + length (out-Level level).groups) (map part_row (out-Level level).parts) body next))
+      ≡ (groups_end mode (length (out-Level level).fields) (out-Level level).groups body at
+      >>= (λ next. parts_end mode (length (out-Level level).fields + length (out-Level level).groups) (map part_row (out-Level level).parts) body next))
   unfolding tail_read levels.out-Level carrier.out
   tail_walked (Level' name id semantic since block_length fields n groups parts) body at h =
       let parts_read : List GroupVal → Reader (List DataVal) = λ gs. each_read (data_read mode.order mode.version) (length fields + length gs) parts in
       let items = items-the_row-Group _ groups in
       let all : ℕ → Reader (List DataVal) = λ k. each_read (data_read mode.order mode.version) k parts in
-      let next : ℕ → ℕ → Result ℕ Fault = λ k n. parts_told mode (length fields + k) (map part_row parts) body n in
+      let next : ℕ → ℕ → Result ℕ Fault = λ k n. parts_end mode (length fields + k) (map part_row parts) body n in
       skim_then (groups_read mode (length fields) groups) (λ gs. then_read (parts_read gs) (λ ds. nothing (gs, ds))) (next (length items)) body at h
       (groups_leave mode (length fields) groups)
       (λ gs n near e. skim_made (parts_read gs) (λ ds. (gs, ds)) body n near (leaves_each (data_read mode.order mode.version) (length fields + length gs) parts (λ part. data_leaves mode.order mode.version part))
       ∙ parts_walked (length fields + length gs) parts body n near
       ∙ ap (λ k. next k n) (groups_many (length fields) groups (drop at body) gs (drop n body) e))
       ∙ ap (λ r. r >>= next (length items)) (groups_walked (length fields) groups body at h)
-      ∙ ap (λ (gs : List Group). groups_told mode (length fields) gs body at >>= next (length gs)) (sym (items_shown-the_row-Group-0 n groups))
+      ∙ ap (λ (gs : List Group). groups_end mode (length fields) gs body at >>= next (length gs)) (sym (items_shown-the_row-Group-0 n groups))

@@ -19,24 +19,24 @@ head_place schema name = place_named schema.header.members name
 -- ---- the message that the header names
 
 -- the number of the message that was found
-abbrev pub found_told : WireSchema → ℕ → Option (ℕ × Level) → Result ℕ Fault
-found_told schema id None = Err (fault_at code.Template (head_place schema (codes "templateId")) (pos id))
-found_told schema id (Some m) = Ok m.0
+abbrev pub found_template : WireSchema → ℕ → Option (ℕ × Level) → Result ℕ Fault
+found_template schema id None = Err (fault_at code.Template (head_place schema (codes "templateId")) (pos id))
+found_template schema id (Some m) = Ok m.0
 
 -- the number of the message that a header's bytes name, or why they don't name one
-abbrev pub named_told : WireSchema → List ℕ → Result ℕ Fault
-named_told schema head =
+abbrev pub named_template : WireSchema → List ℕ → Result ℕ Fault
+named_template schema head =
     let schema_id = head_number schema (codes "schemaId") head in
     let id = head_number schema (codes "templateId") head in
     if schema_id == schema.id
-    then found_told schema id (message_named 0 id schema.messages)
+    then found_template schema id (message_named 0 id schema.messages)
     else Err (fault_at code.SchemaId (head_place schema (codes "schemaId")) (pos schema_id))
 
 -- the number of the message that a body's header names, or why it doesn't name one
-abbrev pub template_told : WireSchema → List ℕ → Result ℕ Fault
-template_told schema body =
+abbrev pub header_template : WireSchema → List ℕ → Result ℕ Fault
+header_template schema body =
     if nat_le (header_width schema) (length body)
-    then named_told schema (take (header_width schema) body)
+    then named_template schema (take (header_width schema) body)
     else Err (fault_at code.ShortHeader 0 (pos (length body)))
 
 -- ---- what follows it in the header

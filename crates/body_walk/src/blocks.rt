@@ -3,9 +3,9 @@ ghost use Rattle.std.specs.Prelude.{◌≡◌, ◌≤◌, ◌<◌, ◌+◌, ◌-
 ghost use Rattle.sbe_types.specs.declared.schema.Level.{out-Level};
 ghost use Rattle.flat_rows.specs.Tables.{IsTable, RowsFit};
 ghost use Rattle.body_walk.specs.inner.Blocks.{IsBlockAt, IsBlockRow, ShowsEach};
-ghost use Rattle.body_walk.specs.inner.Cursor.{block_told};
-ghost use Rattle.body_walk.specs.inner.Fields.{fields_told};
-ghost use Rattle.body_walk.specs.inner.Told.{judged, piece, went};
+ghost use Rattle.body_walk.specs.inner.Cursor.{block_end};
+ghost use Rattle.body_walk.specs.inner.Fields.{fields_check};
+ghost use Rattle.body_walk.specs.inner.Told.{fault_unless, piece, place_or_fault};
 
 use crate::fields::judge_fields;
 use crate::found::Found;
@@ -42,7 +42,7 @@ pub(crate) fn walk_block(
 ) -> Option<usize>
     requires row { IsBlockRow mode.version block level.now row.now }
     requires at { at ≤ length body.now }
-    ensures told { went result out.new ≡ block_told mode level.now block body.now at }
+    ensures told { place_or_fault result out.new ≡ block_end mode level.now block body.now at }
     ensures within { IfSome result (λ next. next ≤ length body.now) }
     ensures low { IfNone result (length out.new.path ≤ 6) }
 {
@@ -88,7 +88,7 @@ fn judge_block(
 ) -> bool
     requires row { IsBlockRow mode.version (length block.now) level.now row.now }
     requires near { at + length block.now < 2 ^ 64 }
-    ensures told { judged result out.new ≡ fields_told mode (piece at block.now) 0 (out-Level level.now).fields row.now.fields.items }
+    ensures told { fault_unless result out.new ≡ fields_check mode (piece at block.now) 0 (out-Level level.now).fields row.now.fields.items }
     ensures low { result ≡ false → length out.new.path ≤ 6 }
 {
     if shows_each(mode, row, block) {

@@ -3,7 +3,7 @@ ghost use Rattle.std.specs.Prelude.{◌≡◌, IfSome, IfNone};
 ghost use Rattle.std.specs.Result.{result_ok};
 ghost use Rattle.sbe_wire.specs.Faults.{FirstFault};
 ghost use Rattle.sbe_wire.specs.Lays.{Lays};
-ghost use Rattle.body_walk.specs.Heads.{template_told};
+ghost use Rattle.body_walk.specs.Heads.{header_template};
 ghost use Rattle.body_walk.specs.Walked.{message_in, IsWalked};
 
 use crate::header::{Start, find_template, mode_of, walk_message};
@@ -34,7 +34,7 @@ pub fn walk_body<'a>(layout: &'a Layout, body: &[u8], last: &mut LastRefusal) ->
     ensures walked { IfSome result (λ w. IsWalked layout.now body.now w) }
     ensures lies { IfSome result (λ _. Lays layout.now (message_in layout.now body.now) body.now) }
     ensures fault { IfNone result (FirstFault layout.now last.new.fault body.now) }
-    ensures template { IfNone result (last.new.template ≡ result_ok (template_told layout.now body.now)) }
+    ensures template { IfNone result (last.new.template ≡ result_ok (header_template layout.now body.now)) }
 {
     let _schema = layout.schema();
     let named = match find_template(layout, body, &mut last.found) {

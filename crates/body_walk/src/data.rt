@@ -3,8 +3,8 @@ ghost use Rattle.std.specs.Prelude.{◌≡◌, ◌≤◌, ◌+◌, length, IfSom
 ghost use Rattle.std.specs.List.{AllByRecursion};
 ghost use Rattle.sbe_types.specs.declared.limits.TheConstants.{PART_LIMIT};
 ghost use Rattle.schema_facts.specs.Measured.{IsSmall};
-ghost use Rattle.body_walk.specs.inner.Cursor.{data_told, parts_told};
-ghost use Rattle.body_walk.specs.inner.Told.{went};
+ghost use Rattle.body_walk.specs.inner.Cursor.{data_end, parts_end};
+ghost use Rattle.body_walk.specs.inner.Told.{place_or_fault};
 
 use crate::found::Found;
 use layout_tables::PartRow;
@@ -24,7 +24,7 @@ pub(crate) fn walk_parts(
     requires small { AllByRecursion (λ r. IsSmall r.length.prim) rows.now }
     requires few { first + length rows.now ≤ PART_LIMIT }
     requires at { at ≤ length body.now }
-    ensures told { went result out.new ≡ parts_told mode first rows.now body.now at }
+    ensures told { place_or_fault result out.new ≡ parts_end mode first rows.now body.now at }
     ensures within { IfSome result (λ next. next ≤ length body.now) }
     ensures low { IfNone result (length out.new.path ≤ 1) }
 {
@@ -45,7 +45,7 @@ pub(crate) fn walk_parts(
 fn walk_data(mode: Mode, row: &PartRow, body: &[u8], at: usize, out: &mut Found) -> Option<usize>
     requires small { IsSmall row.now.length.prim }
     requires at { at ≤ length body.now }
-    ensures told { went result out.new ≡ data_told mode row.now body.now at }
+    ensures told { place_or_fault result out.new ≡ data_end mode row.now body.now at }
     ensures within { IfSome result (λ next. next ≤ length body.now) }
     ensures low { IfNone result (length out.new.path ≡ 0) }
 {

@@ -3,7 +3,7 @@ ghost use Rattle.std.specs.Prelude.{◌≡◌, ◌≤◌, ◌<◌, ◌+◌, List
 ghost use Rattle.sbe_types.specs.declared.kind.Member.{Member};
 ghost use Rattle.layout_tables.specs.Rowed.{DimIs};
 ghost use Rattle.group_codec.specs.Dims.{IsDimRow};
-ghost use Rattle.body_walk.specs.inner.Cursor.{dim_told, dim_went};
+ghost use Rattle.body_walk.specs.inner.Cursor.{dim_from, dim_went};
 
 use crate::found::Found;
 use group_codec::{Dim, DimErr, read_dim_row};
@@ -22,7 +22,7 @@ pub(crate) fn walk_dim(
 ) -> Option<Dim>
     requires row { IsDimRow row.now }
     requires at { at ≤ length body.now }
-    ensures told { (dim : List Member) → DimIs row.now dim → dim_went result out.new ≡ dim_told order dim least body.now at }
+    ensures told { (dim : List Member) → DimIs row.now dim → dim_went result out.new ≡ dim_from order dim least body.now at }
     ensures reaches { IfSome result (λ d. 0 < d.count → least ≤ d.block) }
     ensures after { IfSome result (λ d. d.after ≡ at + row.now.width) }
     ensures within { IfSome result (λ d. d.after ≤ length body.now) }

@@ -1,8 +1,8 @@
 // The fields of a block.
 ghost use Rattle.std.specs.Prelude.{◌≡◌, ◌≤◌, ◌<◌, ◌+◌, ◌^◌, false, length};
 ghost use Rattle.sbe_types.specs.declared.limits.TheConstants.{PART_LIMIT};
-ghost use Rattle.body_walk.specs.inner.Told.{judged, piece};
-ghost use Rattle.body_walk.specs.inner.Fields.{field_told, fields_told, AreFieldRows, IsFieldRow};
+ghost use Rattle.body_walk.specs.inner.Told.{fault_unless, piece};
+ghost use Rattle.body_walk.specs.inner.Fields.{field_check, fields_check, AreFieldRows, IsFieldRow};
 
 use crate::found::Found;
 use crate::kinds::judge_part;
@@ -25,7 +25,7 @@ pub(crate) fn judge_fields(
     requires rows { AreFieldRows mode.version (length block.now) fields.now rows.now }
     requires few { length fields.now ≤ PART_LIMIT }
     requires near { at + length block.now < 2 ^ 64 }
-    ensures told { judged result out.new ≡ fields_told mode (piece at block.now) 0 fields.now rows.now }
+    ensures told { fault_unless result out.new ≡ fields_check mode (piece at block.now) 0 fields.now rows.now }
     ensures low { result ≡ false → length out.new.path ≤ 6 }
 {
     for i in 0..fields.len() {
@@ -50,7 +50,7 @@ fn judge_field(
 ) -> bool
     requires row { IsFieldRow mode.version (length block.now) field.now row.now }
     requires near { at + length block.now < 2 ^ 64 }
-    ensures told { judged result out.new ≡ field_told mode (piece at block.now) i field.now row.now }
+    ensures told { fault_unless result out.new ≡ field_check mode (piece at block.now) i field.now row.now }
     ensures low { result ≡ false → length out.new.path ≤ 6 }
 {
     if row.since > mode.version || row.is_constant {

@@ -5,9 +5,9 @@ ghost use Rattle.sbe_wire.specs.Versions.{floor};
 ghost use Rattle.flat_rows.specs.Tables.{IsTable, RowsFit};
 ghost use Rattle.layout_tables.specs.Rowed.{RowFor};
 ghost use Rattle.body_walk.specs.inner.Blocks.{ShowsEach};
-ghost use Rattle.body_walk.specs.inner.Cursor.{skim, entries_read, steps_told};
+ghost use Rattle.body_walk.specs.inner.Cursor.{skim, entries_read, steps_end};
 ghost use Rattle.body_walk.specs.inner.Layers.{IsLayer};
-ghost use Rattle.body_walk.specs.inner.Told.{went};
+ghost use Rattle.body_walk.specs.inner.Told.{place_or_fault};
 
 use crate::blocks::{shows_block, walk_block};
 use crate::found::Found;
@@ -54,7 +54,7 @@ pub(crate) fn walk_blocks(layer: &Layer<'_>, dim: Dim, out: &mut Found) -> Optio
     requires parts { length (out-Level layer.now.level.now).parts ≡ 0 }
     requires reaches { 0 < dim.count → floor layer.now.mode.version (out-Level layer.now.level.now).fields ≤ dim.block }
     requires at { dim.after ≤ length layer.now.body.now }
-    ensures told { went result out.new ≡ steps_told (skim (entries_read layer.now.mode layer.now.level.now dim.block) layer.now.body.now) 0 dim.count dim.after }
+    ensures told { place_or_fault result out.new ≡ steps_end (skim (entries_read layer.now.mode layer.now.level.now dim.block) layer.now.body.now) 0 dim.count dim.after }
     ensures within { IfSome result (λ next. next ≤ length layer.now.body.now) }
     ensures low { IfNone result (length out.new.path ≤ 7) }
 {
@@ -92,8 +92,8 @@ fn walk_shown(layer: &Layer<'_>, row: &LevelRow, dim: Dim) -> Reached
     requires reaches { 0 < dim.count → floor layer.now.mode.version (out-Level layer.now.level.now).fields ≤ dim.block }
     requires at { dim.after ≤ length layer.now.body.now }
     ensures near { result.at ≤ length layer.now.body.now }
-    ensures told { steps_told (skim (entries_read layer.now.mode layer.now.level.now dim.block) layer.now.body.now) result.entry (dim.count - result.entry) result.at
-        ≡ steps_told (skim (entries_read layer.now.mode layer.now.level.now dim.block) layer.now.body.now) 0 dim.count dim.after }
+    ensures told { steps_end (skim (entries_read layer.now.mode layer.now.level.now dim.block) layer.now.body.now) result.entry (dim.count - result.entry) result.at
+        ≡ steps_end (skim (entries_read layer.now.mode layer.now.level.now dim.block) layer.now.body.now) 0 dim.count dim.after }
 {
     let mut at = dim.after;
     for i in 0..dim.count {
@@ -141,7 +141,7 @@ fn walk_flat(
     requires parts { length (out-Level layer.now.level.now).parts ≡ 0 }
     requires reaches { floor layer.now.mode.version (out-Level layer.now.level.now).fields ≤ block }
     requires at { at ≤ length layer.now.body.now }
-    ensures told { went result out.new ≡ skim (entries_read layer.now.mode layer.now.level.now block) layer.now.body.now at }
+    ensures told { place_or_fault result out.new ≡ skim (entries_read layer.now.mode layer.now.level.now block) layer.now.body.now at }
     ensures within { IfSome result (λ next. next ≤ length layer.now.body.now) }
     ensures low { IfNone result (length out.new.path ≤ 6) }
 {

@@ -5,10 +5,10 @@ ghost use Rattle.sbe_types.specs.declared.schema.Level.{Level, out-Level};
 ghost use Rattle.sbe_wire.specs.Versions.{acting, floor, mode_of};
 ghost use Rattle.schema_facts.specs.Levels.{level_at};
 ghost use Rattle.layout_tables.specs.Heads.{header_width};
-ghost use Rattle.body_walk.specs.Heads.{start_in, template_told};
+ghost use Rattle.body_walk.specs.Heads.{start_in, header_template};
 ghost use Rattle.body_walk.specs.inner.Ready.{IsReadySchema};
-ghost use Rattle.body_walk.specs.inner.Starts.{message_from, rest_told, start_told, start_went};
-ghost use Rattle.body_walk.specs.inner.Told.{went};
+ghost use Rattle.body_walk.specs.inner.Starts.{message_from, rest_check, start_check, start_went};
+ghost use Rattle.body_walk.specs.inner.Told.{place_or_fault};
 
 use crate::found::Found;
 use crate::head_numbers::numbers_in;
@@ -36,7 +36,7 @@ pub(crate) struct Named {
 #[inline(always)]
 pub(crate) fn find_template(layout: &Layout, body: &[u8], out: &mut Found) -> Option<Named>
     requires { IsReadySchema layout.now }
-    ensures told { went (option_map (λ n. n.template) result) out.new ≡ template_told layout.now body.now }
+    ensures told { place_or_fault (option_map (λ n. n.template) result) out.new ≡ header_template layout.now body.now }
     ensures start { IfSome result (λ n. n.start ≡ start_in layout.now body.now) }
     ensures within { IfSome result (λ n. n.template < length layout.now.messages) }
     ensures header { IfSome result (λ _. header_width layout.now ≤ length body.now) }
@@ -89,7 +89,7 @@ pub(crate) fn walk_message(
     requires schema { IsReadySchema layout.now }
     requires template { template < length layout.now.messages }
     requires header { header_width layout.now ≤ length body.now }
-    ensures told { (level : Level) → slice_get layout.now.messages template ≡ Some level → went result out.new ≡ message_from layout.now level body.now start }
+    ensures told { (level : Level) → slice_get layout.now.messages template ≡ Some level → place_or_fault result out.new ≡ message_from layout.now level body.now start }
     ensures version { IfSome result (λ version. version ≡ start.version) }
     ensures low { IfNone result (length out.new.path ≤ 20) }
 {
@@ -129,7 +129,7 @@ fn judge_start(
     out: &mut Found,
 ) -> Option<Start>
     requires level { level_at layout.now root ≡ Some level.now }
-    ensures told { start_went result out.new ≡ start_told layout.now level.now start }
+    ensures told { start_went result out.new ≡ start_check layout.now level.now start }
     ensures same { IfSome result (λ s. s ≡ start) }
     ensures reaches { IfSome result (λ s. floor (acting layout.now s.version) (out-Level level.now).fields ≤ s.block) }
     ensures low { IfNone result (length out.new.path ≡ 0) }
@@ -150,7 +150,7 @@ fn judge_start(
 /// Checks what is left after the last part of a message of this version.
 fn judge_rest(known: bool, version: u32, body: &[u8], next: usize, out: &mut Found) -> Option<u32>
     requires { next ≤ length body.now }
-    ensures told { went result out.new ≡ rest_told known version body.now next }
+    ensures told { place_or_fault result out.new ≡ rest_check known version body.now next }
     ensures version { IfSome result (λ v. v ≡ version) }
     ensures low { IfNone result (length out.new.path ≡ 0) }
 {

@@ -7,8 +7,8 @@ ghost use Rattle.sbe_types.specs.Shown.{is_null, is_listed, has_listed_bits};
 ghost use Rattle.sbe_wire.specs.declared.codes.FCode.TheVariants.{EnumUnknown, SetUnknown};
 ghost use Rattle.schema_rules.specs.TypeRules.{is_set_primitive};
 ghost use Rattle.schema_facts.specs.InOrder.{height, IsLeafInOrder};
-ghost use Rattle.body_walk.specs.inner.Told.{fault_of, judged, piece};
-ghost use Rattle.body_walk.specs.inner.Kinds.{answered, kind_told, leaf_answer, leaf_told, member_told, members_told, part_told, IsReady, IsLeafFault};
+ghost use Rattle.body_walk.specs.inner.Told.{fault_of, fault_unless, piece};
+ghost use Rattle.body_walk.specs.inner.Kinds.{answered, kind_check, leaf_answer, leaf_check, member_check, members_check, part_check, IsReady, IsLeafFault};
 
 use crate::found::Found;
 use crate::looks::{shows_at_once, shows_leaf};
@@ -33,7 +33,7 @@ pub(crate) fn judge_part(
     requires ready { IsReady kind.now }
     requires wide { length bytes.now ≡ width kind.now }
     requires near { at + length bytes.now < 2 ^ 64 }
-    ensures told { judged result out.new ≡ part_told mode kind.now i (piece at bytes.now) }
+    ensures told { fault_unless result out.new ≡ part_check mode kind.now i (piece at bytes.now) }
     ensures low { result ≡ false → length out.new.path ≤ 2 + height kind.now }
 {
     if judge_kind(mode, kind, at, bytes, out) {
@@ -50,7 +50,7 @@ fn judge_kind(mode: Mode, kind: &Kind, at: usize, bytes: &[u8], out: &mut Found)
     requires ready { IsReady kind.now }
     requires wide { length bytes.now ≡ width kind.now }
     requires near { at + length bytes.now < 2 ^ 64 }
-    ensures told { judged result out.new ≡ kind_told mode kind.now (piece at bytes.now) }
+    ensures told { fault_unless result out.new ≡ kind_check mode kind.now (piece at bytes.now) }
     ensures low { result ≡ false → length out.new.path ≤ suc (height kind.now) }
 {
     match kind {
@@ -74,7 +74,7 @@ fn judge_members(
     requires ready { IsReady (Comp members.now) }
     requires wide { length bytes.now ≡ width (Comp members.now) }
     requires near { at + length bytes.now < 2 ^ 64 }
-    ensures told { judged result out.new ≡ members_told mode (piece at bytes.now) 0 0 members.now }
+    ensures told { fault_unless result out.new ≡ members_check mode (piece at bytes.now) 0 0 members.now }
     ensures low { result ≡ false → length out.new.path ≤ suc (height (Comp members.now)) }
 {
     let mut end = 0;
@@ -107,7 +107,7 @@ fn judge_member(
     requires behind { behind ≡ end_past end member.now.offset member.now.kind }
     requires within { is_const member.now.kind ≡ false → begin_of end member.now.offset + width member.now.kind ≤ length bytes.now }
     requires near { at + length bytes.now < 2 ^ 64 }
-    ensures told { judged result out.new ≡ member_told mode (piece at bytes.now) end i member.now }
+    ensures told { fault_unless result out.new ≡ member_check mode (piece at bytes.now) end i member.now }
     ensures low { result ≡ false → length out.new.path ≤ 2 + height member.now.kind }
 {
     match &member.kind {
@@ -130,7 +130,7 @@ fn judge_leaf(order: Order, leaf: &Leaf, at: usize, bytes: &[u8], out: &mut Foun
     requires order { IsLeafInOrder leaf.now }
     requires wide { length bytes.now ≡ width (LeafKind leaf.now) }
     requires near { at + length bytes.now < 2 ^ 64 }
-    ensures told { judged result out.new ≡ leaf_told order leaf.now (piece at bytes.now) }
+    ensures told { fault_unless result out.new ≡ leaf_check order leaf.now (piece at bytes.now) }
     ensures low { result ≡ false → length out.new.path ≤ 1 }
 {
     if shows_leaf(order, leaf, bytes) {
@@ -145,7 +145,7 @@ fn judge_each(order: Order, leaf: &Leaf, at: usize, bytes: &[u8], out: &mut Foun
     requires order { IsLeafInOrder leaf.now }
     requires wide { length bytes.now ≡ width (LeafKind leaf.now) }
     requires near { at + length bytes.now < 2 ^ 64 }
-    ensures told { judged result out.new ≡ leaf_told order leaf.now (piece at bytes.now) }
+    ensures told { fault_unless result out.new ≡ leaf_check order leaf.now (piece at bytes.now) }
     ensures low { result ≡ false → length out.new.path ≤ 1 }
 {
     let mut fault = LeafFault {
@@ -194,7 +194,7 @@ fn judge_enum(
 ) -> bool
     requires { length bytes.now ≡ prim_width leaf.now.prim }
     ensures told { let n = number_of mode.order leaf.now.prim bytes.now in
-        judged result out.new ≡ answered EnumUnknown at n (is_null leaf.now n || (is_listed values.now n || not mode.known)) }
+        fault_unless result out.new ≡ answered EnumUnknown at n (is_null leaf.now n || (is_listed values.now n || not mode.known)) }
     ensures low { result ≡ false → length out.new.path ≡ 0 }
 {
     let number = get_num(mode.order, leaf.prim, bytes);
@@ -217,7 +217,7 @@ fn judge_set(
     requires encoding { is_set_primitive prim ≡ true }
     requires wide { length bytes.now ≡ prim_width prim }
     ensures told { let n = number_of mode.order prim bytes.now in
-        judged result out.new ≡ answered SetUnknown at n (has_listed_bits choices.now 64 (natural n) || not mode.known) }
+        fault_unless result out.new ≡ answered SetUnknown at n (has_listed_bits choices.now 64 (natural n) || not mode.known) }
     ensures low { result ≡ false → length out.new.path ≡ 0 }
 {
     let number = set_number(mode.order, prim, bytes);

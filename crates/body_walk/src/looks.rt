@@ -10,7 +10,7 @@ ghost use Rattle.sbe_types.specs.Shown.{admits, is_null, is_listed};
 ghost use Rattle.schema_rules.specs.Ranges.{is_number_of};
 ghost use Rattle.schema_facts.specs.InOrder.{IsLeafInOrder};
 ghost use Rattle.body_walk.specs.inner.Told.{piece};
-ghost use Rattle.body_walk.specs.inner.Kinds.{kind_told, IsReady};
+ghost use Rattle.body_walk.specs.inner.Kinds.{kind_check, IsReady};
 
 use crate::numbers::shows_enum;
 use sbe_types::{Kind, Leaf, LeafShape, NamedList, Order, get_num};
@@ -22,7 +22,7 @@ use sbe_wire::Mode;
 pub(crate) fn shows_at_once(mode: Mode, kind: &Kind, bytes: &[u8]) -> bool
     requires ready { IsReady kind.now }
     requires wide { length bytes.now ≡ width kind.now }
-    ensures { result ≡ true → (at : ℕ) → kind_told mode kind.now (piece at bytes.now) ≡ Ok tt }
+    ensures { result ≡ true → (at : ℕ) → kind_check mode kind.now (piece at bytes.now) ≡ Ok tt }
 {
     match kind {
         Kind::Leaf(leaf) => shows_leaf(mode.order, leaf, bytes),

@@ -9,9 +9,9 @@ ghost use Rattle.schema_rules.specs.PartRules.{most_groups};
 ghost use Rattle.schema_facts.specs.CheckedLevels.{groups_deep};
 ghost use Rattle.schema_facts.specs.Levels.{level_at};
 ghost use Rattle.layout_tables.specs.Parts.{dim_at};
-ghost use Rattle.body_walk.specs.inner.Cursor.{skim, entries_read, groups_told, steps_told};
+ghost use Rattle.body_walk.specs.inner.Cursor.{skim, entries_read, groups_end, steps_end};
 ghost use Rattle.body_walk.specs.inner.Ready.{IsReadySchema};
-ghost use Rattle.body_walk.specs.inner.Told.{went};
+ghost use Rattle.body_walk.specs.inner.Told.{place_or_fault};
 
 use crate::blocks::walk_block;
 use crate::data::walk_parts;
@@ -42,7 +42,7 @@ fn walk_entry(
     requires shallow { groups_deep level.now ≤ most_groups }
     requires reaches { floor mode.version (out-Level level.now).fields ≤ block }
     requires at { at ≤ length body.now }
-    ensures told { went result out.new ≡ skim (entries_read mode level.now block) body.now at }
+    ensures told { place_or_fault result out.new ≡ skim (entries_read mode level.now block) body.now at }
     ensures within { IfSome result (λ next. next ≤ length body.now) }
     ensures low { IfNone result (length out.new.path ≤ 2 * groups_deep level.now + 6) }
 {
@@ -75,7 +75,7 @@ pub(crate) fn walk_root(
     requires shallow { groups_deep level.now ≤ most_groups }
     requires reaches { floor mode.version (out-Level level.now).fields ≤ block }
     requires at { at ≤ length body.now }
-    ensures told { went result out.new ≡ skim (entries_read mode level.now block) body.now at }
+    ensures told { place_or_fault result out.new ≡ skim (entries_read mode level.now block) body.now at }
     ensures within { IfSome result (λ next. next ≤ length body.now) }
     ensures low { IfNone result (length out.new.path ≤ 2 * groups_deep level.now + 6) }
 {
@@ -109,7 +109,7 @@ fn walk_tail(
     requires level { level_at layout.now n ≡ Some level.now }
     requires shallow { groups_deep level.now ≤ most_groups }
     requires at { at ≤ length body.now }
-    ensures told { went result out.new ≡ skim (tail_read mode level.now) body.now at }
+    ensures told { place_or_fault result out.new ≡ skim (tail_read mode level.now) body.now at }
     ensures within { IfSome result (λ next. next ≤ length body.now) }
     ensures low { IfNone result (length out.new.path ≤ 2 * groups_deep level.now + 6) }
 {
@@ -137,7 +137,7 @@ fn walk_groups(
     requires level { level_at layout.now n ≡ Some level.now }
     requires shallow { groups_deep level.now ≤ most_groups }
     requires at { at ≤ length body.now }
-    ensures told { went result out.new ≡ groups_told mode (length (out-Level level.now).fields) (out-Level level.now).groups body.now at }
+    ensures told { place_or_fault result out.new ≡ groups_end mode (length (out-Level level.now).fields) (out-Level level.now).groups body.now at }
     ensures within { IfSome result (λ next. next ≤ length body.now) }
     ensures low { IfNone result (length out.new.path ≤ 2 * groups_deep level.now + 6) }
 {
@@ -182,7 +182,7 @@ fn walk_group(
     requires dim { dim_at layout.now n ≡ Some (out-Group group.now).dim }
     requires shallow { groups_deep (out-Group group.now).level ≤ most_groups }
     requires at { at ≤ length body.now }
-    ensures told { went result out.new ≡ skim (group_read mode group.now) body.now at }
+    ensures told { place_or_fault result out.new ≡ skim (group_read mode group.now) body.now at }
     ensures within { IfSome result (λ next. next ≤ length body.now) }
     ensures low { IfNone result (length out.new.path ≤ 2 * groups_deep (out-Group group.now).level + 7) }
 {
@@ -216,7 +216,7 @@ fn walk_entries(
     requires shallow { groups_deep level.now ≤ most_groups }
     requires reaches { 0 < dim.count → floor mode.version (out-Level level.now).fields ≤ dim.block }
     requires at { dim.after ≤ length body.now }
-    ensures told { went result out.new ≡ steps_told (skim (entries_read mode level.now dim.block) body.now) 0 dim.count dim.after }
+    ensures told { place_or_fault result out.new ≡ steps_end (skim (entries_read mode level.now dim.block) body.now) 0 dim.count dim.after }
     ensures within { IfSome result (λ next. next ≤ length body.now) }
     ensures low { IfNone result (length out.new.path ≤ 2 * groups_deep level.now + 7) }
 {

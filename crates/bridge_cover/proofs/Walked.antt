@@ -14,7 +14,7 @@ use Rattle.bridge_terms.specs.Plans.{is_in}
 use Rattle.bridge_plan.specs.Mappings.{Mapping, datatype_of}
 use Rattle.bridge_plan.specs.Covers.{is_covered, or_path, inside, group_by, fields_uncovered, data_uncovered, group_uncovered, group_tag, uncovered}
 use Rattle.bridge_cover.specs.declared.level.LevelMap.{LevelMap}
-use Rattle.bridge_cover.specs.Parts.{entries_of, groups_left, ids_of, is_group, told, Passes, PassesFields, Sees}
+use Rattle.bridge_cover.specs.Parts.{entries_of, groups_left, ids_of, is_group, outermost_first, Passes, PassesFields, Sees}
 use Rattle.bridge_cover.proofs.Passed.{field_listed, listed_as, none_listed}
 use Rattle.bridge_cover.proofs.Groups.{group_is, level_listed}
 
@@ -65,11 +65,11 @@ module _ (m : Mapping) (s : Structure) (here : LevelMap) where
 
     pub field_missed : (f : Field) → i < length all → f ≡ get_or all i f → (covered : Bool) → covered ≡ is_own f →
         covered ≡ false → (path : List (List ℕ)) → path ≡ f.name ∷ [] →
-        (level : Level) → all ≡ (out-Level level).fields → told (Some path) ≡ uncovered m s level
+        (level : Level) → all ≡ (out-Level level).fields → outermost_first (Some path) ≡ uncovered m s level
     field_missed f h is covered e test path named level same =
         let groups = groups_left m s (ids_of (out-Level level).fields) (out-Level level).groups (out-Level level).parts in
         let rest = fields_uncovered m s (f.id ∷ p.earlier) (drop (i + 1) all) in
-        ap (λ q. told (Some q)) named ∙ ap (λ o. or_path o groups) (sym (if_false (is_own f) rest (Some (f.name ∷ [])) (sym e ∙ test)))
+        ap (λ q. outermost_first (Some q)) named ∙ ap (λ o. or_path o groups) (sym (if_false (is_own f) rest (Some (f.name ∷ [])) (sym e ∙ test)))
         ∙ ap (λ fs. or_path (fields_uncovered m s p.earlier fs) groups) (sym (next_of all i f h is)) ∙ ap (λ o. or_path o groups) p.rest
         ∙ ap (λ fs. or_path (fields_uncovered m s [] fs) groups) same ∙ sym (level_listed m s level)
 
@@ -80,7 +80,7 @@ module _ (m : Mapping) (s : Structure) (here : LevelMap) where
 
     pub groups_told : length all ≤ i → (level : Level) → all ≡ (out-Level level).fields → (gs : List Group) →
         gs ≡ (out-Level level).groups → (parts : List DataField) → parts ≡ (out-Level level).parts →
-        (path : Option (List (List ℕ))) → told path ≡ groups_left m s (ids_of all) gs parts → told path ≡ uncovered m s level
+        (path : Option (List (List ℕ))) → outermost_first path ≡ groups_left m s (ids_of all) gs parts → outermost_first path ≡ uncovered m s level
     groups_told h level fields gs groups parts data_same path e =
         e ∙ ap (λ o. or_path o (groups_left m s (ids_of all) gs parts))
         (ap (fields_uncovered m s p.earlier) (sym (none_after all i h)) ∙ p.rest)
@@ -107,12 +107,12 @@ module _ (m : Mapping) (s : Structure) (here : LevelMap) where
     }
 
     pub group_missed : (g : Group) → i < length all → g ≡ get_or all i g → (path : List (List ℕ)) →
-        told (Some path) ≡ group_uncovered m s p.earlier g → told (Some path) ≡ whole
+        outermost_first (Some path) ≡ group_uncovered m s p.earlier g → outermost_first (Some path) ≡ whole
     group_missed g h is path e =
         ap (λ o. or_path o (groups_left m s (group_tag g ∷ p.earlier) (drop (i + 1) all) parts)) e
         ∙ ap (λ gs. groups_left m s p.earlier gs parts) (sym (next_of all i g h is)) ∙ p.rest
 
-    pub data_told : length all ≤ i → (path : Option (List (List ℕ))) → told path ≡ data_uncovered m s p.earlier parts → told path ≡ whole
+    pub data_told : length all ≤ i → (path : Option (List (List ℕ))) → outermost_first path ≡ data_uncovered m s p.earlier parts → outermost_first path ≡ whole
     data_told h path e = e ∙ ap (λ gs. groups_left m s p.earlier gs parts) (sym (none_after all i h)) ∙ p.rest
 
   -- ---- data
@@ -139,9 +139,9 @@ module _ (m : Mapping) (s : Structure) (here : LevelMap) where
 
     pub part_missed : (d : DataField) → i < length all → d ≡ get_or all i d → (covered : Bool) → covered ≡ is_own_data d →
         covered ≡ false → (path : List (List ℕ)) → path ≡ d.name ∷ [] →
-        told (Some path) ≡ whole
+        outermost_first (Some path) ≡ whole
     part_missed d h is covered e test path named =
-        ap (λ q. told (Some q)) named
+        ap (λ q. outermost_first (Some q)) named
         ∙ sym (if_false (is_own_data d) (data_uncovered m s (d.id ∷ p.earlier) (drop (i + 1) all)) (Some (d.name ∷ [])) (sym e ∙ test))
         ∙ ap (data_uncovered m s p.earlier) (sym (next_of all i d h is)) ∙ p.rest
 
@@ -155,9 +155,9 @@ module _ (m : Mapping) (s : Structure) (before : List ℕ) (g : Group) where
   own = (out-Group g).level
 
   pub group_refused : is_group m s before own ≡ false → (path : List (List ℕ)) → path ≡ (out-Level own).name ∷ [] →
-      told (Some path) ≡ group_uncovered m s before g
+      outermost_first (Some path) ≡ group_uncovered m s before g
   group_refused test path named =
-      ap (λ q. told (Some q)) named ∙ ap (λ b. group_by b (out-Level own).name (uncovered m (entries_of s own) own)) (sym test)
+      ap (λ q. outermost_first (Some q)) named ∙ ap (λ b. group_by b (out-Level own).name (uncovered m (entries_of s own) own)) (sym test)
       ∙ sym (group_is m s before g)
 
   pub group_covered : is_group m s before own ≡ true → None ≡ uncovered m (entries_of s own) own → None ≡ group_uncovered m s before g
@@ -166,8 +166,8 @@ module _ (m : Mapping) (s : Structure) (before : List ℕ) (g : Group) where
       (sym test) ∙ sym (group_is m s before g)
 
   pub group_entered : is_group m s before own ≡ true → (within path : List (List ℕ)) →
-      told (Some within) ≡ uncovered m (entries_of s own) own → path ≡ within ++ ((out-Level own).name ∷ []) →
-      told (Some path) ≡ group_uncovered m s before g
+      outermost_first (Some within) ≡ uncovered m (entries_of s own) own → path ≡ within ++ ((out-Level own).name ∷ []) →
+      outermost_first (Some path) ≡ group_uncovered m s before g
   group_entered test within path e longer =
-      ap (λ q. told (Some q)) longer ∙ ap Some (reverse-append within ((out-Level own).name ∷ [])) ∙ ap (inside (out-Level own).name) e
+      ap (λ q. outermost_first (Some q)) longer ∙ ap Some (reverse-append within ((out-Level own).name ∷ [])) ∙ ap (inside (out-Level own).name) e
       ∙ ap (λ b. group_by b (out-Level own).name (uncovered m (entries_of s own) own)) (sym test) ∙ sym (group_is m s before g)

@@ -15,8 +15,8 @@ use Rattle.bridge_cover.specs.declared.level.LevelMap.{LevelMap}
 use Rattle.bridge_cover.specs.Tables.{AreTables}
 
 -- a path whose names are listed from the innermost out, in the order from the outermost
-abbrev pub told : Option (List (List ℕ)) → Option (List (List ℕ))
-told path = option_map reverse path
+abbrev pub outermost_first : Option (List (List ℕ)) → Option (List (List ℕ))
+outermost_first path = option_map reverse path
 
 -- the record is that of a structure of a mapping, and the parts of the level so far have these tags
 pub record Sees (m : Mapping) (s : Structure) (before : List ℕ) (here : LevelMap) : Type 0 where

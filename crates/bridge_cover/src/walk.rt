@@ -6,7 +6,7 @@ ghost use Rattle.structure_rows.specs.Rows.{rows_of};
 ghost use Rattle.bridge_plan.specs.Mappings.{Mapping};
 ghost use Rattle.bridge_plan.specs.Covers.{data_uncovered, group_uncovered, uncovered};
 ghost use Rattle.bridge_cover.specs.Kinds.{GroupHasKinds, HasKindsInOrder};
-ghost use Rattle.bridge_cover.specs.Parts.{groups_left, told, Sees};
+ghost use Rattle.bridge_cover.specs.Parts.{groups_left, outermost_first, Sees};
 ghost use Rattle.bridge_cover.specs.Tables.{AreTables};
 
 use crate::level::LevelMap;
@@ -60,7 +60,7 @@ fn level_uncovered(
 ) -> Result<Option<List<Text>>, NoMem>
     requires order { HasKindsInOrder level.now }
     ensures { IfOk result (λ path. (m : Mapping) (s : Structure) → AreTables m tables.now → rows.now ≡ rows_of s
-        → told path ≡ uncovered m s level.now) }
+        → outermost_first path ≡ uncovered m s level.now) }
 {
     let mut here = LevelMap::new(alloc, tables, rows)?;
     let fields = level.fields.as_slice();
@@ -95,7 +95,7 @@ fn groups_uncovered(
 ) -> Result<Option<List<Text>>, NoMem>
     requires order { All GroupHasKinds groups.now }
     ensures { IfOk result (λ path. (m : Mapping) (s : Structure) (before : List ℕ) → Sees m s before here.old
-        → told path ≡ groups_left m s before groups.now parts.now) }
+        → outermost_first path ≡ groups_left m s before groups.now parts.now) }
 {
     for group in groups {
         if let Some(path) = group_uncovered(alloc, here, group)? {
@@ -115,7 +115,7 @@ fn group_uncovered(
 ) -> Result<Option<List<Text>>, NoMem>
     requires order { GroupHasKinds group.now }
     ensures { IfOk result (λ path. (m : Mapping) (s : Structure) (before : List ℕ) → Sees m s before here.now
-        → told path ≡ group_uncovered m s before group.now) }
+        → outermost_first path ≡ group_uncovered m s before group.now) }
 {
     let name = group.level.name.as_slice();
     let Some(rows) = here.entries(&group.level) else {
@@ -134,7 +134,7 @@ fn data_uncovered(
     parts: &[DataField],
 ) -> Result<Option<List<Text>>, NoMem>
     ensures { IfOk result (λ path. (m : Mapping) (s : Structure) (before : List ℕ) → Sees m s before here.old
-        → told path ≡ data_uncovered m s before parts.now) }
+        → outermost_first path ≡ data_uncovered m s before parts.now) }
 {
     for part in parts {
         if !here.covers_data(part) {

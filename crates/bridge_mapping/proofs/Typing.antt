@@ -10,7 +10,7 @@ use Rattle.map_types.specs.declared.tree.FieldEl.{FieldEl}
 use Rattle.bridge_rules.specs.Datatypes.{Datatype, unbridged}
 use Rattle.bridge_rules.proofs.BoolLemmas.{same_self}
 use Rattle.bridge_table.specs.declared.datatype.Datatype.{Datatype as FieldDatatype}
-use Rattle.bridge_table.specs.Codes.{datatype_seen}
+use Rattle.bridge_table.specs.Codes.{datatype_of_row}
 use Rattle.field_types.specs.FieldTypes.{set_type, set_named, type_by, standard_type, field_type}
 use Rattle.bridge_plan.specs.Mappings.{datatype_in}
 use Rattle.bridge_mapping.specs.declared.datatypes.TypedField.{TypedField}
@@ -114,9 +114,9 @@ set_sought name [] = refl
 set_sought name (s ∷ ss) =
     if_by (bytes_eq s.name name) (bytes_eq name s.name) (Some s) (set_named name ss) (sought (bytes_eq name) name_in Some None ss) (turned s.name name) (set_sought name ss)
 
-or_seen : (o : Option FieldDatatype) (d : Datatype) → option_map datatype_seen o ≡ Some d → type_or o ≡ d
+or_seen : (o : Option FieldDatatype) (d : Datatype) → option_map datatype_of_row o ≡ Some d → type_or o ≡ d
 or_seen None d h = cc
-or_seen (Some x) d h = same_Some (datatype_seen x) d h
+or_seen (Some x) d h = same_Some (datatype_of_row x) d h
 
 within_step : {X : Type 0} (p : Bool) (k i : ℕ) (more : Option ℕ) (x : X) (xs : List X) → (if p then Some k else more) ≡ Some i → (more ≡ Some i →
     k + 1 ≤ i) →
@@ -147,7 +147,7 @@ module _ (sets : List CodeSetEl) (names : List (List ℕ)) (types : List FieldDa
       let found : set_named f.type_name sets ≡ Some there.0 = set_sought f.type_name sets
       ∙ sought_at (bytes_eq f.type_name) name_in Some None i sets at there.0 own in
       or_seen (slice_get types i) (set_type there.0)
-      (sym (slice_get-map datatype_seen types i) ∙ ap (λ (ts : List Datatype). slice_get ts i) is.meant ∙ slice_get-map set_type sets i
+      (sym (slice_get-map datatype_of_row types i) ∙ ap (λ (ts : List Datatype). slice_get ts i) is.meant ∙ slice_get-map set_type sets i
       ∙ ap (option_map set_type) own)
       ∙ ap (type_by (is_some f.length_id) f.type_name) (sym found)
 

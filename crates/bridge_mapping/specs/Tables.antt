@@ -12,7 +12,7 @@ use Rattle.bridge_rules.specs.Datatypes.{Datatype, unbridged}
 use Rattle.bridge_terms.specs.Parts.{TagLists}
 use Rattle.bridge_terms.specs.Plans.{is_in}
 use Rattle.bridge_table.specs.declared.datatype.Datatype.{Datatype as FieldDatatype}
-use Rattle.bridge_table.specs.Codes.{datatype_seen}
+use Rattle.bridge_table.specs.Codes.{datatype_of_row}
 use Rattle.field_types.specs.FieldTypes.{set_type}
 use Rattle.bridge_mapping.specs.declared.datatypes.FieldType.{FieldType}
 use Rattle.bridge_mapping.specs.declared.datatypes.FieldType.TheVariants as by
@@ -23,12 +23,12 @@ use Rattle.bridge_mapping.specs.declared.datatypes.TypedField.{TypedField}
 -- a datatype, if it was found, else an unbridged one
 abbrev pub type_or : Option FieldDatatype → Datatype
 type_or None = unbridged
-type_or (Some d) = datatype_seen d
+type_or (Some d) = datatype_of_row d
 
 -- the datatype of a field, by the datatypes of code sets
 abbrev pub type_in : List FieldDatatype → FieldType → Datatype
 type_in types (by.CodeSet i) = type_or (slice_get types i)
-type_in types (by.Standard d) = datatype_seen d
+type_in types (by.Standard d) = datatype_of_row d
 
 -- the tag of a field and its datatype
 abbrev pub typed : List FieldDatatype → TypedField → ℕ × Datatype
@@ -37,7 +37,7 @@ typed types f = (f.tag, type_in types f.datatype)
 -- the names of code sets and the datatypes of their fields
 pub record AreSets (sets : List CodeSetEl) (names : List (List ℕ)) (types : List FieldDatatype) : Type 0 where
   pub named : names ≡ map (λ (s : CodeSetEl). s.name) sets
-  pub meant : map datatype_seen types ≡ map set_type sets
+  pub meant : map datatype_of_row types ≡ map set_type sets
 
 -- ---- tags
 

@@ -1,10 +1,10 @@
 ghost use Rattle.std.specs.Prelude.{◌≡◌, List, map, is_some, slice_get, IfOk};
 ghost use Rattle.map_types.specs.declared.tree.CodeSetEl.{CodeSetEl};
-ghost use Rattle.map_members.specs.Seen.{seen};
+ghost use Rattle.map_members.specs.Seen.{lent_members};
 ghost use Rattle.map_rules.specs.Datatypes.{is_int_type, is_decimal_type};
 ghost use Rattle.field_types.specs.FieldTypes.{datatypes_of, data_type, field_type, is_day_type, is_plain_text, set_type, standard_type};
 ghost use Rattle.bridge_plan.specs.Mappings.{datatype_in};
-ghost use Rattle.bridge_table.specs.Codes.{datatype_seen};
+ghost use Rattle.bridge_table.specs.Codes.{datatype_of_row};
 ghost use Rattle.bridge_table.specs.declared.datatype.Datatype.{Datatype as FieldDatatype};
 ghost use Rattle.bridge_table.specs.declared.datatype.Datatype.TheVariants.{Unbridged};
 ghost use Rattle.bridge_mapping.specs.Tables.{type_in, type_or, typed, AreSets};
@@ -67,7 +67,7 @@ impl<'a> DatatypeTable<'a> {
         code_sets: &[&'a CodeSetEl],
         fields: &[&FieldEl],
     ) -> Result<DatatypeTable<'a>, NoMem>
-        ensures { IfOk result (λ table. table ≡ datatypes_of (seen code_sets.now) (seen fields.now)) }
+        ensures { IfOk result (λ table. table ≡ datatypes_of (lent_members code_sets.now) (lent_members fields.now)) }
     {
         let names = NameTable::new(alloc, names_of(alloc, code_sets)?)?;
         let types = types_of(alloc, code_sets)?;
@@ -83,7 +83,7 @@ impl<'a> DatatypeTable<'a> {
 
     /// The datatype of the fields with this tag. A tag without a field isn't translated.
     pub fn datatype(&self, tag: u32) -> &Datatype<'a>
-        ensures { datatype_seen result.now ≡ datatype_in tag self.now }
+        ensures { datatype_of_row result.now ≡ datatype_in tag self.now }
     {
         match self.tags.place(tag) {
             None => &self.unbridged,
@@ -103,7 +103,7 @@ fn meant<'t, 'a>(
     datatype: &'t FieldType<'a>,
 ) -> &'t Datatype<'a>
     requires none { unbridged.now ≡ Unbridged }
-    ensures { datatype_seen result.now ≡ type_in types.now datatype.now }
+    ensures { datatype_of_row result.now ≡ type_in types.now datatype.now }
 {
     match datatype {
         FieldType::Standard(own) => own,
@@ -118,7 +118,7 @@ fn type_at<'t, 'a>(
     i: usize,
 ) -> &'t Datatype<'a>
     requires none { unbridged.now ≡ Unbridged }
-    ensures { datatype_seen result.now ≡ type_or (slice_get types.now i) }
+    ensures { datatype_of_row result.now ≡ type_or (slice_get types.now i) }
 {
     if i >= types.len() {
         return unbridged;
@@ -127,7 +127,7 @@ fn type_at<'t, 'a>(
 }
 
 fn names_of(alloc: Global, code_sets: &[&CodeSetEl]) -> Result<List<Text>, NoMem>
-    ensures { IfOk result (λ names. names ≡ map (λ s. s.name) (seen code_sets.now)) }
+    ensures { IfOk result (λ names. names ≡ map (λ s. s.name) (lent_members code_sets.now)) }
 {
     let mut names = List::new(alloc);
     for code_set in code_sets {
@@ -138,7 +138,7 @@ fn names_of(alloc: Global, code_sets: &[&CodeSetEl]) -> Result<List<Text>, NoMem
 
 /// The datatypes of code sets, each with the table of its codes.
 fn types_of<'a>(alloc: Global, code_sets: &[&'a CodeSetEl]) -> Result<List<Datatype<'a>>, NoMem>
-    ensures { IfOk result (λ types. map datatype_seen types ≡ map set_type (seen code_sets.now)) }
+    ensures { IfOk result (λ types. map datatype_of_row types ≡ map set_type (lent_members code_sets.now)) }
 {
     let mut types = List::new(alloc);
     for code_set in code_sets {
@@ -148,7 +148,7 @@ fn types_of<'a>(alloc: Global, code_sets: &[&'a CodeSetEl]) -> Result<List<Datat
 }
 
 fn set_type<'a>(alloc: Global, code_set: &'a CodeSetEl) -> Result<Datatype<'a>, NoMem>
-    ensures { IfOk result (λ datatype. datatype_seen datatype ≡ set_type code_set.now) }
+    ensures { IfOk result (λ datatype. datatype_of_row datatype ≡ set_type code_set.now) }
 {
     let table = CodeTable::new(alloc, code_set.children.as_slice())?;
     if code_set.type_name.as_slice() == "MultipleCharValue".as_bytes() {
@@ -164,7 +164,7 @@ fn typed_fields<'a>(
     fields: &[&FieldEl],
 ) -> Result<List<TypedField<'a>>, NoMem>
     ensures { IfOk result (λ all. (sets : List CodeSetEl) (types : List FieldDatatype) → AreSets sets names.now types
-        → map (typed types) all ≡ datatypes_of sets (seen fields.now)) }
+        → map (typed types) all ≡ datatypes_of sets (lent_members fields.now)) }
 {
     let mut all = List::new(alloc);
     for field in fields {
@@ -192,7 +192,7 @@ fn type_of<'a>(names: &NameTable, field: &FieldEl) -> FieldType<'a>
 
 /// A datatype of FIX, by name.
 fn standard_type<'a>(has_length: bool, name: &[u8]) -> Datatype<'a>
-    ensures { datatype_seen result ≡ standard_type has_length name.now }
+    ensures { datatype_of_row result ≡ standard_type has_length name.now }
 {
     if is_int_type(name) {
         return Datatype::WholeNumber;
@@ -229,7 +229,7 @@ fn standard_type<'a>(has_length: bool, name: &[u8]) -> Datatype<'a>
 
 /// Data is translated if it has a length field.
 fn data_type<'a>(has_length: bool) -> Datatype<'a>
-    ensures { datatype_seen result ≡ data_type has_length }
+    ensures { datatype_of_row result ≡ data_type has_length }
 {
     if has_length {
         return Datatype::Raw;

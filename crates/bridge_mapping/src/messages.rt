@@ -1,6 +1,6 @@
 ghost use Rattle.std.specs.Prelude.{◌≡◌, ◌+◌, ◌-◌, ◌≤◌, ◌<◌, ◌^◌, ℕ, length, map, option_map, IfOk};
 ghost use Rattle.map_types.specs.Trees.{members_of};
-ghost use Rattle.map_members.specs.Seen.{seen};
+ghost use Rattle.map_members.specs.Seen.{lent_members};
 ghost use Rattle.map_links.specs.Links.{linked};
 ghost use Rattle.orchestra_map.specs.Headers.{IsKept};
 ghost use Rattle.orchestra_map.specs.Structures.{message_structures};
@@ -95,8 +95,8 @@ fn table_of(
     groups: &[&GroupEl],
     messages: &[&MessageEl],
 ) -> Result<MessageTable, NoMem>
-    requires whole { HasWhole (seen fields.now) (linked components.now groups.now messages.now) }
-    ensures { IfOk result (λ table. structures_in table ≡ structures_of (seen fields.now) (linked components.now groups.now messages.now)) }
+    requires whole { HasWhole (lent_members fields.now) (linked components.now groups.now messages.now) }
+    ensures { IfOk result (λ table. structures_in table ≡ structures_of (lent_members fields.now) (linked components.now groups.now messages.now)) }
 {
     if components.len().checked_add(groups.len()).is_none() {
         return Err(NoMem);
@@ -115,7 +115,7 @@ fn table_of(
 }
 
 fn kinds_of(alloc: Global, messages: &[&MessageEl]) -> Result<List<Text>, NoMem>
-    ensures { IfOk result (λ kinds. kinds ≡ map (λ m. m.msg_type) (seen messages.now)) }
+    ensures { IfOk result (λ kinds. kinds ≡ map (λ m. m.msg_type) (lent_members messages.now)) }
 {
     let mut kinds = List::new(alloc);
     for message in messages {

@@ -1,7 +1,7 @@
 ghost use Rattle.std.specs.Prelude.{◌≡◌, map, filter_map, IfOk};
 ghost use Rattle.std.specs.List.{list_any};
 ghost use Rattle.map_types.specs.Trees.{members_of};
-ghost use Rattle.map_members.specs.Seen.{seen};
+ghost use Rattle.map_members.specs.Seen.{lent_members};
 ghost use Rattle.orchestra_map.specs.DataFields.{data_pair, hides_data, pairs_of};
 ghost use Rattle.orchestra_map.specs.Headers.{IsKept};
 ghost use Rattle.bridge_terms.specs.Plans.{is_in};
@@ -109,7 +109,7 @@ fn pairs_of(alloc: Global, repository: &Repository) -> Result<List<Pair>, NoMem>
 
 /// Whether a code set has the name of the datatype `data`.
 fn is_data_hidden(code_sets: &[&CodeSetEl]) -> bool
-    ensures { result ≡ list_any hides_data (seen code_sets.now) }
+    ensures { result ≡ list_any hides_data (lent_members code_sets.now) }
 {
     for code_set in code_sets {
         if hides_data(code_set) {
@@ -126,7 +126,7 @@ fn hides_data(code_set: &CodeSetEl) -> bool
 }
 
 fn pairs_in(alloc: Global, hidden: bool, fields: &[&FieldEl]) -> Result<List<Pair>, NoMem>
-    ensures { IfOk result (λ pairs. pairs ≡ filter_map (data_pair hidden) (seen fields.now)) }
+    ensures { IfOk result (λ pairs. pairs ≡ filter_map (data_pair hidden) (lent_members fields.now)) }
 {
     let mut pairs = List::new(alloc);
     for field in fields {

@@ -9,7 +9,7 @@ use Rattle.sbe_types.specs.Shown.{is_optional}
 use Rattle.fix_values.specs.declared.rule.V.{V}
 use Rattle.fix_values.specs.declared.rule.V.TheVariants as why
 use Rattle.fix_values.specs.Numerals.{is_value}
-use Rattle.fix_values.specs.Decimals.{judged, widened}
+use Rattle.fix_values.specs.Decimals.{leaf_number, widened}
 use Rattle.date_answers.specs.Answers.{Instant, in_unit, is_unit, least_unit}
 use Rattle.bridge_rules.specs.Items.{Item, instant, item_by, item_of_read, instant_item_of, unit_on_wire}
 use Rattle.bridge_rules.specs.Rules.{moment, From, UnitBy, always, on_wire}
@@ -55,14 +55,14 @@ least_is digits = by_tests (nat_le digits 0) (nat_le digits 3) (nat_le digits 6)
 pub in_unit_is : (leaf : LeafOf) (unit : UnitBy) (r : Result Instant V) (x : TimeCount) → in_unit_of leaf unit r ≡ Ok x → (item_of_read (instant_item_of unit) r ≡ Some (item_of unit x)) × Fits leaf unit x
 in_unit_is leaf unit (Err v) x h = err_ok h
 in_unit_is leaf (always u) (Ok i) x h =
-    let is = timed_is u (judged leaf (in_unit i.nanos u)) x h in
+    let is = timed_is u (leaf_number leaf (in_unit i.nanos u)) x h in
     let fits = judged_is leaf (in_unit i.nanos u) x.count is.0 in
     let wide : widened x.count (9 - x.unit) ≡ i.nanos = ap (λ w. widened x.count (9 - w)) (sym is.1) ∙ narrowed_is i.nanos (9 - u) x.count fits.0 in
     (ap (λ n. Some (instant n None)) (sym wide), ap (λ b. b && (u == x.unit)) fits.1 ∙ eq-eqb u x.unit is.1)
 in_unit_is leaf (on_wire l) (Ok i) x h =
     let u = least_unit i.digits in
-    let there = admitted_is l (time_count u (judged leaf (in_unit i.nanos u))) x h in
-    let is = timed_is u (judged leaf (in_unit i.nanos u)) x there.0 in
+    let there = admitted_is l (time_count u (leaf_number leaf (in_unit i.nanos u))) x h in
+    let is = timed_is u (leaf_number leaf (in_unit i.nanos u)) x there.0 in
     let fits = judged_is leaf (in_unit i.nanos u) x.count is.0 in
     let wide : widened x.count (9 - x.unit) ≡ i.nanos = ap (λ w. widened x.count (9 - w)) (sym is.1) ∙ narrowed_is i.nanos (9 - u) x.count fits.0 in (
       ap (λ n. Some (instant n (Some u))) (sym wide) ∙ ap (λ w. Some (instant (widened x.count (9 - x.unit)) (Some w))) is.1,
@@ -89,15 +89,15 @@ in_unit_so leaf unit r x fits told = by_unit unit fits (told_is (instant_item_of
         let u_is : u ≡ x.unit = eqb-true u x.unit (and_second (is_value leaf x.count) _ fits) in
         let nanos : i.nanos ≡ widened x.count (9 - u) = (instant_is same).0 ∙ ap (λ w. widened x.count (9 - w)) (sym u_is) in
         ap (λ r. value_from (moment_value (always u)) (in_unit_of leaf (always u) r)) is
-        ∙ ap (λ n. value_from (moment_value (always u)) (time_count u (judged leaf (in_unit n u)))) nanos
+        ∙ ap (λ n. value_from (moment_value (always u)) (time_count u (leaf_number leaf (in_unit n u)))) nanos
         ∙ ap (λ r. value_from (moment_value (always u)) (time_count u r)) (judged_so leaf (in_unit (widened x.count (9 - u)) u) x.count (narrowed_so x.count (9 - u)) (and_first (is_value leaf x.count) _ fits))
     by_unit (on_wire l) fits (i, is, same) =
         let both = instant_is same in
         let least : least_unit i.digits ≡ x.unit = some_is both.1 in
         let wired_fits = and_second (is_value leaf x.count) _ fits in
         let here : in_unit_of leaf (on_wire l) (Ok i) ≡ Ok x =
-        ap (λ u. unit_admitted l (time_count u (judged leaf (in_unit i.nanos u)))) least
-        ∙ ap (λ n. unit_admitted l (time_count x.unit (judged leaf (in_unit n x.unit)))) both.0
+        ap (λ u. unit_admitted l (time_count u (leaf_number leaf (in_unit i.nanos u)))) least
+        ∙ ap (λ n. unit_admitted l (time_count x.unit (leaf_number leaf (in_unit n x.unit)))) both.0
         ∙ ap (λ r. unit_admitted l (time_count x.unit r)) (judged_so leaf (in_unit (widened x.count (9 - x.unit)) x.unit) x.count (narrowed_so x.count (9 - x.unit)) (and_first (is_value leaf x.count) _ fits))
         ∙ if_true (is_value l (pos x.unit)) (Ok x) (Err why.Range) (and_first (is_value l (pos x.unit)) _ wired_fits) in
         ap (λ r. value_from (moment_value (on_wire l)) (in_unit_of leaf (on_wire l) r)) is ∙ ap (value_from (moment_value (on_wire l))) here

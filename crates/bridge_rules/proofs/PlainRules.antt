@@ -11,7 +11,7 @@ use Rattle.fix_values.specs.declared.rule.V.TheVariants as why
 use Rattle.fix_values.specs.declared.rule.Dec.{Dec}
 use Rattle.fix_values.specs.declared.rule.NumRule.TheVariants as spelling
 use Rattle.fix_values.specs.Numerals.{integer_of, is_value}
-use Rattle.fix_values.specs.Decimals.{dec, decimal_of, fitted, judged, mantissa_under, SameFraction}
+use Rattle.fix_values.specs.Decimals.{dec, decimal_of, fitted, leaf_number, mantissa_under, SameFraction}
 use Rattle.fix_values.specs.Values.{value_of, spelled_number, text_read}
 use Rattle.value_laws.proofs.Fractions.{fit_same, fit_only, turned, one_form}
 use Rattle.value_laws.proofs.Reduced.{read_reduced, same_through}
@@ -58,7 +58,7 @@ pub made_is : {X : Type 0} (make : X → Value) (r : Result X V) (v : Value) →
 made_is make (Ok x) v h = (x, refl, sym (ok_is h))
 made_is make (Err w) v h = err_ok h
 
-pub judged_is : (leaf : LeafOf) (r : Result ℤ V) (n : ℤ) → judged leaf r ≡ Ok n → (r ≡ Ok n) × (is_value leaf n ≡ true)
+pub judged_is : (leaf : LeafOf) (r : Result ℤ V) (n : ℤ) → leaf_number leaf r ≡ Ok n → (r ≡ Ok n) × (is_value leaf n ≡ true)
 judged_is leaf (Err v) n h = err_ok h
 judged_is leaf (Ok m) n h = by_test (is_value leaf m) refl h
   where
@@ -66,8 +66,8 @@ judged_is leaf (Ok m) n h = by_test (is_value leaf m) refl h
     by_test true is k = (k, ap (is_value leaf) (sym (ok_is k)) ∙ is)
     by_test false is k = err_ok k
 
-pub judged_so : (leaf : LeafOf) (r : Result ℤ V) (n : ℤ) → r ≡ Ok n → is_value leaf n ≡ true → judged leaf r ≡ Ok n
-judged_so leaf r n h is = ap (judged leaf) h ∙ ap (λ b. cond {A = Result ℤ V} b (Ok n) (Err why.Range)) is
+pub judged_so : (leaf : LeafOf) (r : Result ℤ V) (n : ℤ) → r ≡ Ok n → is_value leaf n ≡ true → leaf_number leaf r ≡ Ok n
+judged_so leaf r n h is = ap (leaf_number leaf) h ∙ ap (λ b. cond {A = Result ℤ V} b (Ok n) (Err why.Range)) is
 
 pub spelled_is : (o : Option ℤ) (n : ℤ) → spelled_number o ≡ Ok n → o ≡ Some n
 spelled_is None n h = err_ok h

@@ -16,8 +16,8 @@ use Rattle.fix_values.specs.declared.rule.V.TheVariants as why
 use Rattle.fix_values.specs.declared.rule.Dec.{Dec}
 use Rattle.fix_values.specs.declared.rule.Code.{Code}
 use Rattle.fix_values.specs.Numerals.{is_value, SpellsInteger}
-use Rattle.fix_values.specs.Decimals.{decimal_of, decimal_text, judged}
-use Rattle.fix_values.specs.Codes.{has_soh, has_short_text, is_choice, code_text, set_text, joined, codes_in, bits_of, boolean_text, boolean_shown, truth_text, is_apart, same_truth}
+use Rattle.fix_values.specs.Decimals.{decimal_of, decimal_text, leaf_number}
+use Rattle.fix_values.specs.Codes.{has_soh, has_short_text, is_choice, code_text, set_text, spaced_texts, codes_in, bits_of, boolean_text, boolean_shown, truth_text, is_apart, same_truth}
 use Rattle.fix_values.specs.Values.{char_text, char_value, text_shown}
 use Rattle.value_laws.proofs.ReadBack.{code_back, boolean_back, shown_spelled}
 use Rattle.value_laws.proofs.WholeBack.{whole_back}
@@ -141,7 +141,7 @@ single_char_shown leaf bytewise v good = elim good [
       let text = char_is (natural g.0) t (field_text_is (char_text (natural g.0)) t h) in
       given_value (single_char leaf) t (value.Num g.0) (subst (λ t. is_given (single_char leaf) t ≡ true) (sym text.0) (ap (λ b. not (b || false)) text.1))
       (ap (λ s. value_from value.Num (char_value leaf s)) text.0
-      ∙ ap (λ n. value_from value.Num (judged leaf (Ok n))) (sym (bytewise g.0 g.2)) ∙ ap (λ b. value_from value.Num (cond b (Ok g.0) (Err why.Range))) g.2))
+      ∙ ap (λ n. value_from value.Num (leaf_number leaf (Ok n))) (sym (bytewise g.0 g.2)) ∙ ap (λ b. value_from value.Num (cond b (Ok g.0) (Err why.Range))) g.2))
       (λ h. field_text_some (char_text (natural g.0)) h))
   | inr g ↦ subst (IsShown (single_char leaf)) (sym g.0) (none_shown (single_char leaf) value.Null refl refl)
 ]
@@ -190,7 +190,7 @@ set_plain : (list : List Code) (n : ℕ) (t : List ℕ) → set_text list n ≡ 
 set_plain list n t h = by_tests (bits_of (codes_in list n) == n) (length own == 0) (has_soh own) refl refl h
   where
     own : List ℕ
-    own = joined (codes_in list n)
+    own = spaced_texts (codes_in list n)
 
     some : (k : ℕ) → (k == 0) ≡ false → 0 < k
     some zero e = true_false refl e

@@ -16,7 +16,7 @@ use Rattle.fix_values.specs.declared.rule.V.TheVariants as why
 use Rattle.fix_values.specs.declared.rule.Dec.{Dec}
 use Rattle.fix_values.specs.declared.rule.Code.{Code}
 use Rattle.fix_values.specs.Numerals.{integer_of, is_value}
-use Rattle.fix_values.specs.Decimals.{dec, decimal_of, judged, mantissa_under, IsReduced, SameFraction}
+use Rattle.fix_values.specs.Decimals.{dec, decimal_of, leaf_number, mantissa_under, IsReduced, SameFraction}
 use Rattle.fix_values.specs.Codes.{is_apart, same_truth, boolean_text, boolean_shown, boolean_number, truth_number, truth_text, is_truth, named_number, code_text, code_number, has_soh}
 use Rattle.fix_values.specs.Values.{char_value, whole_value}
 use Rattle.fix_dates.specs.declared.month.MonthYear.{MonthYear}
@@ -379,7 +379,7 @@ day_is h = cc
 pub day_count_sound : (leaf : LeafOf) → IsSound (day_count leaf)
 day_count_sound leaf = kept_sound {X = ℤ} {make = value.Num} {Fits = λ n. is_value leaf n ≡ true} {null = value.Null} {optional = is_optional leaf.presence} (record {
   read = λ t v given h.
-      let is = made_is value.Num (judged leaf (day_read t)) v h in
+      let is = made_is value.Num (leaf_number leaf (day_read t)) v h in
       let day = judged_is leaf (day_read t) is.0 is.1 in
       (is.0, is.2, day.1, (on_day is.0, ap (item_of_read on_day) day.0, refl));
   found = λ t n item given fits told same.

@@ -17,8 +17,8 @@ use Rattle.fix_values.specs.declared.rule.V.TheVariants as why
 use Rattle.fix_values.specs.declared.rule.Dec.{Dec}
 use Rattle.fix_values.specs.declared.rule.Code.{Code}
 use Rattle.fix_values.specs.Numerals.{is_value}
-use Rattle.fix_values.specs.Decimals.{judged as judged_of, widened, dec, decimal_of, decimal_text, mantissa_under, shown_text, shown_parts}
-use Rattle.fix_values.specs.Codes.{has_soh, bits_of, characters, codes_in, code_number, code_text, every_other, boolean_number, boolean_shown, is_choice, is_named, is_code_of, is_apart, joined, judged_set, same_number, set_number, set_text}
+use Rattle.fix_values.specs.Decimals.{leaf_number as judged_of, widened, dec, decimal_of, decimal_text, mantissa_under, shown_text, shown_parts}
+use Rattle.fix_values.specs.Codes.{has_soh, bits_of, characters, codes_in, code_number, code_text, every_other, boolean_number, boolean_shown, is_choice, is_named, is_code_of, is_apart, spaced_texts, judged_set, same_number, set_number, set_text}
 use Rattle.fix_values.specs.Values.{char_value, text_read, text_shown, value_of}
 use Rattle.fix_values.specs.declared.rule.NumRule.TheVariants as spelling
 use Rattle.fix_values.proofs.CodeLemmas.{is_byte, filter_all}
@@ -145,15 +145,15 @@ kept_plain cs (x ∷ xs) plain = by_test (is_named cs x) refl (kept_plain cs xs 
     by_test true is more = (named_plain cs x plain is, more)
     by_test false is more = more
 
-joined_plain : (list : List Code) → AllByRecursion (λ (c : Code). has_soh c.text ≡ false) list → has_soh (joined list) ≡ false
+joined_plain : (list : List Code) → AllByRecursion (λ (c : Code). has_soh c.text ≡ false) list → has_soh (spaced_texts list) ≡ false
 joined_plain [] all = refl
 joined_plain (x ∷ []) all = all.0
-joined_plain (x ∷ y ∷ ys) all = plain_append x.text (32 ∷ joined (y ∷ ys)) all.0 (joined_plain (y ∷ ys) all.1)
+joined_plain (x ∷ y ∷ ys) all = plain_append x.text (32 ∷ spaced_texts (y ∷ ys)) all.0 (joined_plain (y ∷ ys) all.1)
 
-joined_some : (list : List Code) → list_all is_choice list ≡ true → 0 < bits_of list → (length (joined list) == 0) ≡ false
+joined_some : (list : List Code) → list_all is_choice list ≡ true → 0 < bits_of list → (length (spaced_texts list) == 0) ≡ false
 joined_some [] one some = absurd (omega (arith, some))
 joined_some (x ∷ []) one some = ap (λ n. n == 0) (is_byte x (and_first (is_choice x) true one))
-joined_some (x ∷ y ∷ ys) one some = long x.text (joined (y ∷ ys)) (is_byte x (and_first (is_choice x) _ one))
+joined_some (x ∷ y ∷ ys) one some = long x.text (spaced_texts (y ∷ ys)) (is_byte x (and_first (is_choice x) _ one))
   where
     long : (a b : List ℕ) → length a ≡ 1 → (length (a ++ (32 ∷ b)) == 0) ≡ false
     long [] b h = absurd (omega (arith, h))
@@ -168,11 +168,11 @@ set_again names list are one_byte t v plain h =
     let some = first_among list t set.0 set.1 in
     let v_is : v ≡ value.Set n = is.2 ∙ ap (λ z. value.Set (natural z)) (sym set.2) in
     let chosen : codes_in list n ≡ F = codes_back (is_named (characters t)) list one_byte are.numbers in
-    let text : set_text list n ≡ Ok (joined F) =
-    ap (λ C. judged_set (bits_of C) n (joined C)) chosen
-    ∙ judged n (joined F) (joined_some F (filter_all (is_named (characters t)) is_choice list one_byte) some) (joined_plain F (kept_plain (characters t) list (every_other_plain true t plain))) in
+    let text : set_text list n ≡ Ok (spaced_texts F) =
+    ap (λ C. judged_set (bits_of C) n (spaced_texts C)) chosen
+    ∙ judged n (spaced_texts F) (joined_some F (filter_all (is_named (characters t)) is_choice list one_byte) some) (joined_plain F (kept_plain (characters t) list (every_other_plain true t plain))) in
     subst (IsAgain (choice_set names list)) (sym v_is)
-    (shown_again (choice_set names list) (value.Set n) (set_text list n) (joined F) (ap (λ o. text_if_any o (λ n. set_text list n)) (not_zero_is n some)) text)
+    (shown_again (choice_set names list) (value.Set n) (set_text list n) (spaced_texts F) (ap (λ o. text_if_any o (λ n. set_text list n)) (not_zero_is n some)) text)
   where
     judged : (n : ℕ) (s : List ℕ) → (length s == 0) ≡ false → has_soh s ≡ false → judged_set n n s ≡ Ok s
     judged n s long bare =

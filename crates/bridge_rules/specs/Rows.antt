@@ -45,8 +45,8 @@ abbrev pub lacks : Kind → Datatype → Option (Option Value)
 lacks k d = by_rule (rule_of k d) missing_by
 
 -- the item of a text, as applications see it
-abbrev pub item_told : Kind → Datatype → List ℕ → Option (Option Item)
-item_told k d t = by_rule (rule_of k d) (λ rule. text_item rule t)
+abbrev pub item_of_text : Kind → Datatype → List ℕ → Option (Option Item)
+item_of_text k d t = by_rule (rule_of k d) (λ rule. text_item rule t)
 
 -- ---- leaves
 

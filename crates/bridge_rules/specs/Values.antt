@@ -12,7 +12,7 @@ use Rattle.fix_values.specs.declared.rule.V.TheVariants as why
 use Rattle.fix_values.specs.declared.rule.Dec.{Dec}
 use Rattle.fix_values.specs.declared.rule.NumRule.TheVariants as spelling
 use Rattle.fix_values.specs.Numerals.{is_value}
-use Rattle.fix_values.specs.Decimals.{decimal_of, fitted, judged}
+use Rattle.fix_values.specs.Decimals.{decimal_of, fitted, leaf_number}
 use Rattle.fix_values.specs.Codes.{code_number, set_number, boolean_number, has_soh}
 use Rattle.fix_values.specs.Values.{value_of, text_read}
 use Rattle.fix_dates.specs.declared.month.MonthYear.{MonthYear}
@@ -67,8 +67,8 @@ unit_admitted leaf (Err v) = Err v
 -- an instant in the unit of the part: the constant one, or the coarsest one with a place for each digit
 abbrev pub in_unit_of : LeafOf → UnitBy → Result Instant V → Result TimeCount V
 in_unit_of leaf unit (Err v) = Err v
-in_unit_of leaf (always u) (Ok i) = time_count u (judged leaf (in_unit i.nanos u))
-in_unit_of leaf (on_wire l) (Ok i) = unit_admitted l (time_count (least_unit i.digits) (judged leaf (in_unit i.nanos (least_unit i.digits))))
+in_unit_of leaf (always u) (Ok i) = time_count u (leaf_number leaf (in_unit i.nanos u))
+in_unit_of leaf (on_wire l) (Ok i) = unit_admitted l (time_count (least_unit i.digits) (leaf_number leaf (in_unit i.nanos (least_unit i.digits))))
 
 -- a moment's value
 abbrev pub moment_value : UnitBy → TimeCount → Value
@@ -108,7 +108,7 @@ value_in (enum_boolean leaf names) t = value_from value.Enum (boolean_number nam
 value_in (choice_set names codes) t = value_from (λ n. value.Set (natural n)) (set_number codes t)
 value_in (raw_data leaf) t = value_from value.Text (bytes_admitted leaf t)
 value_in (text_data leaf) t = value_from value.Text (bytes_admitted leaf t)
-value_in (day_count leaf) t = value_from value.Num (judged leaf (day_read t))
+value_in (day_count leaf) t = value_from value.Num (leaf_number leaf (day_read t))
 value_in (moment from leaf unit) t = value_from (moment_value unit) (in_unit_of leaf unit (instant_read from t))
 value_in (month_year leaves) t = value_from month_value (month_admitted leaves (month_read t))
 value_in any_text t = Ok (value.Text t)

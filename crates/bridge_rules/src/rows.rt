@@ -15,7 +15,7 @@ ghost use Rattle.bridge_rules.specs.Items.{number, instant};
 ghost use Rattle.bridge_rules.specs.Datatypes.{whole_number, decimal_number, character, text, boolean, timestamp};
 ghost use Rattle.bridge_rules.specs.Datatypes.{time_of_day, calendar_day, month_of_year, raw, code_set};
 ghost use Rattle.bridge_rules.specs.Datatypes.{character_set, unbridged};
-ghost use Rattle.bridge_rules.specs.Rows.{is_covered, shows, reads, lacks, item_told, int32, int8, uint8, uint16};
+ghost use Rattle.bridge_rules.specs.Rows.{is_covered, shows, reads, lacks, item_of_text, int32, int8, uint8, uint16};
 ghost use Rattle.bridge_rules.specs.Rows.{uint64, one_char, text4, decimal, time, longer, month, constant_number};
 ghost use Rattle.bridge_rules.specs.Rows.{constant_text, constant_code, code, side, lettered, counted, twice_true};
 ghost use Rattle.bridge_rules.specs.Rows.{truth, flags, pair, four};
@@ -159,10 +159,10 @@ pub fn one_item_rows()
         ≡ Some (Ok (two_members (value.Num (pos 1)) (value.Num (pos 0)))) }
     ensures milliseconds { reads (time (Leaf uint64) (Leaf (uint8 Required))) time_of_day (codes "00:00:01.000")
         ≡ Some (Ok (two_members (value.Num (pos 1000)) (value.Num (pos 3)))) }
-    ensures one { item_told (time (Leaf uint64) (Leaf (uint8 Required))) time_of_day (codes "00:00:01") ≡ Some (Some (instant (pos 1000000000) None)) }
-    ensures same { item_told (time (Leaf uint64) (Leaf (uint8 Required))) time_of_day (codes "00:00:01.000") ≡ Some (Some (instant (pos 1000000000) None)) }
-    ensures five { item_told counted whole_number (codes "5") ≡ Some (Some (number (dec (pos 5) (pos 0)))) }
-    ensures zero_five { item_told counted whole_number (codes "05") ≡ Some (Some (number (dec (pos 5) (pos 0)))) }
+    ensures one { item_of_text (time (Leaf uint64) (Leaf (uint8 Required))) time_of_day (codes "00:00:01") ≡ Some (Some (instant (pos 1000000000) None)) }
+    ensures same { item_of_text (time (Leaf uint64) (Leaf (uint8 Required))) time_of_day (codes "00:00:01.000") ≡ Some (Some (instant (pos 1000000000) None)) }
+    ensures five { item_of_text counted whole_number (codes "5") ≡ Some (Some (number (dec (pos 5) (pos 0)))) }
+    ensures zero_five { item_of_text counted whole_number (codes "05") ≡ Some (Some (number (dec (pos 5) (pos 0)))) }
 {}
 
 /// A month.

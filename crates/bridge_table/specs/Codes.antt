@@ -18,20 +18,20 @@ abbrev pub named_codes : List CodeEl → List NamedCode
 named_codes codes = map named_code codes
 
 -- the datatype that a value of the code represents
-abbrev pub datatype_seen : FieldDatatype → Datatype
-datatype_seen given.WholeNumber = whole_number
-datatype_seen given.DecimalNumber = decimal_number
-datatype_seen given.Character = character
-datatype_seen given.Text = text
-datatype_seen given.Boolean = boolean
-datatype_seen given.Timestamp = timestamp
-datatype_seen given.TimeOfDay = time_of_day
-datatype_seen given.CalendarDay = calendar_day
-datatype_seen given.MonthOfYear = month_of_year
-datatype_seen given.Raw = raw
-datatype_seen (given.CodeSet table) = code_set (named_codes table)
-datatype_seen (given.CharacterSet table) = character_set (named_codes table)
-datatype_seen given.Unbridged = unbridged
+abbrev pub datatype_of_row : FieldDatatype → Datatype
+datatype_of_row given.WholeNumber = whole_number
+datatype_of_row given.DecimalNumber = decimal_number
+datatype_of_row given.Character = character
+datatype_of_row given.Text = text
+datatype_of_row given.Boolean = boolean
+datatype_of_row given.Timestamp = timestamp
+datatype_of_row given.TimeOfDay = time_of_day
+datatype_of_row given.CalendarDay = calendar_day
+datatype_of_row given.MonthOfYear = month_of_year
+datatype_of_row given.Raw = raw
+datatype_of_row (given.CodeSet table) = code_set (named_codes table)
+datatype_of_row (given.CharacterSet table) = character_set (named_codes table)
+datatype_of_row given.Unbridged = unbridged
 
 -- a list of one item, or of none
 abbrev pub option_list : {X : Type 0} → Option X → List X

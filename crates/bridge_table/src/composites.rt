@@ -3,7 +3,7 @@ ghost use Rattle.sbe_types.specs.declared.kind.Kind.TheVariants as kinds;
 ghost use Rattle.date_answers.specs.Answers.{is_unit};
 ghost use Rattle.bridge_rules.specs.Datatypes.{decimal_number, month_of_year};
 ghost use Rattle.bridge_rules.specs.Table.{are_named, composite_rule, constant_unit, const_number, decimal_by, kinds_of, moment_by, month_by};
-ghost use Rattle.bridge_table.specs.Codes.{datatype_seen};
+ghost use Rattle.bridge_table.specs.Codes.{datatype_of_row};
 ghost use Rattle.bridge_table.specs.Rows.{epoch_of, rule_with};
 
 use crate::datatype::Datatype;
@@ -13,7 +13,7 @@ use sbe_types::{ConstValue, Kind, Leaf, Member};
 
 /// The rule for a composite and the fields of a datatype, if the table has one.
 pub fn composite_rule(members: &[Member], datatype: &Datatype) -> Option<FieldRule>
-    ensures { option_map (rule_with []) result ≡ composite_rule members.now (datatype_seen datatype.now) }
+    ensures { option_map (rule_with []) result ≡ composite_rule members.now (datatype_of_row datatype.now) }
 {
     match datatype {
         Datatype::DecimalNumber => decimal_rule(members),

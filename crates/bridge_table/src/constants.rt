@@ -3,7 +3,7 @@ ghost use Rattle.sbe_types.specs.declared.kind.Kind.TheVariants.{Const};
 ghost use Rattle.sbe_types.specs.declared.kind.ConstValue.TheVariants.{Code};
 ghost use Rattle.schema_facts.specs.InOrder.{IsCodeInOrder, IsConstantInOrder};
 ghost use Rattle.bridge_rules.specs.Table.{const_rule, every_number, number_constant, text_constant};
-ghost use Rattle.bridge_table.specs.Codes.{datatype_seen};
+ghost use Rattle.bridge_table.specs.Codes.{datatype_of_row};
 ghost use Rattle.bridge_table.specs.Rows.{names_in, rule_with};
 
 use crate::datatype::Datatype;
@@ -20,7 +20,7 @@ pub fn const_rule(
     datatype: &Datatype,
 ) -> Result<Option<FieldRule>, NoMem>
     requires order { IsConstantInOrder value.now }
-    ensures { IfOk result (λ rule. option_map (rule_with (names_in (Const value.now))) rule ≡ const_rule value.now (datatype_seen datatype.now)) }
+    ensures { IfOk result (λ rule. option_map (rule_with (names_in (Const value.now))) rule ≡ const_rule value.now (datatype_of_row datatype.now)) }
 {
     match value {
         ConstValue::Num(number) => Ok(number_constant(number, datatype)),
@@ -30,7 +30,7 @@ pub fn const_rule(
 }
 
 fn number_constant(number: &i128, datatype: &Datatype) -> Option<FieldRule>
-    ensures { option_map (rule_with []) result ≡ number_constant number.now (datatype_seen datatype.now) }
+    ensures { option_map (rule_with []) result ≡ number_constant number.now (datatype_of_row datatype.now) }
 {
     match datatype {
         Datatype::WholeNumber => Some(FieldRule::Const(ConstRule::Integer(*number))),
@@ -46,7 +46,7 @@ fn text_constant(
     text: &[u8],
     datatype: &Datatype,
 ) -> Result<Option<FieldRule>, NoMem>
-    ensures { IfOk result (λ rule. option_map (rule_with []) rule ≡ text_constant text.now (datatype_seen datatype.now)) }
+    ensures { IfOk result (λ rule. option_map (rule_with []) rule ≡ text_constant text.now (datatype_of_row datatype.now)) }
 {
     match datatype {
         Datatype::Text => Ok(Some(FieldRule::Const(ConstRule::Text(List::from_slice(
@@ -58,7 +58,7 @@ fn text_constant(
 }
 
 fn character_constant(text: &[u8]) -> Option<FieldRule>
-    ensures { option_map (rule_with []) result ≡ text_constant text.now (datatype_seen Datatype.Character) }
+    ensures { option_map (rule_with []) result ≡ text_constant text.now (datatype_of_row Datatype.Character) }
 {
     match text {
         [byte] => Some(FieldRule::Const(ConstRule::Character(*byte))),
@@ -74,7 +74,7 @@ fn code_constant(
     datatype: &Datatype,
 ) -> Result<Option<FieldRule>, NoMem>
     requires order { IsCodeInOrder prim name.now }
-    ensures { IfOk result (λ rule. option_map (rule_with (name.now ∷ [])) rule ≡ const_rule (Code prim name.now) (datatype_seen datatype.now)) }
+    ensures { IfOk result (λ rule. option_map (rule_with (name.now ∷ [])) rule ≡ const_rule (Code prim name.now) (datatype_of_row datatype.now)) }
 {
     let names = one_name(alloc, name)?;
     match enum_rule(alloc, &every_number(prim), names.as_slice(), datatype)? {

@@ -4,7 +4,7 @@ ghost use Rattle.sbe_types.specs.declared.kind.Named.{Named};
 ghost use Rattle.fix_values.specs.declared.rule.Code.{Code};
 ghost use Rattle.bridge_rules.specs.Rules.{Rule, enum_code, enum_number};
 ghost use Rattle.bridge_rules.specs.Table.{by_codes, enum_rule, set_rule};
-ghost use Rattle.bridge_table.specs.Codes.{datatype_seen, named_codes, IsByteOf};
+ghost use Rattle.bridge_table.specs.Codes.{datatype_of_row, named_codes, IsByteOf};
 ghost use Rattle.bridge_table.specs.Rows.{enum_with, rule_with};
 
 use crate::codes::{
@@ -27,7 +27,7 @@ pub fn enum_rule(
 ) -> Result<Option<EnumRule>, NoMem>
     requires bytes { All (IsByteOf leaf.now.prim) names.now }
     ensures { IfOk result (λ rule. option_map (enum_with names.now) rule
-        ≡ enum_rule leaf.now names.now (datatype_seen datatype.now)) }
+        ≡ enum_rule leaf.now names.now (datatype_of_row datatype.now)) }
 {
     match datatype {
         Datatype::CodeSet(table) => {
@@ -58,7 +58,7 @@ fn by_codes(alloc: Global, leaf: &Leaf, codes: CodeList) -> Result<Option<EnumRu
 fn number_rule(alloc: Global, leaf: &Leaf, names: &[Named]) -> Result<Option<EnumRule>, NoMem>
     requires bytes { All (IsByteOf leaf.now.prim) names.now }
     ensures { IfOk result (λ rule. option_map (enum_with names.now) rule
-        ≡ enum_rule leaf.now names.now (datatype_seen Datatype.WholeNumber)) }
+        ≡ enum_rule leaf.now names.now (datatype_of_row Datatype.WholeNumber)) }
 {
     if is_char(leaf.prim) && !are_digits(names) {
         return Ok(None);
@@ -73,7 +73,7 @@ fn number_rule(alloc: Global, leaf: &Leaf, names: &[Named]) -> Result<Option<Enu
 /// An enum among Booleans, if no two valid values are written as the same Boolean.
 fn truth_rule(alloc: Global, leaf: &Leaf, names: &[Named]) -> Result<Option<EnumRule>, NoMem>
     ensures { IfOk result (λ rule. option_map (enum_with names.now) rule
-        ≡ enum_rule leaf.now names.now (datatype_seen Datatype.Boolean)) }
+        ≡ enum_rule leaf.now names.now (datatype_of_row Datatype.Boolean)) }
 {
     if !are_truths_apart(names) {
         return Ok(None);
@@ -97,7 +97,7 @@ pub fn set_rule(
     names: &[Named],
     datatype: &Datatype,
 ) -> Result<Option<FieldRule>, NoMem>
-    ensures { IfOk result (λ rule. option_map (rule_with names.now) rule ≡ set_rule names.now (datatype_seen datatype.now)) }
+    ensures { IfOk result (λ rule. option_map (rule_with names.now) rule ≡ set_rule names.now (datatype_of_row datatype.now)) }
 {
     match datatype {
         Datatype::CharacterSet(table) => choice_rule(alloc, names, table),
@@ -112,7 +112,7 @@ fn choice_rule(
     table: &CodeTable,
 ) -> Result<Option<FieldRule>, NoMem>
     ensures { IfOk result (λ rule. option_map (rule_with names.now) rule
-        ≡ set_rule names.now (datatype_seen (Datatype.CharacterSet table.now))) }
+        ≡ set_rule names.now (datatype_of_row (Datatype.CharacterSet table.now))) }
 {
     if !are_single(table.codes()) {
         return Ok(None);

@@ -1,7 +1,7 @@
 ghost use Rattle.std.specs.Prelude.{◌≡◌, [], option_map};
 ghost use Rattle.sbe_types.specs.Shown.{is_optional};
 ghost use Rattle.bridge_rules.specs.Table.{leaf_rule, text_rule, is_array, is_byte_type, is_char_leaf, is_integer, is_number, is_optional_byte, is_single_byte};
-ghost use Rattle.bridge_table.specs.Codes.{datatype_seen};
+ghost use Rattle.bridge_table.specs.Codes.{datatype_of_row};
 ghost use Rattle.bridge_table.specs.Rows.{rule_with};
 
 use crate::codes::is_char;
@@ -11,7 +11,7 @@ use sbe_types::{Leaf, LeafShape, Presence, Prim};
 
 /// The rule for a leaf and the fields of a datatype, if the table has one.
 pub fn leaf_rule(leaf: &Leaf, datatype: &Datatype) -> Option<FieldRule>
-    ensures { option_map (rule_with []) result ≡ leaf_rule leaf.now (datatype_seen datatype.now) }
+    ensures { option_map (rule_with []) result ≡ leaf_rule leaf.now (datatype_of_row datatype.now) }
 {
     match datatype {
         Datatype::WholeNumber if is_integer(leaf) => Some(FieldRule::Integer(*leaf)),

@@ -1,7 +1,7 @@
 ghost use Rattle.std.specs.Prelude.{◌≡◌, [], IfOk, option_map};
 ghost use Rattle.schema_facts.specs.InOrder.{IsKindFrom};
 ghost use Rattle.bridge_rules.specs.Table.{data_rule, enum_rule, rule_of};
-ghost use Rattle.bridge_table.specs.Codes.{datatype_seen};
+ghost use Rattle.bridge_table.specs.Codes.{datatype_of_row};
 ghost use Rattle.bridge_table.specs.Rows.{names_in, rule_with};
 ghost use Rattle.schema_facts.specs.InOrder.{IsEnumInOrder};
 
@@ -27,7 +27,7 @@ pub fn field_rule(
     datatype: &Datatype,
 ) -> Result<Option<FieldRule>, NoMem>
     requires order { IsKindFrom 1 kind.now }
-    ensures { IfOk result (λ rule. option_map (rule_with (names_in kind.now)) rule ≡ rule_of kind.now (datatype_seen datatype.now)) }
+    ensures { IfOk result (λ rule. option_map (rule_with (names_in kind.now)) rule ≡ rule_of kind.now (datatype_of_row datatype.now)) }
 {
     match kind {
         Kind::Leaf(leaf) => Ok(leaf_rule(leaf, datatype)),
@@ -40,7 +40,7 @@ pub fn field_rule(
 
 /// The same for data.
 pub fn data_rule(part: &DataField, datatype: &Datatype) -> Option<FieldRule>
-    ensures { option_map (rule_with []) result ≡ data_rule part.now (datatype_seen datatype.now) }
+    ensures { option_map (rule_with []) result ≡ data_rule part.now (datatype_of_row datatype.now) }
 {
     match datatype {
         Datatype::Raw => Some(FieldRule::RawData(part.length)),
@@ -57,7 +57,7 @@ fn listed_rule(
     datatype: &Datatype,
 ) -> Result<Option<FieldRule>, NoMem>
     requires order { IsEnumInOrder leaf.now names.now }
-    ensures { IfOk result (λ rule. option_map (rule_with names.now) rule ≡ enum_rule leaf.now names.now (datatype_seen datatype.now)) }
+    ensures { IfOk result (λ rule. option_map (rule_with names.now) rule ≡ enum_rule leaf.now names.now (datatype_of_row datatype.now)) }
 {
     match enum_rule(alloc, leaf, names, datatype)? {
         None => Ok(None),

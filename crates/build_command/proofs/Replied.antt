@@ -7,7 +7,7 @@ use Rattle.line_values.specs.Refusals.{Refusal}
 use Rattle.line_reading.specs.Lines.{tree_of}
 use Rattle.schema_facts.specs.IsChecked.{IsChecked}
 use Rattle.schema_files.specs.Judged.{file_schema}
-use Rattle.command_files.specs.Files.{judged_in}
+use Rattle.command_files.specs.Files.{in_role}
 use Rattle.schema_files.specs.declared.files.FileRole.TheVariants as role
 use Rattle.schema_files.specs.declared.files.RefusedFile.{RefusedFile}
 use Rattle.command_files.proofs.Loaded.{judged_checked}
@@ -25,9 +25,9 @@ build_answers building input checked = lines_once input no_line (IsBuildReply bu
 
 -- the schema of a build is a checked one
 pub build_checked : (name : List ℕ) (frame : ℕ) (contents : List ℕ → Option (List ℕ)) (building : Building) → JudgesBuild name frame contents (Ok building) → IsChecked building.schema
-build_checked name frame contents building h = by (judged_in role.Schema (file_schema (contents name))) refl h
+build_checked name frame contents building h = by (in_role role.Schema (file_schema (contents name))) refl h
   where
-    by : (r : Result WireSchema RefusedFile) → judged_in role.Schema (file_schema (contents name)) ≡ r → Ok building ≡ built_for frame r → IsChecked building.schema
+    by : (r : Result WireSchema RefusedFile) → in_role role.Schema (file_schema (contents name)) ≡ r → Ok building ≡ built_for frame r → IsChecked building.schema
     by (Ok schema) e k = judged_checked role.Schema (contents name) building.schema (ok_is k ∙ sym e)
       where
         schema_of : Result Building RefusedFile → Result WireSchema RefusedFile

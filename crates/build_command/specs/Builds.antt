@@ -3,7 +3,7 @@ use Rattle.std.specs.Prelude.{◌≡◌, ℕ, List, Option, Result, Ok, Err}
 use Rattle.sbe_types.specs.declared.schema.WireSchema.{WireSchema}
 use Rattle.replies.specs.Reply.{Reply}
 use Rattle.schema_files.specs.Judged.{file_schema, IsWithin}
-use Rattle.command_files.specs.Files.{judged_in}
+use Rattle.command_files.specs.Files.{in_role}
 use Rattle.command_files.specs.Files.{FilesOf}
 use Rattle.schema_facts.specs.IsChecked.{IsChecked}
 use Rattle.schema_files.specs.declared.files.FileRole.TheVariants as role
@@ -27,7 +27,7 @@ built_for frame (Err file) = Err file
 
 -- the file with this name contains this, or is refused
 abbrev pub JudgesBuild : List ℕ → ℕ → (List ℕ → Option (List ℕ)) → Result Building RefusedFile → Type 0
-JudgesBuild name frame contents judged = judged ≡ built_for frame (judged_in role.Schema (file_schema (contents name)))
+JudgesBuild name frame contents judged = judged ≡ built_for frame (in_role role.Schema (file_schema (contents name)))
 
 -- The files of `build`: only the schema, for frames of at most `frame` bytes.
 abbrev pub build_files : List ℕ → ℕ → FilesOf Building

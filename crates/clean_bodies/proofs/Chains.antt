@@ -3,7 +3,7 @@ use Rattle.std.proofs.Common.{◌≡◌, ℕ, zero, suc, ◌+◌, ◌-◌, ◌�
 use Rattle.std.proofs.lemmas.List.{drop-drop, drop_more, drop_all, drop_at}
 use Rattle.sbe_types.specs.Wire.{both}
 use Rattle.sbe_wire.specs.Canonical.{all_bytes}
-use Rattle.sbe_wire.specs.Lays.{Joined}
+use Rattle.sbe_wire.specs.Lays.{IsConcatenation}
 use Rattle.clean_bodies.specs.Whole.{IsWhole, Chain, Times}
 
 -- the bytes end there, and are these
@@ -70,7 +70,7 @@ times_done S count i at begin leads past =
 -- items that lie one after another, each of which is whole
 pub times_whole : (X : Type 0) (R : X → List ℕ → Type 0) (own : X → Option (List ℕ)) (body : List ℕ) (xs : List X) (n at next : ℕ)
     → length xs ≡ n → Times (λ a m. IsWhole X R own body a m) n at next → (front rest : List ℕ)
-    → drop at body ≡ front ++ rest → Joined R xs front → Ends at next front (all_bytes own xs)
+    → drop at body ≡ front ++ rest → IsConcatenation R xs front → Ends at next front (all_bytes own xs)
 times_whole X R own body [] zero at next many chain front rest there h = (omega (arith, chain, ap length h), ap Some (sym h))
 times_whole X R own body [] (suc n) at next many chain front rest there h = absurd (omega (arith, many))
 times_whole X R own body (x ∷ xs) zero at next many chain front rest there h = absurd (omega (arith, many))

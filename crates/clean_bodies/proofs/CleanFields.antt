@@ -19,7 +19,7 @@ use Rattle.sbe_wire.specs.Placed.{ArePlaced}
 use Rattle.writing_laws.specs.Writable.{AreWritableFields}
 use Rattle.writing_laws.proofs.Own.{alive_from}
 use Rattle.clean_bodies.specs.Clean.{between, part_in, AreCleanFields, IsCleanBlock}
-use Rattle.clean_bodies.proofs.Zeros.{joined, between_none}
+use Rattle.clean_bodies.proofs.Zeros.{between_append, between_none}
 use Rattle.clean_bodies.proofs.CleanKinds.{part_is, part_grows, part_within, kind_clean}
 
 pub fields_grow : (e : ℕ) (fs : List Field) → ArePlaced e fs → e ≤ fields_end e fs
@@ -54,7 +54,7 @@ module _ (order : Order) (version : ℕ) where
       ap (λ o. both (both (Some zeros) o) (fields_bytes order next fs vs)) here
       ∙ ap (λ o. both (Some (zeros ++ part_in e offset kind b)) o) there
       ∙ ap (λ z. Some (z ++ between next (fields_end next fs) b)) part
-      ∙ ap Some (joined e next (fields_end next fs) b behind grows)
+      ∙ ap Some (between_append e next (fields_end next fs) b behind grows)
 
   -- the block of a level whose fields end within it
   pub block_clean : (fs : List Field) → ArePlaced 0 fs → AreWritableFields version fs → (vs : List Value) (b : List ℕ)

@@ -15,7 +15,7 @@ use Rattle.sbe_types.specs.declared.message.GroupVal.TheVariants as groupval
 use Rattle.sbe_types.specs.Places.{fields_end, members_end}
 use Rattle.sbe_wire.specs.Versions.{own_mode, form_of, BlockForm}
 use Rattle.sbe_wire.specs.Canonical.{dimension_numbers, named_bytes, block_bytes, all_bytes, entries_in, entries_bytes, tail_bytes, group_bytes}
-use Rattle.sbe_wire.specs.Lays.{Joined, BlockLays, EntryLays, GroupLies, TailLays, GroupLays}
+use Rattle.sbe_wire.specs.Lays.{IsConcatenation, BlockLays, EntryLays, GroupLies, TailLays, GroupLays}
 use Rattle.sbe_wire.proofs.Levels.{placed_fields}
 use Rattle.writing_laws.specs.Writable.{IsWritableDimension}
 use Rattle.writing_laws.proofs.NamesWritten.{admitted_named}
@@ -111,8 +111,8 @@ module _ (place : Place) (level : Level) where
         let own : named_bytes order (dimension_numbers wide (length entries)) 0 dim ≡ Some head =
         ap (λ n. named_bytes order (dimension_numbers wide n) 0 dim) many
         ∙ named_are order (dimension_numbers wide count) head dim there_says bytes lays.wide in
-        let each : Joined (EntryIs order version level) entries back =
-        subst (λ n. Joined (EntryLays TailIs form n) entries back) block h.5 in
+        let each : IsConcatenation (EntryIs order version level) entries back =
+        subst (λ n. IsConcatenation (EntryLays TailIs form n) entries back) block h.5 in
         two_pieces body at (at + size) next front head back rest
         (named_bytes order (dimension_numbers wide (length entries)) 0 dim) (all_bytes (entry_bytes order level) entries)
         there h.3

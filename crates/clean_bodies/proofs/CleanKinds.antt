@@ -21,7 +21,7 @@ use Rattle.writing_laws.specs.Writable.{IsWritableLeaf, IsWritableKind, IsWritab
 use Rattle.writing_laws.proofs.Numerals.{number_wire, enum_wire}
 use Rattle.writing_laws.proofs.KindBack.{null_empty, array_back, set_back}
 use Rattle.clean_bodies.specs.Clean.{AreZeros, between, part_in, IsCleanText, IsCleanLeaf, HasCleanGap, IsCleanKind, AreCleanMembers}
-use Rattle.clean_bodies.proofs.Zeros.{joined, gap_zeros, between_none, whole_between}
+use Rattle.clean_bodies.proofs.Zeros.{between_append, gap_zeros, between_none, whole_between}
 
 -- ---- a text
 
@@ -71,7 +71,7 @@ part_is e offset kind false c behind b within gap =
     let size : width kind ≡ (begin + width kind) - begin = omega arith in
     ap (λ z. z ++ part_in e offset kind b) (gap_zeros e begin b begins (omega (arith, ends)) (gap c))
     ∙ ap (λ n. between e begin b ++ take n (drop begin b)) size
-    ∙ joined e begin (begin + width kind) b begins (omega arith)
+    ∙ between_append e begin (begin + width kind) b begins (omega arith)
 
 -- where the part ends, at e or after
 pub part_grows : (e : ℕ) (offset : _) (kind : Kind) (t : Bool) → is_const kind ≡ t → BeginsBehind e offset kind
@@ -120,4 +120,4 @@ module _ (order : Order) where
         ap (λ o. both (both (Some zeros) o) (row_bytes order next rest (Some vs))) here
         ∙ ap (λ o. both (Some (zeros ++ part_in e offset kind b)) o) there
         ∙ ap (λ z. Some (z ++ between next (row_end next rest) b)) part
-        ∙ ap Some (joined e next (row_end next rest) b behind grows)
+        ∙ ap Some (between_append e next (row_end next rest) b behind grows)

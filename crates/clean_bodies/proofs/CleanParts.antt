@@ -11,7 +11,7 @@ use Rattle.sbe_types.specs.Numbers.{number_of, bytes_of, natural, prim_width}
 use Rattle.sbe_types.specs.Wire.{both}
 use Rattle.sbe_types.proofs.Inverse.{bytes_of-number_of}
 use Rattle.sbe_wire.specs.Canonical.{part_bytes, parts_bytes}
-use Rattle.sbe_wire.specs.Lays.{JoinedBoth, DataLies, DataLays}
+use Rattle.sbe_wire.specs.Lays.{IsConcatenationOfBoth, DataLies, DataLays}
 use Rattle.writing_laws.proofs.Own.{alive_from}
 use Rattle.clean_bodies.specs.Whole.{Chain}
 use Rattle.clean_bodies.specs.Steps.{Place, PartStep}
@@ -61,7 +61,7 @@ module _ (place : Place) where
   -- parts one after another
   pub parts_end : (ps : List DataField) (at next : ℕ) → Chain DataField (PartStep place) ps at next
       → (vs : List DataVal) (front rest : List ℕ) → drop at body ≡ front ++ rest
-      → JoinedBoth (DataLays order version) ps vs front → Ends at next front (parts_bytes order ps vs)
+      → IsConcatenationOfBoth (DataLays order version) ps vs front → Ends at next front (parts_bytes order ps vs)
   parts_end [] at next chain [] front rest there h = (omega (arith, chain, ap length h), ap Some (sym h))
   parts_end [] at next chain (v ∷ vs) front rest there h = absurd h
   parts_end (p ∷ ps) at next chain [] front rest there h = absurd h

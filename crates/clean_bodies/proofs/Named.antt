@@ -20,7 +20,7 @@ use Rattle.writing_laws.specs.Writable.{HasNamed}
 use Rattle.writing_laws.proofs.Numerals.{some_is}
 use Rattle.clean_bodies.specs.Clean.{between}
 use Rattle.clean_bodies.specs.Says.{SaysNumber, SayNumbers}
-use Rattle.clean_bodies.proofs.Zeros.{joined, gap_zeros, between_none, whole_between}
+use Rattle.clean_bodies.proofs.Zeros.{between_append, gap_zeros, between_none, whole_between}
 
 module _ (order : Order) (numbers : List ℕ → ℕ) (b : List ℕ) where
   -- ---- one member
@@ -63,7 +63,7 @@ module _ (order : Order) (numbers : List ℕ → ℕ) (b : List ℕ) where
         ∙ ap (both (Some zeros)) wire
         ∙ ap (λ z. Some (z ++ slice)) (gap_zeros e begin b behind (omega (arith, is, within)) here.gap)
         ∙ ap (λ n. Some (between e begin b ++ take n (drop begin b))) size
-        ∙ ap Some (joined e begin next b behind (omega (arith, is)))
+        ∙ ap Some (between_append e begin next b behind (omega (arith, is)))
 
   -- ---- all members
 
@@ -83,7 +83,7 @@ module _ (order : Order) (numbers : List ℕ → ℕ) (b : List ℕ) where
       let first : e ≤ next = ahead e m h.0 in
       ap (λ o. both o (named_bytes order numbers next ms)) (bytes_are e m h.0 good (omega (arith, grows, within)))
       ∙ ap (both (Some (between e next b))) (members_bytes next ms h.1 good within)
-      ∙ ap Some (joined e next (members_end next ms) b first grows)
+      ∙ ap Some (between_append e next (members_end next ms) b first grows)
 
   -- the bytes are those of the numbers
   pub named_are : (ms : List Member) → SayNumbers order numbers 0 ms b → IsBytes b → length b ≡ members_end 0 ms

@@ -6,8 +6,8 @@ use Rattle.std.proofs.Math.Seq.{take-add}
 use Rattle.clean_bodies.specs.Clean.{AreZeros, between}
 
 -- pieces that meet
-pub joined : (a b c : ℕ) (bytes : List ℕ) → a ≤ b → b ≤ c → between a b bytes ++ between b c bytes ≡ between a c bytes
-joined a b c bytes h k =
+pub between_append : (a b c : ℕ) (bytes : List ℕ) → a ≤ b → b ≤ c → between a b bytes ++ between b c bytes ≡ between a c bytes
+between_append a b c bytes h k =
     let total : c - a ≡ (b - a) + (c - b) = omega (arith, h, k) in
     let place : b ≡ a + (b - a) = omega (arith, h) in
     let moved : drop b bytes ≡ drop (b - a) (drop a bytes) = ap (λ n. drop n bytes) place ∙ sym (drop-drop (b - a) a bytes) in

@@ -4,7 +4,7 @@ use Rattle.sbe_types.specs.declared.schema.WireSchema.{WireSchema}
 use Rattle.schema_facts.specs.IsChecked.{IsChecked}
 use Rattle.schema_files.specs.Judged.{file_schema}
 use Rattle.schema_files.specs.Files.{LoadsChecked, stop_of}
-use Rattle.command_files.specs.Files.{FilesOf, LoadsFiles, judged_in, JudgesFile}
+use Rattle.command_files.specs.Files.{FilesOf, LoadsFiles, in_role, JudgesFile}
 use Rattle.schema_files.specs.declared.files.FileRefusal.{FileRefusal}
 use Rattle.schema_files.specs.declared.files.FileRole.{FileRole}
 use Rattle.schema_files.specs.declared.files.RefusedFile.{RefusedFile}
@@ -17,18 +17,18 @@ module _ (told : Option (List ℕ → Option (List ℕ))) (name : List ℕ) (at 
   one_file = record { AreJudged = JudgesFile at name; IsRole = IsRole; AreGood = IsGood }
 
   pub file_loaded : (schema : WireSchema) → IsGood schema → LoadsChecked told name (Ok schema) → LoadsFiles one_file told (Ok schema)
-  file_loaded schema good h = record { judges = λ contents same. sym (ap (judged_in at) (h contents same)); fails = tt; good = good }
+  file_loaded schema good h = record { judges = λ contents same. sym (ap (in_role at) (h contents same)); fails = tt; good = good }
 
   pub file_stopped : (why : LoadStop) → IsRole at → LoadsChecked told name (Err why) → LoadsFiles one_file told (Err (stop_of at why))
-  file_stopped (Refused why) is h = record { judges = λ contents same. sym (ap (judged_in at) (h contents same)); fails = tt; good = tt }
+  file_stopped (Refused why) is h = record { judges = λ contents same. sym (ap (in_role at) (h contents same)); fails = tt; good = tt }
   file_stopped Fault is h = record { judges = λ contents same. tt; fails = is; good = tt }
   file_stopped NoMemory is h = record { judges = λ contents same. tt; fails = tt; good = tt }
 
 -- what a file is judged as is a checked schema
-pub judged_checked : (at : FileRole) (file : Option (List ℕ)) (schema : WireSchema) → Ok schema ≡ judged_in at (file_schema file) → IsChecked schema
+pub judged_checked : (at : FileRole) (file : Option (List ℕ)) (schema : WireSchema) → Ok schema ≡ in_role at (file_schema file) → IsChecked schema
 judged_checked at file schema h = by (file_schema file) refl h
   where
-    by : (r : Result WireSchema FileRefusal) → file_schema file ≡ r → Ok schema ≡ judged_in at r → IsChecked schema
+    by : (r : Result WireSchema FileRefusal) → file_schema file ≡ r → Ok schema ≡ in_role at r → IsChecked schema
     by (Ok s) e k = file_checked file schema (e ∙ ok_is k)
       where
         ok_is : ◌≡◌ {A = Result WireSchema RefusedFile} (Ok schema) (Ok s) → ◌≡◌ {A = Result WireSchema FileRefusal} (Ok s) (Ok schema)

@@ -39,10 +39,10 @@ pub record LoadsFiles {X : Type 0} (files : FilesOf X) (told : Option (List ℕ 
 -- ---- one file
 
 -- what the file in this role contains, or its refusal
-abbrev pub judged_in : {X : Type 0} → FileRole → Result X FileRefusal → Result X RefusedFile
-judged_in at (Ok held) = Ok held
-judged_in at (Err why) = Err (refused_as at why)
+abbrev pub in_role : {X : Type 0} → FileRole → Result X FileRefusal → Result X RefusedFile
+in_role at (Ok held) = Ok held
+in_role at (Err why) = Err (refused_as at why)
 
 -- the file with this name, in this role, contains this, or is refused
 abbrev pub JudgesFile : FileRole → List ℕ → (List ℕ → Option (List ℕ)) → Result WireSchema RefusedFile → Type 0
-JudgesFile at name contents judged = judged ≡ judged_in at (file_schema (contents name))
+JudgesFile at name contents judged = judged ≡ in_role at (file_schema (contents name))

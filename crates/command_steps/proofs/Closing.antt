@@ -12,13 +12,13 @@ use Rattle.frame_stream.specs.declared.held.Ended.{Ended}
 use Rattle.frame_stream.specs.declared.held.Ended.TheVariants as ended
 use Rattle.frame_stream.specs.declared.stream.Taken.TheVariants as taken
 use Rattle.frame_stream.specs.declared.stream.StreamErr.TheVariants as err
-use Rattle.frame_stream.specs.Stream.{StreamState, told_by, Takes, TakeCause}
+use Rattle.frame_stream.specs.Stream.{StreamState, end_answer, Takes, TakeCause}
 use Rattle.command_steps.specs.Splits.{Once, Whole, End, Splits, Begins}
 use Rattle.replies.specs.Reply.{Written, Reply, written_of}
 use Rattle.command_steps.specs.Replies.{Answering, by_whole, counted_by, HasParts, Replied, Wants}
 use Rattle.command_steps.specs.Ends.{end_notes, end_status, done_status, stop_line, stop_status}
 use Rattle.sbe_base.specs.Objects.{Object, Failed}
-use Rattle.replies.specs.Outside.{Sinks, Streams, Breaks, at_output, at_notes, Told, noted, failed}
+use Rattle.replies.specs.Outside.{Sinks, Streams, Breaks, at_output, at_notes, NotesLine, noted, failed}
 use Rattle.command_steps.specs.Steps.{Moment, running, reading_after, IsStepStatus, Fails, Halts, ended_at, failed_at, wanting_at, Causes, Answers}
 use Rattle.open_framing.specs.Frames.{Item}
 use Rattle.replies.specs.Drafts.{DeliversDraft}
@@ -83,7 +83,7 @@ module _ (before after : Streams) where
 
   -- an end that was told
   pub end_causes : (code : Status) (line : List ℕ) (last : Status) → IsEnd last → after.input.faults ≡ before.input.faults → after.sinks.output ≡ before.sinks.output →
-      Told line last before.sinks.notes after.sinks.notes code → Causes before after code
+      NotesLine line last before.sinks.notes after.sinks.notes code → Causes before after code
   end_causes code line last is input output told = elim told [
     | noted c a k ↦ record {
       calm = λ r. record { input = input; output = ap (λ o. o.faults) output; notes = k };
@@ -95,7 +95,7 @@ module _ (before after : Streams) where
   ]
 
   -- what is told is never out of memory
-  pub told_apart : (code last : Status) (line : List ℕ) (old new : Object (List ℕ)) → Told line last old new code → (last ≡ status.NoMemory → ⊥) → code ≡ status.NoMemory → ⊥
+  pub told_apart : (code last : Status) (line : List ℕ) (old new : Object (List ℕ)) → NotesLine line last old new code → (last ≡ status.NoMemory → ⊥) → code ≡ status.NoMemory → ⊥
   told_apart code last line old new told never is = elim told [
     | noted c a k ↦ never (sym c ∙ is)
     | failed c p f ↦ apart_write (sym c ∙ is)
@@ -105,7 +105,7 @@ module _ (before after : Streams) where
       apart_write e = cc
 
   -- a read that failed
-  pub read_causes : (code : Status) (line : List ℕ) → Failed before.input after.input → Told line status.ReadFault before.sinks.notes after.sinks.notes code → Causes before after code
+  pub read_causes : (code : Status) (line : List ℕ) → Failed before.input after.input → NotesLine line status.ReadFault before.sinks.notes after.sinks.notes code → Causes before after code
   read_causes code line fault told = elim told [
     | noted c a k ↦ subst (λ (s : Status). Causes before after s) (sym c) (record { calm = λ r. absurd r; read = λ e. fault; write = λ e. cc; late = tt })
     | failed c p f ↦ write_causes code c (inr f)
@@ -127,19 +127,19 @@ module _ (limits : Limits) (spares : Bool) (last_line : Kept → List ℕ) (IsAn
   module _ (st st' : StreamState) (stands : Stands limits st kept) where
     -- the end of the input
     pub closed_end : (code : Status) → Takes st st' before.input.told after.input.told (Ok taken.End) → after.input.faults ≡ before.input.faults → after.sinks.output ≡ before.sinks.output →
-        Told (last_line kept) (done_status kept.refused) before.sinks.notes after.sinks.notes code → Answers on at none_ahead before after (Err code)
+        NotesLine (last_line kept) (done_status kept.refused) before.sinks.notes after.sinks.notes code → Answers on at none_ahead before after (Err code)
     closed_end code takes input output told =
         closed code (λ i source. ends limits spares last_line IsAnswer kept st st' stands before after code ended.End i takes output told source)
         (end_causes before after code (last_line kept) (end_status End kept.refused) (end_is ended.End kept.refused) input output told)
         (λ e. absurd (told_apart before after code (end_status End kept.refused) (last_line kept) before.sinks.notes after.sinks.notes told (end_is ended.End kept.refused).memory e))
 
     -- an end that is noted
-    pub closed_with : (e : Ended) (s : Stop) (code : Status) → Takes st st' before.input.told after.input.told (told_by e) → after.input.faults ≡ before.input.faults → after.sinks.output ≡ before.sinks.output →
+    pub closed_with : (e : Ended) (s : Stop) (code : Status) → Takes st st' before.input.told after.input.told (end_answer e) → after.input.faults ≡ before.input.faults → after.sinks.output ≡ before.sinks.output →
         stop_line s ≡ end_notes on (piece_end e) kept → stop_status s ≡ end_status (piece_end e) kept.refused →
-        Told (stop_line s) (stop_status s) before.sinks.notes after.sinks.notes code → Answers on at none_ahead before after (Err code)
+        NotesLine (stop_line s) (stop_status s) before.sinks.notes after.sinks.notes code → Answers on at none_ahead before after (Err code)
     closed_with e s code takes input output line last told =
-        let heard : Told (end_notes on (piece_end e) kept) (end_status (piece_end e) kept.refused) before.sinks.notes after.sinks.notes code =
-        subst (λ (c : Status). Told (end_notes on (piece_end e) kept) c before.sinks.notes after.sinks.notes code) last (subst (λ l. Told l (stop_status s) before.sinks.notes after.sinks.notes code) line told) in
+        let heard : NotesLine (end_notes on (piece_end e) kept) (end_status (piece_end e) kept.refused) before.sinks.notes after.sinks.notes code =
+        subst (λ (c : Status). NotesLine (end_notes on (piece_end e) kept) c before.sinks.notes after.sinks.notes code) last (subst (λ l. NotesLine l (stop_status s) before.sinks.notes after.sinks.notes code) line told) in
         closed code (λ i source. ends limits spares last_line IsAnswer kept st st' stands before after code e i takes output heard source)
         (end_causes before after code (end_notes on (piece_end e) kept) (end_status (piece_end e) kept.refused) (end_is e kept.refused) input output heard)
         (λ m. absurd (told_apart before after code (end_status (piece_end e) kept.refused) (end_notes on (piece_end e) kept) before.sinks.notes after.sinks.notes heard (end_is e kept.refused).memory m))
@@ -147,7 +147,7 @@ module _ (limits : Limits) (spares : Bool) (last_line : Kept → List ℕ) (IsAn
     -- a read that failed
     pub closed_read : (code : Status) → Takes st st' before.input.told after.input.told (Err err.ReadFault) → first_item st'.frame st'.held ≡ None →
         TakeCause before.input.faults after.input.faults (Err err.ReadFault) → after.sinks.output ≡ before.sinks.output →
-        Told (stop_line (stop.ReadFault st'.taken)) status.ReadFault before.sinks.notes after.sinks.notes code → Answers on at none_ahead before after (Err code)
+        NotesLine (stop_line (stop.ReadFault st'.taken)) status.ReadFault before.sinks.notes after.sinks.notes code → Answers on at none_ahead before after (Err code)
     closed_read code takes none cause output told =
         let fault : Failed before.input after.input = record { rose = cause.1; later = cause.0 } in
         closed code (λ i source. stalls_at limits spares last_line IsAnswer kept st st' stands before after code i takes none fault output told source)
@@ -193,7 +193,7 @@ module _ (IsAnswer : Reply → Type 0) (kept : Kept) (stands : StandsOnce kept) 
   done_once code some sinks done =
       let output = ap (λ s. s.output) sinks in
       let one : kept.items ≡ 1 = omega (arith, stands.items, some) in
-      let told : Told [] (end_status End kept.refused) before.sinks.notes after.sinks.notes code =
+      let told : NotesLine [] (end_status End kept.refused) before.sinks.notes after.sinks.notes code =
       noted done (wrote_none before.sinks after.sinks sinks) (ap (λ s. s.notes.faults) sinks) in
       let none : (input : List ℕ) → Splits (reading_after Once kept) input [] End = λ input. subst (λ r. Splits r input [] End) (sym (once_one kept one)) (refl, refl) in
       closed_once code (λ input source. ended_at (record { end = End; split = none input; left = λ read. cc; output = output; noted = told }))

@@ -2,7 +2,7 @@
 use Rattle.std.proofs.Common.{◌≡◌, ℕ, Bool, ◌+◌, ◌-◌, List, [], ◌∷◌, ◌++◌, length, map, refl, sym, ap, ◌∙◌, subst, arith, append_assoc, length-append}
 use Rattle.std.proofs.lemmas.List.{append-nil}
 use Rattle.std.specs.List.{AllByRecursion}
-use Rattle.open_framing.specs.Pieces.{joined}
+use Rattle.open_framing.specs.Pieces.{concat_pieces}
 use Rattle.open_framing.specs.Frames.{Item}
 use Rattle.sbe_base.specs.declared.status.Limits.{Limits}
 use Rattle.command_steps.specs.Splits.{OtherReading, IsReading, Reading, Frames, Lines, Once, Nothing, Others, Piece, Frame, Line, Whole, Other, piece_bytes, line_pieces, PieceEnd, Splits}
@@ -164,7 +164,7 @@ replies_front on kept after mid (x ∷ xs) ys all some placed h k =
 -- ---- what is counted
 
 abbrev pub pieces_bytes : List Piece → List ℕ
-pieces_bytes pieces = joined piece_bytes pieces
+pieces_bytes pieces = concat_pieces piece_bytes pieces
 
 pub bytes_counted : (on : Answering) (kept after : Kept) (pieces : List Piece) (written : Written) → Replies on kept pieces written after → after.bytes ≡ kept.bytes + length (pieces_bytes pieces)
 bytes_counted on kept after [] written h = ap (λ (k : Kept). k.bytes) h.1 ∙ omega arith

@@ -10,13 +10,13 @@ use Rattle.frame_stream.specs.declared.lines.LineTaken.{LineTaken}
 use Rattle.frame_stream.specs.declared.lines.LineTaken.TheVariants as taken
 use Rattle.frame_stream.specs.declared.lines.LineErr.{LineErr}
 use Rattle.frame_stream.specs.declared.lines.LineErr.TheVariants as err
-use Rattle.frame_stream.specs.LineTakes.{LineState, line_bytes, line_told_by, TakesLine, LineCause}
+use Rattle.frame_stream.specs.LineTakes.{LineState, line_bytes, line_end_answer, TakesLine, LineCause}
 use Rattle.command_steps.specs.Splits.{End}
 use Rattle.command_steps.specs.Ahead.{Follows}
 use Rattle.replies.specs.Reply.{Reply, written_of}
 use Rattle.command_steps.specs.Ends.{end_notes, end_status, done_status, stop_line, stop_status}
 use Rattle.sbe_base.specs.Objects.{Failed}
-use Rattle.replies.specs.Outside.{Streams, Breaks, Told}
+use Rattle.replies.specs.Outside.{Streams, Breaks, NotesLine}
 use Rattle.command_steps.specs.Steps.{Moment, running, Halts, failed_at, wanting_at, Causes, Answers}
 use Rattle.command_steps.specs.Stands.{StandsLines, lines_ahead}
 use Rattle.command_steps.specs.Replies.{Answering, by_lines, Replied}
@@ -36,10 +36,10 @@ end_is ended.Limit refused = record { step = tt; memory = λ h. cc; write = λ h
 -- ---- a stream that runs, or has met the end
 
 -- an answer that is no end comes of a stream that runs
-pub runs_at : (limits : Limits) (kept : Kept) (st : LineState) (result : Result LineTaken LineErr) → StandsLines limits st kept → IfSome st.ended (λ e. result ≡ line_told_by e) → (result ≡ Ok taken.End → ⊥) → st.ended ≡ None
+pub runs_at : (limits : Limits) (kept : Kept) (st : LineState) (result : Result LineTaken LineErr) → StandsLines limits st kept → IfSome st.ended (λ e. result ≡ line_end_answer e) → (result ≡ Ok taken.End → ⊥) → st.ended ≡ None
 runs_at limits kept st result stands stays other = elim stands.runs [
   | inl none ↦ none
-  | inr met ↦ absurd (other (subst (λ (o : Option LineEnded). IfSome o (λ e. result ≡ line_told_by e)) met stays))
+  | inr met ↦ absurd (other (subst (λ (o : Option LineEnded). IfSome o (λ e. result ≡ line_end_answer e)) met stays))
 ]
 
 module _ (limits : Limits) (last_line : Kept → List ℕ) (IsAnswer : Kept → List ℕ → Reply → Type 0) (kept : Kept) (before after : Streams) (st st' : LineState) (stands : StandsLines limits st kept) where
@@ -54,7 +54,7 @@ module _ (limits : Limits) (last_line : Kept → List ℕ) (IsAnswer : Kept → 
 
   -- the end of the input
   pub closed_end : (code : Status) → (st.ended ≡ None → TakesLine st st' before.input.told after.input.told (Ok taken.End)) → (st.ended ≡ Some ended.End → after.input ≡ before.input) → after.input.faults ≡ before.input.faults →
-      after.sinks.output ≡ before.sinks.output → Told (last_line kept) (done_status kept.refused) before.sinks.notes after.sinks.notes code → Answers on pump (lines_ahead st') before after (Err code)
+      after.sinks.output ≡ before.sinks.output → NotesLine (last_line kept) (done_status kept.refused) before.sinks.notes after.sinks.notes code → Answers on pump (lines_ahead st') before after (Err code)
   closed_end code takes unread input output told =
       closed code (λ i follows. elim stands.runs [
         | inl none ↦ ends limits last_line IsAnswer kept st st' stands before after code ended.End i (takes none) output told follows
@@ -62,19 +62,19 @@ module _ (limits : Limits) (last_line : Kept → List ℕ) (IsAnswer : Kept → 
       ]) (end_causes before after code (last_line kept) (end_status End kept.refused) (end_is ended.End kept.refused) input output told)
 
   -- an end that is noted
-  pub closed_with : (e : LineEnded) (s : Stop) (code : Status) → TakesLine st st' before.input.told after.input.told (line_told_by e) → after.input.faults ≡ before.input.faults → after.sinks.output ≡ before.sinks.output →
+  pub closed_with : (e : LineEnded) (s : Stop) (code : Status) → TakesLine st st' before.input.told after.input.told (line_end_answer e) → after.input.faults ≡ before.input.faults → after.sinks.output ≡ before.sinks.output →
       stop_line s ≡ end_notes on (line_piece_end e) kept → stop_status s ≡ end_status (line_piece_end e) kept.refused →
-      Told (stop_line s) (stop_status s) before.sinks.notes after.sinks.notes code → Answers on pump (lines_ahead st') before after (Err code)
+      NotesLine (stop_line s) (stop_status s) before.sinks.notes after.sinks.notes code → Answers on pump (lines_ahead st') before after (Err code)
   closed_with e s code takes input output line last told =
-      let heard : Told (end_notes on (line_piece_end e) kept) (end_status (line_piece_end e) kept.refused) before.sinks.notes after.sinks.notes code =
-      subst (λ (c : Status). Told (end_notes on (line_piece_end e) kept) c before.sinks.notes after.sinks.notes code) last (subst (λ l. Told l (stop_status s) before.sinks.notes after.sinks.notes code) line told) in
+      let heard : NotesLine (end_notes on (line_piece_end e) kept) (end_status (line_piece_end e) kept.refused) before.sinks.notes after.sinks.notes code =
+      subst (λ (c : Status). NotesLine (end_notes on (line_piece_end e) kept) c before.sinks.notes after.sinks.notes code) last (subst (λ l. NotesLine l (stop_status s) before.sinks.notes after.sinks.notes code) line told) in
       closed code (λ i follows. ends limits last_line IsAnswer kept st st' stands before after code e i takes output heard follows)
       (end_causes before after code (end_notes on (line_piece_end e) kept) (end_status (line_piece_end e) kept.refused) (end_is e kept.refused) input output heard)
 
   module _ (runs : st.ended ≡ None) where
     -- a read that failed
     pub closed_read : (code : Status) → TakesLine st st' before.input.told after.input.told (Err err.ReadFault) → LineCause before.input.faults after.input.faults (Err err.ReadFault) → after.sinks.output ≡ before.sinks.output →
-        Told (stop_line (stop.ReadFault st'.taken)) status.ReadFault before.sinks.notes after.sinks.notes code → Answers on pump (lines_ahead st') before after (Err code)
+        NotesLine (stop_line (stop.ReadFault st'.taken)) status.ReadFault before.sinks.notes after.sinks.notes code → Answers on pump (lines_ahead st') before after (Err code)
     closed_read code takes cause output told =
         let fault : Failed before.input after.input = record { rose = cause.1; later = cause.0 } in
         closed code (λ i follows. stalls_at limits last_line IsAnswer kept st st' stands before after code i runs takes fault output told follows)

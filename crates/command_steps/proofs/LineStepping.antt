@@ -6,7 +6,7 @@ use Rattle.std.proofs.lemmas.Bool.Decides.{nat_tests}
 use Rattle.sbe_base.specs.declared.status.Limits.{Limits}
 use Rattle.sbe_base.specs.declared.status.Status.{Status}
 use Rattle.sbe_base.specs.declared.status.Status.TheVariants as status
-use Rattle.open_framing.specs.Pieces.{joined}
+use Rattle.open_framing.specs.Pieces.{concat_pieces}
 use Rattle.open_framing.specs.Lines.{IsLine, LineEnd, before_end, if_within, first_line, last_of, longest_line}
 use Rattle.open_framing.specs.Lines as lines
 use Rattle.open_framing.proofs.LineLemmas.{line_complete}
@@ -16,7 +16,7 @@ use Rattle.frame_stream.specs.declared.lines.LineTaken.{LineTaken}
 use Rattle.frame_stream.specs.declared.lines.LineTaken.TheVariants as taken
 use Rattle.frame_stream.specs.declared.lines.LineErr.{LineErr}
 use Rattle.frame_stream.specs.declared.lines.LineErr.TheVariants as err
-use Rattle.frame_stream.specs.LineTakes.{LineState, line_room, line_bytes, end_bytes, line_told_by, TakesEnded, TakesLast, TakesLineBy, TakesLineFrom, TakesLine}
+use Rattle.frame_stream.specs.LineTakes.{LineState, line_room, line_bytes, end_bytes, line_end_answer, TakesEnded, TakesLast, TakesLineBy, TakesLineFrom, TakesLine}
 use Rattle.command_steps.specs.Splits.{Reading, Lines, Line, piece_bytes, PieceEnd, End, LineOver, InputLimit, lines_end, Splits, Begins, Holds}
 use Rattle.command_steps.specs.Ahead.{Follows}
 use Rattle.command_steps.specs.Reaches.{ReachesIf, Reaches}
@@ -24,7 +24,7 @@ use Rattle.replies.specs.Reply.{Reply, written_of}
 use Rattle.command_steps.specs.Replies.{Answering, by_lines, HasParts, counted_by}
 use Rattle.command_steps.specs.Ends.{end_notes, end_status, stop_line}
 use Rattle.sbe_base.specs.Objects.{Failed}
-use Rattle.replies.specs.Outside.{Streams, Wrote, Calm, Told}
+use Rattle.replies.specs.Outside.{Streams, Wrote, Calm, NotesLine}
 use Rattle.command_steps.specs.Steps.{Moment, running, Goes, Fails, Halts, ended_at, stalled_at}
 use Rattle.command_steps.specs.Stands.{IsBounded, StandsLines, HasTaken, CanCount, is_at_end, lines_ahead}
 use Rattle.replies.specs.declared.verdict.Verdict.{Verdict}
@@ -67,7 +67,7 @@ lines_ended stream n h =
     let none = no_lines_before h.before (last_of (nat_lt n (length stream)) h.rest).0 h.all in
     let ends = last_is (nat_lt longest_line (length h.rest)) (nat_lt n (length stream)) (length h.rest == 0) h.rest none.1 h.ends in
     let within : length stream ≤ n = grind (arith, nat_tests, ends.0) in
-    sym (take_all n stream within) ∙ h.pieces.whole ∙ ap (λ (ls : List (List ℕ)). joined lines.ended ls ++ h.rest) none.0 ∙ none_counted h.rest ends.1
+    sym (take_all n stream within) ∙ h.pieces.whole ∙ ap (λ (ls : List (List ℕ)). concat_pieces lines.ended ls ++ h.rest) none.0 ∙ none_counted h.rest ends.1
 
 -- nothing is no line and no more
 lines_of_nothing : (n : ℕ) → lines.Lines [] n [] lines.End
@@ -100,7 +100,7 @@ same_end ended.End = refl
 same_end ended.Over = refl
 same_end ended.Limit = refl
 
-lines_told : (stream left : List ℕ) (old new : LineState) (e : LineEnded) → TakesLineBy stream old new left (line_told_by e) → lines.Lines stream (line_room old) [] (line_cut e)
+lines_told : (stream left : List ℕ) (old new : LineState) (e : LineEnded) → TakesLineBy stream old new left (line_end_answer e) → lines.Lines stream (line_room old) [] (line_cut e)
 lines_told stream left old new ended.End h = h.0
 lines_told stream left old new ended.Over h = h.0
 lines_told stream left old new ended.Limit h = h.0
@@ -136,24 +136,24 @@ module _ (limits : Limits) (last_line : Kept → List ℕ) (IsAnswer : Kept → 
   module _ (before after : Streams) (code : Status) where
     -- ---- the end
 
-    split : (input left : List ℕ) (e : LineEnded) → TakesLineBy input st st' left (line_told_by e) → Splits on input [] (line_piece_end e)
+    split : (input left : List ℕ) (e : LineEnded) → TakesLineBy input st st' left (line_end_answer e) → Splits on input [] (line_piece_end e)
     split input left e h = ([], line_cut e, subst (λ n. lines.Lines input n [] (line_cut e)) room_left (lines_told input left st st' e h), refl, same_end e)
 
-    nothing_left : (input left : List ℕ) (e : LineEnded) → after.input.told ≡ Some left → TakesLineBy input st st' left (line_told_by e) → line_piece_end e ≡ End → after.input.told ≡ Some []
+    nothing_left : (input left : List ℕ) (e : LineEnded) → after.input.told ≡ Some left → TakesLineBy input st st' left (line_end_answer e) → line_piece_end e ≡ End → after.input.told ≡ Some []
     nothing_left input left ended.End source h is = source ∙ ap Some (rest_none st'.held left (sym (lines_ended input (line_room st) h.0) ∙ h.1))
     nothing_left input left ended.Over source h is = cc
     nothing_left input left ended.Limit source h is = cc
 
-    pub ends : (e : LineEnded) (input : List ℕ) → TakesLine st st' before.input.told after.input.told (line_told_by e) → after.sinks.output ≡ before.sinks.output →
-        Told (end_notes answering (line_piece_end e) kept) (end_status (line_piece_end e) kept.refused) before.sinks.notes after.sinks.notes code →
+    pub ends : (e : LineEnded) (input : List ℕ) → TakesLine st st' before.input.told after.input.told (line_end_answer e) → after.sinks.output ≡ before.sinks.output →
+        NotesLine (end_notes answering (line_piece_end e) kept) (end_status (line_piece_end e) kept.refused) before.sinks.notes after.sinks.notes code →
         Follows (lines_ahead st) before.input.told input → Halts answering pump before after input code
     ends e input takes same told follows =
-        let h = took st st' before.input.told after.input.told (line_told_by e) input takes.from follows in
+        let h = took st st' before.input.told after.input.told (line_end_answer e) input takes.from follows in
         ended_at (record { end = line_piece_end e; split = split input h.0 e h.2; left = λ read. nothing_left input h.0 e h.1 h.2; output = same; noted = told })
 
     -- the end was met before
     pub ends_again : (input : List ℕ) → st.ended ≡ Some ended.End → after.input ≡ before.input → after.sinks.output ≡ before.sinks.output →
-        Told (end_notes answering End kept) (end_status End kept.refused) before.sinks.notes after.sinks.notes code →
+        NotesLine (end_notes answering End kept) (end_status End kept.refused) before.sinks.notes after.sinks.notes code →
         Follows (lines_ahead st) before.input.told input → Halts answering pump before after input code
     ends_again input met unread same told follows =
         let none : input ≡ [] = follows.none (ap is_at_end met) in
@@ -176,7 +176,7 @@ module _ (limits : Limits) (last_line : Kept → List ℕ) (IsAnswer : Kept → 
     part_held held none = ([], held, record { whole = refl; each = tt; longest = no_first held none }, refl)
 
     pub stalls_at : (input : List ℕ) → st.ended ≡ None → TakesLine st st' before.input.told after.input.told (Err err.ReadFault) → Failed before.input after.input → after.sinks.output ≡ before.sinks.output →
-        Told (stop_line (stop.ReadFault st'.taken)) status.ReadFault before.sinks.notes after.sinks.notes code → Follows (lines_ahead st) before.input.told input → Halts answering pump before after input code
+        NotesLine (stop_line (stop.ReadFault st'.taken)) status.ReadFault before.sinks.notes after.sinks.notes code → Follows (lines_ahead st) before.input.told input → Halts answering pump before after input code
     stalls_at input runs takes fault same told follows =
         let h = took st st' before.input.told after.input.told (Err err.ReadFault) input takes.from follows in
         let at : st'.taken ≡ kept.bytes + length st'.held = omega (arith, stands.room, stands.input, takes.falls, takes.input, takes.within) in
@@ -191,7 +191,7 @@ module _ (limits : Limits) (last_line : Kept → List ℕ) (IsAnswer : Kept → 
           part = part_held st'.held takes.held;
           fault = fault;
           output = same;
-          noted = subst (λ n. Told (stop_line (stop.ReadFault n)) status.ReadFault before.sinks.notes after.sinks.notes code) at told;
+          noted = subst (λ n. NotesLine (stop_line (stop.ReadFault n)) status.ReadFault before.sinks.notes after.sinks.notes code) at told;
         })
 
     -- ---- a line
@@ -212,8 +212,8 @@ module _ (limits : Limits) (last_line : Kept → List ℕ) (IsAnswer : Kept → 
       took_ended input left source h =
           let rest = st'.held ++ left in
           let size : line_bytes st' ≡ length (lines.ended st'.line) = ap (λ (e : Option LineEnded). length st'.line + end_bytes e) h.ended ∙ sym (ended_size st'.line) in
-          let one : joined lines.ended (st'.line ∷ []) ≡ lines.ended st'.line = append-nil (lines.ended st'.line) in
-          let within : length (joined lines.ended (st'.line ∷ [])) ≤ limits.input - kept.bytes = omega (arith, ap length one, size, fits) in
+          let one : concat_pieces lines.ended (st'.line ∷ []) ≡ lines.ended st'.line = append-nil (lines.ended st'.line) in
+          let within : length (concat_pieces lines.ended (st'.line ∷ [])) ≤ limits.input - kept.bytes = omega (arith, ap length one, size, fits) in
           let begins : Begins on (lines_ahead st') input (Line st'.line true ∷ []) rest = (st'.line ∷ [], record { whole = h.whole ∙ ap (λ b. b ++ rest) (sym one); each = (h.line, tt) }, within, refl) in
           record {
             has_its_end = true;

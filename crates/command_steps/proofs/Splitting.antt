@@ -7,7 +7,7 @@ use Rattle.std.proofs.lemmas.List.{append-nil, append_cancel_left}
 use Rattle.std.proofs.lemmas.List.Concat.{flat_map-append}
 use Rattle.std.proofs.Math.Seq.{take-append-add}
 use Rattle.open_framing.specs.Heads.{IsBytes}
-use Rattle.open_framing.specs.Pieces.{Pieces, joined}
+use Rattle.open_framing.specs.Pieces.{Pieces, concat_pieces}
 use Rattle.open_framing.specs.Frames.{Item, frame_of, IsFrame, first_item, Cut, CutEnd, cut_of}
 use Rattle.open_framing.specs.Frames as frames
 use Rattle.open_framing.specs.Lines.{IsLine, LineEnd, first_line, lines_of}
@@ -57,29 +57,29 @@ module _ {X : Type 0} (IsItem : X → Type 0) (bytes_of : X → List ℕ) where
   each_more [] ys all there = there
   each_more (y ∷ xs) ys all there = (all.0, each_more xs ys all.1 there)
 
-  pub joined_more : (xs ys : List X) → joined bytes_of (xs ++ ys) ≡ joined bytes_of xs ++ joined bytes_of ys
+  pub joined_more : (xs ys : List X) → concat_pieces bytes_of (xs ++ ys) ≡ concat_pieces bytes_of xs ++ concat_pieces bytes_of ys
   joined_more xs ys = flat_map-append bytes_of xs ys
 
   -- the first items and then those of their rest
   pub leads_on : (bytes mid rest : List ℕ) (xs ys : List X) → Leads IsItem bytes_of bytes xs mid → Leads IsItem bytes_of mid ys rest → Leads IsItem bytes_of bytes (xs ++ ys) rest
   leads_on bytes mid rest xs ys h k = record {
-    whole = h.whole ∙ ap (λ x. joined bytes_of xs ++ x) k.whole ∙ sym (append_assoc (joined bytes_of xs) (joined bytes_of ys) rest) ∙ ap (λ x. x ++ rest) (sym (joined_more xs ys));
+    whole = h.whole ∙ ap (λ x. concat_pieces bytes_of xs ++ x) k.whole ∙ sym (append_assoc (concat_pieces bytes_of xs) (concat_pieces bytes_of ys) rest) ∙ ap (λ x. x ++ rest) (sym (joined_more xs ys));
     each = each_more xs ys h.each k.each;
   }
 
   module _ (first : List ℕ → Option X) (complete : (x : X) (more : List ℕ) → IsItem x → first (bytes_of x ++ more) ≡ Some x) where
     -- items at the front of bytes are the first of all their pieces
-    pub leads_first : (xs ys : List X) (bytes more rest : List ℕ) → bytes ≡ joined bytes_of xs ++ more → AllByRecursion IsItem xs → Pieces IsItem bytes_of bytes ys rest → (tail : List X) × (ys ≡ xs ++ tail)
+    pub leads_first : (xs ys : List X) (bytes more rest : List ℕ) → bytes ≡ concat_pieces bytes_of xs ++ more → AllByRecursion IsItem xs → Pieces IsItem bytes_of bytes ys rest → (tail : List X) × (ys ≡ xs ++ tail)
     leads_first [] ys bytes more rest e all cut = (ys, refl)
-    leads_first (x ∷ xs) [] bytes more rest e all cut = absurd (cut.longest x (joined bytes_of xs ++ more) all.0 (sym cut.whole ∙ e ∙ append_assoc (bytes_of x) (joined bytes_of xs) more))
+    leads_first (x ∷ xs) [] bytes more rest e all cut = absurd (cut.longest x (concat_pieces bytes_of xs ++ more) all.0 (sym cut.whole ∙ e ∙ append_assoc (bytes_of x) (concat_pieces bytes_of xs) more))
     leads_first (x ∷ xs) (y ∷ ys) bytes more rest e all cut =
-        let at_x : bytes ≡ bytes_of x ++ (joined bytes_of xs ++ more) = e ∙ append_assoc (bytes_of x) (joined bytes_of xs) more in
-        let at_y : bytes ≡ bytes_of y ++ (joined bytes_of ys ++ rest) = cut.whole ∙ append_assoc (bytes_of y) (joined bytes_of ys) rest in
-        let first_x : first bytes ≡ Some x = ap first at_x ∙ complete x (joined bytes_of xs ++ more) all.0 in
-        let first_y : first bytes ≡ Some y = ap first at_y ∙ complete y (joined bytes_of ys ++ rest) cut.each.0 in
+        let at_x : bytes ≡ bytes_of x ++ (concat_pieces bytes_of xs ++ more) = e ∙ append_assoc (bytes_of x) (concat_pieces bytes_of xs) more in
+        let at_y : bytes ≡ bytes_of y ++ (concat_pieces bytes_of ys ++ rest) = cut.whole ∙ append_assoc (bytes_of y) (concat_pieces bytes_of ys) rest in
+        let first_x : first bytes ≡ Some x = ap first at_x ∙ complete x (concat_pieces bytes_of xs ++ more) all.0 in
+        let first_y : first bytes ≡ Some y = ap first at_y ∙ complete y (concat_pieces bytes_of ys ++ rest) cut.each.0 in
         let same : x ≡ y = some_same (sym first_x ∙ first_y) in
-        let later : joined bytes_of xs ++ more ≡ joined bytes_of ys ++ rest = append_cancel_left (bytes_of x) (joined bytes_of xs ++ more) (joined bytes_of ys ++ rest) (sym at_x ∙ at_y ∙ ap (λ z. bytes_of z ++ (joined bytes_of ys ++ rest)) (sym same)) in
-        let found = leads_first xs ys (joined bytes_of xs ++ more) more rest refl all.1 (record { whole = later; each = cut.each.1; longest = cut.longest }) in
+        let later : concat_pieces bytes_of xs ++ more ≡ concat_pieces bytes_of ys ++ rest = append_cancel_left (bytes_of x) (concat_pieces bytes_of xs ++ more) (concat_pieces bytes_of ys ++ rest) (sym at_x ∙ at_y ∙ ap (λ z. bytes_of z ++ (concat_pieces bytes_of ys ++ rest)) (sym same)) in
+        let found = leads_first xs ys (concat_pieces bytes_of xs ++ more) more rest refl all.1 (record { whole = later; each = cut.each.1; longest = cut.longest }) in
         (found.0, ap (λ z. z ∷ ys) (sym same) ∙ ap (λ z. x ∷ z) found.1)
 
 -- bytes within a limit stay at the front of what the limit leaves
@@ -106,30 +106,30 @@ same_line : (line : List ℕ) (more : List Piece) (t u : Bool) → t ≡ u → �
 same_line line more t u e = ap (λ b. Line line b ∷ more) e
 
 -- lines whose ends are there, and then those of the rest
-pieces_counted : (all more : List (List ℕ)) (count rest : ℕ) → count ≡ length (joined lines.ended all) + rest → line_pieces count (all ++ more) ≡ map ended_piece all ++ line_pieces rest more
+pieces_counted : (all more : List (List ℕ)) (count rest : ℕ) → count ≡ length (concat_pieces lines.ended all) + rest → line_pieces count (all ++ more) ≡ map ended_piece all ++ line_pieces rest more
 pieces_counted [] more count rest e = let same : count ≡ rest = omega (arith, e) in ap (λ n. line_pieces n more) same
 pieces_counted (x ∷ all) more count rest e =
-    let size : length (joined lines.ended (x ∷ all)) ≡ (length x + 1) + length (joined lines.ended all) = length-append (lines.ended x) (joined lines.ended all) ∙ ap (λ n. n + length (joined lines.ended all)) (ended_size x) in
+    let size : length (concat_pieces lines.ended (x ∷ all)) ≡ (length x + 1) + length (concat_pieces lines.ended all) = length-append (lines.ended x) (concat_pieces lines.ended all) ∙ ap (λ n. n + length (concat_pieces lines.ended all)) (ended_size x) in
     let there : length x < count = omega (arith, e, size) in
-    let left : count - (length x + 1) ≡ length (joined lines.ended all) + rest = omega (arith, e, size) in
+    let left : count - (length x + 1) ≡ length (concat_pieces lines.ended all) + rest = omega (arith, e, size) in
     same_line x (line_pieces (count - (length x + 1)) (all ++ more)) (nat_lt (length x) count) true (has_end x count there)
     ∙ ap (λ z. ended_piece x ∷ z) (pieces_counted all more (count - (length x + 1)) rest left)
 
-pub pieces_on : (all more : List (List ℕ)) (stream rest : List ℕ) → stream ≡ joined lines.ended all ++ rest → line_pieces (length stream) (all ++ more) ≡ map ended_piece all ++ line_pieces (length rest) more
-pieces_on all more stream rest e = pieces_counted all more (length stream) (length rest) (ap length e ∙ length-append (joined lines.ended all) rest)
+pub pieces_on : (all more : List (List ℕ)) (stream rest : List ℕ) → stream ≡ concat_pieces lines.ended all ++ rest → line_pieces (length stream) (all ++ more) ≡ map ended_piece all ++ line_pieces (length rest) more
+pieces_on all more stream rest e = pieces_counted all more (length stream) (length rest) (ap length e ∙ length-append (concat_pieces lines.ended all) rest)
 
-pub pieces_ended : (all : List (List ℕ)) (stream rest : List ℕ) → stream ≡ joined lines.ended all ++ rest → line_pieces (length stream) all ≡ map ended_piece all
+pub pieces_ended : (all : List (List ℕ)) (stream rest : List ℕ) → stream ≡ concat_pieces lines.ended all ++ rest → line_pieces (length stream) all ≡ map ended_piece all
 pieces_ended all stream rest e = ap (line_pieces (length stream)) (sym (append-nil all)) ∙ pieces_on all [] stream rest e ∙ append-nil (map ended_piece all)
 
 -- ---- pieces at the front are the first ones
 
 pub begins_first : (reading : Reading) (ahead : Ahead) (stream : List ℕ) (xs ys : List Piece) (rest : List ℕ) (end : PieceEnd) → Begins reading ahead stream xs rest → Splits reading stream ys end → (tail : List Piece) × (ys ≡ xs ++ tail)
 begins_first (Frames limits) ahead stream xs ys rest end h k =
-    let front = taken_front stream (joined frame_of h.0) rest limits.input h.1.whole h.2 in
+    let front = taken_front stream (concat_pieces frame_of h.0) rest limits.input h.1.whole h.2 in
     let found = leads_first (IsFrame limits.frame) frame_of (first_item limits.frame) (frame_complete limits.frame) h.0 k.0 (take limits.input stream) _ k.2.rest front h.1.each k.2.pieces in
     (map Frame found.0, k.3 ∙ ap (map Frame) found.1 ∙ map_more Frame h.0 found.0 ∙ ap (λ z. z ++ map Frame found.0) (sym h.3))
 begins_first (Lines input) ahead stream xs ys rest end h k =
-    let front = taken_front stream (joined lines.ended h.0) rest input h.1.whole h.2 in
+    let front = taken_front stream (concat_pieces lines.ended h.0) rest input h.1.whole h.2 in
     let last = lines.last_of (nat_lt input (length stream)) k.2.rest in
     let found = leads_first IsLine lines.ended first_line line_complete h.0 k.2.before (take input stream) _ k.2.rest front h.1.each k.2.pieces in (
       line_pieces (length rest) (found.0 ++ last.0),
@@ -152,24 +152,24 @@ begins_none Once stream = (inl refl, refl)
 begins_none Nothing stream = (refl, refl)
 begins_none (Others reading laws input) stream = laws.none input stream
 
-frames_bytes : (items : List Item) → joined piece_bytes (map Frame items) ≡ joined frame_of items
+frames_bytes : (items : List Item) → concat_pieces piece_bytes (map Frame items) ≡ concat_pieces frame_of items
 frames_bytes [] = refl
 frames_bytes (item ∷ items) = ap (λ r. frame_of item ++ r) (frames_bytes items)
 
-lines_bytes : (all : List (List ℕ)) → joined piece_bytes (map ended_piece all) ≡ joined lines.ended all
+lines_bytes : (all : List (List ℕ)) → concat_pieces piece_bytes (map ended_piece all) ≡ concat_pieces lines.ended all
 lines_bytes [] = refl
 lines_bytes (line ∷ all) = ap (λ r. lines.ended line ++ r) (lines_bytes all)
 
 -- so many bytes and pieces are counted
 pub record Counts (kept : Kept) (pieces : List Piece) : Type 0 where
   pub items : kept.items ≡ length pieces
-  pub bytes : kept.bytes ≡ length (joined piece_bytes pieces)
+  pub bytes : kept.bytes ≡ length (concat_pieces piece_bytes pieces)
 
-frames_counted : (kept : Kept) (pieces : List Piece) (items : List Item) → Counts kept pieces → pieces ≡ map Frame items → kept.bytes ≡ length (joined frame_of items)
-frames_counted kept pieces items c e = c.bytes ∙ ap (λ ps. length (joined piece_bytes ps)) e ∙ ap length (frames_bytes items)
+frames_counted : (kept : Kept) (pieces : List Piece) (items : List Item) → Counts kept pieces → pieces ≡ map Frame items → kept.bytes ≡ length (concat_pieces frame_of items)
+frames_counted kept pieces items c e = c.bytes ∙ ap (λ ps. length (concat_pieces piece_bytes ps)) e ∙ ap length (frames_bytes items)
 
-lines_counted : (kept : Kept) (pieces : List Piece) (all : List (List ℕ)) → Counts kept pieces → pieces ≡ map ended_piece all → kept.bytes ≡ length (joined lines.ended all)
-lines_counted kept pieces all c e = c.bytes ∙ ap (λ ps. length (joined piece_bytes ps)) e ∙ ap length (lines_bytes all)
+lines_counted : (kept : Kept) (pieces : List Piece) (all : List (List ℕ)) → Counts kept pieces → pieces ≡ map ended_piece all → kept.bytes ≡ length (concat_pieces lines.ended all)
+lines_counted kept pieces all c e = c.bytes ∙ ap (λ ps. length (concat_pieces piece_bytes ps)) e ∙ ap length (lines_bytes all)
 
 no_more : {x : Piece} {xs : List Piece} → ◌≡◌ {A = List Piece} [] (x ∷ xs) → ⊥
 no_more h = cc
@@ -210,17 +210,17 @@ once_left : (kept : Kept) (pieces : List Piece) → Counts kept pieces → piece
 once_left kept pieces c e = once_none kept (c.items ∙ ap length e)
 
 pub begins_more : (reading : Reading) (kept : Kept) (ahead next : Ahead) (stream mid rest : List ℕ) (xs ys : List Piece) → Counts kept xs → Begins reading ahead stream xs mid → Begins (reading_after reading kept) next mid ys rest →
-    Keeps reading ahead.held (joined piece_bytes ys ++ next.held) → (ahead.is_all ≡ true → next.is_all ≡ true) → Begins reading next stream (xs ++ ys) rest
+    Keeps reading ahead.held (concat_pieces piece_bytes ys ++ next.held) → (ahead.is_all ≡ true → next.is_all ≡ true) → Begins reading next stream (xs ++ ys) rest
 begins_more (Frames limits) kept ahead next stream mid rest xs ys c h k keeps stays = (
   h.0 ++ k.0,
   leads_on (IsFrame limits.frame) frame_of stream mid rest h.0 k.0 h.1 k.1,
-  omega (arith, ap length (joined_more (IsFrame limits.frame) frame_of h.0 k.0), length-append (joined frame_of h.0) (joined frame_of k.0), h.2, k.2, frames_counted kept xs h.0 c h.3),
+  omega (arith, ap length (joined_more (IsFrame limits.frame) frame_of h.0 k.0), length-append (concat_pieces frame_of h.0) (concat_pieces frame_of k.0), h.2, k.2, frames_counted kept xs h.0 c h.3),
   ap (λ z. z ++ ys) h.3 ∙ ap (λ z. map Frame h.0 ++ z) k.3 ∙ sym (map_more Frame h.0 k.0),
 )
 begins_more (Lines input) kept ahead next stream mid rest xs ys c h k keeps stays = (
   h.0 ++ k.0,
   leads_on IsLine lines.ended stream mid rest h.0 k.0 h.1 k.1,
-  omega (arith, ap length (joined_more IsLine lines.ended h.0 k.0), length-append (joined lines.ended h.0) (joined lines.ended k.0), h.2, k.2, lines_counted kept xs h.0 c h.3),
+  omega (arith, ap length (joined_more IsLine lines.ended h.0 k.0), length-append (concat_pieces lines.ended h.0) (concat_pieces lines.ended k.0), h.2, k.2, lines_counted kept xs h.0 c h.3),
   ap (λ z. z ++ ys) h.3 ∙ ap (λ z. map ended_piece h.0 ++ z) k.3 ∙ sym (map_more ended_piece h.0 k.0),
 )
 begins_more Once kept ahead next stream mid rest xs ys c h k keeps stays = elim h.0 [
@@ -238,34 +238,34 @@ begins_more (Others reading laws input) kept ahead next stream mid rest xs ys c 
 -- ---- an end after pieces is the end of all
 
 cuts_on : (items more : List Item) (rest : List ℕ) (limit n : ℕ) (end : CutEnd) → AllByRecursion (IsFrame limit) items → Cut rest limit n more end →
-    Cut (joined frame_of items ++ rest) limit (length (joined frame_of items) + n) (items ++ more) end
+    Cut (concat_pieces frame_of items ++ rest) limit (length (concat_pieces frame_of items) + n) (items ++ more) end
 cuts_on [] more rest limit n end all cut = let same : n ≡ 0 + n = omega arith in subst (λ k. Cut rest limit k more end) same cut
 cuts_on (x ∷ items) after_all rest limit n end all cut =
     let later = cuts_on items after_all rest limit n end all.1 cut in
-    let more = cut_more (joined frame_of items ++ rest) limit (length (joined frame_of items) + n) x (items ++ after_all) end all.0 later in
-    let size : length (frame_of x) + (length (joined frame_of items) + n) ≡ length (frame_of x ++ joined frame_of items) + n = omega (arith, length-append (frame_of x) (joined frame_of items)) in
-    subst (λ s. Cut s limit (length (frame_of x ++ joined frame_of items) + n) (x ∷ (items ++ after_all)) end) (sym (append_assoc (frame_of x) (joined frame_of items) rest))
-    (subst (λ k. Cut (frame_of x ++ (joined frame_of items ++ rest)) limit k (x ∷ (items ++ after_all)) end) size more)
+    let more = cut_more (concat_pieces frame_of items ++ rest) limit (length (concat_pieces frame_of items) + n) x (items ++ after_all) end all.0 later in
+    let size : length (frame_of x) + (length (concat_pieces frame_of items) + n) ≡ length (frame_of x ++ concat_pieces frame_of items) + n = omega (arith, length-append (frame_of x) (concat_pieces frame_of items)) in
+    subst (λ s. Cut s limit (length (frame_of x ++ concat_pieces frame_of items) + n) (x ∷ (items ++ after_all)) end) (sym (append_assoc (frame_of x) (concat_pieces frame_of items) rest))
+    (subst (λ k. Cut (frame_of x ++ (concat_pieces frame_of items ++ rest)) limit k (x ∷ (items ++ after_all)) end) size more)
 
 cut_items : (items : List Item) (rest : List ℕ) (limit n : ℕ) (end : CutEnd) → AllByRecursion (IsFrame limit) items → Cut rest limit n [] end →
-    Cut (joined frame_of items ++ rest) limit (length (joined frame_of items) + n) items end
+    Cut (concat_pieces frame_of items ++ rest) limit (length (concat_pieces frame_of items) + n) items end
 cut_items [] rest limit n end all cut = let same : n ≡ 0 + n = omega arith in subst (λ k. Cut rest limit k [] end) same cut
 cut_items (x ∷ items) rest limit n end all cut =
     let later = cut_items items rest limit n end all.1 cut in
-    let more = cut_more (joined frame_of items ++ rest) limit (length (joined frame_of items) + n) x items end all.0 later in
-    let size : length (frame_of x) + (length (joined frame_of items) + n) ≡ length (frame_of x ++ joined frame_of items) + n = omega (arith, length-append (frame_of x) (joined frame_of items)) in
-    subst (λ s. Cut s limit (length (frame_of x ++ joined frame_of items) + n) (x ∷ items) end) (sym (append_assoc (frame_of x) (joined frame_of items) rest))
-    (subst (λ k. Cut (frame_of x ++ (joined frame_of items ++ rest)) limit k (x ∷ items) end) size more)
+    let more = cut_more (concat_pieces frame_of items ++ rest) limit (length (concat_pieces frame_of items) + n) x items end all.0 later in
+    let size : length (frame_of x) + (length (concat_pieces frame_of items) + n) ≡ length (frame_of x ++ concat_pieces frame_of items) + n = omega (arith, length-append (frame_of x) (concat_pieces frame_of items)) in
+    subst (λ s. Cut s limit (length (frame_of x ++ concat_pieces frame_of items) + n) (x ∷ items) end) (sym (append_assoc (frame_of x) (concat_pieces frame_of items) rest))
+    (subst (λ k. Cut (frame_of x ++ (concat_pieces frame_of items ++ rest)) limit k (x ∷ items) end) size more)
 
 lines_items : (all more : List (List ℕ)) (rest : List ℕ) (n : ℕ) (end : LineEnd) → AllByRecursion IsLine all → lines.Lines rest n more end →
-    lines.Lines (joined lines.ended all ++ rest) (length (joined lines.ended all) + n) (all ++ more) end
+    lines.Lines (concat_pieces lines.ended all ++ rest) (length (concat_pieces lines.ended all) + n) (all ++ more) end
 lines_items [] more rest n end good cut = let same : n ≡ 0 + n = omega arith in subst (λ k. lines.Lines rest k more end) same cut
 lines_items (x ∷ all) after_all rest n end good cut =
     let later = lines_items all after_all rest n end good.1 cut in
-    let more = lines_more (joined lines.ended all ++ rest) (length (joined lines.ended all) + n) x (all ++ after_all) end good.0 later in
-    let size : length (lines.ended x) + (length (joined lines.ended all) + n) ≡ length (lines.ended x ++ joined lines.ended all) + n = omega (arith, length-append (lines.ended x) (joined lines.ended all)) in
-    subst (λ s. lines.Lines s (length (lines.ended x ++ joined lines.ended all) + n) (x ∷ (all ++ after_all)) end) (sym (append_assoc (lines.ended x) (joined lines.ended all) rest))
-    (subst (λ k. lines.Lines (lines.ended x ++ (joined lines.ended all ++ rest)) k (x ∷ (all ++ after_all)) end) size more)
+    let more = lines_more (concat_pieces lines.ended all ++ rest) (length (concat_pieces lines.ended all) + n) x (all ++ after_all) end good.0 later in
+    let size : length (lines.ended x) + (length (concat_pieces lines.ended all) + n) ≡ length (lines.ended x ++ concat_pieces lines.ended all) + n = omega (arith, length-append (lines.ended x) (concat_pieces lines.ended all)) in
+    subst (λ s. lines.Lines s (length (lines.ended x ++ concat_pieces lines.ended all) + n) (x ∷ (all ++ after_all)) end) (sym (append_assoc (lines.ended x) (concat_pieces lines.ended all) rest))
+    (subst (λ k. lines.Lines (lines.ended x ++ (concat_pieces lines.ended all ++ rest)) k (x ∷ (all ++ after_all)) end) size more)
 
 -- what maps to nothing is nothing
 none_mapped : {X : Type 0} (f : X → Piece) (xs : List X) → [] ≡ map f xs → xs ≡ []
@@ -279,20 +279,20 @@ no_lines count (x ∷ all) e = absurd (no_more e)
 
 -- the lines of the rest follow those at the front
 lines_on : (input : ℕ) (kept : Kept) (stream rest : List ℕ) (xs : List Piece) (all more : List (List ℕ)) (end : LineEnd) → Counts kept xs →
-    Leads IsLine lines.ended stream all rest × (length (joined lines.ended all) ≤ input) × (xs ≡ map ended_piece all) → lines.Lines rest (input - kept.bytes) more end → lines.Lines stream input (all ++ more) end
+    Leads IsLine lines.ended stream all rest × (length (concat_pieces lines.ended all) ≤ input) × (xs ≡ map ended_piece all) → lines.Lines rest (input - kept.bytes) more end → lines.Lines stream input (all ++ more) end
 lines_on input kept stream rest xs all more end c h cut =
-    let size : length (joined lines.ended all) + (input - kept.bytes) ≡ input = omega (arith, h.1, lines_counted kept xs all c h.2) in
+    let size : length (concat_pieces lines.ended all) + (input - kept.bytes) ≡ input = omega (arith, h.1, lines_counted kept xs all c h.2) in
     let found = lines_items all more rest (input - kept.bytes) end h.0.each cut in
-    subst (λ s. lines.Lines s input (all ++ more) end) (sym h.0.whole) (subst (λ n. lines.Lines (joined lines.ended all ++ rest) n (all ++ more) end) size found)
+    subst (λ s. lines.Lines s input (all ++ more) end) (sym h.0.whole) (subst (λ n. lines.Lines (concat_pieces lines.ended all ++ rest) n (all ++ more) end) size found)
 
 pub splits_after : (reading : Reading) (kept : Kept) (ahead : Ahead) (stream rest : List ℕ) (xs : List Piece) (end : PieceEnd) → Counts kept xs → Begins reading ahead stream xs rest → Splits (reading_after reading kept) rest [] end → Splits reading stream xs end
 splits_after (Frames limits) kept ahead stream rest xs end c h k =
-    let size : length (joined frame_of h.0) + (limits.input - kept.bytes) ≡ limits.input = omega (arith, h.2, frames_counted kept xs h.0 c h.3) in
+    let size : length (concat_pieces frame_of h.0) + (limits.input - kept.bytes) ≡ limits.input = omega (arith, h.2, frames_counted kept xs h.0 c h.3) in
     let none : Cut rest limits.frame (limits.input - kept.bytes) [] k.1 = subst (λ (items : List Item). Cut rest limits.frame (limits.input - kept.bytes) items k.1) (none_mapped Frame k.0 k.3) k.2 in
     let all = cut_items h.0 rest limits.frame (limits.input - kept.bytes) k.1 h.1.each none in (
       h.0,
       k.1,
-      subst (λ s. Cut s limits.frame limits.input h.0 k.1) (sym h.1.whole) (subst (λ n. Cut (joined frame_of h.0 ++ rest) limits.frame n h.0 k.1) size all),
+      subst (λ s. Cut s limits.frame limits.input h.0 k.1) (sym h.1.whole) (subst (λ n. Cut (concat_pieces frame_of h.0 ++ rest) limits.frame n h.0 k.1) size all),
       h.3,
       k.4,
     )
@@ -312,20 +312,20 @@ splits_after (Others reading laws input) kept ahead stream rest xs end c h k =
 
 pub holds_after : (reading : Reading) (kept : Kept) (ahead : Ahead) (stream held left : List ℕ) (xs : List Piece) → Counts kept xs → Begins reading ahead stream xs (held ++ left) → Keeps reading ahead.held held → ahead.is_all ≡ false →
     Holds (reading_after reading kept) held [] →
-    Holds reading (joined piece_bytes xs ++ held) xs × (stream ≡ (joined piece_bytes xs ++ held) ++ left)
+    Holds reading (concat_pieces piece_bytes xs ++ held) xs × (stream ≡ (concat_pieces piece_bytes xs ++ held) ++ left)
 holds_after (Frames limits) kept ahead stream held left xs c h keeps reads k =
-    let bytes : joined piece_bytes xs ≡ joined frame_of h.0 = ap (joined piece_bytes) h.3 ∙ frames_bytes h.0 in
+    let bytes : concat_pieces piece_bytes xs ≡ concat_pieces frame_of h.0 = ap (concat_pieces piece_bytes) h.3 ∙ frames_bytes h.0 in
     let none : [] ≡ k.0 = sym (none_mapped Frame k.0 k.3) in
-    let rest : held ≡ k.1 = k.2.whole ∙ ap (λ (items : List Item). joined frame_of items ++ k.1) (sym none) in (
+    let rest : held ≡ k.1 = k.2.whole ∙ ap (λ (items : List Item). concat_pieces frame_of items ++ k.1) (sym none) in (
       (h.0, held, record { whole = ap (λ b. b ++ held) bytes; each = h.1.each; longest = λ x more is e. k.2.longest x more is (sym rest ∙ e) }, h.3),
-      h.1.whole ∙ ap (λ b. b ++ (held ++ left)) (sym bytes) ∙ sym (append_assoc (joined piece_bytes xs) held left),
+      h.1.whole ∙ ap (λ b. b ++ (held ++ left)) (sym bytes) ∙ sym (append_assoc (concat_pieces piece_bytes xs) held left),
     )
 holds_after (Lines input) kept ahead stream held left xs c h keeps reads k =
-    let bytes : joined piece_bytes xs ≡ joined lines.ended h.0 = ap (joined piece_bytes) h.3 ∙ lines_bytes h.0 in
+    let bytes : concat_pieces piece_bytes xs ≡ concat_pieces lines.ended h.0 = ap (concat_pieces piece_bytes) h.3 ∙ lines_bytes h.0 in
     let none : [] ≡ k.0 = sym (none_mapped ended_piece k.0 k.3) in
-    let rest : held ≡ k.1 = k.2.whole ∙ ap (λ (all : List (List ℕ)). joined lines.ended all ++ k.1) (sym none) in (
+    let rest : held ≡ k.1 = k.2.whole ∙ ap (λ (all : List (List ℕ)). concat_pieces lines.ended all ++ k.1) (sym none) in (
       (h.0, held, record { whole = ap (λ b. b ++ held) bytes; each = h.1.each; longest = λ x more is e. k.2.longest x more is (sym rest ∙ e) }, h.3),
-      h.1.whole ∙ ap (λ b. b ++ (held ++ left)) (sym bytes) ∙ sym (append_assoc (joined piece_bytes xs) held left),
+      h.1.whole ∙ ap (λ b. b ++ (held ++ left)) (sym bytes) ∙ sym (append_assoc (concat_pieces piece_bytes xs) held left),
     )
 holds_after Once kept ahead stream held left xs c h keeps reads k = by (kept.items == 0) k
   where
@@ -340,11 +340,11 @@ holds_after (Others reading laws input) kept ahead stream held left xs c h keeps
 -- all pieces of the rest follow those at the front
 splits_more : (reading : Reading) (kept : Kept) (ahead : Ahead) (stream rest : List ℕ) (xs ys : List Piece) (end : PieceEnd) → Counts kept xs → Begins reading ahead stream xs rest → Splits (reading_after reading kept) rest ys end → Splits reading stream (xs ++ ys) end
 splits_more (Frames limits) kept ahead stream rest xs ys end c h k =
-    let size : length (joined frame_of h.0) + (limits.input - kept.bytes) ≡ limits.input = omega (arith, h.2, frames_counted kept xs h.0 c h.3) in
+    let size : length (concat_pieces frame_of h.0) + (limits.input - kept.bytes) ≡ limits.input = omega (arith, h.2, frames_counted kept xs h.0 c h.3) in
     let all = cuts_on h.0 k.0 rest limits.frame (limits.input - kept.bytes) k.1 h.1.each k.2 in (
       h.0 ++ k.0,
       k.1,
-      subst (λ s. Cut s limits.frame limits.input (h.0 ++ k.0) k.1) (sym h.1.whole) (subst (λ n. Cut (joined frame_of h.0 ++ rest) limits.frame n (h.0 ++ k.0) k.1) size all),
+      subst (λ s. Cut s limits.frame limits.input (h.0 ++ k.0) k.1) (sym h.1.whole) (subst (λ n. Cut (concat_pieces frame_of h.0 ++ rest) limits.frame n (h.0 ++ k.0) k.1) size all),
       ap (λ z. z ++ ys) h.3 ∙ ap (λ z. map Frame h.0 ++ z) k.3 ∙ sym (map_more Frame h.0 k.0),
       k.4,
     )
@@ -364,12 +364,12 @@ splits_more (Others reading laws input) kept ahead stream rest xs ys end c h k =
 
 -- pieces follow those that an input begins with
 pub reaches_more : (met : Bool) (reading : Reading) (kept : Kept) (ahead next : Ahead) (stream mid rest : List ℕ) (xs ys : List Piece) → Counts kept xs → Begins reading ahead stream xs mid →
-    ReachesIf met next (reading_after reading kept) mid ys rest → Keeps reading ahead.held (joined piece_bytes ys ++ next.held) → (ahead.is_all ≡ true → next.is_all ≡ true) → ReachesIf met next reading stream (xs ++ ys) rest
+    ReachesIf met next (reading_after reading kept) mid ys rest → Keeps reading ahead.held (concat_pieces piece_bytes ys ++ next.held) → (ahead.is_all ≡ true → next.is_all ≡ true) → ReachesIf met next reading stream (xs ++ ys) rest
 reaches_more false reading kept ahead next stream mid rest xs ys c h k keeps stays = begins_more reading kept ahead next stream mid rest xs ys c h k keeps stays
 reaches_more true reading kept ahead next stream mid rest xs ys c h k keeps stays = (splits_more reading kept ahead stream mid xs ys End c h k.0, k.1)
 
 -- what is in a piece is in the bytes of that one piece
-pub keeps_one : (reading : Reading) (seen : List ℕ) (piece : Piece) (held : List ℕ) → Keeps reading seen (piece_bytes piece ++ held) → Keeps reading seen (joined piece_bytes (piece ∷ []) ++ held)
+pub keeps_one : (reading : Reading) (seen : List ℕ) (piece : Piece) (held : List ℕ) → Keeps reading seen (piece_bytes piece ++ held) → Keeps reading seen (concat_pieces piece_bytes (piece ∷ []) ++ held)
 keeps_one reading seen piece held h = subst (λ b. Keeps reading seen (b ++ held)) (sym (append-nil (piece_bytes piece))) h
 
 -- what an input reaches is the first of its pieces
@@ -391,12 +391,12 @@ none_below n = grind (arith, nat_tests)
 -- nothing ends with nothing left
 cut_of_none : (limit n : ℕ) (items : List Item) (end : CutEnd) → Cut [] limit n items end → end ≡ frames.End
 cut_of_none limit n items end h =
-    let rest : h.rest ≡ [] = rest_none (joined frame_of items) h.rest (sym (taken_none n) ∙ h.pieces.whole) in
+    let rest : h.rest ≡ [] = rest_none (concat_pieces frame_of items) h.rest (sym (taken_none n) ∙ h.pieces.whole) in
     h.ends ∙ ap (λ r. frames.end_of limit (nat_lt n 0) r) rest ∙ ap (λ t. frames.end_of limit t []) (none_below n)
 
 lines_of_none : (n : ℕ) (all : List (List ℕ)) (end : LineEnd) → lines.Lines [] n all end → end ≡ lines.End
 lines_of_none n all end h =
-    let rest : h.rest ≡ [] = rest_none (joined lines.ended h.before) h.rest (sym (taken_none n) ∙ h.pieces.whole) in
+    let rest : h.rest ≡ [] = rest_none (concat_pieces lines.ended h.before) h.rest (sym (taken_none n) ∙ h.pieces.whole) in
     h.ends ∙ ap (λ r. (lines.last_of (nat_lt n 0) r).1) rest ∙ ap (λ t. (lines.last_of t []).1) (none_below n)
 
 -- where the end was met, nothing else can be

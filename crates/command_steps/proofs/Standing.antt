@@ -6,7 +6,7 @@ use Rattle.sbe_base.proofs.Known.{appends_more}
 use Rattle.sbe_base.specs.Causes.{AppendsPart}
 use Rattle.sbe_base.specs.declared.status.Status.{Status}
 use Rattle.sbe_base.specs.declared.status.Status.TheVariants as status
-use Rattle.open_framing.specs.Pieces.{joined}
+use Rattle.open_framing.specs.Pieces.{concat_pieces}
 use Rattle.command_steps.specs.Splits.{Reading, Piece, PieceEnd, piece_bytes, Begins, Splits, Holds}
 use Rattle.command_steps.specs.Ahead.{Ahead}
 use Rattle.command_steps.specs.Reaches.{ReachesIf, Reaches}
@@ -14,7 +14,7 @@ use Rattle.replies.specs.Reply.{Written, Reply, written_of, then_written}
 use Rattle.command_steps.specs.Replies.{Answering, none_kept, counted, Replies}
 use Rattle.command_steps.specs.Ends.{Outcome, end_notes, closed, PiecesReport, stop_line}
 use Rattle.sbe_base.specs.Objects.{Object}
-use Rattle.replies.specs.Outside.{Streams, Wrote, Breaks, at_output, at_notes, Told, noted, failed}
+use Rattle.replies.specs.Outside.{Streams, Wrote, Breaks, at_output, at_notes, NotesLine, noted, failed}
 use Rattle.command_steps.specs.Steps.{Moment, reading_after, IsReported, Ends, Stalls, Fails, Progress}
 use Rattle.command_steps.specs.declared.kept.Kept.{Kept}
 use Rattle.command_steps.specs.declared.end.Stop.TheVariants as stop
@@ -44,14 +44,14 @@ consumed old new input left taken h k e = subst (λ o. Consumes o new taken) (sy
 
 -- ---- what a line did
 
-pub reported_told : (line : List ℕ) (last : Status) (old new : Object (List ℕ)) (code : Status) → Told line last old new code → IsReported code → (code ≡ last) × Appends old.told new.told line × (new.faults ≡ old.faults)
+pub reported_told : (line : List ℕ) (last : Status) (old new : Object (List ℕ)) (code : Status) → NotesLine line last old new code → IsReported code → (code ≡ last) × Appends old.told new.told line × (new.faults ≡ old.faults)
 reported_told line last old new code told r = elim told [
   | noted c a k ↦ (c, a, k)
   | failed c p f ↦ absurd (subst IsReported c r)
 ]
 
 -- it is noted in part at the least
-pub told_part : (line : List ℕ) (last : Status) (old new : Object (List ℕ)) (code : Status) → Told line last old new code → AppendsPart old.told new.told line
+pub told_part : (line : List ℕ) (last : Status) (old new : Object (List ℕ)) (code : Status) → NotesLine line last old new code → AppendsPart old.told new.told line
 told_part line last old new code told = elim told [
   | noted c a k ↦ whole_part old.told new.told line a
   | failed c p f ↦ p
@@ -127,7 +127,7 @@ module _ (on : Answering) (pump : Moment) (old mid new : Streams) (input : List 
   -- the input failed: all whole pieces of what it gave are answered
   module _ (stalls : Stalls on pump mid new progress.left code) where
     abbrev pub given : List ℕ
-    given = joined piece_bytes progress.pieces ++ stalls.held
+    given = concat_pieces piece_bytes progress.pieces ++ stalls.held
 
     begun : Begins on.reading pump.ahead input progress.pieces (stalls.held ++ stalls.left)
     begun = subst (Begins on.reading pump.ahead input progress.pieces) stalls.taken (subst (λ b. ReachesIf b pump.ahead on.reading input progress.pieces progress.left) stalls.unmet progress.begins)
@@ -144,11 +144,11 @@ module _ (on : Answering) (pump : Moment) (old mid new : Streams) (input : List 
     same_line : stop_line (stop.ReadFault (kept.bytes + length stalls.held)) ≡ read_line given
     same_line =
         let counted_so = counts on kept progress.pieces progress.written progress.replies in
-        let size : kept.bytes + length stalls.held ≡ length given = omega (arith, counted_so.bytes, length-append (joined piece_bytes progress.pieces) stalls.held) in
+        let size : kept.bytes + length stalls.held ≡ length given = omega (arith, counted_so.bytes, length-append (concat_pieces piece_bytes progress.pieces) stalls.held) in
         ap (λ n. stop_line (stop.ReadFault n)) size
 
-    pub line_told : Told (read_line given) status.ReadFault mid.sinks.notes new.sinks.notes code
-    line_told = subst (λ l. Told l status.ReadFault mid.sinks.notes new.sinks.notes code) same_line stalls.noted
+    pub line_told : NotesLine (read_line given) status.ReadFault mid.sinks.notes new.sinks.notes code
+    line_told = subst (λ l. NotesLine l status.ReadFault mid.sinks.notes new.sinks.notes code) same_line stalls.noted
 
     pub answers_written : Appends old.sinks.output.told new.sinks.output.told progress.written.output
     answers_written = appends_same old.sinks.output.told mid.sinks.output new.sinks.output progress.written.output progress.wrote.output stalls.output

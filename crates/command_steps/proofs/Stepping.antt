@@ -10,7 +10,7 @@ use Rattle.open_framing.specs.declared.head.Head.{Head}
 use Rattle.open_framing.specs.declared.head.HeadErr.{HeadErr}
 use Rattle.open_framing.specs.declared.head.HeadErr.TheVariants as head
 use Rattle.open_framing.specs.Heads.{head_of}
-use Rattle.open_framing.specs.Pieces.{joined}
+use Rattle.open_framing.specs.Pieces.{concat_pieces}
 use Rattle.open_framing.specs.Frames.{Item, frame_of, IsFrame, first_item, Cut, CutEnd, end_by}
 use Rattle.open_framing.specs.Frames as frames
 use Rattle.open_framing.proofs.FrameLemmas.{frame_complete}
@@ -20,13 +20,13 @@ use Rattle.frame_stream.specs.declared.stream.Taken.{Taken}
 use Rattle.frame_stream.specs.declared.stream.Taken.TheVariants as taken
 use Rattle.frame_stream.specs.declared.stream.StreamErr.{StreamErr}
 use Rattle.frame_stream.specs.declared.stream.StreamErr.TheVariants as err
-use Rattle.frame_stream.specs.Stream.{StreamState, room, told_by, Takes, TakesFrom, TakesBy, BodyOf}
+use Rattle.frame_stream.specs.Stream.{StreamState, room, end_answer, Takes, TakesFrom, TakesBy, BodyOf}
 use Rattle.command_steps.specs.Splits.{Reading, Frames, Frame, PieceEnd, End, EndInside, HeadFault, InputLimit, frames_end, Splits, Begins, Holds}
 use Rattle.replies.specs.Reply.{Reply, written_of}
 use Rattle.command_steps.specs.Replies.{Answering, by_frames, refusals, translations, HasParts, counted, counted_by}
 use Rattle.command_steps.specs.Ends.{end_notes, end_status, stop_line}
 use Rattle.sbe_base.specs.Objects.{Failed}
-use Rattle.replies.specs.Outside.{Streams, Wrote, Calm, Told}
+use Rattle.replies.specs.Outside.{Streams, Wrote, Calm, NotesLine}
 use Rattle.command_steps.specs.Steps.{Moment, running, Goes, Fails, Halts, ended_at, stalled_at}
 use Rattle.command_steps.specs.Stands.{IsBounded, Stands, CanCount}
 use Rattle.replies.specs.declared.verdict.Verdict.{Verdict}
@@ -77,7 +77,7 @@ same_end (ended.Inside n) = refl
 same_end (ended.Head e) = refl
 same_end ended.Over = refl
 
-cut_told : (stream left : List ℕ) (old new : StreamState) (e : Ended) → TakesBy stream old new left (told_by e) → Cut stream old.frame (room old) [] (cut_end e)
+cut_told : (stream left : List ℕ) (old new : StreamState) (e : Ended) → TakesBy stream old new left (end_answer e) → Cut stream old.frame (room old) [] (cut_end e)
 cut_told stream left old new ended.End h = h.0
 cut_told stream left old new (ended.Inside n) h = h.0
 cut_told stream left old new (ended.Head e) h = h.0
@@ -122,7 +122,7 @@ module _ (limits : Limits) (spares : Bool) (last_line : Kept → List ℕ) (IsAn
     module _ (before after : Streams) (code : Status) where
       -- ---- the end
 
-      split : (input left : List ℕ) (e : Ended) → TakesBy input st st' left (told_by e) → Splits on input [] (piece_end e)
+      split : (input left : List ℕ) (e : Ended) → TakesBy input st st' left (end_answer e) → Splits on input [] (piece_end e)
       split input left e h = (
         [],
         cut_end e,
@@ -131,7 +131,7 @@ module _ (limits : Limits) (spares : Bool) (last_line : Kept → List ℕ) (IsAn
         same_end e,
       )
 
-      nothing_left : (input left : List ℕ) (e : Ended) → Takes st st' before.input.told after.input.told (told_by e) → after.input.told ≡ Some left → TakesBy input st st' left (told_by e) → piece_end e ≡ End → after.input.told ≡ Some []
+      nothing_left : (input left : List ℕ) (e : Ended) → Takes st st' before.input.told after.input.told (end_answer e) → after.input.told ≡ Some left → TakesBy input st st' left (end_answer e) → piece_end e ≡ End → after.input.told ≡ Some []
       nothing_left input left ended.End takes source h is =
           let none : input ≡ [] = cut_ended input st.frame (room st) h.0 in
           let same : input ≡ left = h.1 ∙ ap (λ x. x ++ left) takes.held in
@@ -140,11 +140,11 @@ module _ (limits : Limits) (spares : Bool) (last_line : Kept → List ℕ) (IsAn
       nothing_left input left (ended.Head e) takes source h is = cc
       nothing_left input left ended.Over takes source h is = cc
 
-      pub ends : (e : Ended) (input : List ℕ) → Takes st st' before.input.told after.input.told (told_by e) → after.sinks.output ≡ before.sinks.output →
-          Told (end_notes answering (piece_end e) kept) (end_status (piece_end e) kept.refused) before.sinks.notes after.sinks.notes code →
+      pub ends : (e : Ended) (input : List ℕ) → Takes st st' before.input.told after.input.told (end_answer e) → after.sinks.output ≡ before.sinks.output →
+          NotesLine (end_notes answering (piece_end e) kept) (end_status (piece_end e) kept.refused) before.sinks.notes after.sinks.notes code →
           before.input.told ≡ Some input → Halts answering pump before after input code
       ends e input takes same told source =
-          let h = took st st' before.input.told after.input.told (told_by e) input stands.held takes.from source in
+          let h = took st st' before.input.told after.input.told (end_answer e) input stands.held takes.from source in
           ended_at (record { end = piece_end e; split = split input h.0 e h.2; left = λ read. nothing_left input h.0 e takes h.1 h.2; output = same; noted = told })
 
       -- ---- a fault of the input
@@ -156,7 +156,7 @@ module _ (limits : Limits) (spares : Bool) (last_line : Kept → List ℕ) (IsAn
       part_held held none = ([], held, record { whole = refl; each = tt; longest = no_frame limits.frame held none }, refl)
 
       pub stalls_at : (input : List ℕ) → Takes st st' before.input.told after.input.told (Err err.ReadFault) → first_item st'.frame st'.held ≡ None → Failed before.input after.input → after.sinks.output ≡ before.sinks.output →
-          Told (stop_line (stop.ReadFault st'.taken)) status.ReadFault before.sinks.notes after.sinks.notes code → before.input.told ≡ Some input → Halts answering pump before after input code
+          NotesLine (stop_line (stop.ReadFault st'.taken)) status.ReadFault before.sinks.notes after.sinks.notes code → before.input.told ≡ Some input → Halts answering pump before after input code
       stalls_at input takes none fault same told source =
           let h = took st st' before.input.told after.input.told (Err err.ReadFault) input stands.held takes.from source in
           let at : st'.taken ≡ kept.bytes + length st'.held = omega (arith, stands.room, stands.input, takes.falls, takes.input, takes.within) in
@@ -171,7 +171,7 @@ module _ (limits : Limits) (spares : Bool) (last_line : Kept → List ℕ) (IsAn
             part = part_held st'.held (subst (λ n. first_item n st'.held ≡ None) (takes.frame ∙ stands.frame) none);
             fault = fault;
             output = same;
-            noted = subst (λ n. Told (stop_line (stop.ReadFault n)) status.ReadFault before.sinks.notes after.sinks.notes code) at told;
+            noted = subst (λ n. NotesLine (stop_line (stop.ReadFault n)) status.ReadFault before.sinks.notes after.sinks.notes code) at told;
           })
 
       -- ---- a frame
@@ -193,7 +193,7 @@ module _ (limits : Limits) (spares : Bool) (last_line : Kept → List ℕ) (IsAn
         begins input left by_frame =
             let is : IsFrame limits.frame item = subst (λ n. IsFrame n item) stands.frame (subst (IsFrame st.frame) by_frame.4 by_frame.1) in
             let whole : input ≡ frame_of item ++ left = by_frame.3 ∙ ap (λ i. frame_of i ++ left) by_frame.4 in
-            let one : joined frame_of (item ∷ []) ≡ frame_of item = append-nil (frame_of item) in (
+            let one : concat_pieces frame_of (item ∷ []) ≡ frame_of item = append-nil (frame_of item) in (
               item ∷ [],
               record { whole = whole ∙ ap (λ x. x ++ left) (sym one); each = (is, tt) },
               omega (arith, ap length one, frame_size, fits),

@@ -5,7 +5,7 @@ use Rattle.std.specs.List.{AllByRecursion}
 use Rattle.sbe_base.specs.declared.status.Limits.{Limits}
 use Rattle.open_framing.specs.declared.head.HeadErr.{HeadErr}
 use Rattle.open_framing.specs.Heads.{IsBytes}
-use Rattle.open_framing.specs.Pieces.{Pieces, joined}
+use Rattle.open_framing.specs.Pieces.{Pieces, concat_pieces}
 use Rattle.open_framing.specs.Frames.{Item, frame_of, IsFrame, Cut, CutEnd}
 use Rattle.open_framing.specs.Frames as frames
 use Rattle.open_framing.specs.Lines.{IsLine, LineEnd}
@@ -66,7 +66,7 @@ pub record OtherReading : Type 1 where
 
 -- how many bytes pieces have
 abbrev pub taken_by : List Piece → ℕ
-taken_by pieces = length (joined piece_bytes pieces)
+taken_by pieces = length (concat_pieces piece_bytes pieces)
 
 -- the second bytes begin with the first
 abbrev pub Front : List ℕ → List ℕ → Type 0
@@ -86,13 +86,13 @@ pub record IsReading (reading : OtherReading) : Type 0 where
       → reading.Begins n ahead stream xs rest → reading.Splits n stream ys end → (tail : List Piece) × (ys ≡ xs ++ tail)
   pub more : (n : ℕ) (ahead next : Ahead) (stream mid rest : List ℕ) (xs ys : List Piece)
       → reading.Begins n ahead stream xs mid → reading.Begins (n - taken_by xs) next mid ys rest
-      → Front ahead.held (joined piece_bytes ys ++ next.held) → (ahead.is_all ≡ true → next.is_all ≡ true)
+      → Front ahead.held (concat_pieces piece_bytes ys ++ next.held) → (ahead.is_all ≡ true → next.is_all ≡ true)
       → reading.Begins n next stream (xs ++ ys) rest
   pub all : (n : ℕ) (ahead : Ahead) (stream rest : List ℕ) (xs ys : List Piece) (end : PieceEnd)
       → reading.Begins n ahead stream xs rest → reading.Splits (n - taken_by xs) rest ys end → reading.Splits n stream (xs ++ ys) end
   pub held : (n : ℕ) (ahead : Ahead) (stream held left : List ℕ) (xs : List Piece)
       → reading.Begins n ahead stream xs (held ++ left) → Front ahead.held held → ahead.is_all ≡ false → reading.Holds held []
-      → reading.Holds (joined piece_bytes xs ++ held) xs × (stream ≡ (joined piece_bytes xs ++ held) ++ left)
+      → reading.Holds (concat_pieces piece_bytes xs ++ held) xs × (stream ≡ (concat_pieces piece_bytes xs ++ held) ++ left)
   pub ended : (n : ℕ) (end : PieceEnd) → reading.Splits n [] [] end → end ≡ End
 
 -- how an input is read: frames within limits, lines with a limit for all bytes, not at all with one job to do, not at
@@ -157,7 +157,7 @@ Splits (Others reading laws input) stream pieces end = reading.Splits input stre
 
 -- the bytes are those of these items and then the rest
 pub record Leads {X : Type 0} (IsItem : X → Type 0) (bytes_of : X → List ℕ) (bytes : List ℕ) (items : List X) (rest : List ℕ) : Type 0 where
-  pub whole : bytes ≡ joined bytes_of items ++ rest
+  pub whole : bytes ≡ concat_pieces bytes_of items ++ rest
   pub each : AllByRecursion IsItem items
 
 -- The input begins with these pieces, which are within the limits, and the rest follows them. Frames and lines are
@@ -165,9 +165,9 @@ pub record Leads {X : Type 0} (IsItem : X → Type 0) (bytes_of : X → List ℕ
 abbrev pub Begins : Reading → Ahead → List ℕ → List Piece → List ℕ → Type 0
 Begins (Frames limits) ahead stream pieces rest =
     (items : List Item) × Leads (IsFrame limits.frame) frame_of stream items rest
-    × (length (joined frame_of items) ≤ limits.input) × (pieces ≡ map Frame items)
+    × (length (concat_pieces frame_of items) ≤ limits.input) × (pieces ≡ map Frame items)
 Begins (Lines input) ahead stream pieces rest =
-    (all : List (List ℕ)) × Leads IsLine lines.ended stream all rest × (length (joined lines.ended all) ≤ input) × (pieces ≡ map ended_piece all)
+    (all : List (List ℕ)) × Leads IsLine lines.ended stream all rest × (length (concat_pieces lines.ended all) ≤ input) × (pieces ≡ map ended_piece all)
 Begins Once ahead stream pieces rest = ((pieces ≡ []) ⊎ (pieces ≡ Whole ∷ [])) × (rest ≡ stream)
 Begins Nothing ahead stream pieces rest = (pieces ≡ []) × (rest ≡ stream)
 Begins (Others reading laws input) ahead stream pieces rest = reading.Begins input ahead stream pieces rest

@@ -9,7 +9,7 @@ use Rattle.replies.specs.Reply.{Written, Reply, written_of}
 use Rattle.command_steps.specs.Replies.{Answering, none_kept, counted, counted_by, Replies}
 use Rattle.command_steps.specs.Ends.{stop_line, end_notes, end_status}
 use Rattle.sbe_base.specs.Objects.{Failed}
-use Rattle.replies.specs.Outside.{Streams, Wrote, Breaks, Calm, Told}
+use Rattle.replies.specs.Outside.{Streams, Wrote, Breaks, Calm, NotesLine}
 use Rattle.command_steps.specs.declared.kept.Kept.{Kept}
 use Rattle.command_steps.specs.declared.step.Step.{Step}
 use Rattle.command_steps.specs.declared.step.Step.TheVariants.{Went, Ended}
@@ -87,7 +87,7 @@ pub record Ends (on : Answering) (pump : Moment) (before after : Streams) (input
   pub split : Splits (reading_on on pump) input [] end
   pub left : is_read on.reading ≡ true → end ≡ End → after.input.told ≡ Some []
   pub output : after.sinks.output ≡ before.sinks.output
-  pub noted : Told (end_notes on end pump.kept) (end_status end pump.kept.refused) before.sinks.notes after.sinks.notes code
+  pub noted : NotesLine (end_notes on end pump.kept) (end_status end pump.kept.refused) before.sinks.notes after.sinks.notes code
 
 -- A read failed. What was taken before doesn't contain a whole piece.
 pub record Stalls (on : Answering) (pump : Moment) (before after : Streams) (input : List ℕ) (code : Status) : Type 0 where
@@ -101,7 +101,7 @@ pub record Stalls (on : Answering) (pump : Moment) (before after : Streams) (inp
   pub part : Holds (reading_on on pump) held []
   pub fault : Failed before.input after.input
   pub output : after.sinks.output ≡ before.sinks.output
-  pub noted : Told (stop_line (stop.ReadFault (pump.kept.bytes + length held))) status.ReadFault before.sinks.notes after.sinks.notes code
+  pub noted : NotesLine (stop_line (stop.ReadFault (pump.kept.bytes + length held))) status.ReadFault before.sinks.notes after.sinks.notes code
 
 -- A write of the next piece's reply failed, or it is out of memory. Nothing was taken beyond a frame.
 pub record Fails (on : Answering) (pump : Moment) (after : Streams) (input : List ℕ) (IsWritten : Reply → Type 0) : Type 0 where

@@ -1,7 +1,7 @@
 ghost use Rattle.std.specs.Prelude.{◌≡◌, [], ℕ, Bool, List, length};
 ghost use Rattle.open_framing.specs.Frames.{Item};
 ghost use Rattle.replies.specs.Reply.{Reply};
-ghost use Rattle.replies.specs.Outside.{sinks_of, Told};
+ghost use Rattle.replies.specs.Outside.{sinks_of, NotesLine};
 ghost use Rattle.command_steps.specs.Ends.{done_status};
 ghost use Rattle.command_steps.specs.Replies.{Replied, Drafted, Wants};
 ghost use Rattle.command_steps.specs.declared.kept.Kept.{Kept as Numbers};
@@ -45,7 +45,7 @@ pub trait FrameCommand: Drop {
     /// Notes the last line of a run that answered all of its input, and returns the status of the run.
     fn end<N: Sink>(&mut self, kept: &Kept, notes: &mut N) -> Status
         ensures same { self.new ≡ self.old }
-        ensures told { Told (last kept.now) (done_status kept.now.refused) (N.state notes.old) (N.state notes.new) result };
+        ensures told { NotesLine (last kept.now) (done_status kept.now.refused) (N.state notes.old) (N.state notes.new) result };
 }
 
 /// A command that answers each line of its input.
@@ -77,7 +77,7 @@ pub trait LineCommand: Drop {
     /// Notes the last line of a run that answered all of its input, and returns the status of the run.
     fn end<N: Sink>(&mut self, kept: &Kept, notes: &mut N) -> Status
         ensures same { self.new ≡ self.old }
-        ensures told { Told (last kept.now) (done_status kept.now.refused) (N.state notes.old) (N.state notes.new) result };
+        ensures told { NotesLine (last kept.now) (done_status kept.now.refused) (N.state notes.old) (N.state notes.new) result };
 }
 
 /// A command that does one job over its files, and reads nothing of its input.

@@ -1,7 +1,7 @@
 ghost use Rattle.std.specs.Prelude.{◌≡◌};
 ghost use Rattle.sbe_base.specs.Writes.{Writes};
 ghost use Rattle.printers.specs.Prints.{Prints};
-ghost use Rattle.replies.specs.Outside.{Told};
+ghost use Rattle.replies.specs.Outside.{NotesLine};
 ghost use Rattle.command_steps.specs.Ends.{stop_status, stop_line, at_line, head_line, fault_line};
 ghost use Rattle.command_steps.specs.declared.end.Stop.TheVariants as stop;
 
@@ -43,7 +43,7 @@ impl Stop {
 /// Notes why the run stops, and returns its status. Allocates nothing.
 #[inline(never)]
 pub fn tell<N: Sink>(stop: &Stop, notes: &mut N) -> Status
-    ensures { Told (stop_line stop.now) (stop_status stop.now) (N.state notes.old) (N.state notes.new) result }
+    ensures { NotesLine (stop_line stop.now) (stop_status stop.now) (N.state notes.old) (N.state notes.new) result }
 {
     match note(stop, notes) {
         Ok(()) => stop.status(),

@@ -1,5 +1,5 @@
 ghost use Rattle.std.specs.Prelude.{◌≡◌, []};
-ghost use Rattle.replies.specs.Outside.{Told};
+ghost use Rattle.replies.specs.Outside.{NotesLine};
 ghost use Rattle.command_steps.specs.Replies.{counted_by};
 ghost use Rattle.command_steps.specs.Ends.{done_status};
 ghost use Rattle.command_steps.specs.Stands.{CanCount};
@@ -45,7 +45,7 @@ pub fn count(kept: &mut Kept, tally: Tally)
 
 /// Ends a run that answered all items, without noting a line.
 pub fn end_without_line<N: Sink>(kept: &Kept, _notes: &mut N) -> Status
-    ensures { Told [] (done_status kept.now.refused) (N.state _notes.old) (N.state _notes.new) result }
+    ensures { NotesLine [] (done_status kept.now.refused) (N.state _notes.old) (N.state _notes.new) result }
 {
     done(kept)
 }

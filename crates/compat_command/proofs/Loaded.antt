@@ -7,26 +7,26 @@ use Rattle.command_files.specs.Files.{LoadsFiles}
 use Rattle.schema_files.specs.declared.files.FileRole.TheVariants as role
 use Rattle.schema_files.specs.declared.files.LoadStop.{LoadStop}
 use Rattle.schema_files.specs.declared.files.LoadStop.TheVariants.{Refused, Fault, NoMemory}
-use Rattle.compat_command.specs.Compat.{two_judged, compat_files}
+use Rattle.compat_command.specs.Compat.{versions_check, compat_files}
 
 module _ (told : Option (List ℕ → Option (List ℕ))) (older newer : List ℕ) where
   pub both_loaded : (first second : WireSchema) → LoadsChecked told older (Ok first) → LoadsChecked told newer (Ok second)
       → LoadsFiles (compat_files older newer) told (Ok (record { older = first; newer = second }))
   both_loaded first second h k = record {
-    judges = λ contents same. sym (ap (λ f. two_judged f (file_schema (contents newer))) (h contents same) ∙ ap (two_judged (Ok first)) (k contents same));
+    judges = λ contents same. sym (ap (λ f. versions_check f (file_schema (contents newer))) (h contents same) ∙ ap (versions_check (Ok first)) (k contents same));
     fails = tt;
     good = tt;
   }
 
   pub older_stopped : (why : LoadStop) → LoadsChecked told older (Err why) → LoadsFiles (compat_files older newer) told (Err (stop_of role.Old why))
-  older_stopped (Refused why) h = record { judges = λ contents same. sym (ap (λ f. two_judged f (file_schema (contents newer))) (h contents same)); fails = tt; good = tt }
+  older_stopped (Refused why) h = record { judges = λ contents same. sym (ap (λ f. versions_check f (file_schema (contents newer))) (h contents same)); fails = tt; good = tt }
   older_stopped Fault h = record { judges = λ contents same. tt; fails = tt; good = tt }
   older_stopped NoMemory h = record { judges = λ contents same. tt; fails = tt; good = tt }
 
   pub newer_stopped : (first : WireSchema) (why : LoadStop) → LoadsChecked told older (Ok first) → LoadsChecked told newer (Err why)
       → LoadsFiles (compat_files older newer) told (Err (stop_of role.New why))
   newer_stopped first (Refused why) h k = record {
-    judges = λ contents same. sym (ap (λ f. two_judged f (file_schema (contents newer))) (h contents same) ∙ ap (two_judged (Ok first)) (k contents same));
+    judges = λ contents same. sym (ap (λ f. versions_check f (file_schema (contents newer))) (h contents same) ∙ ap (versions_check (Ok first)) (k contents same));
     fails = tt;
     good = tt;
   }

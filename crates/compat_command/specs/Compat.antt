@@ -55,14 +55,14 @@ IsCompatReply pair reply =
     (reply.output ≡ compared_line (compat pair.older pair.newer)) × (reply.notes ≡ []) × (reply.verdict ≡ compared_verdict (compat pair.older pair.newer))
 
 -- The pair of an older and a newer schema, or the first refusal; the older file is checked completely before the newer.
-abbrev pub two_judged : Result WireSchema FileRefusal → Result WireSchema FileRefusal → Result Pair RefusedFile
-two_judged (Err why) newer = Err (refused_as role.Old why)
-two_judged (Ok older) (Err why) = Err (refused_as role.New why)
-two_judged (Ok older) (Ok newer) = Ok (record { older = older; newer = newer })
+abbrev pub versions_check : Result WireSchema FileRefusal → Result WireSchema FileRefusal → Result Pair RefusedFile
+versions_check (Err why) newer = Err (refused_as role.Old why)
+versions_check (Ok older) (Err why) = Err (refused_as role.New why)
+versions_check (Ok older) (Ok newer) = Ok (record { older = older; newer = newer })
 
 -- the files with these names contain this, or are refused
 abbrev pub JudgesTwo : List ℕ → List ℕ → (List ℕ → Option (List ℕ)) → Result Pair RefusedFile → Type 0
-JudgesTwo older newer contents judged = judged ≡ two_judged (file_schema (contents older)) (file_schema (contents newer))
+JudgesTwo older newer contents judged = judged ≡ versions_check (file_schema (contents older)) (file_schema (contents newer))
 
 -- The files of `compat`: the older schema and the newer one.
 abbrev pub compat_files : List ℕ → List ℕ → FilesOf Pair

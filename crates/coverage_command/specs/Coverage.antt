@@ -68,14 +68,14 @@ IsCoverageReply pair reply =
     (reply.output ≡ coverage_lines (mapping_of (members_of pair.repository)) pair.schema.messages) × (reply.notes ≡ []) × (reply.verdict ≡ Answered)
 
 -- the schema's file is judged whole before the mapping's: its refusal comes first
-abbrev pub both_judged : Result WireSchema FileRefusal → Result Repository FileRefusal → Result Pair RefusedFile
-both_judged (Err why) repository = Err (refused_as role.Schema why)
-both_judged (Ok schema) (Err why) = Err (refused_as role.Map why)
-both_judged (Ok schema) (Ok repository) = Ok (record { schema = schema; repository = repository })
+abbrev pub coverage_check : Result WireSchema FileRefusal → Result Repository FileRefusal → Result Pair RefusedFile
+coverage_check (Err why) repository = Err (refused_as role.Schema why)
+coverage_check (Ok schema) (Err why) = Err (refused_as role.Map why)
+coverage_check (Ok schema) (Ok repository) = Ok (record { schema = schema; repository = repository })
 
 -- the files of these names are judged so
 abbrev pub JudgesBoth : List ℕ → List ℕ → (List ℕ → Option (List ℕ)) → Result Pair RefusedFile → Type 0
-JudgesBoth schema map contents judged = judged ≡ both_judged (file_schema (contents schema)) (file_map (contents map))
+JudgesBoth schema map contents judged = judged ≡ coverage_check (file_schema (contents schema)) (file_map (contents map))
 
 -- a schema's file or a mapping's
 abbrev pub IsEither : FileRole → Type 0

@@ -20,9 +20,9 @@ use Rattle.tree_json.specs.Lines.{message_at, line_of}
 use Rattle.dump_lines.specs.Chosen.{has_id, schema_with, schema_for}
 use Rattle.refused_items.specs.Refused.{refused_line, of_encoding}
 use Rattle.dump_lines.specs.Refused.{of_fault, of_fault_in, message_meant, IsWay}
-use Rattle.dump_lines.specs.Dumped.{encoding_of, seen_line, before_message, behind_message, message_line, PrintsAnswer, IsDumped, other_encoding, a_message, a_fault, Answer, refusal, answer_by, body_answer, dumped, AreInOrder, IsAnswered, IsAnsweredOnce}
+use Rattle.dump_lines.specs.Dumped.{encoding_of, view_line, before_message, behind_message, message_line, PrintsAnswer, IsDumped, other_encoding, a_message, a_fault, Answer, refusal, answer_by, body_answer, dumped, AreInOrder, IsAnswered, IsAnsweredOnce}
 use Rattle.dump_lines.specs.declared.schemas.Schemas.{Schemas}
-use Rattle.flyweight_view.specs.Seen.{SeenMessage}
+use Rattle.flyweight_view.specs.Seen.{TypedMessage}
 use Rattle.body_walk.specs.Refusals.{Misread}
 use Rattle.dump_lines.proofs.Ways.{faults_have_ways}
 
@@ -137,13 +137,13 @@ before_several (other ∷ more) id some = refl
 -- ---- an answer that was printed
 
 module _ (schemas : Schemas) (schema : WireSchema) (number : ℕ) (item : Item) where
-  module _ (seen : SeenMessage) (placed : IsPlaced schema) (lies : Lays schema seen.message item.body) (at : slice_get schema.messages seen.message.template ≡ Some seen.level) where
-    line_told : before_message schemas.also schema.id ++ (seen_line seen ++ behind_message schemas.also) ≡ (body_answer schemas schema item number).line
+  module _ (seen : TypedMessage) (placed : IsPlaced schema) (lies : Lays schema seen.message item.body) (at : slice_get schema.messages seen.message.template ≡ Some seen.level) where
+    line_told : before_message schemas.also schema.id ++ (view_line seen ++ behind_message schemas.also) ≡ (body_answer schemas schema item number).line
     line_told =
         ap (λ l. before_message schemas.also schema.id ++ (l ++ behind_message schemas.also)) (line_seen schema seen.level seen.message at)
         ∙ sym (ap (λ (a : Answer). a.line) (message_answer schemas schema number item seen.message placed lies))
 
-    pub message_printed : {prints : List ℕ → Type 0} → prints (before_message schemas.also schema.id ++ (seen_line seen ++ behind_message schemas.also)) → PrintsAnswer (body_answer schemas schema item number) prints true
+    pub message_printed : {prints : List ℕ → Type 0} → prints (before_message schemas.also schema.id ++ (view_line seen ++ behind_message schemas.also)) → PrintsAnswer (body_answer schemas schema item number) prints true
     message_printed {prints} w = record { line = subst prints line_told w; told = sym (ap (λ (x : Answer). x.is_message) (message_answer schemas schema number item seen.message placed lies)) }
 
   module _ (r : Misread) (placed : IsPlaced schema) (first : FirstFault schema r.fault item.body) (meant : r.template ≡ message_meant schema item.body) where

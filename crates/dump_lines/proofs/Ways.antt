@@ -31,7 +31,7 @@ use Rattle.sbe_wire.proofs.Messages.{named_is}
 use Rattle.layout_tables.specs.Heads.{header_width}
 use Rattle.layout_tables.specs.Paths.{Inside, in_level, in_group, in_kind, in_nothing, NamedPart, field_part, group_part, data_part, member_part, level_parts, parts_inside, to_part, path_from, IsPathOf}
 use Rattle.layout_tables.proofs.Items.{long_map, get_behind}
-use Rattle.body_walk.specs.Heads.{head_number, found_told, named_told}
+use Rattle.body_walk.specs.Heads.{head_number, found_template, named_template}
 use Rattle.dump_lines.specs.Refused.{message_meant, IsWay}
 use Rattle.dump_lines.specs.Dumped.{FaultsHaveWays}
 
@@ -261,12 +261,12 @@ meant_is schema h front back lays =
     let ours : (head_number schema (codes "schemaId") front == schema.id) ≡ true = grind (arith, nat_tests, lays.numbers.says_schema) in
     let named : message_named 0 (head_number schema (codes "templateId") front) schema.messages ≡ Some (h.template, h.level) =
     ap (λ i. message_named 0 i schema.messages) lays.numbers.says_template ∙ lays.message in
-    let found : found_told schema (head_number schema (codes "templateId") front) (message_named 0 (head_number schema (codes "templateId") front) schema.messages) ≡ Ok h.template =
-    ap (found_told schema (head_number schema (codes "templateId") front)) named in
-    ap result_ok (if_so _ _ _ long ∙ ap (named_told schema) whole ∙ if_so _ _ _ ours ∙ found)
+    let found : found_template schema (head_number schema (codes "templateId") front) (message_named 0 (head_number schema (codes "templateId") front) schema.messages) ≡ Ok h.template =
+    ap (found_template schema (head_number schema (codes "templateId") front)) named in
+    ap result_ok (if_so _ _ _ long ∙ ap (named_template schema) whole ∙ if_so _ _ _ ours ∙ found)
 
 -- the message that is meant is there
-found_there : (schema : WireSchema) (id t : ℕ) (o : Option (ℕ × Level)) → message_named 0 id schema.messages ≡ o → result_ok (found_told schema id o) ≡ Some t → (level : Level) × (slice_get schema.messages t ≡ Some level)
+found_there : (schema : WireSchema) (id t : ℕ) (o : Option (ℕ × Level)) → message_named 0 id schema.messages ≡ o → result_ok (found_template schema id o) ≡ Some t → (level : Level) × (slice_get schema.messages t ≡ Some level)
 found_there schema id t None e h = cc
 found_there schema id t (Some m) e h =
     let same : m.0 ≡ t = cc in

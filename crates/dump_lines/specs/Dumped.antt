@@ -15,7 +15,7 @@ use Rattle.open_framing.specs.Frames.{Item}
 use Rattle.open_framing.specs.declared.head.TheConstants.{SBE_LITTLE, SBE_BIG}
 use Rattle.schema_facts.specs.IsChecked.{IsChecked}
 use Rattle.serde_json.specs.Written.{compact_text}
-use Rattle.flyweight_view.specs.Seen.{SeenMessage}
+use Rattle.flyweight_view.specs.Seen.{TypedMessage}
 use Rattle.tree_json.specs.Lines.{line_of, message_at}
 use Rattle.dump_lines.specs.Chosen.{schema_for}
 use Rattle.refused_items.specs.Refused.{refused_line, of_encoding}
@@ -30,8 +30,8 @@ encoding_of Big = SBE_BIG
 -- ---- the line of a message
 
 -- the line of a message that a view shows
-abbrev pub seen_line : SeenMessage → List ℕ
-seen_line seen = compact_text (message_at (Some seen.level) seen.message)
+abbrev pub view_line : TypedMessage → List ℕ
+view_line seen = compact_text (message_at (Some seen.level) seen.message)
 
 -- what precedes a message: its schema's id, if there are several schemas
 abbrev pub before_message : List WireSchema → ℕ → List ℕ

@@ -8,7 +8,7 @@ use Rattle.sbe_wire.specs.declared.codes.FCode.{FCode}
 use Rattle.sbe_wire.specs.declared.codes.FCode.TheVariants.{ShortHeader, SchemaId, Template, BlockShort, Truncated, Range, EnumUnknown, SetUnknown, TextByte, Count, Length, Trailing}
 use Rattle.sbe_wire.specs.Faults.{Fault}
 use Rattle.layout_tables.specs.Paths.{IsPathOf, path_text}
-use Rattle.body_walk.specs.Heads.{template_told}
+use Rattle.body_walk.specs.Heads.{header_template}
 use Rattle.refused_items.specs.Refused.{Refused}
 
 -- the code of a fault
@@ -28,7 +28,7 @@ fault_code Trailing = codes "F12"
 
 -- the message that the header of a body names, if it names one of the schema's
 abbrev pub message_meant : WireSchema → List ℕ → Option ℕ
-message_meant schema body = result_ok (template_told schema body)
+message_meant schema body = result_ok (header_template schema body)
 
 -- the text of a path of that message; empty without a message
 abbrev pub way_text : WireSchema → Option ℕ → List Step → List ℕ

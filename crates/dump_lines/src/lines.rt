@@ -1,6 +1,6 @@
 ghost use Rattle.std.specs.Prelude.{◌≡◌, ◌++◌, slice_get, Some, codes};
 ghost use Rattle.printers.specs.Prints.{Prints};
-ghost use Rattle.dump_lines.specs.Dumped.{before_message, behind_message, seen_line};
+ghost use Rattle.dump_lines.specs.Dumped.{before_message, behind_message, view_line};
 
 use crate::schemas::Schemas;
 use flyweight_view::MsgView;
@@ -17,7 +17,7 @@ pub fn put_message<O: Sink>(
     view: &MsgView<'_>,
 )
     requires { slice_get lines.now.messages view.now.message.template ≡ Some view.now.level }
-    ensures { Prints O.state printer.old printer.new (before_message schemas.now.also lines.now.id ++ (seen_line view.now ++ behind_message schemas.now.also)) }
+    ensures { Prints O.state printer.old printer.new (before_message schemas.now.also lines.now.id ++ (view_line view.now ++ behind_message schemas.now.also)) }
 {
     put_before(printer, schemas, lines.id());
     lines.put_open_line(printer, view);

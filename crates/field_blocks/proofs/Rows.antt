@@ -12,7 +12,7 @@ use Rattle.bridge_terms.specs.PlanFacts.{IsPlaced}
 use Rattle.bridge_terms.specs.Plans.{Plan, Slot, is_in, tags}
 use Rattle.text_values.specs.declared.row.TextValue.{TextValue}
 use Rattle.text_values.specs.declared.value.ReadValue.{ReadValue}
-use Rattle.text_values.specs.Read.{value_seen}
+use Rattle.text_values.specs.Read.{value_of_read}
 use Rattle.text_values.specs.Rows.{Reads}
 use Rattle.field_judge.specs.declared.field.AppField.{AppField}
 use Rattle.field_judge.specs.declared.level.BackGroup.{BackGroup}
@@ -84,12 +84,12 @@ number_text None = refl
 number_text (Some n) = refl
 
 -- a value that is found is what was read
-pub seen_is : (read : ReadValue) (o : Option ReadValue) (found : Value) → o ≡ Some read → Some found ≡ option_map value_seen o → found ≡ value_seen read
-seen_is read o found is h = some_is (h ∙ ap (option_map value_seen) is)
+pub seen_is : (read : ReadValue) (o : Option ReadValue) (found : Value) → o ≡ Some read → Some found ≡ option_map value_of_read o → found ≡ value_of_read read
+seen_is read o found is h = some_is (h ∙ ap (option_map value_of_read) is)
 
 -- nothing was found where nothing was read
-pub none_seen : {Z : Type 0} (o : Option ReadValue) (found : Value) → o ≡ None → Some found ≡ option_map value_seen o → Z
-none_seen o found is h = none_some (sym (h ∙ ap (option_map value_seen) is))
+pub none_seen : {Z : Type 0} (o : Option ReadValue) (found : Value) → o ≡ None → Some found ≡ option_map value_of_read o → Z
+none_seen o found is h = none_some (sym (h ∙ ap (option_map value_of_read) is))
 
 -- ---- answers taken apart
 

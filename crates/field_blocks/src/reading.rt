@@ -5,7 +5,7 @@ ghost use Rattle.bridge_rules.specs.Members.{and_then, text_in};
 ghost use Rattle.bridge_rules.specs.Rules.{Rule};
 ghost use Rattle.bridge_terms.specs.Gathering.{text_at, value_found};
 ghost use Rattle.bridge_terms.specs.Plans.{Plan, Slot};
-ghost use Rattle.text_values.specs.Read.{value_seen};
+ghost use Rattle.text_values.specs.Read.{value_of_read};
 ghost use Rattle.text_values.specs.Rows.{Reads};
 ghost use Rattle.field_judge.specs.Heads.{head_tag, heads, located, slot_head, Head, IsHeadRow};
 ghost use Rattle.field_judge.specs.declared.level.BackLevel.{BackLevel as AnyLevel};
@@ -25,7 +25,7 @@ pub(crate) fn read_slot<'a>(
     requires within { (k : ℕ) → get_or places.now k 0 ≤ length fields.now }
     ensures { (levels : List AnyLevel) (p : Plan) (k : ℕ) (s : Slot) → AreFound levels p back.now places.now fields.now
         → slice_get (heads p) k ≡ Some (slot_head s) → id ≡ s.tag
-        → value_found s.rule (text_at s.tag (parts_in p fields.now)) ≡ option_map value_seen result }
+        → value_found s.rule (text_at s.tag (parts_in p fields.now)) ≡ option_map value_of_read result }
 {
     let Some(found) = row_of(back, id, places) else {
         return None;
@@ -82,7 +82,7 @@ fn text_before<'a>(fields: &[AppField<'a>], place: usize) -> Option<&'a [u8]>
 /// The value read from a text, or that of a part without a field.
 fn read_value<'a>(value: &TextValue, text: Option<&'a [u8]>) -> Option<ReadValue<'a>>
     ensures { (rule : Rule) → Reads value.now rule
-        → value_found rule (option_map (λ t. t.now) text.entry) ≡ option_map value_seen result }
+        → value_found rule (option_map (λ t. t.now) text.entry) ≡ option_map value_of_read result }
 {
     match text {
         None => value.missing(),
@@ -96,7 +96,7 @@ fn read_value<'a>(value: &TextValue, text: Option<&'a [u8]>) -> Option<ReadValue
 /// The bytes of a text that was read.
 #[tactic(auto, using(crate::proofs::Rows::number_text))]
 pub(crate) fn bytes_of<'a>(read: ReadValue<'a>) -> Option<&'a [u8]>
-    ensures { option_map (λ t. t.now) result ≡ text_in (value_seen read.entry) }
+    ensures { option_map (λ t. t.now) result ≡ text_in (value_of_read read.entry) }
 {
     match read {
         ReadValue::Text(text) => Some(text),

@@ -28,9 +28,9 @@ abbrev pub as_misfit : ValueFault → Misfit
 as_misfit fault = record { code = code_of fault.cause; path = way_to fault.elem; detail = fault.detail }
 
 -- the result that `true` or `false` and the fault slot encode
-abbrev pub told : Bool → ValueFault → Option Misfit
-told true fault = None
-told false fault = Some (as_misfit fault)
+abbrev pub misfit_unless : Bool → ValueFault → Option Misfit
+misfit_unless true fault = None
+misfit_unless false fault = Some (as_misfit fault)
 
 -- the kind is a leaf, an enum or a set, not a composite or a constant
 abbrev pub is_single : Kind → Bool

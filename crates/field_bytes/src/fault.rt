@@ -1,7 +1,7 @@
 ghost use Rattle.std.specs.Prelude.{◌≡◌};
 ghost use Rattle.sbe_wire.specs.Misfit.{misfit_here, misfit_in};
 ghost use Rattle.sbe_types.specs.declared.path.Step.TheVariants.{Elem};
-ghost use Rattle.field_bytes.specs.Faults.{code_of, told};
+ghost use Rattle.field_bytes.specs.Faults.{code_of, misfit_unless};
 
 /// Why a value doesn't fit its field.
 #[derive(Clone, Copy, Debug, PartialEq, Eq)]
@@ -31,7 +31,7 @@ pub struct ValueFault {
 
 /// Writes to `out` why a value doesn't fit, and returns false.
 pub(crate) fn refuse(cause: FieldCause, detail: i128, out: &mut ValueFault) -> bool
-    ensures { told result out.new ≡ misfit_here (code_of cause) detail }
+    ensures { misfit_unless result out.new ≡ misfit_here (code_of cause) detail }
 {
     *out = ValueFault {
         cause,
@@ -48,7 +48,7 @@ pub(crate) fn refuse_element(
     detail: i128,
     out: &mut ValueFault,
 ) -> bool
-    ensures { told result out.new ≡ misfit_in (Elem at) (misfit_here (code_of cause) detail) }
+    ensures { misfit_unless result out.new ≡ misfit_in (Elem at) (misfit_here (code_of cause) detail) }
 {
     *out = ValueFault {
         cause,

@@ -6,7 +6,7 @@ ghost use Rattle.sbe_types.specs.Shows.{is_empty, is_text_byte};
 ghost use Rattle.sbe_types.specs.declared.message.Value.TheVariants.{Enum, Null, Nums, Text};
 ghost use Rattle.sbe_wire.specs.Misfit.{array_misfit, element_misfit, enum_misfit, leaf_misfit, misfit_in, number_misfit, other_kind, set_misfit, text_misfit, value_misfit};
 ghost use Rattle.sbe_types.specs.declared.path.Step.TheVariants.{Elem as ElemStep};
-ghost use Rattle.field_bytes.specs.Faults.{is_single, told};
+ghost use Rattle.field_bytes.specs.Faults.{is_single, misfit_unless};
 
 use crate::fault::{FieldCause, ValueFault, refuse, refuse_element};
 use named_numbers::{are_listed, is_listed};
@@ -15,7 +15,7 @@ use sbe_types::{Elem, Kind, Leaf, LeafShape, NamedList, Presence, Value};
 /// Whether a value fits a leaf, an enum or a set. If not, `out` receives the first element or byte that doesn't.
 pub fn value_judge(kind: &Kind, v: &Value, out: &mut ValueFault) -> bool
     requires { is_single kind.now ≡ true }
-    ensures { told result out.new ≡ value_misfit kind.now v.now }
+    ensures { misfit_unless result out.new ≡ value_misfit kind.now v.now }
 {
     match kind {
         Kind::Leaf(leaf) => leaf_judge(leaf, v, out),
@@ -27,7 +27,7 @@ pub fn value_judge(kind: &Kind, v: &Value, out: &mut ValueFault) -> bool
 }
 
 fn leaf_judge(leaf: &Leaf, v: &Value, out: &mut ValueFault) -> bool
-    ensures { told result out.new ≡ leaf_misfit leaf.now.shape leaf.now v.now }
+    ensures { misfit_unless result out.new ≡ leaf_misfit leaf.now.shape leaf.now v.now }
 {
     match leaf.shape {
         LeafShape::Number => number_judge(leaf, v, out),
@@ -38,20 +38,20 @@ fn leaf_judge(leaf: &Leaf, v: &Value, out: &mut ValueFault) -> bool
 
 /// Refuses a value of another kind than the field's.
 fn other_kind(out: &mut ValueFault) -> bool
-    ensures { told result out.new ≡ other_kind }
+    ensures { misfit_unless result out.new ≡ other_kind }
 {
     refuse(FieldCause::Kind, 0, out)
 }
 
 /// Checks a null, which only an optional field may have.
 fn null_judge(leaf: &Leaf, out: &mut ValueFault) -> bool
-    ensures { told result out.new ≡ number_misfit leaf.now Null }
+    ensures { misfit_unless result out.new ≡ number_misfit leaf.now Null }
 {
     leaf.presence == Presence::Optional || other_kind(out)
 }
 
 fn number_judge(leaf: &Leaf, v: &Value, out: &mut ValueFault) -> bool
-    ensures { told result out.new ≡ number_misfit leaf.now v.now }
+    ensures { misfit_unless result out.new ≡ number_misfit leaf.now v.now }
 {
     match v {
         Value::Num(n) => {
@@ -69,7 +69,7 @@ fn number_judge(leaf: &Leaf, v: &Value, out: &mut ValueFault) -> bool
 }
 
 fn enum_judge(leaf: &Leaf, names: &NamedList, v: &Value, out: &mut ValueFault) -> bool
-    ensures { told result out.new ≡ enum_misfit leaf.now names.now v.now }
+    ensures { misfit_unless result out.new ≡ enum_misfit leaf.now names.now v.now }
 {
     match v {
         Value::Enum(n) => listed_judge(leaf, names, *n, out),
@@ -86,7 +86,7 @@ fn enum_judge(leaf: &Leaf, names: &NamedList, v: &Value, out: &mut ValueFault) -
 
 /// Checks a listed number, which may still be the null.
 fn listed_judge(leaf: &Leaf, names: &NamedList, n: i128, out: &mut ValueFault) -> bool
-    ensures { told result out.new ≡ enum_misfit leaf.now names.now (Enum n) }
+    ensures { misfit_unless result out.new ≡ enum_misfit leaf.now names.now (Enum n) }
 {
     if !is_listed(names.as_slice(), n) {
         return refuse(FieldCause::EnumUnknown, n, out);
@@ -95,7 +95,7 @@ fn listed_judge(leaf: &Leaf, names: &NamedList, n: i128, out: &mut ValueFault) -
 }
 
 fn set_judge(choices: &NamedList, v: &Value, out: &mut ValueFault) -> bool
-    ensures { told result out.new ≡ set_misfit choices.now v.now }
+    ensures { misfit_unless result out.new ≡ set_misfit choices.now v.now }
 {
     match v {
         Value::Set(bits) => {
@@ -114,7 +114,7 @@ fn set_judge(choices: &NamedList, v: &Value, out: &mut ValueFault) -> bool
 }
 
 fn text_judge(leaf: &Leaf, v: &Value, out: &mut ValueFault) -> bool
-    ensures { told result out.new ≡ text_misfit leaf.now v.now }
+    ensures { misfit_unless result out.new ≡ text_misfit leaf.now v.now }
 {
     match v {
         Value::Text(text) => bytes_judge(leaf, text.as_slice(), out),
@@ -131,7 +131,7 @@ fn text_judge(leaf: &Leaf, v: &Value, out: &mut ValueFault) -> bool
 
 /// Checks a text: first its length, then its bytes.
 fn bytes_judge(leaf: &Leaf, text: &[u8], out: &mut ValueFault) -> bool
-    ensures { told result out.new ≡ text_misfit leaf.now (Text text.now) }
+    ensures { misfit_unless result out.new ≡ text_misfit leaf.now (Text text.now) }
 {
     if !has_right_length(leaf, text) {
         return refuse(FieldCause::Range, text.len() as i128, out);
@@ -171,7 +171,7 @@ fn is_text_byte(leaf: &Leaf, byte: u8) -> bool
 }
 
 fn array_judge(leaf: &Leaf, v: &Value, out: &mut ValueFault) -> bool
-    ensures { told result out.new ≡ array_misfit leaf.now v.now }
+    ensures { misfit_unless result out.new ≡ array_misfit leaf.now v.now }
 {
     match v {
         Value::Nums(elements) => elements_judge(leaf, elements.as_slice(), out),
@@ -188,7 +188,7 @@ fn array_judge(leaf: &Leaf, v: &Value, out: &mut ValueFault) -> bool
 
 /// Checks that there are as many elements as the array is long, and each of them.
 fn elements_judge(leaf: &Leaf, elements: &[Elem], out: &mut ValueFault) -> bool
-    ensures { told result out.new ≡ array_misfit leaf.now (Nums elements.now) }
+    ensures { misfit_unless result out.new ≡ array_misfit leaf.now (Nums elements.now) }
 {
     if elements.len() != leaf.length as usize {
         return other_kind(out);
@@ -203,7 +203,7 @@ fn elements_judge(leaf: &Leaf, elements: &[Elem], out: &mut ValueFault) -> bool
 
 /// Checks element `at` of an array.
 fn element_judge(leaf: &Leaf, at: usize, element: &Elem, out: &mut ValueFault) -> bool
-    ensures { told result out.new ≡ misfit_in (ElemStep at) (element_misfit leaf.now element.now) }
+    ensures { misfit_unless result out.new ≡ misfit_in (ElemStep at) (element_misfit leaf.now element.now) }
 {
     match *element {
         Elem::Num(n) => {

@@ -5,7 +5,7 @@ use Rattle.sbe_types.specs.declared.kind.Presence.TheVariants.{Required}
 use Rattle.sbe_types.specs.Shown.{admits}
 use Rattle.fix_values.specs.declared.rule.V.{V}
 use Rattle.fix_values.specs.declared.rule.V.TheVariants.{Range}
-use Rattle.fix_values.specs.Decimals.{judged}
+use Rattle.fix_values.specs.Decimals.{leaf_number}
 use Rattle.fix_values.specs.Values.{spelled_number}
 use Rattle.bridge_terms.specs.WayBack.{count_read}
 use Rattle.field_judge.specs.Refusals.{size_of}
@@ -26,7 +26,7 @@ ok_err h = absurd (never h)
 abbrev pub required : LeafOf → LeafOf
 required leaf = record leaf { presence = Required }
 
-pub count_ok : (leaf : LeafOf) (o : Option ℤ) (n : ℤ) → judged (required leaf) (spelled_number o) ≡ Ok n → size_of n ≡ count_read leaf o
+pub count_ok : (leaf : LeafOf) (o : Option ℤ) (n : ℤ) → leaf_number (required leaf) (spelled_number o) ≡ Ok n → size_of n ≡ count_read leaf o
 count_ok leaf None n h = ok_err (sym h)
 count_ok leaf (Some (pos k)) n h = by_test (admits leaf (pos k)) h
   where
@@ -39,7 +39,7 @@ count_ok leaf (Some (negsuc k)) n h = by_test (admits leaf (negsuc k)) h
     by_test true e = ap size_of (sym (ok_is e))
     by_test false e = ok_err (sym e)
 
-pub count_err : (leaf : LeafOf) (o : Option ℤ) (v : V) → judged (required leaf) (spelled_number o) ≡ Err v → ◌≡◌ {A = Result ℕ V} (Err v) (count_read leaf o)
+pub count_err : (leaf : LeafOf) (o : Option ℤ) (v : V) → leaf_number (required leaf) (spelled_number o) ≡ Err v → ◌≡◌ {A = Result ℕ V} (Err v) (count_read leaf o)
 count_err leaf None v h = ap Err (sym (err_is h))
 count_err leaf (Some (pos k)) v h = by_test (admits leaf (pos k)) h
   where

@@ -7,7 +7,7 @@ use Rattle.bridge_terms.specs.Plans.{Plan, Repeat, Slot}
 use Rattle.bridge_terms.specs.WayBack.{Refusal, first, group_missing, if_unset, slot_missing}
 use Rattle.text_values.specs.declared.row.TextValue.{TextValue}
 use Rattle.text_values.specs.declared.value.ReadValue.{ReadValue}
-use Rattle.text_values.specs.Read.{value_seen}
+use Rattle.text_values.specs.Read.{value_of_read}
 use Rattle.text_values.specs.Rows.{Reads}
 use Rattle.field_judge.specs.declared.field.AppField.{AppField}
 use Rattle.field_judge.specs.declared.level.BackGroup.{BackGroup}
@@ -29,10 +29,10 @@ there_is s fields zero some = absurd (none some)
 there_is s fields (suc j) some = refl
 
 -- one without a field lacks it, unless it has a value then
-pub unset_is : (s : Slot) (fields : List AppField) (place tag : ℕ) (o : Option ReadValue) (told : Option Refusal) → place ≡ 0 → tag ≡ s.tag → missing_by s.rule ≡ option_map value_seen o
-    → if_unset tag (option_map value_seen o) ≡ told → told ≡ slot_missing s.tag s.rule (located (slot_head s) fields place)
+pub unset_is : (s : Slot) (fields : List AppField) (place tag : ℕ) (o : Option ReadValue) (told : Option Refusal) → place ≡ 0 → tag ≡ s.tag → missing_by s.rule ≡ option_map value_of_read o
+    → if_unset tag (option_map value_of_read o) ≡ told → told ≡ slot_missing s.tag s.rule (located (slot_head s) fields place)
 unset_is s fields place tag o told none same missing_is h =
-    sym h ∙ ap (λ t. if_unset t (option_map value_seen o)) same ∙ ap (if_unset s.tag) (sym missing_is) ∙ ap (λ k. slot_missing s.tag s.rule (located (slot_head s) fields k)) (sym none)
+    sym h ∙ ap (λ t. if_unset t (option_map value_of_read o)) same ∙ ap (if_unset s.tag) (sym missing_is) ∙ ap (λ k. slot_missing s.tag s.rule (located (slot_head s) fields k)) (sym none)
 
 value_is : {v w : TextValue} → part.Value v ≡ part.Value w → v ≡ w
 value_is h = cc

@@ -5,7 +5,7 @@ ghost use Rattle.bridge_terms.specs.Blocks.{values_of};
 ghost use Rattle.bridge_terms.specs.Parts.{TagLists};
 ghost use Rattle.bridge_terms.specs.Places.{places_of};
 ghost use Rattle.bridge_terms.specs.Plans.{Plan};
-ghost use Rattle.message_walk.specs.Rows.{AreRows, FitsSeen};
+ghost use Rattle.message_walk.specs.Rows.{AreRows, FitsBlock};
 ghost use Rattle.fix_messages.specs.Heads.{head_of, IsHeadReady};
 ghost use Rattle.fix_messages.specs.Texts.{IsTextPut};
 
@@ -34,9 +34,9 @@ pub fn write_text<R: PutValue>(
 ) -> bool
     requires head { IsHeadReady (head_of head.now) }
     requires kind { IsValue template.now.msg_type.now }
-    ensures limit { (lists : TagLists) (p : Plan) → AreRows R.spells lists p template.now.rows.now → FitsSeen p root.now
+    ensures limit { (lists : TagLists) (p : Plan) → AreRows R.spells lists p template.now.rows.now → FitsBlock p root.now
         → out.new.limit ≡ out.old.limit }
-    ensures text { (lists : TagLists) (p : Plan) → AreRows R.spells lists p template.now.rows.now → FitsSeen p root.now
+    ensures text { (lists : TagLists) (p : Plan) → AreRows R.spells lists p template.now.rows.now → FitsBlock p root.now
         → IsTextPut lists out.old.limit template.now.msg_type.now (head_of head.now) (places_of p (values_of p root.now.block)) result out.new halt.new }
 {
     if !put_head(head, template.msg_type, out, halt) {

@@ -9,7 +9,7 @@ use Rattle.bridge_terms.specs.Places.{Unsent, place_fields, places_of}
 use Rattle.bridge_terms.specs.Plans.{Plan}
 use Rattle.bridge_plan.specs.Covers.{Cover, covered_by, no_message, unmapped, cover_of}
 use Rattle.bridge_plan.specs.Mappings.{Mapping, structure_for}
-use Rattle.flyweight_view.specs.Seen.{SeenMessage}
+use Rattle.flyweight_view.specs.Seen.{TypedMessage}
 use Rattle.message_walk.specs.Halts.{halt_of}
 use Rattle.message_plans.specs.declared.plan.Plan.{Plan as Plans}
 use Rattle.message_plans.specs.Plans.{ArePlans}
@@ -29,7 +29,7 @@ abbrev pub HasKinds : Mapping → Type 0
 HasKinds m = (kind : List ℕ) (s : Structure) → structure_for m kind ≡ Some s → IsValue kind
 
 -- the plans are those of the message's schema by such a mapping
-pub record IsPlanned (plans : TextPlans) (seen : SeenMessage) : Type 0 where
+pub record IsPlanned (plans : TextPlans) (seen : TypedMessage) : Type 0 where
   pub mapping : Mapping
   pub levels : List Level
   pub plans_are : ArePlans Spells mapping levels plans
@@ -56,7 +56,7 @@ pub record Request : Type 0 where
   pub head : Head
 
 -- the request for the text of a message that was seen
-abbrev pub request_of : Mapping → SeenMessage → Head → Request
+abbrev pub request_of : Mapping → TypedMessage → Head → Request
 request_of m seen head = record { mapping = m; level = seen.level; block = seen.message.block; head = head }
 
 -- the text of a message of a template with this plan

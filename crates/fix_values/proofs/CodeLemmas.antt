@@ -11,7 +11,7 @@ use Rattle.std.specs.List.{list_all, list_any, filter, IsDistinct, AllByRecursio
 use Rattle.std.specs.Ordering.{int_eq}
 use Rattle.sbe_types.specs.Numbers.{natural}
 use Rattle.fix_values.specs.declared.rule.Code.{Code}
-use Rattle.fix_values.specs.Codes.{bit_of, bits_of, codes_in, joined, judged_set, set_text, has_bit, is_choice, is_apart, same_number}
+use Rattle.fix_values.specs.Codes.{bit_of, bits_of, codes_in, spaced_texts, judged_set, set_text, has_bit, is_choice, is_apart, same_number}
 use Rattle.fix_values.specs.Tables.{with_code, with_codes, is_marked, are_marked}
 use Rattle.fix_values.proofs.NumeralLemmas.{both, together, either, neither, is_not_true, not_true, false≢true, leb-true}
 
@@ -110,7 +110,7 @@ with_codes_is : (b : ℕ) (bs : List ℕ) (codes : List Code) → with_codes (b 
 with_codes_is b bs [] = ap (λ t. b ∷ t) (sym (append-nil bs))
 with_codes_is b bs (x ∷ xs) = with_codes_is b (bs ++ 32 ∷ x.text) xs ∙ ap (λ t. b ∷ t) (append_assoc bs (32 ∷ x.text) (spaced xs))
 
-joined_is : (x : Code) (xs : List Code) → joined (x ∷ xs) ≡ x.text ++ spaced xs
+joined_is : (x : Code) (xs : List Code) → spaced_texts (x ∷ xs) ≡ x.text ++ spaced xs
 joined_is x [] = sym (append-nil x.text)
 joined_is x (y ∷ ys) = ap (λ t. x.text ++ 32 ∷ t) (joined_is y ys)
 
@@ -119,7 +119,7 @@ first_of_text [] codes h = absurd (omega arith)
 first_of_text (b ∷ bs) codes h = with_codes_is b bs codes
 
 -- the text that grew code by code is that of the codes together
-pub grown : (codes : List Code) → list_all is_choice codes ≡ true → with_codes [] codes ≡ joined codes
+pub grown : (codes : List Code) → list_all is_choice codes ≡ true → with_codes [] codes ≡ spaced_texts codes
 grown [] h = refl
 grown (x ∷ xs) h = first_of_text x.text xs (is_byte x (both (is_choice x) (list_all is_choice xs) h).0) ∙ sym (joined_is x xs)
 
@@ -148,5 +148,5 @@ passed_on here marks all x rest e h = sym (ap (are_marked here marks) e ∙ pass
 pub set_left : (codes : List Code) (n bits shown : ℕ) (out : List ℕ) → list_all is_choice codes ≡ true → bits ≡ n → shown ≡ bits_of (codes_in codes bits) → out ≡ with_codes [] (codes_in codes bits) →
     judged_set shown bits out ≡ set_text codes n
 set_left codes n bits shown out h same sum text =
-    let grows : out ≡ joined (codes_in codes bits) = text ∙ grown (codes_in codes bits) (filter_all (has_bit bits) is_choice codes h) in
+    let grows : out ≡ spaced_texts (codes_in codes bits) = text ∙ grown (codes_in codes bits) (filter_all (has_bit bits) is_choice codes h) in
     rw (sum, grows, same)

@@ -53,8 +53,8 @@ abbrev pub bits_of : List Code → ℕ
 bits_of codes = sum_by bit_of codes
 
 -- the texts of codes, separated by spaces
-abbrev pub joined : List Code → List ℕ
-joined codes = join_with_byte 32 (map (λ code. code.text) codes)
+abbrev pub spaced_texts : List Code → List ℕ
+spaced_texts codes = join_with_byte 32 (map (λ code. code.text) codes)
 
 -- the text of a set with the number n whose codes have the bits `shown`: each bit needs a code, and there must be at
 -- least one
@@ -63,7 +63,7 @@ judged_set shown n text = if shown == n then (if length text == 0 then Err Empty
 
 -- the text of a set
 abbrev pub set_text : List Code → ℕ → Result (List ℕ) V
-set_text codes n = judged_set (bits_of (codes_in codes n)) n (joined (codes_in codes n))
+set_text codes n = judged_set (bits_of (codes_in codes n)) n (spaced_texts (codes_in codes n))
 
 -- every other byte, beginning with the first or with the second
 abbrev pub every_other : Bool → List ℕ → List ℕ

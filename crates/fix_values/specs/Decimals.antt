@@ -193,10 +193,10 @@ mantissa_under d exponent =
     if int_le exponent d.exponent then Ok (widened d.mantissa (natural (d.exponent -ℤ exponent))) else narrowed d.mantissa (natural (exponent -ℤ d.exponent))
 
 -- a number, if it is one of the leaf's
-abbrev pub judged : LeafOf → Result ℤ V → Result ℤ V
-judged leaf (Ok n) = if is_value leaf n then Ok n else Err Range
-judged leaf (Err v) = Err v
+abbrev pub leaf_number : LeafOf → Result ℤ V → Result ℤ V
+leaf_number leaf (Ok n) = if is_value leaf n then Ok n else Err Range
+leaf_number leaf (Err v) = Err v
 
 -- the mantissa that a decimal has under this exponent, as one of the leaf's numbers
 abbrev pub fitted : Dec → LeafOf → ℤ → Result ℤ V
-fitted d leaf exponent = judged leaf (mantissa_under d exponent)
+fitted d leaf exponent = leaf_number leaf (mantissa_under d exponent)

@@ -13,7 +13,7 @@ use Rattle.fix_values.specs.declared.rule.NumRule.{NumRule}
 use Rattle.fix_values.specs.declared.rule.NumRule.TheVariants as rule
 use Rattle.fix_values.specs.declared.text.TheConstants.{SOH}
 use Rattle.fix_values.specs.Numerals.{integer_of}
-use Rattle.fix_values.specs.Decimals.{decimal_of, fitted, judged}
+use Rattle.fix_values.specs.Decimals.{decimal_of, fitted, leaf_number}
 use Rattle.fix_values.specs.Codes.{has_soh, code_text, code_number, set_text, set_number, boolean_shown, boolean_number, has_short_text, is_choice, is_apart, same_number, same_text, same_truth}
 
 -- the text of a character: the byte of its number, unless it is SOH
@@ -36,7 +36,7 @@ spelled_number (Some n) = Ok n
 
 -- The number that a text spells, if it is one of the leaf's.
 abbrev pub integer_value : LeafOf → List ℕ → Result ℤ V
-integer_value leaf text = judged leaf (spelled_number (integer_of text))
+integer_value leaf text = leaf_number leaf (spelled_number (integer_of text))
 
 -- a decimal as a whole number of the leaf's, if it is one
 abbrev pub whole_value : LeafOf → Result Dec V → Result ℤ V
@@ -46,7 +46,7 @@ whole_value leaf (Err v) = Err v
 -- The character that a text is, if it is one of the leaf's.
 abbrev pub char_value : LeafOf → List ℕ → Result ℤ V
 char_value leaf [] = Err Spelling
-char_value leaf (b ∷ []) = judged leaf (Ok (pos b))
+char_value leaf (b ∷ []) = leaf_number leaf (Ok (pos b))
 char_value leaf (b ∷ c ∷ bs) = Err Spelling
 
 -- the number that a text spells by its rule, as one of the leaf's

@@ -4,7 +4,7 @@ ghost use Rattle.std.specs.Str.{all_ascii_digits};
 ghost use Rattle.std.specs.Str.Parse.{digits_value};
 ghost use Rattle.fix_values.specs.Numerals as numerals;
 ghost use Rattle.fix_values.specs.Decimals as decimals;
-ghost use Rattle.fix_values.specs.Decimals.{decimal_of, decimal_text, digits_at, fitted, judged, mantissa_under, parts_shown, pointed, Parts, without_leading, without_trailing};
+ghost use Rattle.fix_values.specs.Decimals.{decimal_of, decimal_text, digits_at, fitted, leaf_number, mantissa_under, parts_shown, pointed, Parts, without_leading, without_trailing};
 ghost use Rattle.fix_values.specs.Values.{Leaves};
 
 use crate::digits::{admitted, is_digits, signed_small, small_after, split_sign};
@@ -243,7 +243,7 @@ pub fn fit_decimal(dec: &Dec, mantissa: &Leaf, exponent: i32) -> Result<i128, V>
 }
 
 fn fit_narrowed(number: i128, places: u32, leaf: &Leaf) -> Result<i128, V>
-    ensures { result ≡ judged leaf.now (decimals.narrowed number places) }
+    ensures { result ≡ leaf_number leaf.now (decimals.narrowed number places) }
 {
     match narrowed(number, places) {
         Ok(number) => admitted(leaf, Some(number)),
@@ -252,7 +252,7 @@ fn fit_narrowed(number: i128, places: u32, leaf: &Leaf) -> Result<i128, V>
 }
 
 fn fit_widened(number: i128, places: u32, leaf: &Leaf) -> Result<i128, V>
-    ensures { result ≡ judged leaf.now (Ok (decimals.widened number places)) }
+    ensures { result ≡ leaf_number leaf.now (Ok (decimals.widened number places)) }
 {
     admitted(leaf, widened(number, places))
 }

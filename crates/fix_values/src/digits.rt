@@ -5,7 +5,7 @@ ghost use Rattle.std.specs.Str.{all_ascii_digits};
 ghost use Rattle.std.specs.Str.Parse.{digits_value, digits_value_after};
 ghost use Rattle.sbe_types.specs.Shown as shown;
 ghost use Rattle.fix_values.specs.Numerals as numerals;
-ghost use Rattle.fix_values.specs.Decimals.{judged};
+ghost use Rattle.fix_values.specs.Decimals.{leaf_number};
 
 use crate::V;
 use sbe_types::{Leaf, LeafShape, Presence};
@@ -103,7 +103,7 @@ pub fn signed_small(negative: bool, size: u128) -> i128
 
 /// A number of the leaf. `None` means a number that an i128 doesn't hold, which can't be one of the leaf's.
 pub fn admitted(leaf: &Leaf, number: Option<i128>) -> Result<i128, V>
-    ensures value { result ≡ option_map_or (λ n. judged leaf.now (Ok n)) number (Err V.Range) }
+    ensures value { result ≡ option_map_or (λ n. leaf_number leaf.now (Ok n)) number (Err V.Range) }
     ensures outside { (n : ℤ) → ¬ FitsSigned w128 n → numerals.is_value leaf.now n ≡ false }
 {
     let Leaf {

@@ -10,15 +10,15 @@ use Rattle.schema_files.specs.declared.files.LoadStop.{LoadStop}
 use Rattle.schema_files.specs.declared.files.LoadStop.TheVariants.{Refused, Fault, NoMemory}
 use Rattle.schema_files.specs.declared.files.JobStop.TheVariants as stop
 use Rattle.map_files.specs.Maps.{LoadsMap}
-use Rattle.command_files.specs.Files.{LoadsFiles, judged_in}
-use Rattle.fixcheck_command.specs.FixCheck.{tags_judged, fixcheck_files}
+use Rattle.command_files.specs.Files.{LoadsFiles, in_role}
+use Rattle.fixcheck_command.specs.FixCheck.{tags_check, fixcheck_files}
 
 module _ (told : Option (List ℕ → Option (List ℕ))) (name : List ℕ) where
   pub tags_loaded : (repository : Repository) (tags : List Pair) → tags ≡ pairs_of (members_of repository) → LoadsMap told name (Ok repository) → LoadsFiles (fixcheck_files name) told (Ok tags)
-  tags_loaded repository tags is h = record { judges = λ contents same. ap Ok is ∙ sym (ap (λ f. tags_judged (judged_in role.Map f)) (h contents same)); fails = tt; good = tt }
+  tags_loaded repository tags is h = record { judges = λ contents same. ap Ok is ∙ sym (ap (λ f. tags_check (in_role role.Map f)) (h contents same)); fails = tt; good = tt }
 
   pub map_stopped : (why : LoadStop) → LoadsMap told name (Err why) → LoadsFiles (fixcheck_files name) told (Err (stop_of role.Map why))
-  map_stopped (Refused why) h = record { judges = λ contents same. sym (ap (λ f. tags_judged (judged_in role.Map f)) (h contents same)); fails = tt; good = tt }
+  map_stopped (Refused why) h = record { judges = λ contents same. sym (ap (λ f. tags_check (in_role role.Map f)) (h contents same)); fails = tt; good = tt }
   map_stopped Fault h = record { judges = λ contents same. tt; fails = tt; good = tt }
   map_stopped NoMemory h = record { judges = λ contents same. tt; fails = tt; good = tt }
 

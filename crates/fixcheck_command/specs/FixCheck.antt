@@ -21,7 +21,7 @@ use Rattle.refused_items.specs.Refused.{Refused as RefusedItem, refused_line, of
 use Rattle.schema_files.specs.declared.files.FileRole.TheVariants as role
 use Rattle.schema_files.specs.declared.files.RefusedFile.{RefusedFile}
 use Rattle.map_files.specs.Maps.{file_map, IsMap}
-use Rattle.command_files.specs.Files.{FilesOf, judged_in}
+use Rattle.command_files.specs.Files.{FilesOf, in_role}
 use Rattle.command_steps.specs.declared.kept.Kept.{Kept}
 use Rattle.replies.specs.Reply.{Reply}
 use Rattle.replies.specs.declared.verdict.Verdict.{Verdict}
@@ -108,13 +108,13 @@ HoldsType text table = (field : FixField) × (slice_get table 2 ≡ Some field) 
 -- ---- the file
 
 -- the length tags and data tags of a mapping
-abbrev pub tags_judged : Result Repository RefusedFile → Result (List Pair) RefusedFile
-tags_judged (Ok repository) = Ok (pairs_of (members_of repository))
-tags_judged (Err file) = Err file
+abbrev pub tags_check : Result Repository RefusedFile → Result (List Pair) RefusedFile
+tags_check (Ok repository) = Ok (pairs_of (members_of repository))
+tags_check (Err file) = Err file
 
 -- the file with this name contains this, or is refused
 abbrev pub JudgesTags : List ℕ → (List ℕ → Option (List ℕ)) → Result (List Pair) RefusedFile → Type 0
-JudgesTags name contents judged = judged ≡ tags_judged (judged_in role.Map (file_map (contents name)))
+JudgesTags name contents judged = judged ≡ tags_check (in_role role.Map (file_map (contents name)))
 
 -- The files of `fixcheck`: only the mapping.
 abbrev pub fixcheck_files : List ℕ → FilesOf (List Pair)

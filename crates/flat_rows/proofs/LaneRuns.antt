@@ -14,8 +14,8 @@ use Rattle.flat_rows.specs.Quick.{is_between, is_text_within}
 use Rattle.flat_rows.specs.Runs.{first_set, is_set, lies_between}
 
 -- an operation on two vectors that were computed lane by lane from v
-pub joined : (h : ℕ → ℕ → ℕ) (f g : ℕ → ℕ) (v : List ℕ) {a b : List ℕ} → a ≡ map f v → b ≡ map g v → zip2 h a b ≡ map (λ x. h (f x) (g x)) v
-joined h f g v p q = ap₂ (zip2 h) p q ∙ zip2-map h f g v
+pub zip_of_maps : (h : ℕ → ℕ → ℕ) (f g : ℕ → ℕ) (v : List ℕ) {a b : List ℕ} → a ≡ map f v → b ≡ map g v → zip2 h a b ≡ map (λ x. h (f x) (g x)) v
+zip_of_maps h f g v p q = ap₂ (zip2 h) p q ∙ zip2-map h f g v
 
 -- tests that agree have the same run
 same_run : (p q : ℕ → Bool) (xs : List ℕ) → ((x : ℕ) → p x ≡ q x) → prefix_len p xs ≡ prefix_len q xs

@@ -15,7 +15,7 @@ use Rattle.sbe_wire.specs.declared.codes.FCode.TheVariants as code
 use Rattle.sbe_wire.specs.Faults.{fault_at}
 use Rattle.sbe_wire.specs.Lays.{FieldsLay}
 use Rattle.sbe_wire.specs.Placed.{ArePlaced}
-use Rattle.sbe_wire.specs.Reading.{◌>>=◌, and_then, and_judged, then_read, nothing, fields_read, block_read, block_of as block_made, entry_read}
+use Rattle.sbe_wire.specs.Reading.{◌>>=◌, and_then, and_check, then_read, nothing, fields_read, block_read, block_of as block_made, entry_read}
 use Rattle.sbe_wire.specs.Versions.{floor}
 use Rattle.sbe_wire.proofs.Blocks.{fields_judges}
 use Rattle.schema_facts.specs.InOrder.{IsKindInOrder}
@@ -24,8 +24,8 @@ use Rattle.flyweight_view.specs.declared.plan.Plan.{Plan}
 use Rattle.flyweight_view.specs.declared.plan.Plan.TheVariants as plan
 use Rattle.flyweight_view.specs.declared.plan.Slot.{Slot}
 use Rattle.flyweight_view.specs.declared.plan.Span.{Span}
-use Rattle.flyweight_view.specs.inner.Planned.{fields_of, block_of, seen_by, seen_at, values_at, IsSeen, IsMembersPlan}
-use Rattle.flyweight_view.specs.Seen.{member_field, seen_members, members_of, values_in, composite_seen, field_seen}
+use Rattle.flyweight_view.specs.inner.Planned.{fields_of, block_of, typed_by, typed_at, values_at, IsPlannedBlock, IsMembersPlan}
+use Rattle.flyweight_view.specs.Seen.{member_field, typed_members, members_of, values_in, typed_composite, typed_field}
 use Rattle.flyweight_view.specs.inner.Slots.{SlotIs}
 use Rattle.body_walk.proofs.MembersReady.{row_in}
 use Rattle.flyweight_view.proofs.MembersTold.{members_lie, members_placed, members_reach}
@@ -40,7 +40,7 @@ fields_only values = record { fields = values; groups = []; parts = [] }
 only_block : (mode : Mode) (fields : List Field) (k : ℕ) (b : List ℕ) (values : List Value) → nat_le k (length b) ≡ true → fields_read mode 0 0 fields (take k b) ≡ Ok values →
     block_read mode fields k b ≡ Ok (values, drop k b)
 only_block mode fields k b values long read =
-    ap (λ t. and_judged (fields_read mode 0 0 fields) (cond t (Ok (take k b, drop k b)) (Err (fault_at code.Truncated 0 (pos k))))) long
+    ap (λ t. and_check (fields_read mode 0 0 fields) (cond t (Ok (take k b, drop k b)) (Err (fault_at code.Truncated 0 (pos k))))) long
     ∙ ap (λ r. r >>= (λ y. Ok (y, drop k b))) read
 
 only_entry : (mode : Mode) (fields : List Field) (k : ℕ) (b : List ℕ) (values : List Value) → nat_le k (length b) ≡ true → fields_read mode 0 0 fields (take k b) ≡ Ok values →
@@ -81,11 +81,11 @@ module _ (s : Span) (ms : List Member) (v : Value) (from : s.at ≡ 0) (all : s.
   near = omega (arith, from, all)
 
   -- what is seen of the composite's value
-  seen_value : composite_seen (members_of (Comp ms)) (values_in v) ≡ Some (seen_members ms shows.1.0)
+  seen_value : typed_composite (members_of (Comp ms)) (values_in v) ≡ Some (typed_members ms shows.1.0)
   seen_value =
-      ap (λ l. composite_seen (Some l) (values_in v)) (items_hidden-the_row-Member-0 ms)
-      ∙ ap (λ x. composite_seen (Some ms) (values_in x)) shows.1.1
-      ∙ ap (λ l. Some (seen_members ms l)) (items_hidden-the_row-Value-0 shows.1.0)
+      ap (λ l. typed_composite (Some l) (values_in v)) (items_hidden-the_row-Member-0 ms)
+      ∙ ap (λ x. typed_composite (Some ms) (values_in x)) shows.1.1
+      ∙ ap (λ l. Some (typed_members ms l)) (items_hidden-the_row-Value-0 shows.1.0)
 
 -- the members of a plan
 abbrev pub list_in : Plan → List Member
@@ -98,7 +98,7 @@ IsList (plan.Members members) = ⊤
 IsList (plan.Level layout number level) = ⊥
 
 pub seen_composite : (s : Span) (p : Plan) (v : Value) → IsList p → s.at ≡ 0 → s.size ≡ length s.body.now → IsKindInOrder (Comp (list_in p)) → Shows s.mode.order s.mode.known (Comp (list_in p)) v s.body.now →
-    IsSeen s p
+    IsPlannedBlock s p
 seen_composite s (plan.Level layout number level) v is from all order shows = absurd is
 seen_composite s (plan.Members members) v is from all order shows =
     let read = told s members.now v from all order shows in
@@ -111,39 +111,39 @@ seen_composite s (plan.Members members) v is from all order shows =
     }
 
 pub value_composite : (s : Span) (p : Plan) (v : Value) → IsList p → s.at ≡ 0 → s.size ≡ length s.body.now → IsKindInOrder (Comp (list_in p)) → Shows s.mode.order s.mode.known (Comp (list_in p)) v s.body.now →
-    composite_seen (members_of (Comp (list_in p))) (values_in v) ≡ Some (seen_at s p)
+    typed_composite (members_of (Comp (list_in p))) (values_in v) ≡ Some (typed_at s p)
 value_composite s (plan.Level layout number level) v is from all order shows = absurd is
 value_composite s (plan.Members members) v is from all order shows =
     seen_value s members.now v from all order shows
-    ∙ ap (λ r. Some (seen_by (plan.Members members) (block_of r))) (sym (told s members.now v from all order shows))
+    ∙ ap (λ r. Some (typed_by (plan.Members members) (block_of r))) (sym (told s members.now v from all order shows))
 
 -- ---- a field that is a composite
 
-some_members : (o : Option (List Member)) (w : Option (List Value)) → IsSome (composite_seen o w) → IsSome o
+some_members : (o : Option (List Member)) (w : Option (List Value)) → IsSome (typed_composite o w) → IsSome o
 some_members None w h = cc
 some_members (Some ms) w h = refl
 
-some_values : (o : Option (List Member)) (w : Option (List Value)) → IsSome (composite_seen o w) → IsSome w
+some_values : (o : Option (List Member)) (w : Option (List Value)) → IsSome (typed_composite o w) → IsSome w
 some_values None w h = cc
 some_values (Some ms) None h = cc
 some_values (Some ms) (Some vs) h = refl
 
 module _ (s : Span) (p : Plan) (i : ℕ) (slot : Slot) (is : SlotIs s (fields_of p) i slot) (at : ValueOf s p i slot) where
-  there : IsSome (field_seen (slice_get (fields_of p) i) (slice_get (values_at s p) i)) → IsSome (composite_seen (members_of is.field.kind) (values_in at.0))
-  there some = subst (λ o. IsSome (field_seen o (Some at.0))) is.there (subst (λ o. IsSome (field_seen (slice_get (fields_of p) i) o)) at.1 some)
+  there : IsSome (typed_field (slice_get (fields_of p) i) (slice_get (values_at s p) i)) → IsSome (typed_composite (members_of is.field.kind) (values_in at.0))
+  there some = subst (λ o. IsSome (typed_field o (Some at.0))) is.there (subst (λ o. IsSome (typed_field (slice_get (fields_of p) i) o)) at.1 some)
 
   alive_if : (t : Bool) → slot.alive ≡ t → IsSome (values_in at.0) → t ≡ true
   alive_if true e some = refl
   alive_if false e some = absurd (none_there (List Value) (subst IsSome (ap values_in (at.2.dead e)) some))
 
-  pub composite_alive : IsSome (field_seen (slice_get (fields_of p) i) (slice_get (values_at s p) i)) → slot.alive ≡ true
+  pub composite_alive : IsSome (typed_field (slice_get (fields_of p) i) (slice_get (values_at s p) i)) → slot.alive ≡ true
   composite_alive some = alive_if slot.alive refl (some_values (members_of is.field.kind) (values_in at.0) (there some))
 
-  pub composite_kind : IsSome (field_seen (slice_get (fields_of p) i) (slice_get (values_at s p) i)) → IsSome (members_of slot.kind.now)
+  pub composite_kind : IsSome (typed_field (slice_get (fields_of p) i) (slice_get (values_at s p) i)) → IsSome (members_of slot.kind.now)
   composite_kind some = subst (λ k. IsSome (members_of k)) (sym is.kind) (some_members (members_of is.field.kind) (values_in at.0) (there some))
 
-  pub composite_field : (k : Kind) → slot.kind.now ≡ k → field_seen (slice_get (fields_of p) i) (slice_get (values_at s p) i) ≡ composite_seen (members_of k) (values_in at.0)
+  pub composite_field : (k : Kind) → slot.kind.now ≡ k → typed_field (slice_get (fields_of p) i) (slice_get (values_at s p) i) ≡ typed_composite (members_of k) (values_in at.0)
   composite_field k kind =
-      ap (λ o. field_seen o (slice_get (values_at s p) i)) is.there
-      ∙ ap (field_seen (Some is.field)) at.1
-      ∙ ap (λ x. composite_seen (members_of x) (values_in at.0)) (sym is.kind ∙ kind)
+      ap (λ o. typed_field o (slice_get (values_at s p) i)) is.there
+      ∙ ap (typed_field (Some is.field)) at.1
+      ∙ ap (λ x. typed_composite (members_of x) (values_in at.0)) (sym is.kind ∙ kind)

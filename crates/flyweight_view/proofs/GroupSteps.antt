@@ -18,10 +18,10 @@ use Rattle.group_codec.specs.declared.dim.Dim.{Dim}
 use Rattle.flyweight_view.specs.declared.ends.GroupCursor.{GroupCursor}
 use Rattle.body_walk.specs.declared.layer.Layer.{Layer}
 use Rattle.flyweight_view.specs.inner.Groups.{groups_by, group_entered, next_groups, groups_at, groups_left, StandThere}
-use Rattle.flyweight_view.specs.inner.Layers.{entries_seen}
+use Rattle.flyweight_view.specs.inner.Layers.{typed_entries}
 use Rattle.body_walk.specs.inner.Layers.{IsLayer}
 use Rattle.flyweight_view.specs.inner.Lefts.{items_of, rest_of}
-use Rattle.flyweight_view.specs.Seen.{groups_seen, entries_in}
+use Rattle.flyweight_view.specs.Seen.{typed_groups, entries_in}
 use Rattle.flyweight_view.proofs.GroupsTold.{from_number, seen_entered}
 use Rattle.flyweight_view.proofs.Lefts.{First, each_next}
 use Rattle.body_walk.proofs.Opens.{Child, child_here, child_next, level_within}
@@ -40,8 +40,8 @@ unfolding each_read
 none_left l s most = ap (λ gs. rest_of (each_read (groups_by l.mode) 0 gs (drop s.at l.body.now))) (all_dropped (out-Level l.level.now).groups s.next most)
 
 -- no more groups stand there, and nothing is seen
-never_more : (gs : List Group) → gs ≡ [] → (vs ws : List GroupVal) → groups_seen gs vs ≡ groups_seen gs ws
-never_more gs none vs ws = ap (λ z. groups_seen z vs) none ∙ sym (ap (λ z. groups_seen z ws) none)
+never_more : (gs : List Group) → gs ≡ [] → (vs ws : List GroupVal) → typed_groups gs vs ≡ typed_groups gs ws
+never_more gs none vs ws = ap (λ z. typed_groups z vs) none ∙ sym (ap (λ z. typed_groups z ws) none)
 
 pub last_stands : (l : Layer) (s : GroupCursor) (row_end at : ℕ) → length (out-Level l.level.now).groups ≤ s.next + 1 → at ≤ length l.body.now → row_end ≡ group_number l.layout.now l.number (s.next + 1) → StandThere l (behind_of s row_end at)
 unfolding each_read
@@ -93,11 +93,11 @@ module _ (l : Layer) (s : GroupCursor) (g : Group) (layer : IsLayer l) (stand : 
     entered_there = subst (λ (r : Result (GroupVal × List ℕ) Fault). IsOk r) told group_read_there
 
     -- where it is the last one, the place after it tells nothing
-    pub last_seen : length groups ≤ s.next + 1 → (row_end at : ℕ) → groups_left l s ≡ option_map (entries_seen (inner_of l s.child (out-Group g).level)) o ∷ groups_left l (behind_of s row_end at)
+    pub last_seen : length groups ≤ s.next + 1 → (row_end at : ℕ) → groups_left l s ≡ option_map (typed_entries (inner_of l s.child (out-Group g).level)) o ∷ groups_left l (behind_of s row_end at)
     last_seen most row_end at =
         let none = all_dropped groups (s.next + 1) most in
-        ap (λ gs. groups_seen gs (items_of (each_read (groups_by l.mode) 0 gs (drop s.at body)))) groups_are
-        ∙ ap (groups_seen (g ∷ others)) first_group.items
+        ap (λ gs. typed_groups gs (items_of (each_read (groups_by l.mode) 0 gs (drop s.at body)))) groups_are
+        ∙ ap (typed_groups (g ∷ others)) first_group.items
         ∙ ap (λ xs. entries_in (out-Group g).level first_group.x ∷ xs) (never_more others none (items_of (each_read (groups_by l.mode) 0 others first_group.rest)) (items_of (groups_at l (behind_of s row_end at))))
         ∙ ap (λ o. o ∷ groups_left l (behind_of s row_end at)) (seen_entered (inner_of l s.child (out-Group g).level) s.at o first_group.x first_group.rest (sym told ∙ first_group.first))
 
@@ -118,9 +118,9 @@ module _ (l : Layer) (s : GroupCursor) (g : Group) (layer : IsLayer l) (stand : 
           ∙ first_group.rests
           ∙ ap (λ b. rest_of (each_read (groups_by l.mode) 0 others b)) rest_is
 
-      pub step_seen : groups_left l s ≡ option_map (entries_seen (inner_of l s.child (out-Group g).level)) o ∷ groups_left l (behind_of s row_end at)
+      pub step_seen : groups_left l s ≡ option_map (typed_entries (inner_of l s.child (out-Group g).level)) o ∷ groups_left l (behind_of s row_end at)
       step_seen =
-          ap (λ gs. groups_seen gs (items_of (each_read (groups_by l.mode) 0 gs (drop s.at body)))) groups_are
-          ∙ ap (groups_seen (g ∷ others)) first_group.items
-          ∙ ap (λ b. entries_in (out-Group g).level first_group.x ∷ groups_seen others (items_of (each_read (groups_by l.mode) 0 others b))) rest_is
+          ap (λ gs. typed_groups gs (items_of (each_read (groups_by l.mode) 0 gs (drop s.at body)))) groups_are
+          ∙ ap (typed_groups (g ∷ others)) first_group.items
+          ∙ ap (λ b. entries_in (out-Group g).level first_group.x ∷ typed_groups others (items_of (each_read (groups_by l.mode) 0 others b))) rest_is
           ∙ ap (λ o. o ∷ groups_left l (behind_of s row_end at)) (seen_entered (inner_of l s.child (out-Group g).level) s.at o first_group.x first_group.rest (sym told ∙ first_group.first))

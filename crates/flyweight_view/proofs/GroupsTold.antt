@@ -18,7 +18,7 @@ use Rattle.sbe_types.specs.declared.schema.WireSchema.{WireSchema}
 use Rattle.sbe_types.specs.Places.{members_end}
 use Rattle.sbe_wire.specs.declared.codes.FCode.TheVariants as code
 use Rattle.sbe_wire.specs.Faults.{Fault, fault_at}
-use Rattle.sbe_wire.specs.Reading.{Reader, ◌>>=◌, later, and_then, and_judged, then_read, nothing, times_read, dimension_of, dimension_read, group_read}
+use Rattle.sbe_wire.specs.Reading.{Reader, ◌>>=◌, later, and_then, and_check, then_read, nothing, times_read, dimension_of, dimension_read, group_read}
 use Rattle.sbe_wire.specs.Versions.{is_alive, floor}
 use Rattle.sbe_wire.proofs.Combine.{ok_is}
 use Rattle.schema_facts.specs.Levels.{nodes, nodes_below, nodes_of, all_nodes, groups_at}
@@ -28,11 +28,11 @@ use Rattle.layout_tables.proofs.GroupWalk.{GroupsFrom, groups_begin, group_is, h
 use Rattle.group_codec.specs.declared.dim.Dim.{Dim}
 use Rattle.body_walk.specs.declared.layer.Layer.{Layer}
 use Rattle.sbe_wire.specs.declared.mode.Mode.{Mode}
-use Rattle.body_walk.specs.inner.Cursor.{entries_read, dim_told}
+use Rattle.body_walk.specs.inner.Cursor.{entries_read, dim_from}
 use Rattle.flyweight_view.specs.inner.Groups.{groups_by, group_entered}
-use Rattle.flyweight_view.specs.inner.Layers.{blocks_read, blocks_at, entries_seen, LieThere}
+use Rattle.flyweight_view.specs.inner.Layers.{blocks_read, blocks_at, typed_entries, LieThere}
 use Rattle.flyweight_view.specs.inner.Lefts.{items_of, rest_of}
-use Rattle.flyweight_view.specs.Seen.{seen_level, entries_in}
+use Rattle.flyweight_view.specs.Seen.{typed_level, entries_in}
 use Rattle.flyweight_view.proofs.Lefts.{never_ok, step_ok, later_same, made_there}
 
 -- ---- the number of a group's level
@@ -94,7 +94,7 @@ module _ (order : Order) (dim : List Member) (least : ℕ) (body : List ℕ) (at
   cut = fault_at code.Truncated 0 (pos wide)
 
   abbrev judged_by : Bool → Result ((ℕ × ℕ) × List ℕ) Fault
-  judged_by t = and_judged judge (cond t (Ok (take wide (drop at body), drop wide (drop at body))) (Err cut))
+  judged_by t = and_check judge (cond t (Ok (take wide (drop at body), drop wide (drop at body))) (Err cut))
 
   judged_is : dimension_read order dim least (drop at body) ≡ judged_by (nat_le wide (length body - at))
   judged_is = ap (λ n. judged_by (nat_le wide n)) (length-drop at body)
@@ -110,14 +110,14 @@ module _ (order : Order) (dim : List Member) (least : ℕ) (body : List ℕ) (at
   told_err false r f g is h = (cut, refl)
 
   -- a dimension that is told is read
-  dims_read : (x : ℕ × ℕ) → Ok x ≡ dim_told order dim least body at → dimension_read order dim least (drop at body) ≡ Ok (x, drop (at + wide) body)
+  dims_read : (x : ℕ × ℕ) → Ok x ≡ dim_from order dim least body at → dimension_read order dim least (drop at body) ≡ Ok (x, drop (at + wide) body)
   dims_read x told =
       let e = told_ok (nat_le wide (length body - at)) (judge (take wide (drop at body))) (fault_at code.Truncated at (pos wide)) x told in
       judged_is ∙ ap judged_by e.0
       ∙ ap (λ (z : Result (ℕ × ℕ) Fault). z >>= (λ y. Ok (y, drop wide (drop at body)))) e.1
       ∙ ap (λ b. Ok (x, b)) (drop-drop wide at body)
 
-  dims_bad : (f : Fault) → Err f ≡ dim_told order dim least body at → (h : Fault) × (dimension_read order dim least (drop at body) ≡ Err h)
+  dims_bad : (f : Fault) → Err f ≡ dim_from order dim least body at → (h : Fault) × (dimension_read order dim least (drop at body) ≡ Err h)
   dims_bad f told =
       let e = told_err (nat_le wide (length body - at)) (judge (take wide (drop at body))) (fault_at code.Truncated at (pos wide)) f refl told in
       (e.0, judged_is ∙ e.1)
@@ -162,23 +162,23 @@ module _ (mode : Mode) where
 
     -- a group that is alive has the entries that its dimension tells
     pub group_told : (since least : ℕ) (d : Dim) → since ≡ (out-Level level).since → since ≤ mode.version → least ≡ floor mode.version (out-Level level).fields →
-        Ok (d.block, d.count) ≡ dim_told mode.order (out-Group g).dim least body at → d.after ≡ at + members_end 0 (out-Group g).dim → IsOk (groups_by mode g (drop at body)) →
+        Ok (d.block, d.count) ≡ dim_from mode.order (out-Group g).dim least body at → d.after ≡ at + members_end 0 (out-Group g).dim → IsOk (groups_by mode g (drop at body)) →
         groups_by mode g (drop at body) ≡ behind level (d.block, d.count) (drop d.after body)
     group_told since least d is alive floors told after ok =
         let dim = (out-Group g).dim in
         let least_is = floor mode.version (out-Level level).fields in
         let read : dims dim level (drop at body) ≡ Ok ((d.block, d.count), drop d.after body) =
-        dims_read mode.order dim least_is body at (d.block, d.count) (told ∙ ap (λ k. dim_told mode.order dim k body at) floors)
+        dims_read mode.order dim least_is body at (d.block, d.count) (told ∙ ap (λ k. dim_from mode.order dim k body at) floors)
         ∙ ap (λ k. Ok ((d.block, d.count), drop k body)) (sym after) in
         let whole : groups_by mode g (drop at body) ≡ later (length (drop at body) - length (drop d.after body)) (behind level (d.block, d.count) (drop d.after body)) =
         group_alive since is alive ∙ ap (λ (r : Result ((ℕ × ℕ) × List ℕ) Fault). and_then (drop at body) r (behind level)) read in
         whole ∙ later_same _ (behind level (d.block, d.count) (drop d.after body)) (subst (λ (r : Result (GroupVal × List ℕ) Fault). IsOk r) whole ok)
 
     pub group_never : (since least : ℕ) (f : Fault) → since ≡ (out-Level level).since → since ≤ mode.version → least ≡ floor mode.version (out-Level level).fields →
-        Err f ≡ dim_told mode.order (out-Group g).dim least body at → IsOk (groups_by mode g (drop at body)) → ⊥
+        Err f ≡ dim_from mode.order (out-Group g).dim least body at → IsOk (groups_by mode g (drop at body)) → ⊥
     group_never since least f is alive floors told ok =
         let dim = (out-Group g).dim in
-        let bad = dims_bad mode.order dim (floor mode.version (out-Level level).fields) body at f (told ∙ ap (λ k. dim_told mode.order dim k body at) floors) in
+        let bad = dims_bad mode.order dim (floor mode.version (out-Level level).fields) body at f (told ∙ ap (λ k. dim_from mode.order dim k body at) floors) in
         never_ok (groups_by mode g (drop at body)) bad.0
         (group_alive since is alive ∙ ap (λ (r : Result ((ℕ × ℕ) × List ℕ) Fault). and_then (drop at body) r (behind level)) bad.1) ok
 
@@ -191,14 +191,14 @@ lie_there l at least d ok floors reaches near = record {
   reads = (made_there (blocks_read l d) groupval.Entries (drop d.after l.body.now) ok).0;
 }
 
-pub seen_entered : (l : Layer) (at : ℕ) (o : Option Dim) (v : GroupVal) (rest : List ℕ) → group_entered l at o ≡ Ok (v, rest) → entries_in l.level.now v ≡ option_map (entries_seen l) o
+pub seen_entered : (l : Layer) (at : ℕ) (o : Option Dim) (v : GroupVal) (rest : List ℕ) → group_entered l at o ≡ Ok (v, rest) → entries_in l.level.now v ≡ option_map (typed_entries l) o
 seen_entered l at None v rest h = ap (λ (z : GroupVal × List ℕ). entries_in l.level.now z.0) (sym (ok_is h))
 seen_entered l at (Some d) v rest h =
     let level = l.level.now in
     let two = step_ok (drop d.after l.body.now) (blocks_at l d) (λ es. nothing (groupval.Entries es)) (v, rest) h in
     ap (λ (z : GroupVal × List ℕ). entries_in level z.0) (sym (ok_is two.2))
-    ∙ ap (λ (bs : List Block). Some (map (seen_level level) bs)) (items_hidden-the_row-Block-1 two.0.0)
-    ∙ ap (λ (z : Result (List Block × List ℕ) Fault). Some (map (seen_level level) (items_of z))) (sym two.1)
+    ∙ ap (λ (bs : List Block). Some (map (typed_level level) bs)) (items_hidden-the_row-Block-1 two.0.0)
+    ∙ ap (λ (z : Result (List Block × List ℕ) Fault). Some (map (typed_level level) (items_of z))) (sym two.1)
 
 pub end_entered : (l : Layer) (at : ℕ) (d : Dim) → IsOk (group_entered l at (Some d)) → rest_of (group_entered l at (Some d)) ≡ rest_of (blocks_at l d)
 end_entered l at d ok = (made_there (blocks_read l d) groupval.Entries (drop d.after l.body.now) ok).1

@@ -13,11 +13,11 @@ use Rattle.body_walk.specs.declared.layer.Layer.{Layer}
 use Rattle.sbe_wire.specs.declared.mode.Mode.{Mode}
 use Rattle.flyweight_view.specs.declared.plan.Plan.TheVariants as plan
 use Rattle.body_walk.specs.inner.Cursor.{entries_read}
-use Rattle.flyweight_view.specs.inner.Layers.{blocks_at, entries_seen, LieThere}
+use Rattle.flyweight_view.specs.inner.Layers.{blocks_at, typed_entries, LieThere}
 use Rattle.body_walk.specs.inner.Layers.{IsLayer}
 use Rattle.flyweight_view.specs.inner.Lefts.{items_of, rest_of}
-use Rattle.flyweight_view.specs.inner.Planned.{block_of, IsSeen}
-use Rattle.flyweight_view.specs.Seen.{seen_level}
+use Rattle.flyweight_view.specs.inner.Planned.{block_of, IsPlannedBlock}
+use Rattle.flyweight_view.specs.Seen.{typed_level}
 use Rattle.body_walk.proofs.LevelsReady.{level_ready}
 use Rattle.flyweight_view.proofs.Lefts.{First, times_next, times_many}
 use Rattle.flyweight_view.proofs.Tails.{entry_parts, IsFlat, flat_entry, flat_end}
@@ -55,15 +55,15 @@ module _ (l : Layer) (d : Dim) (lie : LieThere l d) where
   abbrev here : List ℕ
   here = drop d.after l.body.now
 
-  pub entries_many : length (entries_seen l d) ≡ d.count
-  entries_many = long_map (seen_level l.level.now) (items_of (blocks_at l d)) ∙ times_many entry d.count here lie.reads
+  pub entries_many : length (typed_entries l d) ≡ d.count
+  entries_many = long_map (typed_level l.level.now) (items_of (blocks_at l d)) ∙ times_many entry d.count here lie.reads
 
   module _ (some : 0 < d.count) where
     abbrev next : First entry (times_read entry 0 d.count) (times_read entry 0 (d.count - 1)) here
     next = some_first entry d.count here some lie.reads
 
     -- the first one is seen
-    pub first_seen : IsLayer l → IsSeen (record { mode = l.mode; body = l.body; at = d.after; size = d.block }) (plan.Level l.layout l.number l.level)
+    pub first_seen : IsLayer l → IsPlannedBlock (record { mode = l.mode; body = l.body; at = d.after; size = d.block }) (plan.Level l.layout l.number l.level)
     first_seen layer =
         let schema = l.layout.now in
         let parts = entry_parts (tail_read l.mode l.level.now) l.mode (out-Level l.level.now).fields d.block here (next.x, next.rest) next.first in
@@ -92,9 +92,9 @@ module _ (l : Layer) (d : Dim) (lie : LieThere l d) where
         reads = subst (λ b. IsOk (times_read entry 0 (d.count - 1) b)) rest_is next.others;
       }
 
-      pub others_seen : entries_seen l d ≡ seen_level l.level.now (block_of (entry here)) ∷ entries_seen l (others_of d behind)
+      pub others_seen : typed_entries l d ≡ typed_level l.level.now (block_of (entry here)) ∷ typed_entries l (others_of d behind)
       others_seen =
-          let see = seen_level l.level.now in
+          let see = typed_level l.level.now in
           ap (map see) next.items
           ∙ ap (λ (b : Block). see b ∷ map see (items_of (times_read entry 0 (d.count - 1) next.rest))) (sym (own_block (entry here) (next.x, next.rest) next.first).1)
           ∙ ap (λ b. see (block_of (entry here)) ∷ map see (items_of (times_read entry 0 (d.count - 1) b))) rest_is
@@ -111,10 +111,10 @@ module _ (l : Layer) (d : Dim) (lie : LieThere l d) where
       reads = refl;
     }
 
-    pub last_seen : d.count ≡ 1 → entries_seen l d ≡ seen_level l.level.now (block_of (entry here)) ∷ entries_seen l (none_of d)
+    pub last_seen : d.count ≡ 1 → typed_entries l d ≡ typed_level l.level.now (block_of (entry here)) ∷ typed_entries l (none_of d)
     unfolding times_read
     last_seen one =
-        let see = seen_level l.level.now in
+        let see = typed_level l.level.now in
         let none : d.count - 1 ≡ 0 = omega (arith, one) in
         ap (map see) next.items
         ∙ ap (λ (b : Block). see b ∷ map see (items_of (times_read entry 0 (d.count - 1) next.rest))) (sym (own_block (entry here) (next.x, next.rest) next.first).1)

@@ -14,7 +14,7 @@ use Rattle.sbe_types.specs.Numbers.{prim_width}
 use Rattle.sbe_types.specs.Shown.{admits}
 use Rattle.sbe_wire.specs.declared.codes.FCode.TheVariants as code
 use Rattle.sbe_wire.specs.Faults.{Fault, fault_at, count_of}
-use Rattle.sbe_wire.specs.Reading.{and_judged, each_read, data_bytes, data_whole}
+use Rattle.sbe_wire.specs.Reading.{and_check, each_read, data_bytes, data_whole}
 use Rattle.sbe_wire.specs.Versions.{is_alive}
 use Rattle.sbe_wire.proofs.Combine.{ok_is}
 use Rattle.var_data.specs.declared.data.DataErr.{DataErr}
@@ -78,8 +78,8 @@ module _ (mode : Mode) (part : DataField) (body : List ℕ) (at : ℕ) where
       let judge : List ℕ → Result DataVal Fault = λ b. Ok (dataval.Bytes (drop wide b)) in (
         alive_by true here
             ∙ ap (λ t. cond t (data_bytes mode.order part many front) (Err (fault_at code.Truncated 0 (pos wide)))) first
-            ∙ ap (λ t. cond t (and_judged judge (cond (nat_le (wide + many) (length front)) (Ok (take (wide + many) front, drop (wide + many) front)) (Err (fault_at code.Truncated 0 (pos (wide + many)))))) (Err (fault_at code.Length 0 (pos many)))) tests.1
-            ∙ ap (λ t. and_judged judge (cond t (Ok (take (wide + many) front, drop (wide + many) front)) (Err (fault_at code.Truncated 0 (pos (wide + many)))))) whole
+            ∙ ap (λ t. cond t (and_check judge (cond (nat_le (wide + many) (length front)) (Ok (take (wide + many) front, drop (wide + many) front)) (Err (fault_at code.Truncated 0 (pos (wide + many)))))) (Err (fault_at code.Length 0 (pos many)))) tests.1
+            ∙ ap (λ t. and_check judge (cond t (Ok (take (wide + many) front, drop (wide + many) front)) (Err (fault_at code.Truncated 0 (pos (wide + many)))))) whole
             ∙ ap (λ b. Ok (dataval.Bytes b, drop (wide + many) front)) bytes
             ∙ ap (λ b. Ok (dataval.Bytes (range_bytes body range), b)) behind,
         record { ordered = omega (arith, begins, ends); within = omega (arith, ends, one, two, near) },

@@ -8,7 +8,7 @@ use Rattle.sbe_types.specs.declared.message.Msg.{Msg}
 use Rattle.sbe_types.specs.declared.schema.Level.{Level, out-Level}
 use Rattle.sbe_types.specs.declared.schema.WireSchema.{WireSchema}
 use Rattle.sbe_wire.specs.Faults.{Fault, message_named, Heading, floor_in}
-use Rattle.sbe_wire.specs.Reading.{◌>>=◌, and_then, and_judged, heading_of, message_judged, root_read, message_of, headed}
+use Rattle.sbe_wire.specs.Reading.{◌>>=◌, and_then, and_check, heading_of, message_check, root_read, message_of, headed}
 use Rattle.sbe_wire.specs.Versions.{acting, floor, mode_of}
 use Rattle.sbe_wire.proofs.Combine.{ok_is, bind_ok, later_ok}
 use Rattle.layout_tables.specs.Heads.{header_width}
@@ -52,7 +52,7 @@ floored true low block f x y e h = cc
 floored false low block f x y e h = (ok_is h, grind (arith, nat_tests))
 
 judged_says : (schema : WireSchema) (head : List ℕ) (id : ℕ) (o : Option (ℕ × Level)) (h : Heading) → ((m : ℕ × Level) → o ≡ Some m → slice_get schema.messages m.0 ≡ Some m.1) →
-    message_judged schema head id o ≡ Ok h → Says schema head h
+    message_check schema head id o ≡ Ok h → Says schema head h
 judged_says schema head id None h named is = cc
 judged_says schema head id (Some m) h named is =
     let found : Heading = record {
@@ -76,7 +76,7 @@ heading_says schema head h = by_id (head_number schema (codes "schemaId") head =
         let here : m.0 ≡ place.0 = omega (arith, place.1) in
         ap (slice_get schema.messages) here ∙ place.2
 
-    by_id : (t : Bool) (f : Fault) → cond t (message_judged schema head id (message_named 0 id schema.messages)) (Err f) ≡ Ok h → Says schema head h
+    by_id : (t : Bool) (f : Fault) → cond t (message_check schema head id (message_named 0 id schema.messages)) (Err f) ≡ Ok h → Says schema head h
     by_id true f is = judged_says schema head id (message_named 0 id schema.messages) h named is
     by_id false f is = cc
 
@@ -92,7 +92,7 @@ and_then_is b (Ok p) q y h = (p, refl, later_ok (length b - length p.1) (q p.0 p
 
 -- the bytes of an entry that is read are there
 entry_near : {X Y : Type 0} (t : Bool) (k : ℕ) (b : List ℕ) (q : List ℕ → Result X Fault) (f : Fault) (s : X → List ℕ → Result (Y × List ℕ) Fault) (y : Y × List ℕ) →
-    nat_le k (length b) ≡ t → and_then b (and_judged q (cond t (Ok (take k b, drop k b)) (Err f))) s ≡ Ok y → k ≤ length b
+    nat_le k (length b) ≡ t → and_then b (and_check q (cond t (Ok (take k b, drop k b)) (Err f))) s ≡ Ok y → k ≤ length b
 entry_near true k b q f s y e h = leb-true k (length b) e
 entry_near false k b q f s y e h = cc
 

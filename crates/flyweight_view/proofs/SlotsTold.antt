@@ -16,7 +16,7 @@ use Rattle.sbe_types.specs.Shows.{Shows}
 use Rattle.sbe_wire.specs.declared.mode.Mode.{Mode}
 use Rattle.sbe_wire.specs.Faults.{Fault}
 use Rattle.sbe_wire.specs.Lays.{FieldsLay}
-use Rattle.sbe_wire.specs.Reading.{Reader, and_then, and_judged, nothing, fields_read, Tail, block_of as block_made, entry_read}
+use Rattle.sbe_wire.specs.Reading.{Reader, and_then, and_check, nothing, fields_read, Tail, block_of as block_made, entry_read}
 use Rattle.sbe_wire.specs.Versions.{is_alive}
 use Rattle.sbe_wire.proofs.Blocks.{fields_judges}
 use Rattle.sbe_wire.proofs.Combine.{ok_is, bind_ok, later_ok}
@@ -31,7 +31,7 @@ use Rattle.flyweight_view.specs.declared.plan.Plan.{Plan}
 use Rattle.flyweight_view.specs.declared.plan.Slot.{Slot}
 use Rattle.flyweight_view.specs.declared.plan.Span.{Span}
 use Rattle.body_walk.specs.inner.Fields.{IsFieldRow, AreFieldRows}
-use Rattle.flyweight_view.specs.inner.Planned.{fields_of, tail_of, block_of, block_told, values_at, bytes_of, IsSeen, IsMembersPlan}
+use Rattle.flyweight_view.specs.inner.Planned.{fields_of, tail_of, block_of, planned_block, values_at, bytes_of, IsPlannedBlock, IsMembersPlan}
 use Rattle.flyweight_view.specs.Seen.{member_field}
 use Rattle.flyweight_view.specs.inner.Slots.{SlotIs, SlotShows}
 use Rattle.body_walk.proofs.MembersReady.{ends_behind}
@@ -42,7 +42,7 @@ step_ok : {X Y : Type 0} (b : List ℕ) (r : Result (X × List ℕ) Fault) (q : 
 step_ok b (Err f) q y h = cc
 step_ok b (Ok p) q y h = (p, refl, later_ok (length b - length p.1) (q p.0 p.1) y h)
 
-judged_bytes : {X : Type 0} (t : Bool) (k : ℕ) (b : List ℕ) (q : List ℕ → Result X Fault) (f : Fault) (x : X × List ℕ) → and_judged q (cond t (Ok (take k b, drop k b)) (Err f)) ≡ Ok x → q (take k b) ≡ Ok x.0
+judged_bytes : {X : Type 0} (t : Bool) (k : ℕ) (b : List ℕ) (q : List ℕ → Result X Fault) (f : Fault) (x : X × List ℕ) → and_check q (cond t (Ok (take k b, drop k b)) (Err f)) ≡ Ok x → q (take k b) ≡ Ok x.0
 judged_bytes true k b q f x h =
     let found = bind_ok (q (take k b)) _ x h in
     found.1 ∙ ap Ok (ap (λ z. z.0) (ok_is found.2))
@@ -58,13 +58,13 @@ entry_fields tail mode fields k b r h =
     let read = judged_bytes (nat_le k (length b)) k b (fields_read mode 0 0 fields) _ one.0 one.1 in
     read ∙ ap (λ (x : Block). Ok (out-Block x).fields) block
 
-module _ (s : Span) (p : Plan) (seen : IsSeen s p) where
+module _ (s : Span) (p : Plan) (seen : IsPlannedBlock s p) where
   pub long_bytes : length (bytes_of s) ≡ s.size
   long_bytes = let near = seen.near in simp (length-take, length-drop) (omega arith)
 
   pub fields_lie : FieldsLay s.mode 0 (fields_of p) (values_at s p) (bytes_of s)
   fields_lie =
-      let read = entry_fields (tail_of s.mode p) s.mode (fields_of p) s.size (drop s.at s.body.now) (block_of (block_told s p), seen.reads.0) seen.reads.1 in
+      let read = entry_fields (tail_of s.mode p) s.mode (fields_of p) s.size (drop s.at s.body.now) (block_of (planned_block s p), seen.reads.0) seen.reads.1 in
       (fields_judges s.mode 0 0 0 (fields_of p) (omega arith) seen.placed).sound (bytes_of s) (values_at s p) (omega (arith, seen.reaches, long_bytes)) read
 
   item_there : {X : Type 0} (xs : List X) (i : ℕ) → i < length xs → (x : X) × (slice_get xs i ≡ Some x)

@@ -13,7 +13,7 @@ use Rattle.layout_tables.specs.declared.rows.DimRow.{DimRow}
 use Rattle.layout_tables.specs.Heads.{number_at}
 use Rattle.layout_tables.specs.Rowed.{as_spot, DimIs}
 use Rattle.group_codec.proofs.DimRows.{named_is}
-use Rattle.body_walk.specs.inner.Cursor.{dim_told}
+use Rattle.body_walk.specs.inner.Cursor.{dim_from}
 
 -- a result that can't be a fault
 pub never_a_fault : {X : Type 0} (r : Result X Fault) → ((f : Fault) → Err f ≡ r → ⊥) → (x : X) × (Ok x ≡ r)
@@ -29,7 +29,7 @@ numbers_by true false n x p f g h = (cc, refl)
 numbers_by true true n x p f g h = cc
 numbers_by false b n x p f g h = cc
 
-module _ (order : Order) (row : DimRow) (dim : List Member) (is : DimIs row dim) (least : ℕ) (body : List ℕ) (at : ℕ) (x : ℕ × ℕ) (told : Ok x ≡ dim_told order dim least body at) where
+module _ (order : Order) (row : DimRow) (dim : List Member) (is : DimIs row dim) (least : ℕ) (body : List ℕ) (at : ℕ) (x : ℕ × ℕ) (told : Ok x ≡ dim_from order dim least body at) where
   abbrev head : List ℕ
   head = take (members_end 0 dim) (drop at body)
 

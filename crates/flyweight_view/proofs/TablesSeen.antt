@@ -15,7 +15,7 @@ use Rattle.flyweight_view.specs.declared.plan.Span.{Span}
 use Rattle.body_walk.specs.inner.Blocks.{IsBlockRow}
 use Rattle.flyweight_view.specs.inner.Blocks.{IsRowBlock}
 use Rattle.flyweight_view.specs.ByTable.{IsTableBlock}
-use Rattle.flyweight_view.specs.inner.Planned.{fields_of, seen_at, values_at, IsSeen}
+use Rattle.flyweight_view.specs.inner.Planned.{fields_of, typed_at, values_at, IsPlannedBlock}
 use Rattle.body_walk.proofs.Alive.{all_alive}
 use Rattle.flyweight_view.proofs.SlotsTold.{fields_lie, long_bytes}
 use Rattle.body_walk.proofs.BlockRows.{block_row, block_fits}
@@ -30,8 +30,8 @@ abbrev pub RowOf : Plan → LevelRow → Type 0
 RowOf (plan.Level layout number level) row = RowFor layout.now number row
 RowOf (plan.Members members) row = ⊥
 
-shown_by : (s : Span) (p : Plan) (level : Level) (row : LevelRow) (b : TableBlock) → IsSeen s p → IsBlockRow s.mode.version s.size level row → fields_of p ≡ (out-Level level).fields →
-    IsRowBlock s row b → IsTableBlock b (seen_at s p)
+shown_by : (s : Span) (p : Plan) (level : Level) (row : LevelRow) (b : TableBlock) → IsPlannedBlock s p → IsBlockRow s.mode.version s.size level row → fields_of p ≡ (out-Level level).fields →
+    IsRowBlock s row b → IsTableBlock b (typed_at s p)
 shown_by s p level row b seen is fields lent =
     let fs = (out-Level level).fields in
     let alive = all_alive s.mode.version fs (omega (arith, lent.newest, is.newest_is)) in
@@ -50,7 +50,7 @@ shown_by s p level row b seen is fields lent =
           (subst (λ bs. FieldsLay s.mode 0 (fields_of p) (values_at s p) bs) (sym lent.bytes_are) shown);
     }
 
-pub level_shown : (s : Span) (p : Plan) (row : LevelRow) → IsSeen s p → RowOf p row → (b : TableBlock) → IsRowBlock s row b → IsTableBlock b (seen_at s p)
+pub level_shown : (s : Span) (p : Plan) (row : LevelRow) → IsPlannedBlock s p → RowOf p row → (b : TableBlock) → IsRowBlock s row b → IsTableBlock b (typed_at s p)
 level_shown s (plan.Members members) row seen of b lent = absurd of
 level_shown s (plan.Level layout number level) row seen of b lent =
     let is = block_row layout.now number row level.now s.mode.version s.size seen.plan_is.ready of seen.plan_is.level_is seen.reaches in

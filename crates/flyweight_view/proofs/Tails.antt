@@ -13,7 +13,7 @@ use Rattle.sbe_types.specs.declared.message.Block.{Block, out-Block}
 use Rattle.sbe_types.specs.declared.message.DataVal.{DataVal}
 use Rattle.sbe_types.specs.declared.message.GroupVal.{GroupVal}
 use Rattle.sbe_wire.specs.Faults.{Fault}
-use Rattle.sbe_wire.specs.Reading.{Reader, then_read, nothing, and_judged, times_read, each_read, fields_read, block_read, Tail, block_of as block_made, entry_read, tail_read, groups_read}
+use Rattle.sbe_wire.specs.Reading.{Reader, then_read, nothing, and_check, times_read, each_read, fields_read, block_read, Tail, block_of as block_made, entry_read, tail_read, groups_read}
 use Rattle.sbe_wire.proofs.Combine.{ok_is, bind_ok}
 use Rattle.sbe_wire.specs.declared.mode.Mode.{Mode}
 use Rattle.body_walk.specs.inner.Cursor.{entries_read}
@@ -24,7 +24,7 @@ use Rattle.flyweight_view.proofs.Lefts.{step_ok, cons_ok, cons_made, each_any, t
 
 -- ---- a block and its tail
 
-judged_rest : {X : Type 0} (t : Bool) (k : ℕ) (b : List ℕ) (q : List ℕ → Result X Fault) (f : Fault) (x : X × List ℕ) → and_judged q (cond t (Ok (take k b, drop k b)) (Err f)) ≡ Ok x → (t ≡ true) × (x.1 ≡ drop k b)
+judged_rest : {X : Type 0} (t : Bool) (k : ℕ) (b : List ℕ) (q : List ℕ → Result X Fault) (f : Fault) (x : X × List ℕ) → and_check q (cond t (Ok (take k b, drop k b)) (Err f)) ≡ Ok x → (t ≡ true) × (x.1 ≡ drop k b)
 judged_rest {X} true k b q f x h =
     let found = bind_ok (q (take k b)) _ x h in
     (refl, sym (ap (λ (z : X × List ℕ). z.1) (ok_is found.2)))

@@ -19,9 +19,9 @@ use Rattle.flyweight_view.specs.declared.plan.Span.{Span}
 use Rattle.flyweight_view.specs.inner.Groups.{groups_by, groups_at, groups_left, StandThere}
 use Rattle.body_walk.specs.inner.Layers.{IsLayer}
 use Rattle.flyweight_view.specs.inner.Lefts.{items_of, rest_of}
-use Rattle.flyweight_view.specs.Seen.{groups_seen, Seen, bytes_in, entries_in, group_seen}
+use Rattle.flyweight_view.specs.Seen.{typed_groups, TypedBlock, bytes_in, entries_in, typed_group}
 use Rattle.flyweight_view.specs.inner.Parts.{parts_at, parts_by, parts_left, LineUp}
-use Rattle.flyweight_view.specs.inner.Planned.{fields_of, groups_of, parts_of, tail_of, block_of, block_told, IsPlan, IsSeen}
+use Rattle.flyweight_view.specs.inner.Planned.{fields_of, groups_of, parts_of, tail_of, block_of, planned_block, IsPlan, IsPlannedBlock}
 use Rattle.flyweight_view.proofs.Lefts.{ok_from, each_many}
 use Rattle.body_walk.proofs.Opens.{none_there}
 use Rattle.flyweight_view.proofs.Tails.{EntryParts, entry_parts, TailParts, tail_parts}
@@ -34,9 +34,9 @@ layer_of s x = record { layout = x.layout; number = x.number; level = x.level; m
 abbrev pub first_cursor : Span → ℕ → GroupCursor
 first_cursor s child = record { next = 0; child = child; at = s.at + s.size }
 
-module _ (s : Span) (p : Plan) (seen : IsSeen s p) where
+module _ (s : Span) (p : Plan) (seen : IsPlannedBlock s p) where
   abbrev block : Block
-  block = block_of (block_told s p)
+  block = block_of (planned_block s p)
 
   abbrev groups : List GroupVal
   groups = (out-Block block).groups
@@ -75,10 +75,10 @@ module _ (s : Span) (p : Plan) (seen : IsSeen s p) where
       reads = ok_from (groups_at (layer_of s x) (first_cursor s child)) (groups, two.middle) two.groups;
     }
 
-    pub first_left : (child : ℕ) → groups_left (layer_of s x) (first_cursor s child) ≡ groups_seen (groups_of p) groups
+    pub first_left : (child : ℕ) → groups_left (layer_of s x) (first_cursor s child) ≡ typed_groups (groups_of p) groups
     first_left child =
-        ap (λ (r : Result (List GroupVal × List ℕ) Fault). groups_seen (out-Level x.level.now).groups (items_of r)) two.groups
-        ∙ ap (λ (q : Plan). groups_seen (groups_of q) groups) (sym is)
+        ap (λ (r : Result (List GroupVal × List ℕ) Fault). typed_groups (out-Level x.level.now).groups (items_of r)) two.groups
+        ∙ ap (λ (q : Plan). typed_groups (groups_of q) groups) (sym is)
 
     module _ (child at : ℕ) (ends : rest_of (groups_at (layer_of s x) (first_cursor s child)) ≡ drop at s.body.now) where
       middle_is : two.middle ≡ drop at s.body.now
@@ -124,8 +124,8 @@ module _ (s : Span) (p : Plan) (seen : IsSeen s p) where
 
   -- ---- of a composite
 
-  pub no_groups : (members : _) → p ≡ plan.Members members → [] ≡ groups_seen (groups_of p) groups
-  no_groups members is = ap (λ (q : Plan). groups_seen (groups_of q) groups) (sym is)
+  pub no_groups : (members : _) → p ≡ plan.Members members → [] ≡ typed_groups (groups_of p) groups
+  no_groups members is = ap (λ (q : Plan). typed_groups (groups_of q) groups) (sym is)
 
   pub no_parts : (members : _) → p ≡ plan.Members members → [] ≡ map bytes_in parts
   no_parts members is =
@@ -134,18 +134,18 @@ module _ (s : Span) (p : Plan) (seen : IsSeen s p) where
 
   -- ---- where there are none
 
-  pub without_groups : (x : Layer) → p ≡ plan.Level x.layout x.number x.level → (out-Level x.level.now).groups ≡ [] → [] ≡ groups_seen (groups_of p) groups
-  without_groups x is none = sym (ap (λ gs. groups_seen gs groups) (ap groups_of is ∙ none))
+  pub without_groups : (x : Layer) → p ≡ plan.Level x.layout x.number x.level → (out-Level x.level.now).groups ≡ [] → [] ≡ typed_groups (groups_of p) groups
+  without_groups x is none = sym (ap (λ gs. typed_groups gs groups) (ap groups_of is ∙ none))
 
   pub without_parts : (x : Layer) → p ≡ plan.Level x.layout x.number x.level → (out-Level x.level.now).parts ≡ [] → [] ≡ map bytes_in parts
   without_parts x is none = sym (ap (map bytes_in) (none_there parts (parts_many ∙ ap length (ap parts_of is ∙ none))))
 
   -- ---- by their numbers
 
-  pub all_groups : length (groups_seen (groups_of p) groups) ≡ length (groups_of p)
+  pub all_groups : length (typed_groups (groups_of p) groups) ≡ length (groups_of p)
   all_groups = long (groups_of p) groups groups_many
     where
-      long : (gs : List Group) (vs : List GroupVal) → length vs ≡ length gs → length (groups_seen gs vs) ≡ length gs
+      long : (gs : List Group) (vs : List GroupVal) → length vs ≡ length gs → length (typed_groups gs vs) ≡ length gs
       long [] vs same = refl
       long (g ∷ gs) [] same = absurd (omega (arith, same))
       long (g ∷ gs) (v ∷ vs) same = ap suc (long gs vs (omega (arith, same)))
@@ -157,7 +157,7 @@ module _ (s : Span) (p : Plan) (seen : IsSeen s p) where
       long [] = refl
       long (v ∷ vs) = ap suc (long vs)
 
-pub group_there : (gs : List Group) (vs : List GroupVal) (i : ℕ) (x : Option (List Seen)) (xs : List (Option (List Seen))) → drop i (groups_seen gs vs) ≡ x ∷ xs → group_seen (slice_get gs i) (slice_get vs i) ≡ Some x
+pub group_there : (gs : List Group) (vs : List GroupVal) (i : ℕ) (x : Option (List TypedBlock)) (xs : List (Option (List TypedBlock))) → drop i (typed_groups gs vs) ≡ x ∷ xs → typed_group (slice_get gs i) (slice_get vs i) ≡ Some x
 group_there [] vs zero x xs h = cc
 group_there [] vs (suc i) x xs h = cc
 group_there (g ∷ gs) [] zero x xs h = cc

@@ -8,10 +8,10 @@ use Rattle.flat_rows.specs.Judged.{AllAlive}
 use Rattle.flat_rows.specs.Scalars.{scalars_of}
 use Rattle.flat_rows.specs.Tables.{stands_for, IsTable, RowsFit}
 use Rattle.flyweight_view.specs.declared.by_table.TableBlock.{TableBlock}
-use Rattle.flyweight_view.specs.Seen.{Seen}
+use Rattle.flyweight_view.specs.Seen.{TypedBlock}
 
 -- A block with the table of its values, in little-endian order. It may be of any version that has all fields.
-pub record IsTableBlock (b : TableBlock) (s : Seen) : Type 0 where
+pub record IsTableBlock (b : TableBlock) (s : TypedBlock) : Type 0 where
   pub table_is : IsTable b.table.now
   pub stands : stands_for b.table.now ≡ scalars_of s.fields
   pub fits : RowsFit (length b.bytes.now) b.table.now.rows.items
@@ -22,8 +22,8 @@ pub record IsTableBlock (b : TableBlock) (s : Seen) : Type 0 where
   pub lay : FieldsLay (record { order = Little; known = known; version = version }) 0 s.fields (out-Block s.block).fields b.bytes.now
 
 -- the first of some entries is taken: the block is its own, and it has neither groups nor data
-pub record TakesTable (b : TableBlock) (before after : List Seen) : Type 0 where
-  pub entry : Seen
+pub record TakesTable (b : TableBlock) (before after : List TypedBlock) : Type 0 where
+  pub entry : TypedBlock
   pub table : IsTableBlock b entry
   pub groups : length entry.groups ≡ 0
   pub parts : length entry.parts ≡ 0

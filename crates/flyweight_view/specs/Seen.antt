@@ -16,23 +16,23 @@ use Rattle.sbe_types.specs.declared.message.Value.{Value, items-the_row-Value}
 use Rattle.sbe_types.specs.declared.message.Value as value
 
 -- the parts of a block by the schema, and their values
-pub record Seen : Type 0 where
+pub record TypedBlock : Type 0 where
   pub fields : List Field
   pub groups : List Group
   pub parts : List DataField
   pub block : Block
 
 -- a block of a level
-abbrev pub seen_level : Level → Block → Seen
-seen_level level block = record { fields = (out-Level level).fields; groups = (out-Level level).groups; parts = (out-Level level).parts; block = block }
+abbrev pub typed_level : Level → Block → TypedBlock
+typed_level level block = record { fields = (out-Level level).fields; groups = (out-Level level).groups; parts = (out-Level level).parts; block = block }
 
 -- a member of a composite as a field, which exists at each version
 abbrev pub member_field : Member → Field
 member_field m = record { name = m.name; id = 0; since = 0; offset = m.offset; kind = m.kind }
 
 -- a composite by its members and their values
-abbrev pub seen_members : List Member → List Value → Seen
-seen_members members values = record { fields = map member_field members; groups = []; parts = []; block = record { fields = values; groups = []; parts = [] } }
+abbrev pub typed_members : List Member → List Value → TypedBlock
+typed_members members values = record { fields = map member_field members; groups = []; parts = []; block = record { fields = values; groups = []; parts = [] } }
 
 -- ---- composites
 
@@ -57,16 +57,16 @@ values_in value.Const = None
 values_in value.Null = None
 
 -- what a composite's value shows
-abbrev pub composite_seen : Option (List Member) → Option (List Value) → Option Seen
-composite_seen (Some members) (Some values) = Some (seen_members members values)
-composite_seen (Some members) None = None
-composite_seen None values = None
+abbrev pub typed_composite : Option (List Member) → Option (List Value) → Option TypedBlock
+typed_composite (Some members) (Some values) = Some (typed_members members values)
+typed_composite (Some members) None = None
+typed_composite None values = None
 
 -- what a field that is a composite shows
-abbrev pub field_seen : Option Field → Option Value → Option Seen
-field_seen (Some f) (Some v) = composite_seen (members_of f.kind) (values_in v)
-field_seen (Some f) None = None
-field_seen None v = None
+abbrev pub typed_field : Option Field → Option Value → Option TypedBlock
+typed_field (Some f) (Some v) = typed_composite (members_of f.kind) (values_in v)
+typed_field (Some f) None = None
+typed_field None v = None
 
 -- ---- groups and data
 
@@ -76,25 +76,25 @@ bytes_in dataval.Absent = None
 bytes_in (dataval.Bytes bytes) = Some bytes
 
 -- what a group's entries show; None if the group is absent
-abbrev pub entries_in : Level → GroupVal → Option (List Seen)
+abbrev pub entries_in : Level → GroupVal → Option (List TypedBlock)
 entries_in level groupval.Absent = None
-entries_in level (groupval.Entries' n blocks) = Some (map (seen_level level) (items-the_row-Block _ blocks))
+entries_in level (groupval.Entries' n blocks) = Some (map (typed_level level) (items-the_row-Block _ blocks))
 
 -- what the entries of a group show, if there is a group with a value
-abbrev pub group_seen : Option Group → Option GroupVal → Option (Option (List Seen))
-group_seen (Some g) (Some v) = Some (entries_in (out-Group g).level v)
-group_seen (Some g) None = None
-group_seen None v = None
+abbrev pub typed_group : Option Group → Option GroupVal → Option (Option (List TypedBlock))
+typed_group (Some g) (Some v) = Some (entries_in (out-Group g).level v)
+typed_group (Some g) None = None
+typed_group None v = None
 
 -- what groups show, each of those with a value
-abbrev pub groups_seen : List Group → List GroupVal → List (Option (List Seen))
-groups_seen [] vs = []
-groups_seen (g ∷ gs) [] = []
-groups_seen (g ∷ gs) (v ∷ vs) = entries_in (out-Group g).level v ∷ groups_seen gs vs
+abbrev pub typed_groups : List Group → List GroupVal → List (Option (List TypedBlock))
+typed_groups [] vs = []
+typed_groups (g ∷ gs) [] = []
+typed_groups (g ∷ gs) (v ∷ vs) = entries_in (out-Group g).level v ∷ typed_groups gs vs
 
 -- ---- messages
 
 -- a message and the root level of its template
-pub record SeenMessage : Type 0 where
+pub record TypedMessage : Type 0 where
   pub level : Level
   pub message : Msg

@@ -6,9 +6,9 @@ ghost use Rattle.schema_facts.specs.CheckedLevels.{group_name};
 ghost use Rattle.schema_facts.specs.InOrder.{IsKindInOrder};
 ghost use Rattle.field_values.specs.Told.{all_elements, element_of, number_in, state_of, text_in};
 ghost use Rattle.flyweight_view.specs.ByTable.{IsTableBlock};
-ghost use Rattle.flyweight_view.specs.Seen.{groups_seen, bytes_in, field_seen, group_seen};
+ghost use Rattle.flyweight_view.specs.Seen.{typed_groups, bytes_in, typed_field, typed_group};
 ghost use Rattle.flyweight_view.specs.ShownIn.{IsShownIn};
-ghost use Rattle.flyweight_view.specs.inner.Planned.{seen_at, IsSeen};
+ghost use Rattle.flyweight_view.specs.inner.Planned.{typed_at, IsPlannedBlock};
 
 use crate::by_table::{TableBlock, table_block};
 use crate::entries::EntriesView;
@@ -40,15 +40,15 @@ impl<'a> Model for BlockView<'a> {
     ghost use Rattle.sbe_types.specs.contracts.message.Value as values;
     ghost use Rattle.sbe_types.specs.contracts.message.Block as blocks;
     ghost use Rattle.std.specs.Coded.{codes};
-    ghost use Rattle.flyweight_view.specs.Seen.{Seen};
+    ghost use Rattle.flyweight_view.specs.Seen.{TypedBlock};
 
-    ghost Value = { Seen };
+    ghost Value = { TypedBlock };
 
     ghost coded = { Prim.hlevel (codes, kinds.the_row.coded, groups.the_row.coded, levels.the_row.coded, values.the_row.coded, blocks.the_row.coded) };
 
-    ghost use Rattle.flyweight_view.specs.inner.Blocks.{seen_of, IsShown};
+    ghost use Rattle.flyweight_view.specs.inner.Blocks.{typed_of, IsShown};
 
-    ghost view = { seen_of };
+    ghost view = { typed_of };
 
     ghost invariant = { IsShown };
 }
@@ -56,8 +56,8 @@ impl<'a> Model for BlockView<'a> {
 impl<'a> BlockView<'a> {
     /// The block at this location.
     pub(crate) fn new(span: Span<'a>, plan: Plan<'a>) -> BlockView<'a>
-        requires { IsSeen span plan }
-        ensures { result ≡ seen_at span.entry plan.entry }
+        requires { IsPlannedBlock span plan }
+        ensures { result ≡ typed_at span.entry plan.entry }
     {
         BlockView { span, plan }
     }
@@ -178,8 +178,8 @@ impl<'a> BlockView<'a> {
     /// The members of field `i`. Requires a field that is present and is a composite.
     pub fn comp(&self, i: usize) -> BlockView<'a>
         requires field { i < length self.now.fields }
-        requires composite { IsSome (field_seen (slice_get self.now.fields i) (slice_get self.now.block.fields i)) }
-        ensures { field_seen (slice_get self.now.fields i) (slice_get self.now.block.fields i) ≡ Some result }
+        requires composite { IsSome (typed_field (slice_get self.now.fields i) (slice_get self.now.block.fields i)) }
+        ensures { typed_field (slice_get self.now.fields i) (slice_get self.now.block.fields i) ≡ Some result }
     {
         let (span, plan) = composite_at(&self.span, &self.plan, i);
         BlockView { span, plan }
@@ -189,7 +189,7 @@ impl<'a> BlockView<'a> {
     /// range.
     pub fn group(&self, i: usize) -> Option<EntriesView<'a>>
         requires { i < length self.now.groups }
-        ensures { group_seen (slice_get self.now.groups i) (slice_get self.now.block.groups i) ≡ Some result }
+        ensures { typed_group (slice_get self.now.groups i) (slice_get self.now.block.groups i) ≡ Some result }
     {
         group_of(&self.span, &self.plan, i)
     }
@@ -206,7 +206,7 @@ impl<'a> BlockView<'a> {
     /// Its groups in the schema's order. Each is located once, from the end of the previous one.
     #[tactic(auto, using(crate::proofs::TailsSeen::all_groups))]
     pub fn groups(&self) -> GroupsView<'a>
-        ensures seen { result ≡ groups_seen self.now.groups self.now.block.groups }
+        ensures seen { result ≡ typed_groups self.now.groups self.now.block.groups }
         ensures count { length result ≡ length self.now.groups }
     {
         groups_in(&self.span, &self.plan)

@@ -2,7 +2,7 @@
 ghost use Rattle.std.specs.Prelude.{◌≤◌, ◌+◌, length, IfSome};
 ghost use Rattle.flyweight_view.specs.ByTable.{IsTableBlock};
 ghost use Rattle.flyweight_view.specs.inner.Blocks.{IsRowBlock};
-ghost use Rattle.flyweight_view.specs.inner.Planned.{seen_at, IsSeen};
+ghost use Rattle.flyweight_view.specs.inner.Planned.{typed_at, IsPlannedBlock};
 
 use crate::plan::{Plan, Span};
 use flat_rows::FlatRows;
@@ -20,8 +20,8 @@ pub struct TableBlock<'a> {
 /// numbers are big-endian.
 #[inline(always)]
 pub(crate) fn table_block<'a>(span: &Span<'a>, plan: &Plan<'a>) -> Option<TableBlock<'a>>
-    requires { IsSeen span.now plan.now }
-    ensures { IfSome result (λ b. IsTableBlock b (seen_at span.now plan.now)) }
+    requires { IsPlannedBlock span.now plan.now }
+    ensures { IfSome result (λ b. IsTableBlock b (typed_at span.now plan.now)) }
 {
     match *plan {
         Plan::Level(layout, number, _) => row_block(span, layout.row(number)),

@@ -9,11 +9,11 @@ ghost use Rattle.layout_tables.specs.Rowed.{as_spot};
 ghost use Rattle.group_codec.specs.Dims.{IsDimRow};
 ghost use Rattle.body_walk.specs.inner.Cursor.{entries_read};
 ghost use Rattle.flyweight_view.specs.inner.Groups.{group_entered, groups_at, groups_by, groups_left, StandThere};
-ghost use Rattle.flyweight_view.specs.inner.Layers.{blocks_at, entries_seen, LieThere};
+ghost use Rattle.flyweight_view.specs.inner.Layers.{blocks_at, typed_entries, LieThere};
 ghost use Rattle.body_walk.specs.inner.Layers.{IsLayer};
 ghost use Rattle.flyweight_view.specs.inner.Lefts.{rest_of};
 ghost use Rattle.flyweight_view.specs.inner.Planned.{block_of};
-ghost use Rattle.flyweight_view.specs.Seen.{seen_level};
+ghost use Rattle.flyweight_view.specs.Seen.{typed_level};
 
 use crate::ranges::parts_end;
 use body_walk::{Layer, first_child, is_flat};
@@ -46,7 +46,7 @@ pub(crate) fn others_of(layer: &Layer<'_>, left: Dim) -> Dim
     requires lie { LieThere layer.now left }
     requires some { 0 < left.count }
     ensures lie { LieThere layer.now result }
-    ensures seen { entries_seen layer.now left ≡ seen_level layer.now.level.now (block_of (entries_read layer.now.mode layer.now.level.now left.block (drop left.after layer.now.body.now))) ∷ entries_seen layer.now result }
+    ensures seen { typed_entries layer.now left ≡ typed_level layer.now.level.now (block_of (entries_read layer.now.mode layer.now.level.now left.block (drop left.after layer.now.body.now))) ∷ typed_entries layer.now result }
 {
     if left.count == 1 {
         return Dim {
@@ -70,7 +70,7 @@ pub(crate) fn flat_behind(layer: &Layer<'_>, left: Dim) -> Dim
     requires some { 0 < left.count }
     requires flat { (length (out-Level layer.now.level.now).groups == 0) && (length (out-Level layer.now.level.now).parts == 0) ≡ true }
     ensures lie { LieThere layer.now result }
-    ensures seen { entries_seen layer.now left ≡ seen_level layer.now.level.now (block_of (entries_read layer.now.mode layer.now.level.now left.block (drop left.after layer.now.body.now))) ∷ entries_seen layer.now result }
+    ensures seen { typed_entries layer.now left ≡ typed_level layer.now.level.now (block_of (entries_read layer.now.mode layer.now.level.now left.block (drop left.after layer.now.body.now))) ∷ typed_entries layer.now result }
 {
     let _body = layer.body;
     Dim {
@@ -116,7 +116,7 @@ fn behind_first(layer: &Layer<'_>, left: Dim) -> Dim
     requires some { 0 < left.count }
     ensures lie { LieThere layer.now result }
     ensures count { result.count + 1 ≡ left.count }
-    ensures seen { entries_seen layer.now left ≡ seen_level layer.now.level.now (block_of (entries_read layer.now.mode layer.now.level.now left.block (drop left.after layer.now.body.now))) ∷ entries_seen layer.now result }
+    ensures seen { typed_entries layer.now left ≡ typed_level layer.now.level.now (block_of (entries_read layer.now.mode layer.now.level.now left.block (drop left.after layer.now.body.now))) ∷ typed_entries layer.now result }
     ensures rest { rest_of (blocks_at layer.now left) ≡ rest_of (blocks_at layer.now result) }
 {
     let behind = entry_end(layer, left);
@@ -158,7 +158,7 @@ pub(crate) fn open_group<'a>(layer: &Layer<'a>, cursor: GroupCursor) -> NextGrou
     ensures lie { IfSome result.dim (λ d. LieThere result.inner d) }
     ensures stand { StandThere layer.now result.behind }
     ensures next { result.behind.next ≡ cursor.next + 1 }
-    ensures seen { groups_left layer.now cursor ≡ option_map (entries_seen result.inner) result.dim ∷ groups_left layer.now result.behind }
+    ensures seen { groups_left layer.now cursor ≡ option_map (typed_entries result.inner) result.dim ∷ groups_left layer.now result.behind }
 {
     if cursor.next + 1 < layer.level.groups.len() {
         return step_group(layer, cursor);
@@ -176,7 +176,7 @@ fn last_group<'a>(layer: &Layer<'a>, cursor: GroupCursor) -> NextGroup<'a>
     ensures lie { IfSome result.dim (λ d. LieThere result.inner d) }
     ensures stand { StandThere layer.now result.behind }
     ensures next { result.behind.next ≡ cursor.next + 1 }
-    ensures seen { groups_left layer.now cursor ≡ option_map (entries_seen result.inner) result.dim ∷ groups_left layer.now result.behind }
+    ensures seen { groups_left layer.now cursor ≡ option_map (typed_entries result.inner) result.dim ∷ groups_left layer.now result.behind }
 {
     let group = layer.level.groups.at(cursor.next);
     let inner = Layer {
@@ -227,7 +227,7 @@ fn step_group<'a>(layer: &Layer<'a>, cursor: GroupCursor) -> NextGroup<'a>
     ensures lie { IfSome result.dim (λ d. LieThere result.inner d) }
     ensures stand { StandThere layer.now result.behind }
     ensures next { result.behind.next ≡ cursor.next + 1 }
-    ensures seen { groups_left layer.now cursor ≡ option_map (entries_seen result.inner) result.dim ∷ groups_left layer.now result.behind }
+    ensures seen { groups_left layer.now cursor ≡ option_map (typed_entries result.inner) result.dim ∷ groups_left layer.now result.behind }
     ensures rest { rest_of (groups_at layer.now cursor) ≡ rest_of (groups_at layer.now result.behind) }
 {
     let group = layer.level.groups.at(cursor.next);

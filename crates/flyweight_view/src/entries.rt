@@ -2,10 +2,10 @@
 ghost use Rattle.std.specs.Prelude.{◌≡◌, ◌<◌, length, drop, IfSome, IfNone};
 ghost use Rattle.flyweight_view.specs.ByTable.{TakesTable};
 ghost use Rattle.body_walk.specs.inner.Cursor.{entries_read};
-ghost use Rattle.flyweight_view.specs.inner.Layers.{entries_seen, LieThere};
+ghost use Rattle.flyweight_view.specs.inner.Layers.{typed_entries, LieThere};
 ghost use Rattle.body_walk.specs.inner.Layers.{IsLayer};
 ghost use Rattle.flyweight_view.specs.inner.Planned.{block_of};
-ghost use Rattle.flyweight_view.specs.Seen.{seen_level};
+ghost use Rattle.flyweight_view.specs.Seen.{typed_level};
 
 use crate::block::BlockView;
 use crate::by_table::TableBlock;
@@ -30,9 +30,9 @@ impl<'a> Model for EntriesView<'a> {
     ghost use Rattle.sbe_types.specs.contracts.schema.Level as levels;
     ghost use Rattle.sbe_types.specs.contracts.message.Value as values;
     ghost use Rattle.sbe_types.specs.contracts.message.Block as blocks;
-    ghost use Rattle.flyweight_view.specs.Seen.{Seen};
+    ghost use Rattle.flyweight_view.specs.Seen.{TypedBlock};
 
-    ghost Value = { List Seen };
+    ghost Value = { List TypedBlock };
 
     ghost coded = { Prim.hlevel (codes, kinds.the_row.coded, groups.the_row.coded, levels.the_row.coded, values.the_row.coded, blocks.the_row.coded) };
 
@@ -48,7 +48,7 @@ impl<'a> EntriesView<'a> {
     pub(crate) fn new(layer: Layer<'a>, left: Dim) -> EntriesView<'a>
         requires layer { IsLayer layer }
         requires lie { LieThere layer left }
-        ensures { result ≡ entries_seen layer.entry left }
+        ensures { result ≡ typed_entries layer.entry left }
     {
         EntriesView { layer, left }
     }
@@ -110,7 +110,7 @@ fn first_entry<'a>(layer: &Layer<'a>, left: Dim) -> BlockView<'a>
     requires layer { IsLayer layer.now }
     requires lie { LieThere layer.now left }
     requires some { 0 < left.count }
-    ensures { result ≡ seen_level layer.now.level.now (block_of (entries_read layer.now.mode layer.now.level.now left.block (drop left.after layer.now.body.now))) }
+    ensures { result ≡ typed_level layer.now.level.now (block_of (entries_read layer.now.mode layer.now.level.now left.block (drop left.after layer.now.body.now))) }
 {
     let span = Span {
         mode: layer.mode,

@@ -3,10 +3,10 @@ ghost use Rattle.std.specs.Prelude.{◌≡◌, ◌<◌, [], ◌∷◌, length, s
 ghost use Rattle.std.specs.Option.{option_map};
 ghost use Rattle.sbe_types.specs.declared.message.Block.{out-Block};
 ghost use Rattle.flyweight_view.specs.inner.Groups.{groups_left, StandThere};
-ghost use Rattle.flyweight_view.specs.inner.Layers.{entries_seen, LieThere};
+ghost use Rattle.flyweight_view.specs.inner.Layers.{typed_entries, LieThere};
 ghost use Rattle.body_walk.specs.inner.Layers.{IsLayer};
-ghost use Rattle.flyweight_view.specs.Seen.{groups_seen, group_seen};
-ghost use Rattle.flyweight_view.specs.inner.Planned.{block_of, block_told, groups_of, IsSeen};
+ghost use Rattle.flyweight_view.specs.Seen.{typed_groups, typed_group};
+ghost use Rattle.flyweight_view.specs.inner.Planned.{block_of, planned_block, groups_of, IsPlannedBlock};
 
 use crate::ends::{GroupCursor, open_group};
 use crate::entries::EntriesView;
@@ -31,9 +31,9 @@ impl<'a> Model for GroupsView<'a> {
     ghost use Rattle.sbe_types.specs.contracts.schema.Level as levels;
     ghost use Rattle.sbe_types.specs.contracts.message.Value as values;
     ghost use Rattle.sbe_types.specs.contracts.message.Block as blocks;
-    ghost use Rattle.flyweight_view.specs.Seen.{Seen};
+    ghost use Rattle.flyweight_view.specs.Seen.{TypedBlock};
 
-    ghost Value = { List (Option (List Seen)) };
+    ghost Value = { List (Option (List TypedBlock)) };
 
     ghost coded = { Prim.hlevel (codes, kinds.the_row.coded, groups.the_row.coded, levels.the_row.coded, values.the_row.coded, blocks.the_row.coded) };
 
@@ -90,8 +90,8 @@ impl<'a> GroupsView<'a> {
 
 /// The groups of a block.
 pub(crate) fn groups_in<'a>(span: &Span<'a>, plan: &Plan<'a>) -> GroupsView<'a>
-    requires { IsSeen span.now plan.now }
-    ensures { result ≡ groups_seen (groups_of plan.now) (out-Block (block_of (block_told span.now plan.now))).groups }
+    requires { IsPlannedBlock span.now plan.now }
+    ensures { result ≡ typed_groups (groups_of plan.now) (out-Block (block_of (planned_block span.now plan.now))).groups }
 {
     match *plan {
         Plan::Level(layout, number, level) => {
@@ -118,9 +118,9 @@ pub(crate) fn groups_in<'a>(span: &Span<'a>, plan: &Plan<'a>) -> GroupsView<'a>
 
 /// Group `i` of a block: its entries, or `None` if it is absent. The groups before it are skipped.
 pub(crate) fn group_of<'a>(span: &Span<'a>, plan: &Plan<'a>, i: usize) -> Option<EntriesView<'a>>
-    requires seen { IsSeen span.now plan.now }
+    requires seen { IsPlannedBlock span.now plan.now }
     requires group { i < length (groups_of plan.now) }
-    ensures { group_seen (slice_get (groups_of plan.now) i) (slice_get (out-Block (block_of (block_told span.now plan.now))).groups i) ≡ Some result }
+    ensures { typed_group (slice_get (groups_of plan.now) i) (slice_get (out-Block (block_of (planned_block span.now plan.now))).groups i) ≡ Some result }
 {
     let mut groups = groups_in(span, plan);
     for _ in 0..i {
@@ -134,7 +134,7 @@ pub(crate) fn group_of<'a>(span: &Span<'a>, plan: &Plan<'a>, i: usize) -> Option
 fn entries_over<'a>(layer: &Layer<'a>, dim: Option<Dim>) -> Option<EntriesView<'a>>
     requires layer { IsLayer layer.now }
     requires lie { IfSome dim (λ d. LieThere layer.now d) }
-    ensures { result ≡ option_map (entries_seen layer.now) dim }
+    ensures { result ≡ option_map (typed_entries layer.now) dim }
 {
     match dim {
         Some(dim) => Some(EntriesView::new(*layer, dim)),

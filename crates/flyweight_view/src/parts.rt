@@ -5,7 +5,7 @@ ghost use Rattle.sbe_types.specs.declared.message.Block.{out-Block};
 ghost use Rattle.body_walk.specs.inner.Layers.{IsLayer};
 ghost use Rattle.flyweight_view.specs.Seen.{bytes_in};
 ghost use Rattle.flyweight_view.specs.inner.Parts.{parts_left, LineUp};
-ghost use Rattle.flyweight_view.specs.inner.Planned.{block_of, block_told, parts_of, IsSeen};
+ghost use Rattle.flyweight_view.specs.inner.Planned.{block_of, planned_block, parts_of, IsPlannedBlock};
 
 use crate::ends::{GroupCursor, groups_end};
 use crate::plan::{Plan, Span};
@@ -83,8 +83,8 @@ impl<'a> PartsView<'a> {
 /// The data parts of a block.
 #[inline(always)]
 pub(crate) fn parts_in<'a>(span: &Span<'a>, plan: &Plan<'a>) -> PartsView<'a>
-    requires { IsSeen span.now plan.now }
-    ensures { result ≡ map bytes_in (out-Block (block_of (block_told span.now plan.now))).parts }
+    requires { IsPlannedBlock span.now plan.now }
+    ensures { result ≡ map bytes_in (out-Block (block_of (planned_block span.now plan.now))).parts }
 {
     match *plan {
         Plan::Level(layout, number, level) => {
@@ -112,9 +112,9 @@ pub(crate) fn parts_in<'a>(span: &Span<'a>, plan: &Plan<'a>) -> PartsView<'a>
 
 /// Data part `i` of a block: its bytes, or `None` if it is absent. What precedes it is skipped.
 pub(crate) fn data_of<'a>(span: &Span<'a>, plan: &Plan<'a>, i: usize) -> Option<&'a [u8]>
-    requires seen { IsSeen span.now plan.now }
+    requires seen { IsPlannedBlock span.now plan.now }
     requires part { i < length (parts_of plan.now) }
-    ensures { option_map bytes_in (slice_get (out-Block (block_of (block_told span.now plan.now))).parts i) ≡ Some (option_map (λ b. b.now) result) }
+    ensures { option_map bytes_in (slice_get (out-Block (block_of (planned_block span.now plan.now))).parts i) ≡ Some (option_map (λ b. b.now) result) }
 {
     let mut parts = parts_in(span, plan);
     for _ in 0..i {

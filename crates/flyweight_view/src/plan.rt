@@ -7,7 +7,7 @@ ghost use Rattle.sbe_types.specs.Places.{width, is_const, field_place};
 ghost use Rattle.sbe_wire.specs.Versions.{floor, is_alive};
 ghost use Rattle.schema_facts.specs.CheckedLevels.{group_name};
 ghost use Rattle.body_walk.specs.inner.Fields.{IsFieldRow};
-ghost use Rattle.flyweight_view.specs.inner.Planned.{bytes_of, fields_of, groups_of, parts_of, IsSeen, IsMembersPlan};
+ghost use Rattle.flyweight_view.specs.inner.Planned.{bytes_of, fields_of, groups_of, parts_of, IsPlannedBlock, IsMembersPlan};
 ghost use Rattle.body_walk.specs.inner.Layers.{HasLevel};
 ghost use Rattle.flyweight_view.specs.Seen.{member_field};
 ghost use Rattle.flyweight_view.specs.inner.Slots.{SlotIs};
@@ -79,7 +79,7 @@ pub(crate) fn count_parts(plan: &Plan<'_>) -> usize
 /// Field `i` of a block.
 #[inline(always)]
 pub(crate) fn slot_of<'a>(span: &Span<'a>, plan: &Plan<'a>, i: usize) -> Slot<'a>
-    requires seen { IsSeen span.now plan.now }
+    requires seen { IsPlannedBlock span.now plan.now }
     requires field { i < length (fields_of plan.now) }
     ensures { SlotIs span.now (fields_of plan.now) i result }
 {

@@ -5,8 +5,8 @@ ghost use Rattle.std.specs.Option.{option_map, option_and_then, IsSome};
 ghost use Rattle.sbe_types.specs.declared.message.Value.TheVariants.{Absent};
 ghost use Rattle.schema_facts.specs.InOrder.{IsKindInOrder};
 ghost use Rattle.field_values.specs.Told.{all_elements, element_of, number_in, state_of, text_in};
-ghost use Rattle.flyweight_view.specs.inner.Planned.{fields_of, seen_at, values_at, IsSeen};
-ghost use Rattle.flyweight_view.specs.Seen.{field_seen, members_of};
+ghost use Rattle.flyweight_view.specs.inner.Planned.{fields_of, typed_at, values_at, IsPlannedBlock};
+ghost use Rattle.flyweight_view.specs.Seen.{typed_field, members_of};
 ghost use Rattle.flyweight_view.specs.ShownIn.{IsShownIn};
 
 use crate::plan::{Plan, Span, slot_of};
@@ -23,7 +23,7 @@ pub struct FieldBytes<'a> {
 
 /// Whether field `i` of a block has a value.
 pub(crate) fn field_state(span: &Span<'_>, plan: &Plan<'_>, i: usize) -> FieldState
-    requires seen { IsSeen span.now plan.now }
+    requires seen { IsPlannedBlock span.now plan.now }
     requires field { i < length (fields_of plan.now) }
     ensures { option_map state_of (slice_get (values_at span.now plan.now) i) ≡ Some result }
 {
@@ -36,7 +36,7 @@ pub(crate) fn field_state(span: &Span<'_>, plan: &Plan<'_>, i: usize) -> FieldSt
 
 /// The number of field `i` of a block.
 pub(crate) fn field_number(span: &Span<'_>, plan: &Plan<'_>, i: usize) -> i128
-    requires seen { IsSeen span.now plan.now }
+    requires seen { IsPlannedBlock span.now plan.now }
     requires field { i < length (fields_of plan.now) }
     requires number { IsSome (option_and_then number_in (slice_get (values_at span.now plan.now) i)) }
     ensures { option_and_then number_in (slice_get (values_at span.now plan.now) i) ≡ Some result }
@@ -47,7 +47,7 @@ pub(crate) fn field_number(span: &Span<'_>, plan: &Plan<'_>, i: usize) -> i128
 
 /// The text of field `i` of a block.
 pub(crate) fn field_text<'a>(span: &Span<'a>, plan: &Plan<'a>, i: usize) -> &'a [u8]
-    requires seen { IsSeen span.now plan.now }
+    requires seen { IsPlannedBlock span.now plan.now }
     requires field { i < length (fields_of plan.now) }
     requires text { IsSome (option_and_then text_in (slice_get (values_at span.now plan.now) i)) }
     ensures { option_and_then text_in (slice_get (values_at span.now plan.now) i) ≡ Some result.now }
@@ -58,7 +58,7 @@ pub(crate) fn field_text<'a>(span: &Span<'a>, plan: &Plan<'a>, i: usize) -> &'a 
 
 /// Element `j` of the array in field `i` of a block.
 pub(crate) fn field_element(span: &Span<'_>, plan: &Plan<'_>, i: usize, j: usize) -> Option<i128>
-    requires seen { IsSeen span.now plan.now }
+    requires seen { IsPlannedBlock span.now plan.now }
     requires field { i < length (fields_of plan.now) }
     requires element { j < length (all_elements (slice_get (values_at span.now plan.now) i)) }
     ensures { slice_get (all_elements (slice_get (values_at span.now plan.now) i)) j ≡ Some (element_of result) }
@@ -70,7 +70,7 @@ pub(crate) fn field_element(span: &Span<'_>, plan: &Plan<'_>, i: usize, j: usize
 /// The bytes of field `i` of a block, or `None` if it is absent.
 #[inline(always)]
 pub(crate) fn field_bytes<'a>(span: &Span<'a>, plan: &Plan<'a>, i: usize) -> Option<FieldBytes<'a>>
-    requires seen { IsSeen span.now plan.now }
+    requires seen { IsPlannedBlock span.now plan.now }
     requires field { i < length (fields_of plan.now) }
     ensures kind { IfSome result (λ f. option_map (λ p. p.kind) (slice_get (fields_of plan.now) i) ≡ Some f.kind.now) }
     ensures order { IfSome result (λ f. IsKindInOrder f.kind.now) }
@@ -90,11 +90,11 @@ pub(crate) fn field_bytes<'a>(span: &Span<'a>, plan: &Plan<'a>, i: usize) -> Opt
 
 /// The block of the members of field `i`, which is a composite.
 pub(crate) fn composite_at<'a>(span: &Span<'a>, plan: &Plan<'a>, i: usize) -> (Span<'a>, Plan<'a>)
-    requires seen { IsSeen span.now plan.now }
+    requires seen { IsPlannedBlock span.now plan.now }
     requires field { i < length (fields_of plan.now) }
-    requires composite { IsSome (field_seen (slice_get (fields_of plan.now) i) (slice_get (values_at span.now plan.now) i)) }
-    ensures seen { IsSeen result.0 result.1 }
-    ensures members { field_seen (slice_get (fields_of plan.now) i) (slice_get (values_at span.now plan.now) i) ≡ Some (seen_at result.0 result.1) }
+    requires composite { IsSome (typed_field (slice_get (fields_of plan.now) i) (slice_get (values_at span.now plan.now) i)) }
+    ensures seen { IsPlannedBlock result.0 result.1 }
+    ensures members { typed_field (slice_get (fields_of plan.now) i) (slice_get (values_at span.now plan.now) i) ≡ Some (typed_at result.0 result.1) }
 {
     let slot = slot_of(span, plan, i);
     let members = members_of(slot.kind);

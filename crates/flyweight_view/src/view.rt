@@ -5,10 +5,10 @@ ghost use Rattle.sbe_types.specs.declared.schema.Level.{out-Level};
 ghost use Rattle.sbe_wire.specs.Faults.{FirstFault};
 ghost use Rattle.sbe_wire.specs.Lays.{Lays};
 ghost use Rattle.schema_facts.specs.IsChecked.{IsChecked};
-ghost use Rattle.body_walk.specs.Heads.{template_told};
+ghost use Rattle.body_walk.specs.Heads.{header_template};
 ghost use Rattle.body_walk.specs.Refusals.{refused};
 ghost use Rattle.body_walk.specs.Walked.{message_in, IsWalked};
-ghost use Rattle.flyweight_view.specs.Seen.{seen_level};
+ghost use Rattle.flyweight_view.specs.Seen.{typed_level};
 
 use crate::block::BlockView;
 use crate::plan::{Plan, Span};
@@ -31,9 +31,9 @@ impl<'a> Model for MsgView<'a> {
     ghost use Rattle.sbe_types.specs.contracts.message.Value as values;
     ghost use Rattle.sbe_types.specs.contracts.message.Block as blocks;
     ghost use Rattle.std.specs.Coded.{codes};
-    ghost use Rattle.flyweight_view.specs.Seen.{SeenMessage};
+    ghost use Rattle.flyweight_view.specs.Seen.{TypedMessage};
 
-    ghost Value = { SeenMessage };
+    ghost Value = { TypedMessage };
 
     ghost coded = { Prim.hlevel (codes, kinds.the_row.coded, groups.the_row.coded, levels.the_row.coded, values.the_row.coded, blocks.the_row.coded) };
 
@@ -68,7 +68,7 @@ impl<'a> MsgView<'a> {
 
     /// Its root's block.
     pub fn root(&self) -> BlockView<'a>
-        ensures { result ≡ seen_level self.now.level self.now.message.block }
+        ensures { result ≡ typed_level self.now.level self.now.message.block }
     {
         root_of(self.layout, self.body, &self.walked)
     }
@@ -93,7 +93,7 @@ pub fn validate<'a>(layout: &'a Layout, body: &'a [u8]) -> Result<MsgView<'a>, R
     ensures lies { IfOk result (λ view. Lays layout.now view.message body.now) }
     ensures level { IfOk result (λ view. slice_get layout.now.messages view.message.template ≡ Some view.level) }
     ensures fault { IfErr result (λ r. FirstFault layout.now (refused r) body.now) }
-    ensures template { IfErr result (λ r. r.template ≡ result_ok (template_told layout.now body.now)) }
+    ensures template { IfErr result (λ r. r.template ≡ result_ok (header_template layout.now body.now)) }
 {
     let mut last = LastRefusal::new();
     match look(layout, body, &mut last) {
@@ -109,7 +109,7 @@ pub fn look<'a>(layout: &'a Layout, body: &'a [u8], last: &mut LastRefusal) -> O
     ensures lies { IfSome result (λ view. Lays layout.now view.message body.now) }
     ensures level { IfSome result (λ view. slice_get layout.now.messages view.message.template ≡ Some view.level) }
     ensures fault { IfNone result (FirstFault layout.now last.new.fault body.now) }
-    ensures template { IfNone result (last.new.template ≡ result_ok (template_told layout.now body.now)) }
+    ensures template { IfNone result (last.new.template ≡ result_ok (header_template layout.now body.now)) }
 {
     match walk_body(layout, body, last) {
         Some(walked) => Some(MsgView {
@@ -124,7 +124,7 @@ pub fn look<'a>(layout: &'a Layout, body: &'a [u8], last: &mut LastRefusal) -> O
 /// The root's block of a body that is a message.
 fn root_of<'a>(layout: &'a Layout, body: &'a [u8], walked: &Walked<'a>) -> BlockView<'a>
     requires { IsWalked layout.now body.now walked.now }
-    ensures { result ≡ seen_level walked.now.level.now (message_in layout.now body.now).block }
+    ensures { result ≡ typed_level walked.now.level.now (message_in layout.now body.now).block }
 {
     let _schema = layout.schema();
     let wide = layout.header_row().width as usize;

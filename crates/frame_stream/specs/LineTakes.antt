@@ -54,10 +54,10 @@ abbrev pub line_bytes : LineState → ℕ
 line_bytes s = length s.line + end_bytes s.ended
 
 -- the answer at an end
-abbrev pub line_told_by : LineEnded → Result LineTaken LineErr
-line_told_by line_ended.End = Ok line.End
-line_told_by line_ended.Over = Err line_err.LineOver
-line_told_by line_ended.Limit = Err line_err.InputLimit
+abbrev pub line_end_answer : LineEnded → Result LineTaken LineErr
+line_end_answer line_ended.End = Ok line.End
+line_end_answer line_ended.Over = Err line_err.LineOver
+line_end_answer line_ended.Limit = Err line_err.InputLimit
 
 -- the end of the lines of a stream that ends like this
 abbrev pub lines_end : LineEnded → LineEnd

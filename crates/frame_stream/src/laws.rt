@@ -3,25 +3,25 @@
 
 ghost use Rattle.std.specs.Prelude.{◌≡◌, ◌∷◌, ◌++◌, ◌+◌, [], ℕ, Ok, List, length};
 ghost use Rattle.std.specs.List.{AllByRecursion};
-ghost use Rattle.open_framing.specs.Pieces.{joined};
+ghost use Rattle.open_framing.specs.Pieces.{concat_pieces};
 ghost use Rattle.open_framing.specs.Frames.{Cut, CutEnd, IsFrame, Item, frame_of};
 ghost use Rattle.open_framing.specs.Lines as lines;
 ghost use Rattle.frame_stream.specs.declared.held.Ended.{Ended};
 ghost use Rattle.frame_stream.specs.declared.lines.LineEnded.{LineEnded};
-ghost use Rattle.frame_stream.specs.Stream.{StreamState, TakesBy, TakesItems, cut_end, room, told_by};
-ghost use Rattle.frame_stream.specs.LineTakes.{LineState, TakesLast, TakesLineBy, TakesLines, line_room, line_told_by, lines_end};
+ghost use Rattle.frame_stream.specs.Stream.{StreamState, TakesBy, TakesItems, cut_end, room, end_answer};
+ghost use Rattle.frame_stream.specs.LineTakes.{LineState, TakesLast, TakesLineBy, TakesLines, line_room, line_end_answer, lines_end};
 
 /// With frames in front of it, a stream has these as further items, and the rest is cut as before.
 pub fn frames_go_on()
     ensures { (items more : List Item) (stream : List ℕ) (limit input : ℕ) (end : CutEnd)
         → AllByRecursion (IsFrame limit) items → Cut stream limit input more end
-        → Cut (joined frame_of items ++ stream) limit (length (joined frame_of items) + input) (items ++ more) end }
+        → Cut (concat_pieces frame_of items ++ stream) limit (length (concat_pieces frame_of items) + input) (items ++ more) end }
 {}
 
 /// The items that are taken, and the end after them, are the cut of the stream.
 pub fn takes_are_the_cut()
     ensures { (items : List Item) (stream left left' : List ℕ) (old next new : StreamState) (end : Ended)
-        → TakesItems items stream old next left → TakesBy left next new left' (told_by end)
+        → TakesItems items stream old next left → TakesBy left next new left' (end_answer end)
         → Cut stream old.frame (room old) items (cut_end end) }
 {}
 
@@ -29,13 +29,13 @@ pub fn takes_are_the_cut()
 pub fn all_lines_go_on()
     ensures { (some more : List (List ℕ)) (stream : List ℕ) (input : ℕ) (end : lines.LineEnd)
         → AllByRecursion lines.IsLine some → lines.Lines stream input more end
-        → lines.Lines (joined lines.ended some ++ stream) (length (joined lines.ended some) + input) (some ++ more) end }
+        → lines.Lines (concat_pieces lines.ended some ++ stream) (length (concat_pieces lines.ended some) + input) (some ++ more) end }
 {}
 
 /// The lines that are taken, and the end after them, are the lines of the stream.
 pub fn takes_are_the_lines()
     ensures end { (some : List (List ℕ)) (stream left left' : List ℕ) (old next new : LineState) (end : LineEnded)
-        → TakesLines some stream old next left → TakesLineBy left next new left' (line_told_by end)
+        → TakesLines some stream old next left → TakesLineBy left next new left' (line_end_answer end)
         → lines.Lines stream (line_room old) some (lines_end end) }
     ensures last { (some : List (List ℕ)) (stream left left' : List ℕ) (old next new : LineState)
         → TakesLines some stream old next left → TakesLast left next new left'

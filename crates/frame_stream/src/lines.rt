@@ -1,6 +1,6 @@
 ghost use Rattle.std.specs.Prelude.{◌≡◌, ◌≤◌, [], None, length, IfOk, IfSome, IsSome};
 ghost use Rattle.open_framing.specs.Lines.{before_end};
-ghost use Rattle.frame_stream.specs.LineTakes.{IsLastTaken, LineCause, LineOf, TakesLine, line_told_by, lines_opened, window_bytes};
+ghost use Rattle.frame_stream.specs.LineTakes.{IsLastTaken, LineCause, LineOf, TakesLine, line_end_answer, lines_opened, window_bytes};
 
 use crate::reading::Dry;
 use crate::window::{NoEnd, Window};
@@ -94,7 +94,7 @@ impl LineStream {
     /// Each variant of [`LineErr`]. After [`LineErr::ReadFault`] the bytes of the unfinished line are kept, and the
     /// next call goes on with them.
     pub fn take<I: Source>(&mut self, input: &mut I) -> Result<LineTaken, LineErr>
-        ensures stays { IfSome self.old.ended (λ ended. result ≡ line_told_by ended) }
+        ensures stays { IfSome self.old.ended (λ ended. result ≡ line_end_answer ended) }
         ensures kept { IsSome self.old.ended → self.new ≡ record self.old { line = [] } }
         ensures unread { IsSome self.old.ended → input.new ≡ input.old }
         ensures takes { self.old.ended ≡ None → TakesLine self.old self.new (I.state input.old).told (I.state input.new).told result }
@@ -155,7 +155,7 @@ impl LineStream {
 
 /// The answer at and after an end.
 fn told(ended: LineEnded) -> Result<LineTaken, LineErr>
-    ensures { result ≡ line_told_by ended }
+    ensures { result ≡ line_end_answer ended }
 {
     match ended {
         LineEnded::End => Ok(LineTaken::End),

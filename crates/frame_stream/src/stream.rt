@@ -2,7 +2,7 @@ ghost use Rattle.std.specs.Prelude.{◌≡◌, ◌<◌, ◌≤◌, ◌+◌, None
 ghost use Rattle.open_framing.specs.Frames.{first_item};
 ghost use Rattle.open_framing.specs.declared.head.TheConstants.{HEAD_BYTES};
 ghost use Rattle.frame_stream.specs.declared.stream.TheConstants.{LONGEST_FRAME};
-ghost use Rattle.frame_stream.specs.Stream.{Takes, TakeCause, BodyOf, opened, told_by};
+ghost use Rattle.frame_stream.specs.Stream.{Takes, TakeCause, BodyOf, opened, end_answer};
 
 use crate::held::{Ended, Stop};
 use crate::window::Window;
@@ -87,7 +87,7 @@ impl FrameStream {
     /// the next call goes on with them.
     #[inline(always)]
     pub fn take<I: Source>(&mut self, input: &mut I) -> Result<Taken, StreamErr>
-        ensures stays { IfSome self.old.ended (λ ended. result ≡ told_by ended) }
+        ensures stays { IfSome self.old.ended (λ ended. result ≡ end_answer ended) }
         ensures kept { IsSome self.old.ended → self.new ≡ self.old }
         ensures unread { IsSome self.old.ended → input.new ≡ input.old }
         ensures takes { self.old.ended ≡ None → Takes self.old self.new (I.state input.old).told (I.state input.new).told result }
@@ -148,7 +148,7 @@ impl FrameStream {
 
 /// The answer at and after an end.
 fn told(ended: Ended) -> Result<Taken, StreamErr>
-    ensures { result ≡ told_by ended }
+    ensures { result ≡ end_answer ended }
 {
     match ended {
         Ended::End => Ok(Taken::End),

@@ -5,7 +5,7 @@ use Rattle.sbe_types.specs.declared.message.Value.{Value}
 use Rattle.sbe_types.specs.Shows.{Shows}
 use Rattle.json_values.specs.Values.{value_data}
 use Rattle.json_values.specs.Plain.{shown_text}
-use Rattle.json_rows.specs.Pieces.{Piece, literal, shown, Slot, Joined}
+use Rattle.json_rows.specs.Pieces.{Piece, literal, shown, Slot, MergedPieces}
 use Rattle.flat_rows.specs.Judged.{bytes_there}
 
 -- the text of pieces: a literal as it is, and a value as its bytes show it
@@ -23,5 +23,5 @@ SlotsText order known (s ∷ ss) block text =
     × SlotsText order known ss block rest
 
 -- the text of values, and what follows the last one
-abbrev pub JoinedText : Order → Bool → Joined → List ℕ → List ℕ → Type 0
-JoinedText order known j block text = (front : List ℕ) × SlotsText order known j.slots block front × (text ≡ front ++ j.last)
+abbrev pub MergedText : Order → Bool → MergedPieces → List ℕ → List ℕ → Type 0
+MergedText order known j block text = (front : List ℕ) × SlotsText order known j.slots block front × (text ≡ front ++ j.last)

@@ -13,7 +13,7 @@ ghost use Rattle.flat_rows.specs.Quick.{is_none, is_word, KeepsNumber, KeepsText
 ghost use Rattle.flat_rows.specs.Tables.{IsRow};
 ghost use Rattle.json_rows.specs.Codes.{AreCodes};
 ghost use Rattle.json_rows.specs.Tables.{values_of, with_texts, IsTextTable, TextsFit};
-ghost use Rattle.json_fields.specs.Printed.{JoinedText};
+ghost use Rattle.json_fields.specs.Printed.{MergedText};
 
 use crate::kinds::{put_listed, put_shown, put_text_in};
 use flat_rows::{FlatRow, Look, Quick, is_none, number_in};
@@ -28,7 +28,7 @@ use sbe_types::{Kind, Order, Prim, get_num};
 pub fn put_rows<O: Sink>(printer: &mut Printer<'_, O>, table: &TextRows, block: &[u8])
     requires table { IsTextTable (values_of table.now) table.now }
     requires fits { TextsFit (length block.now) table.now.rows.items }
-    ensures { (known : Bool) (text : List ℕ) → JoinedText Little known (with_texts (values_of table.now) table.now) block.now text
+    ensures { (known : Bool) (text : List ℕ) → MergedText Little known (with_texts (values_of table.now) table.now) block.now text
         → Prints O.state printer.old printer.new text }
 {
     for row in table.rows.as_slice() {

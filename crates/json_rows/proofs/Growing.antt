@@ -10,7 +10,7 @@ use Rattle.std.specs.List.{AllByRecursion}
 use Rattle.json_rows.specs.declared.rows.TextRow.{TextRow}
 use Rattle.json_rows.specs.declared.rows.TextRows.{TextRows}
 use Rattle.json_rows.specs.Codes.{AreCodes}
-use Rattle.json_rows.specs.Pieces.{Piece, literal, shown, Slot, Joined, nothing_joined, with_piece, with_pieces, joined}
+use Rattle.json_rows.specs.Pieces.{Piece, literal, shown, Slot, MergedPieces, no_slots, with_piece, with_pieces, merged_pieces}
 use Rattle.json_rows.specs.Tables.{slots_of, value_of, values_of, with_texts, scalars_in, AreTextRows, HasPieces, IsTextRow, IsTextTable, TextsFit, Grows}
 
 abbrev slot : List ℕ → Kind → ℕ → Slot
@@ -52,10 +52,10 @@ slots_more bytes (t ∷ ss) (x ∷ rows) s r h ends =
 
 -- ---- tables
 
-joined_is : (a b : List Slot) (x y : List ℕ) → a ≡ b → x ≡ y → ◌≡◌ {A = Joined} (record { slots = a; last = x }) (record { slots = b; last = y })
+joined_is : (a b : List Slot) (x y : List ℕ) → a ≡ b → x ≡ y → ◌≡◌ {A = MergedPieces} (record { slots = a; last = x }) (record { slots = b; last = y })
 joined_is a b x y h k = ap₂ (λ ss l. record { slots = ss; last = l }) h k
 
-with_more : (j : Joined) (ps qs : List Piece) → with_pieces j (ps ++ qs) ≡ with_pieces (with_pieces j ps) qs
+with_more : (j : MergedPieces) (ps qs : List Piece) → with_pieces j (ps ++ qs) ≡ with_pieces (with_pieces j ps) qs
 with_more j [] qs = refl
 with_more j (p ∷ ps) qs = with_more (with_piece j p) ps qs
 
@@ -85,7 +85,7 @@ bytes_added old new more bytes rows last ps h =
             (subst (AreTextRows (length new.bytes.items) ss) (sym rows) (rows_wider (length old.bytes.items) (length new.bytes.items) ss old.rows.items long h.table.rows));
         last = omega (arith, last, long, h.table.last);
       };
-      stands = ap (λ xs. with_texts xs new) same ∙ now ∙ ap (λ j. with_piece j (literal more)) h.stands ∙ sym (with_more nothing_joined ps (literal more ∷ []));
+      stands = ap (λ xs. with_texts xs new) same ∙ now ∙ ap (λ j. with_piece j (literal more)) h.stands ∙ sym (with_more no_slots ps (literal more ∷ []));
     }
 
 -- a row was added, after all bytes
@@ -108,7 +108,7 @@ row_added old new r kind place bytes rows value row codes starts ends last ps h 
             (subst (AreTextRows (length old.bytes.items) (ss ++ s ∷ [])) (sym rows) (rows_more (length old.bytes.items) ss old.rows.items s r h.table.rows here)));
         last = omega (arith, last, ends, ap length bytes);
       };
-      stands = ap (λ xs. with_texts xs new) more ∙ now ∙ ap (λ j. with_piece j (shown kind place)) h.stands ∙ sym (with_more nothing_joined ps (shown kind place ∷ []));
+      stands = ap (λ xs. with_texts xs new) more ∙ now ∙ ap (λ j. with_piece j (shown kind place)) h.stands ∙ sym (with_more no_slots ps (shown kind place ∷ []));
     }
 
 -- nothing was added
@@ -170,7 +170,7 @@ values_kept n (s ∷ ss) (r ∷ rs) h = ap₂ (λ x xs. x ∷ xs) h.0.value (val
 pub own_table : (ps : List Piece) (t : TextRows) → HasPieces ps t → IsTextTable (values_of t) t
 own_table ps t h = subst (λ ss. IsTextTable ss t) (sym (values_kept (length t.bytes.items) (scalars_in ps) t.rows.items h.table.rows)) h.table
 
-pub own_joined : (ps : List Piece) (t : TextRows) → HasPieces ps t → with_texts (values_of t) t ≡ joined ps
+pub own_joined : (ps : List Piece) (t : TextRows) → HasPieces ps t → with_texts (values_of t) t ≡ merged_pieces ps
 own_joined ps t h = ap (λ ss. with_texts ss t) (values_kept (length t.bytes.items) (scalars_in ps) t.rows.items h.table.rows) ∙ h.stands
 
 -- where the rows of the same values fit, those of a table do

@@ -50,24 +50,24 @@ pub record Slot : Type 0 where
   pub place : ℕ
 
 -- the values in order, and what follows the last one
-pub record Joined : Type 0 where
+pub record MergedPieces : Type 0 where
   pub slots : List Slot
   pub last : List ℕ
 
 -- nothing yet
-abbrev pub nothing_joined : Joined
-nothing_joined = record { slots = []; last = [] }
+abbrev pub no_slots : MergedPieces
+no_slots = record { slots = []; last = [] }
 
 -- the pieces with one more
-abbrev pub with_piece : Joined → Piece → Joined
+abbrev pub with_piece : MergedPieces → Piece → MergedPieces
 with_piece j (literal bytes) = record { slots = j.slots; last = j.last ++ bytes }
 with_piece j (shown kind place) = record { slots = j.slots ++ (record { before = j.last; kind = kind; place = place }) ∷ []; last = [] }
 
 -- the pieces with more, in order
-abbrev pub with_pieces : Joined → List Piece → Joined
+abbrev pub with_pieces : MergedPieces → List Piece → MergedPieces
 with_pieces j [] = j
 with_pieces j (p ∷ ps) = with_pieces (with_piece j p) ps
 
 -- pieces with adjacent literals merged
-abbrev pub joined : List Piece → Joined
-joined ps = with_pieces nothing_joined ps
+abbrev pub merged_pieces : List Piece → MergedPieces
+merged_pieces ps = with_pieces no_slots ps

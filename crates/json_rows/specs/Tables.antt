@@ -6,7 +6,7 @@ use Rattle.flat_rows.specs.Tables.{scalar_of, IsRow}
 use Rattle.json_rows.specs.declared.rows.TextRow.{TextRow}
 use Rattle.json_rows.specs.declared.rows.TextRows.{TextRows}
 use Rattle.json_rows.specs.Codes.{AreCodes}
-use Rattle.json_rows.specs.Pieces.{Piece, literal, shown, Slot, Joined, joined}
+use Rattle.json_rows.specs.Pieces.{Piece, literal, shown, Slot, MergedPieces, merged_pieces}
 
 -- the value of a row
 abbrev pub value_of : TextRow → Scalar
@@ -23,7 +23,7 @@ slots_of bytes (s ∷ ss) [] = []
 slots_of bytes (s ∷ ss) (r ∷ rs) = (record { before = take (r.end - r.start) (drop r.start bytes); kind = s.kind; place = s.place }) ∷ slots_of bytes ss rs
 
 -- the values with a table's literals between them
-abbrev pub with_texts : List Scalar → TextRows → Joined
+abbrev pub with_texts : List Scalar → TextRows → MergedPieces
 with_texts scalars t = record { slots = slots_of t.bytes.items scalars t.rows.items; last = drop t.last t.bytes.items }
 
 -- a row is that of a value, with the names of its kind, and its literal is within n bytes
@@ -59,7 +59,7 @@ scalars_in (shown kind place ∷ ps) = scalar_at kind place ∷ scalars_in ps
 -- a table has the literals of these pieces, and is one for their values
 pub record HasPieces (ps : List Piece) (t : TextRows) : Type 0 where
   pub table : IsTextTable (scalars_in ps) t
-  pub stands : with_texts (scalars_in ps) t ≡ joined ps
+  pub stands : with_texts (scalars_in ps) t ≡ merged_pieces ps
 
 -- a table grew by these pieces
 abbrev pub Grows : TextRows → TextRows → List Piece → Type 0

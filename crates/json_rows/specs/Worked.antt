@@ -4,15 +4,15 @@ use Rattle.sbe_types.specs.declared.kind.Kind.{Kind}
 use Rattle.sbe_types.specs.declared.kind.Primitive.TheVariants.{I32, U8, U16}
 use Rattle.flat_rows.specs.Worked.{number, side, flags, text, pair}
 use Rattle.json_rows.specs.Codes.{byte_name}
-use Rattle.json_rows.specs.Pieces.{Slot, Joined}
+use Rattle.json_rows.specs.Pieces.{Slot, MergedPieces}
 
 -- a value and what is before it
 abbrev pub slot : List ℕ → Kind → ℕ → Slot
 slot before kind place = record { before = before; kind = kind; place = place }
 
 -- the values of a block of each kind, between a bracket and a comma, each with what is before it
-abbrev pub mixed_joined : Joined
-mixed_joined =
+abbrev pub mixed_pieces : MergedPieces
+mixed_pieces =
     record {
       slots =
           slot (codes "{\"n\":") (number U16) 0 ∷ slot (codes ",\"k\":-4,\"e\":") side 2 ∷ slot (codes ",\"s\":") flags 3 ∷ slot (codes ",\"t\":") text 4
@@ -21,7 +21,7 @@ mixed_joined =
     }
 
 -- the pieces of a block without fields
-abbrev pub nothing : Joined
+abbrev pub nothing : MergedPieces
 nothing = record { slots = []; last = codes "}" }
 
 -- the names that a kind has for five bytes

@@ -1,19 +1,19 @@
 //! The definitions of pieces and of names by byte, computed on worked fields.
 
 ghost use Rattle.std.specs.Prelude.{◌≡◌, [], codes};
-ghost use Rattle.json_rows.specs.Pieces.{joined, pieces_between};
+ghost use Rattle.json_rows.specs.Pieces.{merged_pieces, pieces_between};
 ghost use Rattle.sbe_types.specs.declared.kind.Primitive.TheVariants.{Char, I8, U8, U16};
 ghost use Rattle.flat_rows.specs.Worked.{mixed, doubled, number};
-ghost use Rattle.json_rows.specs.Worked.{mixed_joined, nothing, doubled_names, names_at, no_names};
+ghost use Rattle.json_rows.specs.Worked.{mixed_pieces, nothing, doubled_names, names_at, no_names};
 
 /// A field of each kind, constants of each kind, a composite in a composite, and stated offsets.
 pub fn pieces_of_worked_fields()
-    ensures { joined (pieces_between (codes "{") (codes ",") mixed) ≡ mixed_joined }
+    ensures { merged_pieces (pieces_between (codes "{") (codes ",") mixed) ≡ mixed_pieces }
 {}
 
 /// Without fields there is only the closing bracket.
 pub fn no_fields_are_a_bracket()
-    ensures { joined (pieces_between [] [] []) ≡ nothing }
+    ensures { merged_pieces (pieces_between [] [] []) ≡ nothing }
 {}
 
 /// The names of an enum by byte: with a char and a uint8 the first name of each number, but none of the null; otherwise

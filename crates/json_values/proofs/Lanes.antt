@@ -6,7 +6,7 @@ use Rattle.std.proofs.lemmas.List.{length-map}
 use Rattle.std.specs.List.{prefix_len, list_all}
 use lib.Lanes.{chunk, mask_l, top, Each1}
 use Rattle.flat_rows.specs.Runs.{first_set}
-pub use Rattle.flat_rows.proofs.LaneRuns.{joined, run_behind}
+pub use Rattle.flat_rows.proofs.LaneRuns.{zip_of_maps, run_behind}
 
 -- tests that agree on bytes have the same run of them
 same_run : (p q : ℕ → Bool) (xs : List ℕ) → agree_below p q 256 ≡ true → Each1 (Fits w8) xs → prefix_len p xs ≡ prefix_len q xs

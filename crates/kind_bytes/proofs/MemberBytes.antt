@@ -22,7 +22,7 @@ use Rattle.schema_facts.specs.Measured.{EndsWithin}
 use Rattle.schema_facts.proofs.KindLists.{PlacedList, placed_members, NarrowList, narrow_members}
 use Rattle.schema_facts.proofs.KindMembers.{members_kinds}
 use Rattle.kind_bytes.specs.Misfits.{members_misfit, field_misfit}
-use Rattle.kind_bytes.specs.Members.{behind, member_bytes, members_bytes}
+use Rattle.kind_bytes.specs.Members.{followed_by, member_bytes, members_bytes}
 use Rattle.kind_bytes.proofs.Composites.{row_in, values_are, comp_none, comp_same, comp_other, drop_at, member_next}
 
 some_none : {A : Type 0} {x : A} → ◌≡◌ {A = Option A} (Some x) None → ⊥
@@ -157,23 +157,23 @@ some_is : (a b : List ℕ) → Some a ≡ Some b → a ≡ b
 some_is a b h = cc
 
 -- what is left after a piece, and what is left after all
-pub behind_next : (xs ys : List ℕ) (a b : Option (List ℕ)) → behind xs a ≡ Some ys → behind ys b ≡ behind xs (both a b)
+pub behind_next : (xs ys : List ℕ) (a b : Option (List ℕ)) → followed_by xs a ≡ Some ys → followed_by ys b ≡ followed_by xs (both a b)
 behind_next xs ys None b h = absurd (none_is ys h)
 behind_next xs ys (Some a) None h = refl
 behind_next xs ys (Some a) (Some b) h = sym (ap Some (sym (append_assoc xs a b)) ∙ ap (λ w. Some (w ++ b)) (some_is (xs ++ a) ys h))
 
-pub behind_nothing : (x : Option (List ℕ)) → behind [] x ≡ x
+pub behind_nothing : (x : Option (List ℕ)) → followed_by [] x ≡ x
 behind_nothing None = refl
 behind_nothing (Some x) = refl
 
 -- nothing is left after the last member
 pub ended : (order : Order) (i e : ℕ) (ms : List Member) (vs : List Value) (out : List ℕ) → length ms ≤ i → length ms ≡ length vs → members_end e (drop i ms) ≡ length out →
-    behind (take e out) (members_bytes order e (drop i ms) (drop i vs)) ≡ Some out
+    followed_by (take e out) (members_bytes order e (drop i ms) (drop i vs)) ≡ Some out
 ended order i e ms vs out last many ends =
     let none : drop i ms ≡ [] = drop_all i ms last in
     let no_value : drop i vs ≡ [] = drop_all i vs (omega (arith, last, many)) in
     let whole : e ≡ length out = ap (members_end e) (sym none) ∙ ends in
-    ap₂ (λ l k. behind (take e out) (members_bytes order e l k)) none no_value
+    ap₂ (λ l k. followed_by (take e out) (members_bytes order e l k)) none no_value
     ∙ ap Some (append-nil (take e out) ∙ take_all e out (omega (arith, whole)))
 
 -- ---- one member
@@ -194,11 +194,11 @@ two_put e b k w out piece low within wide gap =
 -- a member that takes bytes, written where it stands
 pub member_put : (order : Order) (e b w : ℕ) (m : Member) (v : Value) (out filled piece : List ℕ) → is_const m.kind ≡ false → b ≡ begin_of e m.offset → e ≤ b → b + w ≤ length out →
     filled ≡ replicate (b - e) 0 → wire_bytes order m.kind v ≡ Some piece → length piece ≡ w →
-    behind (take e out) (member_bytes order e m v) ≡ Some (take (b + w) (put_mid b (b + w - b) (put_mid e (b - e) out filled) piece))
+    followed_by (take e out) (member_bytes order e m v) ≡ Some (take (b + w) (put_mid b (b + w - b) (put_mid e (b - e) out filled) piece))
 member_put order e b w m v out filled piece moves begins low within zeros bytes wide =
     let gap : cond (is_const m.kind) 0 (begin_of e m.offset - e) ≡ b - e = ap (λ t. cond t 0 (begin_of e m.offset - e)) moves ∙ ap (λ n. n - e) (sym begins) in
     let long : w ≡ b + w - b = omega arith in
-    ap₂ (λ n o. behind (take e out) (both (Some (replicate n 0)) o)) gap bytes
+    ap₂ (λ n o. followed_by (take e out) (both (Some (replicate n 0)) o)) gap bytes
     ∙ ap Some (sym (two_put e b (b - e) w out piece low (omega (arith, within)) wide refl))
     ∙ ap₂ (λ f k. Some (take (b + w) (put_mid b k (put_mid e (b - e) out f) piece))) (sym zeros) long
 

@@ -8,8 +8,8 @@ use Rattle.sbe_types.specs.Places.{is_const, begin_of, end_past}
 use Rattle.sbe_types.specs.Wire.{both, wire_bytes}
 
 -- the bytes followed by more, if there are more
-abbrev pub behind : List ℕ → Option (List ℕ) → Option (List ℕ)
-behind bytes more = option_map (λ (piece : List ℕ). bytes ++ piece) more
+abbrev pub followed_by : List ℕ → Option (List ℕ) → Option (List ℕ)
+followed_by bytes more = option_map (λ (piece : List ℕ). bytes ++ piece) more
 
 -- the bytes of a member after members that end at e: 00 up to its offset, and then its value
 abbrev pub member_bytes : Order → ℕ → Member → Value → Option (List ℕ)

@@ -19,9 +19,9 @@ abbrev pub unfit_of : ValueMisfit → Misfit
 unfit_of unfit = record { code = code_of unfit.cause; path = unfit.path; detail = unfit.detail }
 
 -- the result that `true` or `false` and the misfit slot encode
-abbrev pub told : Bool → ValueMisfit → Option Misfit
-told true unfit = None
-told false unfit = Some (unfit_of unfit)
+abbrev pub misfit_unless : Bool → ValueMisfit → Option Misfit
+misfit_unless true unfit = None
+misfit_unless false unfit = Some (unfit_of unfit)
 
 -- the first misfit of members, counted from i, each with its value
 abbrev pub members_misfit : ℕ → List Member → List Value → Option Misfit

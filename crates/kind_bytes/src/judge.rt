@@ -9,7 +9,7 @@ ghost use Rattle.sbe_types.specs.Wire.{member_values};
 ghost use Rattle.sbe_wire.specs.Misfit.{const_misfit, misfit_in, value_misfit};
 ghost use Rattle.schema_facts.specs.InOrder.{height, IsKindInOrder};
 ghost use Rattle.field_bytes.specs.Faults.{as_misfit, is_single};
-ghost use Rattle.kind_bytes.specs.Misfits.{field_misfit, misfit_of, told, unfit_of};
+ghost use Rattle.kind_bytes.specs.Misfits.{field_misfit, misfit_of, misfit_unless, unfit_of};
 
 use crate::error::{FieldErr, ValueMisfit};
 use field_bytes::{FieldCause, ValueFault, value_judge};
@@ -35,7 +35,7 @@ pub fn judge_field(kind: &Kind, part: u32, v: &Value) -> Result<(), FieldErr>
 /// Whether a field may be set to a value. If not, `out` receives the first part that doesn't fit.
 fn takes_value(kind: &Kind, v: &Value, out: &mut ValueMisfit) -> bool
     requires ready { IsKindInOrder kind.now }
-    ensures told { told result out.new ≡ field_misfit kind.now v.now }
+    ensures told { misfit_unless result out.new ≡ field_misfit kind.now v.now }
     ensures low { result ≡ false → length out.new.path ≤ suc (height kind.now) }
 {
     match kind {
@@ -54,7 +54,7 @@ fn takes_value(kind: &Kind, v: &Value, out: &mut ValueMisfit) -> bool
 #[cycle(kind)]
 pub fn fits_kind(kind: &Kind, v: &Value, out: &mut ValueMisfit) -> bool
     requires ready { IsKindInOrder kind.now }
-    ensures told { told result out.new ≡ value_misfit kind.now v.now }
+    ensures told { misfit_unless result out.new ≡ value_misfit kind.now v.now }
     ensures low { result ≡ false → length out.new.path ≤ suc (height kind.now) }
 {
     match kind {
@@ -71,7 +71,7 @@ pub fn fits_kind(kind: &Kind, v: &Value, out: &mut ValueMisfit) -> bool
 #[tactic(auto, using(crate::proofs::Composites::comp_none, crate::proofs::Composites::comp_some))]
 fn fits_composite(members: &List<Member>, v: &Value, out: &mut ValueMisfit) -> bool
     requires ready { IsKindInOrder (Comp members.now) }
-    ensures told { told result out.new ≡ value_misfit (Comp members.now) v.now }
+    ensures told { misfit_unless result out.new ≡ value_misfit (Comp members.now) v.now }
     ensures low { result ≡ false → length out.new.path ≤ suc (height (Comp members.now)) }
 {
     match values_in(v) {
@@ -88,7 +88,7 @@ fn fits_composite(members: &List<Member>, v: &Value, out: &mut ValueMisfit) -> b
 #[tactic(auto, using(crate::proofs::Composites::comp_other))]
 fn fits_members(members: &List<Member>, values: &ValueList, out: &mut ValueMisfit) -> bool
     requires ready { IsKindInOrder (Comp members.now) }
-    ensures told { told result out.new ≡ value_misfit (Comp members.now) (CompValue values.now) }
+    ensures told { misfit_unless result out.new ≡ value_misfit (Comp members.now) (CompValue values.now) }
     ensures low { result ≡ false → length out.new.path ≤ suc (height (Comp members.now)) }
 {
     if members.len() != values.len() {
@@ -124,7 +124,7 @@ pub(crate) fn values_in(v: &Value) -> Option<&ValueList>
 
 /// Whether a value is that of a constant.
 fn fits_constant(v: &Value, out: &mut ValueMisfit) -> bool
-    ensures told { told result out.new ≡ const_misfit v.now }
+    ensures told { misfit_unless result out.new ≡ const_misfit v.now }
     ensures low { result ≡ false → length out.new.path ≤ 0 }
 {
     match v {
@@ -148,7 +148,7 @@ fn fits_constant(v: &Value, out: &mut ValueMisfit) -> bool
 fn fits_single(kind: &Kind, v: &Value, out: &mut ValueMisfit) -> bool
     requires ready { IsKindInOrder kind.now }
     requires single { is_single kind.now ≡ true }
-    ensures told { told result out.new ≡ value_misfit kind.now v.now }
+    ensures told { misfit_unless result out.new ≡ value_misfit kind.now v.now }
     ensures low { result ≡ false → length out.new.path ≤ 1 }
 {
     let mut fault = ValueFault {

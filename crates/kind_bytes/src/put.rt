@@ -8,7 +8,7 @@ ghost use Rattle.sbe_wire.specs.Misfit.{value_misfit};
 ghost use Rattle.sbe_wire.specs.Placed.{BeginsBehind};
 ghost use Rattle.schema_facts.specs.InOrder.{IsKindInOrder};
 ghost use Rattle.schema_facts.specs.Measured.{EndsWithin};
-ghost use Rattle.kind_bytes.specs.Members.{behind, member_bytes};
+ghost use Rattle.kind_bytes.specs.Members.{followed_by, member_bytes};
 
 use crate::judge::values_in;
 use field_bytes::put_value;
@@ -70,7 +70,7 @@ fn put_member(order: Order, member: &Member, end: u32, v: &Value, out: &mut [u8]
     requires narrow { EndsWithin end member.now.offset member.now.kind }
     requires within { end_past end member.now.offset member.now.kind ≤ length out.old }
     requires fits { value_misfit member.now.kind v.now ≡ None }
-    ensures bytes { behind (take end out.old) (member_bytes order end member.now v.now) ≡ Some (take result out.new) }
+    ensures bytes { followed_by (take end out.old) (member_bytes order end member.now v.now) ≡ Some (take result out.new) }
     ensures as_many { length out.new ≡ length out.old }
     ensures end { result ≡ end_past end member.now.offset member.now.kind }
 {

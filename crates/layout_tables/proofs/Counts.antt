@@ -17,7 +17,7 @@ use Rattle.sbe_types.specs.Places.{members_end}
 use Rattle.sbe_wire.specs.declared.mode.Mode.{Mode}
 use Rattle.sbe_wire.specs.Canonical.{entries_in}
 use Rattle.sbe_wire.specs.Versions.{is_alive, acting, form_of, mode_of}
-use Rattle.sbe_wire.specs.Lays.{Joined, GroupLays, GroupsLay, TailLays, EntryLays, Lays}
+use Rattle.sbe_wire.specs.Lays.{IsConcatenation, GroupLays, GroupsLay, TailLays, EntryLays, Lays}
 use Rattle.schema_facts.specs.Entries.{group_least, groups_least, parts_least}
 use Rattle.schema_facts.specs.Counted.{total, over_entries, count_in, count_groups, count_group, TakesBytes, GroupsTakeBytes, GroupTakesBytes}
 use Rattle.layout_tables.proofs.Least.{GroupAlive, GroupGone, parts_long}
@@ -30,7 +30,7 @@ split : (P Q : Type 0) (t : Bool) (n : ℕ) (goal : ℕ → Type 0) → MatchBoo
 split P Q true n goal h alive gone = alive refl h
 split P Q false n goal h alive gone = gone h
 
-joined_long : {X : Type 0} (R : X → List ℕ → Type 0) (f : X → ℕ) → ((x : X) (b : List ℕ) → R x b → f x ≤ length b) → (xs : List X) (b : List ℕ) → Joined R xs b → total f xs ≤ length b
+joined_long : {X : Type 0} (R : X → List ℕ → Type 0) (f : X → ℕ) → ((x : X) (b : List ℕ) → R x b → f x ≤ length b) → (xs : List X) (b : List ℕ) → IsConcatenation R xs b → total f xs ≤ length b
 joined_long R f long [] b h =
     let none : 0 ≤ length b = omega arith in
     none

@@ -19,7 +19,7 @@ use Rattle.sbe_types.specs.Numbers.{prim_width}
 use Rattle.sbe_types.specs.Places.{members_end}
 use Rattle.sbe_wire.specs.declared.mode.Mode.{Mode}
 use Rattle.sbe_wire.specs.Versions.{is_alive, form_of}
-use Rattle.sbe_wire.specs.Lays.{JoinedBoth, DataLays, DataLies, GroupLies, GroupLays, GroupsLay, TailLays, EntryLays}
+use Rattle.sbe_wire.specs.Lays.{IsConcatenationOfBoth, DataLays, DataLies, GroupLies, GroupLays, GroupsLay, TailLays, EntryLays}
 use Rattle.schema_facts.specs.Entries.{group_least, groups_least, part_least, parts_least, entry_least}
 
 -- how a group that is alive lays out
@@ -69,7 +69,7 @@ part_long order version part v b h =
     alive_long (PartAlive order part v b) (PartGone v b) (is_alive version part.since) (prim_width part.length.prim) (length b) h (λ alive.
     omega (arith, ap length alive.2.whole, length-append alive.2.before alive.0, alive.2.wide))
 
-pub parts_long : (order : Order) (version : ℕ) (parts : List DataField) (vs : List DataVal) (b : List ℕ) → JoinedBoth (DataLays order version) parts vs b → parts_least version parts ≤ length b
+pub parts_long : (order : Order) (version : ℕ) (parts : List DataField) (vs : List DataVal) (b : List ℕ) → IsConcatenationOfBoth (DataLays order version) parts vs b → parts_least version parts ≤ length b
 parts_long order version [] [] b h =
     let none : 0 ≤ length b = omega arith in
     none

@@ -25,11 +25,11 @@ use Rattle.var_data.specs.declared.data.DataErr.{DataErr}
 use Rattle.var_data.specs.declared.data.DataErr.TheVariants as bad
 use Rattle.var_data.specs.Ranges.{data_range}
 use Rattle.sbe_wire.specs.declared.mode.Mode.{Mode}
-use Rattle.body_walk.specs.inner.Cursor.{placed, skim, steps_told, parts_told, data_told, range_answer, dim_told}
+use Rattle.body_walk.specs.inner.Cursor.{placed, skim, steps_end, parts_end, data_end, range_answer, dim_from}
 use Rattle.body_walk.proofs.Cursor.{Leaves, at_if, at_all, leaves_then, leaves_nothing, leaves_judged, leaves_bytes, leaves_times, leaves_each, skim_then, skim_made, skim_nothing, skim_judged, times_walked}
 use Rattle.body_walk.proofs.Walks.{data_leaves, parts_walked}
 use Rattle.level_skip.specs.Passing.{passed, entry_passed, tail_passed, groups_passed, group_passed}
-use Rattle.level_skip.specs.Behind.{behind, bytes_behind, steps_behind, groups_behind, part_behind, parts_behind}
+use Rattle.level_skip.specs.Behind.{offset_after, bytes_behind, steps_behind, groups_behind, part_behind, parts_behind}
 
 -- ---- what is left is an end of the bytes
 
@@ -73,13 +73,13 @@ went_on : {X : Type 0} (len at : ℕ) (r : Result (X × List ℕ) Fault) (f : �
 went_on len at (Ok r) f g same = same (len - length r.1) (omega arith)
 went_on len at (Err e) f g same = refl
 
-pub then_behind : {X Y : Type 0} (p : Reader X) (s : Reader Y) (g : ℕ → Option ℕ) (body : List ℕ) (at : ℕ) → at ≤ length body → Leaves p → ((n : ℕ) → n ≤ length body → behind s body n ≡ g n) →
-    behind (then_read p (λ _. s)) body at ≡ option_and_then g (behind p body at)
+pub then_behind : {X Y : Type 0} (p : Reader X) (s : Reader Y) (g : ℕ → Option ℕ) (body : List ℕ) (at : ℕ) → at ≤ length body → Leaves p → ((n : ℕ) → n ≤ length body → offset_after s body n ≡ g n) →
+    offset_after (then_read p (λ _. s)) body at ≡ option_and_then g (offset_after p body at)
 then_behind p s g body at h leaves same =
     ap result_ok (skim_then p (λ _. s) (skim s body) body at h leaves (λ x n near e. refl))
     ∙ went_on (length body) at (p (drop at body)) (skim s body) g same
 
-pub passed_behind : {X : Type 0} (p : Reader X) (body : List ℕ) (at : ℕ) → at ≤ length body → Leaves p → behind (passed p) body at ≡ behind p body at
+pub passed_behind : {X : Type 0} (p : Reader X) (body : List ℕ) (at : ℕ) → at ≤ length body → Leaves p → offset_after (passed p) body at ≡ offset_after p body at
 passed_behind p body at h leaves = ap result_ok (skim_made p (λ _. tt) body at h leaves)
 
 -- ---- blocks
@@ -92,15 +92,15 @@ bytes_there true k body at h e =
     ap Some (omega (arith, room, left, length-drop at body))
 bytes_there false k body at h e = refl
 
-pub bytes_are : (k : ℕ) (body : List ℕ) (at : ℕ) → at ≤ length body → behind (bytes_read k) body at ≡ bytes_behind k body at
+pub bytes_are : (k : ℕ) (body : List ℕ) (at : ℕ) → at ≤ length body → offset_after (bytes_read k) body at ≡ bytes_behind k body at
 bytes_are k body at h =
     ap (λ n. result_ok (placed (length body) at (cond (nat_le k n) (Ok (take k (drop at body), drop k (drop at body))) (Err (fault_at code.Truncated 0 (pos k)))))) (length-drop at body)
     ∙ bytes_there (nat_le k (length body - at)) k body at h refl
 
-pub entry_is : (tail : Reader Unit) (k : ℕ) (body : List ℕ) (at : ℕ) → at ≤ length body → behind (entry_passed tail k) body at ≡ option_and_then (behind tail body) (bytes_behind k body at)
+pub entry_is : (tail : Reader Unit) (k : ℕ) (body : List ℕ) (at : ℕ) → at ≤ length body → offset_after (entry_passed tail k) body at ≡ option_and_then (offset_after tail body) (bytes_behind k body at)
 entry_is tail k body at h =
-    then_behind (passed (bytes_read k)) tail (behind tail body) body at h (leaves_passed (bytes_read k) (leaves_bytes k)) (λ n near. refl)
-    ∙ ap (option_and_then (behind tail body)) (passed_behind (bytes_read k) body at h (leaves_bytes k) ∙ bytes_are k body at h)
+    then_behind (passed (bytes_read k)) tail (offset_after tail body) body at h (leaves_passed (bytes_read k) (leaves_bytes k)) (λ n near. refl)
+    ∙ ap (option_and_then (offset_after tail body)) (passed_behind (bytes_read k) body at h (leaves_bytes k) ∙ bytes_are k body at h)
 
 -- ---- steps
 
@@ -108,9 +108,9 @@ step_kept : (step : Step) (r : Result ℕ Fault) (f : ℕ → Result ℕ Fault) 
 step_kept step (Ok n) f g same = same n
 step_kept step (Err e) f g same = refl
 
-steps_kept : (f : ℕ → Result ℕ Fault) (i n at : ℕ) → result_ok (steps_told f i n at) ≡ steps_behind (λ a. result_ok (f a)) n at
+steps_kept : (f : ℕ → Result ℕ Fault) (i n at : ℕ) → result_ok (steps_end f i n at) ≡ steps_behind (λ a. result_ok (f a)) n at
 steps_kept f i zero at = refl
-steps_kept f i (suc n) at = step_kept (way.Entry i) (f at) (steps_told f (i + 1) n) (steps_behind (λ a. result_ok (f a)) n) (λ next. steps_kept f (i + 1) n next)
+steps_kept f i (suc n) at = step_kept (way.Entry i) (f at) (steps_end f (i + 1) n) (steps_behind (λ a. result_ok (f a)) n) (λ next. steps_kept f (i + 1) n next)
 
 -- ---- data
 
@@ -124,18 +124,18 @@ module _ (order : Order) (version : ℕ) where
   range_kept true at (Err (bad.Length n)) = refl
   range_kept false at q = refl
 
-  data_kept : (row : PartRow) (body : List ℕ) (at : ℕ) → result_ok (data_told mode row body at) ≡ part_behind order version row body at
+  data_kept : (row : PartRow) (body : List ℕ) (at : ℕ) → result_ok (data_end mode row body at) ≡ part_behind order version row body at
   data_kept row body at = range_kept (is_alive version row.since) at (data_range order row.length body at)
 
-  parts_kept : (i : ℕ) (rows : List PartRow) (body : List ℕ) (at : ℕ) → result_ok (parts_told mode i rows body at) ≡ parts_behind order version rows body at
+  parts_kept : (i : ℕ) (rows : List PartRow) (body : List ℕ) (at : ℕ) → result_ok (parts_end mode i rows body at) ≡ parts_behind order version rows body at
   parts_kept i [] body at = refl
   parts_kept i (r ∷ rs) body at =
-      step_kept (way.Part i) (data_told mode r body at) (parts_told mode (i + 1) rs body) (parts_behind order version rs body) (λ next. parts_kept (i + 1) rs body next)
+      step_kept (way.Part i) (data_end mode r body at) (parts_end mode (i + 1) rs body) (parts_behind order version rs body) (λ next. parts_kept (i + 1) rs body next)
       ∙ ap (option_and_then (parts_behind order version rs body)) (data_kept r body at)
 
   -- ---- groups and then data
 
-  groups_are : {n : _} (row : Row_of-Group n) (body : List ℕ) (at : ℕ) → at ≤ length body → behind (groups_passed order version row) body at ≡ groups_behind order version (items-the_row-Group _ row) body at
+  groups_are : {n : _} (row : Row_of-Group n) (body : List ℕ) (at : ℕ) → at ≤ length body → offset_after (groups_passed order version row) body at ≡ groups_behind order version (items-the_row-Group _ row) body at
   unfolding groups_passed
   groups_are end_of-Group body at h = ap result_ok (skim_nothing {X = Unit {0}} tt body at h)
   groups_are (more_of-Group g rest) body at h =
@@ -143,7 +143,7 @@ module _ (order : Order) (version : ℕ) where
       (λ n near. groups_are rest body n near)
 
   pub tail_is : (level : Level) (body : List ℕ) (at : ℕ) → at ≤ length body →
-      behind (tail_passed order version level) body at ≡ option_and_then (parts_behind order version (map part_row (out-Level level).parts) body) (groups_behind order version (out-Level level).groups body at)
+      offset_after (tail_passed order version level) body at ≡ option_and_then (parts_behind order version (map part_row (out-Level level).parts) body) (groups_behind order version (out-Level level).groups body at)
   unfolding tail_passed levels.out-Level carrier.out
   tail_is (Level' name id semantic since block_length fields n groups parts) body at h =
       let all_parts : Reader (List DataVal) = each_read (data_read order version) 0 parts in
@@ -157,7 +157,7 @@ module _ (order : Order) (version : ℕ) where
   -- ---- a group
 
   alive_kept : (t : Bool) (p : Reader Unit) (body : List ℕ) (at : ℕ) → at ≤ length body →
-      result_ok (placed (length body) at (cond t (p (drop at body)) (Ok (tt, drop at body)))) ≡ cond t (behind p body at) (Some at)
+      result_ok (placed (length body) at (cond t (p (drop at body)) (Ok (tt, drop at body)))) ≡ cond t (offset_after p body at) (Some at)
   alive_kept true p body at h = refl
   alive_kept false p body at h = ap result_ok (skim_nothing {X = Unit {0}} tt body at h)
 
@@ -172,12 +172,12 @@ module _ (order : Order) (version : ℕ) where
 
   -- the place after the entries of a dimension that ends at a place
   abbrev pub entries_behind : Level → List ℕ → ℕ → ℕ × ℕ → Option ℕ
-  entries_behind level body after d = steps_behind (behind (entry level d.0) body) d.1 after
+  entries_behind level body after d = steps_behind (offset_after (entry level d.0) body) d.1 after
 
   group_made : (dim : List Member) (level : Level) (body : List ℕ) (at : ℕ) → at ≤ length body →
-      behind (group_passed order version (Group' dim level)) body at
+      offset_after (group_passed order version (Group' dim level)) body at
       ≡ cond (is_alive version (out-Level level).since)
-      (option_and_then (entries_behind level body (at + members_end 0 dim)) (result_ok (dim_told order dim (floor version (out-Level level).fields) body at)))
+      (option_and_then (entries_behind level body (at + members_end 0 dim)) (result_ok (dim_from order dim (floor version (out-Level level).fields) body at)))
       (Some at)
   unfolding group_passed
   group_made dim level body at h =
@@ -186,7 +186,7 @@ module _ (order : Order) (version : ℕ) where
       let alive = is_alive version (out-Level level).since in
       let entries : ℕ × ℕ → Reader (List Unit) = λ d. times_read (entry level d.0) 0 d.1 in
       let leaves : (d : ℕ × ℕ) → Leaves (entry level d.0) = λ d. leaves_entry (tail_passed order version level) d.0 (leaves_tail order version level) in
-      let told : ℕ × ℕ → Result ℕ Fault = λ d. steps_told (skim (entry level d.0) body) 0 d.1 (at + w) in
+      let told : ℕ × ℕ → Result ℕ Fault = λ d. steps_end (skim (entry level d.0) body) 0 d.1 (at + w) in
       alive_kept alive (then_read (dimension_read order dim least) (λ d. passed (entries d))) body at h
       ∙ ap (λ o. cond alive o (Some at))
       (ap result_ok (skim_judged w (dimension_of order dim least) (λ d. passed (entries d)) told body at h
@@ -199,8 +199,8 @@ module _ (order : Order) (version : ℕ) where
   open_group (Group' dim level) = refl
 
   pub group_is : (g : Group) (body : List ℕ) (at : ℕ) → at ≤ length body →
-      behind (group_passed order version g) body at
+      offset_after (group_passed order version g) body at
       ≡ cond (is_alive version (out-Level (out-Group g).level).since)
-      (option_and_then (entries_behind (out-Group g).level body (at + members_end 0 (out-Group g).dim)) (result_ok (dim_told order (out-Group g).dim (floor version (out-Level (out-Group g).level).fields) body at)))
+      (option_and_then (entries_behind (out-Group g).level body (at + members_end 0 (out-Group g).dim)) (result_ok (dim_from order (out-Group g).dim (floor version (out-Level (out-Group g).level).fields) body at)))
       (Some at)
-  group_is g body at h = ap (λ p. behind p body at) (open_group g) ∙ group_made (out-Group g).dim (out-Group g).level body at h
+  group_is g body at h = ap (λ p. offset_after p body at) (open_group g) ∙ group_made (out-Group g).dim (out-Group g).level body at h

@@ -16,11 +16,11 @@ use Rattle.sbe_wire.specs.Faults.{Fault, fault_at, TailFault}
 use Rattle.sbe_wire.specs.Lays.{EntryLays, TailLays}
 use Rattle.sbe_wire.specs.Placed.{IsPlacedLevel}
 use Rattle.sbe_wire.specs.Versions.{is_alive, floor, form_of}
-use Rattle.sbe_wire.specs.Reading.{Reader, ◌>>=◌, later, inside, and_then, then_read, nothing, and_judged, read_judged, bytes_read, read_in, times_read, each_read, fields_read, block_read, data_read, dimension_read, Tail, block_of, entry_read, tail_read, groups_read, group_read}
+use Rattle.sbe_wire.specs.Reading.{Reader, ◌>>=◌, later, inside, and_then, then_read, nothing, and_check, read_and_check, bytes_read, read_in, times_read, each_read, fields_read, block_read, data_read, dimension_read, Tail, block_of, entry_read, tail_read, groups_read, group_read}
 use Rattle.std.proofs.Math.Seq.{drop-append_seam}
 use Rattle.std.specs.Result.{result_ok}
 use Rattle.body_walk.specs.inner.Cursor.{placed}
-use Rattle.level_skip.specs.Behind.{behind}
+use Rattle.level_skip.specs.Behind.{offset_after}
 use Rattle.sbe_wire.proofs.Blocks.{entry_reads}
 use Rattle.sbe_wire.proofs.Combine.{bind_ok, later_ok, inside_ok}
 use Rattle.sbe_wire.proofs.Levels.{tail_reads, placed_fields, ignores}
@@ -76,13 +76,13 @@ follows_made make p q h = record {
       h.same b two.0.0 two.0.1 two.1 ∙ ap (λ left. Ok (tt, left)) (snd_is two.2);
 }
 
-was_read : {X Y : Type 0} (judge : X → Result Y Fault) (r : Result (X × List ℕ) Fault) (y : Y) (rest : List ℕ) → and_judged judge r ≡ Ok (y, rest) → (x : X) × (r ≡ Ok (x, rest))
+was_read : {X Y : Type 0} (judge : X → Result Y Fault) (r : Result (X × List ℕ) Fault) (y : Y) (rest : List ℕ) → and_check judge r ≡ Ok (y, rest) → (x : X) × (r ≡ Ok (x, rest))
 was_read judge (Err f) y rest h = cc
 was_read judge (Ok r) y rest h =
     let made = bind_ok (judge r.0) (λ z. Ok (z, r.1)) (y, rest) h in
     (r.0, ap (λ left. Ok (r.0, left)) (snd_is made.2))
 
-follows_judged : {X Y : Type 0} (p : Reader X) (judge : X → Result Y Fault) (q : Reader Unit) → Follows no_value p q → Follows no_value (read_judged p judge) q
+follows_judged : {X Y : Type 0} (p : Reader X) (judge : X → Result Y Fault) (q : Reader Unit) → Follows no_value p q → Follows no_value (read_and_check p judge) q
 follows_judged p judge q h = record {
   same = λ b y rest e.
       let read = was_read judge (p b) y rest e in
@@ -173,7 +173,7 @@ module _ (mode : Mode) where
 
   pub entry_ends : (level : Level) (k : ℕ) (entry : Block) (before front rest : List ℕ) → IsPlacedLevel level →
       EntryLays (λ e b. TailLays mode level e b) (form_of mode level) k entry front →
-      behind (level_passed mode.order mode.version level k) (before ++ (front ++ rest)) (length before) ≡ Some (length before + length front)
+      offset_after (level_passed mode.order mode.version level k) (before ++ (front ++ rest)) (length before) ≡ Some (length before + length front)
   entry_ends level k entry before front rest is_placed lies =
       let n = length (before ++ (front ++ rest)) in
       let end : n - length rest ≡ length before + length front = omega (arith, length-append before (front ++ rest), length-append front rest) in

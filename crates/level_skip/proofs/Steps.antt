@@ -23,29 +23,29 @@ use Rattle.layout_tables.specs.declared.rows.PartRow.{PartRow}
 use Rattle.layout_tables.specs.Rowed.{part_row}
 use Rattle.layout_tables.proofs.Items.{drop_is, item_there}
 use Rattle.var_data.proofs.DataRows.{at_each}
-use Rattle.body_walk.specs.inner.Cursor.{placed, dim_told}
+use Rattle.body_walk.specs.inner.Cursor.{placed, dim_from}
 use Rattle.body_walk.proofs.LevelsReady.{node_at}
 use Rattle.body_walk.proofs.Opens.{none_there}
 use Rattle.level_skip.specs.Passing.{entry_in, tail_passed, group_passed, level_passed}
-use Rattle.level_skip.specs.Behind.{behind, bytes_behind, steps_behind, groups_behind, part_behind, parts_behind}
+use Rattle.level_skip.specs.Behind.{offset_after, bytes_behind, steps_behind, groups_behind, part_behind, parts_behind}
 use Rattle.level_skip.proofs.Ends.{entry_is, tail_is, group_is, entries_behind}
 
 -- ---- an entry
 
 module _ (order : Order) (version : ℕ) (level : Level) (k : ℕ) (bytes : List ℕ) (at : ℕ) (near : at ≤ length bytes) where
   abbrev tail : ℕ → Option ℕ
-  tail = behind (tail_passed order version level) bytes
+  tail = offset_after (tail_passed order version level) bytes
 
-  opened : behind (entry_in order version level k) bytes at ≡ option_and_then tail (bytes_behind k bytes at)
+  opened : offset_after (entry_in order version level k) bytes at ≡ option_and_then tail (bytes_behind k bytes at)
   opened = entry_is (tail_passed order version level) k bytes at near
 
-  pub entry_short : length bytes - at < k → None ≡ behind (entry_in order version level k) bytes at
+  pub entry_short : length bytes - at < k → None ≡ offset_after (entry_in order version level k) bytes at
   entry_short short =
       let below : nat_le k (length bytes - at) ≡ false = grind (arith, nat_tests) in
       sym (opened ∙ ap (λ t. option_and_then tail (cond t (Some (at + k)) None)) below)
 
   module _ (fits : k ≤ length bytes - at) where
-    entry_long : tail (at + k) ≡ behind (entry_in order version level k) bytes at
+    entry_long : tail (at + k) ≡ offset_after (entry_in order version level k) bytes at
     entry_long = sym (opened ∙ ap (λ t. option_and_then tail (cond t (Some (at + k)) None)) (le-leb k (length bytes - at) fits))
 
     abbrev parts : List PartRow
@@ -55,19 +55,19 @@ module _ (order : Order) (version : ℕ) (level : Level) (k : ℕ) (bytes : List
     tail_there = tail_is order version level bytes (at + k) (omega (arith, fits, near))
 
     pub entry_whole : (rows : List PartRow) (next : ℕ) → rows ≡ parts → Some next ≡ groups_behind order version (out-Level level).groups bytes (at + k) →
-        parts_behind order version rows bytes next ≡ behind (entry_in order version level k) bytes at
+        parts_behind order version rows bytes next ≡ offset_after (entry_in order version level k) bytes at
     entry_whole rows next same went =
         ap (λ rs. parts_behind order version rs bytes next) same
         ∙ ap (option_and_then (parts_behind order version parts bytes)) went
         ∙ sym tail_there ∙ entry_long
 
-    pub entry_stopped : None ≡ groups_behind order version (out-Level level).groups bytes (at + k) → None ≡ behind (entry_in order version level k) bytes at
+    pub entry_stopped : None ≡ groups_behind order version (out-Level level).groups bytes (at + k) → None ≡ offset_after (entry_in order version level k) bytes at
     entry_stopped went = ap (option_and_then (parts_behind order version parts bytes)) went ∙ sym tail_there ∙ entry_long
 
 -- ---- groups
 
 pub groups_next : (order : Order) (version i : ℕ) (gs : List Group) (g : Group) (bytes : List ℕ) (at : ℕ) → i < length gs → g ≡ get_or gs i g →
-    groups_behind order version (drop i gs) bytes at ≡ option_and_then (groups_behind order version (drop (i + 1) gs) bytes) (behind (group_passed order version g) bytes at)
+    groups_behind order version (drop i gs) bytes at ≡ option_and_then (groups_behind order version (drop (i + 1) gs) bytes) (offset_after (group_passed order version g) bytes at)
 groups_next order version i gs g bytes at h is = ap (λ l. groups_behind order version l bytes at) (drop_is gs i g h is)
 
 module _ (order : Order) (version : ℕ) (g : Group) (bytes : List ℕ) (at : ℕ) (near : at ≤ length bytes) where
@@ -75,18 +75,18 @@ module _ (order : Order) (version : ℕ) (g : Group) (bytes : List ℕ) (at : �
   level = (out-Group g).level
 
   abbrev found : ℕ → Option (ℕ × ℕ)
-  found least = result_ok (dim_told order (out-Group g).dim least bytes at)
+  found least = result_ok (dim_from order (out-Group g).dim least bytes at)
 
   abbrev inside_it : Option (ℕ × ℕ) → Option ℕ
   inside_it = option_and_then (entries_behind order version level bytes (at + members_end 0 (out-Group g).dim))
 
-  pub group_dead : (since : ℕ) → since ≡ (out-Level level).since → version < since → Some at ≡ behind (group_passed order version g) bytes at
+  pub group_dead : (since : ℕ) → since ≡ (out-Level level).since → version < since → Some at ≡ offset_after (group_passed order version g) bytes at
   group_dead since is dead =
       let below : is_alive version (out-Level level).since ≡ false = grind (arith, nat_tests) in
       sym (group_is order version g bytes at near ∙ ap (λ t. cond t (inside_it (found (floor version (out-Level level).fields))) (Some at)) below)
 
   module _ (since least : ℕ) (is : since ≡ (out-Level level).since) (alive : since ≤ version) (floors : least ≡ floor version (out-Level level).fields) where
-    here : (d : Option (ℕ × ℕ)) → d ≡ found least → inside_it d ≡ behind (group_passed order version g) bytes at
+    here : (d : Option (ℕ × ℕ)) → d ≡ found least → inside_it d ≡ offset_after (group_passed order version g) bytes at
     here d told =
         let lives : is_alive version (out-Level level).since ≡ true = le-leb (out-Level level).since version (omega (arith, is, alive)) in
         ap inside_it (told ∙ ap found floors)
@@ -94,10 +94,10 @@ module _ (order : Order) (version : ℕ) (g : Group) (bytes : List ℕ) (at : �
 
     -- a dimension that ends at a place, and what is after its entries
     pub group_entered : (d : ℕ × ℕ) (after : ℕ) (result : Option ℕ) → Some d ≡ found least → after ≡ at + members_end 0 (out-Group g).dim → result ≡ entries_behind order version level bytes after d →
-        result ≡ behind (group_passed order version g) bytes at
+        result ≡ offset_after (group_passed order version g) bytes at
     group_entered d after result told ends went = went ∙ ap (λ a. entries_behind order version level bytes a d) ends ∙ here (Some d) told
 
-    pub group_refused : None ≡ found least → None ≡ behind (group_passed order version g) bytes at
+    pub group_refused : None ≡ found least → None ≡ offset_after (group_passed order version g) bytes at
     group_refused told = here None told
 
 -- ---- entries
@@ -110,26 +110,26 @@ steps_more step i n at h =
 -- ---- entries without groups and data
 
 module _ (order : Order) (version : ℕ) (level : Level) (no_groups : (out-Level level).groups ≡ []) (no_parts : (out-Level level).parts ≡ []) (k : ℕ) (bytes : List ℕ) where
-  flat_tail : (at : ℕ) → at ≤ length bytes → behind (tail_passed order version level) bytes at ≡ Some at
+  flat_tail : (at : ℕ) → at ≤ length bytes → offset_after (tail_passed order version level) bytes at ≡ Some at
   flat_tail at near =
       tail_is order version level bytes at near
       ∙ ap (λ gs. option_and_then (parts_behind order version (map part_row (out-Level level).parts) bytes) (groups_behind order version gs bytes at)) no_groups
       ∙ ap (λ ps. parts_behind order version (map part_row ps) bytes at) no_parts
 
-  flat_steps : (t : Bool) (n at : ℕ) → at ≤ length bytes → nat_le k (length bytes - at) ≡ t → ((next : ℕ) → next ≤ length bytes → steps_behind (bytes_behind k bytes) n next ≡ steps_behind (behind (entry_in order version level k) bytes) n next) →
+  flat_steps : (t : Bool) (n at : ℕ) → at ≤ length bytes → nat_le k (length bytes - at) ≡ t → ((next : ℕ) → next ≤ length bytes → steps_behind (bytes_behind k bytes) n next ≡ steps_behind (offset_after (entry_in order version level k) bytes) n next) →
       option_and_then (steps_behind (bytes_behind k bytes) n) (cond t (Some (at + k)) None)
-      ≡ option_and_then (steps_behind (behind (entry_in order version level k) bytes) n) (option_and_then (behind (tail_passed order version level) bytes) (cond t (Some (at + k)) None))
+      ≡ option_and_then (steps_behind (offset_after (entry_in order version level k) bytes) n) (option_and_then (offset_after (tail_passed order version level) bytes) (cond t (Some (at + k)) None))
   flat_steps true n at near e same =
       let room : k ≤ length bytes - at = leb-true k (length bytes - at) e in
       let next : at + k ≤ length bytes = omega (arith, room, near) in
-      same (at + k) next ∙ ap (option_and_then (steps_behind (behind (entry_in order version level k) bytes) n)) (sym (flat_tail (at + k) next))
+      same (at + k) next ∙ ap (option_and_then (steps_behind (offset_after (entry_in order version level k) bytes) n)) (sym (flat_tail (at + k) next))
   flat_steps false n at near e same = refl
 
-  pub flat_is : (n at : ℕ) → at ≤ length bytes → steps_behind (bytes_behind k bytes) n at ≡ steps_behind (behind (entry_in order version level k) bytes) n at
+  pub flat_is : (n at : ℕ) → at ≤ length bytes → steps_behind (bytes_behind k bytes) n at ≡ steps_behind (offset_after (entry_in order version level k) bytes) n at
   flat_is zero at near = refl
   flat_is (suc n) at near =
       flat_steps (nat_le k (length bytes - at)) n at near refl (λ next h. flat_is n next h)
-      ∙ ap (option_and_then (steps_behind (behind (entry_in order version level k) bytes) n)) (sym (entry_is (tail_passed order version level) k bytes at near))
+      ∙ ap (option_and_then (steps_behind (offset_after (entry_in order version level k) bytes) n)) (sym (entry_is (tail_passed order version level) k bytes at near))
 
 pub flat_level : (level : Level) → (length (out-Level level).groups == 0) && (length (out-Level level).parts == 0) ≡ true → ((out-Level level).groups ≡ []) × ((out-Level level).parts ≡ [])
 flat_level level h =
@@ -187,7 +187,7 @@ lengths_small schema n level rows checked at is =
 
 module _ (schema : WireSchema) (n version k : ℕ) (bytes : List ℕ) (at least : ℕ) (floors : least ≡ floor version (fields_at schema n)) where
   abbrev told_by : Level → Option ℕ
-  told_by l = behind (level_passed schema.order version l k) bytes at
+  told_by l = offset_after (level_passed schema.order version l k) bytes at
 
   abbrev by_test : Level → Bool → Option ℕ
   by_test l t = result_ok (placed (length bytes) at (cond t (entry_in schema.order version l k (drop at bytes)) (Err (fault_at code.BlockShort 0 (pos k)))))
@@ -204,7 +204,7 @@ module _ (schema : WireSchema) (n version k : ℕ) (bytes : List ℕ) (at least 
       let below : nat_le (floor version (out-Level l).fields) k ≡ false = grind (arith, nat_tests) in
       ap (option_map told_by) there ∙ ap (λ t. Some (by_test l t)) below
 
-  pub floor_met : (l : Level) (result : Option ℕ) → level_at schema n ≡ Some l → least ≤ k → result ≡ behind (entry_in schema.order version l k) bytes at → option_map told_by (level_at schema n) ≡ Some result
+  pub floor_met : (l : Level) (result : Option ℕ) → level_at schema n ≡ Some l → least ≤ k → result ≡ offset_after (entry_in schema.order version l k) bytes at → option_map told_by (level_at schema n) ≡ Some result
   floor_met l result there reaches told =
       let enough : floor version (out-Level l).fields ≤ k = omega (arith, floor_of l there, reaches) in
       ap (option_map told_by) there ∙ ap (λ t. Some (by_test l t)) (le-leb (floor version (out-Level l).fields) k enough) ∙ ap Some (sym told)

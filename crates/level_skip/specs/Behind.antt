@@ -12,8 +12,8 @@ use Rattle.body_walk.specs.inner.Cursor.{skim}
 use Rattle.level_skip.specs.Passing.{group_passed}
 
 -- the offset after what a reader reads at an offset
-abbrev pub behind : {X : Type 0} → Reader X → List ℕ → ℕ → Option ℕ
-behind p bytes at = result_ok (skim p bytes at)
+abbrev pub offset_after : {X : Type 0} → Reader X → List ℕ → ℕ → Option ℕ
+offset_after p bytes at = result_ok (skim p bytes at)
 
 -- the offset after k bytes
 abbrev pub bytes_behind : ℕ → List ℕ → ℕ → Option ℕ
@@ -27,7 +27,7 @@ steps_behind step (suc n) at = option_and_then (steps_behind step n) (step at)
 -- the offset after groups
 abbrev pub groups_behind : Order → ℕ → List Group → List ℕ → ℕ → Option ℕ
 groups_behind order version [] bytes at = Some at
-groups_behind order version (g ∷ gs) bytes at = option_and_then (groups_behind order version gs bytes) (behind (group_passed order version g) bytes at)
+groups_behind order version (g ∷ gs) bytes at = option_and_then (groups_behind order version gs bytes) (offset_after (group_passed order version g) bytes at)
 
 -- the offset after a data part, by its row
 abbrev pub part_behind : Order → ℕ → PartRow → List ℕ → ℕ → Option ℕ

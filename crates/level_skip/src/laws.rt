@@ -8,7 +8,7 @@ ghost use Rattle.sbe_wire.specs.declared.mode.Mode.{Mode};
 ghost use Rattle.sbe_wire.specs.Lays.{EntryLays, TailLays};
 ghost use Rattle.sbe_wire.specs.Placed.{IsPlacedLevel};
 ghost use Rattle.level_skip.specs.Passing.{level_passed};
-ghost use Rattle.level_skip.specs.Behind.{behind};
+ghost use Rattle.level_skip.specs.Behind.{offset_after};
 
 /// If an entry of a level lies at the front of the bytes, exactly its bytes are skipped, whatever follows them.
 pub fn entry_that_lies_is_passed()
@@ -22,5 +22,5 @@ pub fn entry_that_lies_is_passed()
 pub fn entry_that_lies_ends_behind_its_bytes()
     ensures { (mode : Mode) (level : Level) (k : ℕ) (entry : Block) (before front rest : List ℕ) → IsPlacedLevel level
         → EntryLays (λ e b. TailLays mode level e b) (form_of mode level) k entry front
-        → behind (level_passed mode.order mode.version level k) (before ++ (front ++ rest)) (length before) ≡ Some (length before + length front) }
+        → offset_after (level_passed mode.order mode.version level k) (before ++ (front ++ rest)) (length before) ≡ Some (length before + length front) }
 {}

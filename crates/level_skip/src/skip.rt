@@ -11,9 +11,9 @@ ghost use Rattle.schema_facts.specs.Measured.{IsSmall};
 ghost use Rattle.layout_tables.specs.Parts.{dim_at};
 ghost use Rattle.layout_tables.specs.Rowed.{DimIs};
 ghost use Rattle.group_codec.specs.Dims.{IsDimRow};
-ghost use Rattle.body_walk.specs.inner.Cursor.{dim_told};
+ghost use Rattle.body_walk.specs.inner.Cursor.{dim_from};
 ghost use Rattle.level_skip.specs.Passing.{entry_in, group_passed, level_passed};
-ghost use Rattle.level_skip.specs.Behind.{behind, bytes_behind, groups_behind, part_behind, parts_behind, steps_behind};
+ghost use Rattle.level_skip.specs.Behind.{offset_after, bytes_behind, groups_behind, part_behind, parts_behind, steps_behind};
 
 use group_codec::{Dim, DimErr, read_dim_row};
 use layout_tables::{DimRow, Layout, PartRow};
@@ -38,7 +38,7 @@ pub fn skip_level(
 ) -> Option<usize>
     requires level { level < length (all_nodes layout.now) }
     requires at { at ≤ length bytes.now }
-    ensures told { option_map (λ l. behind (level_passed layout.now.order version l block) bytes.now at) (level_at layout.now level) ≡ Some result }
+    ensures told { option_map (λ l. offset_after (level_passed layout.now.order version l block) bytes.now at) (level_at layout.now level) ≡ Some result }
     ensures within { IfSome result (λ next. next ≤ length bytes.now) }
 {
     let _schema = layout.schema();
@@ -70,7 +70,7 @@ fn pass_entry(
     requires checked { IsChecked layout.now }
     requires level { level_at layout.now n ≡ Some level.now }
     requires at { at ≤ length bytes.now }
-    ensures told { result ≡ behind (entry_in layout.now.order version level.now block) bytes.now at }
+    ensures told { result ≡ offset_after (entry_in layout.now.order version level.now block) bytes.now at }
     ensures within { IfSome result (λ next. next ≤ length bytes.now) }
 {
     let size = block as usize;
@@ -138,7 +138,7 @@ fn pass_group(
     requires level { level_at layout.now n ≡ Some (out-Group group.now).level }
     requires dim { dim_at layout.now n ≡ Some (out-Group group.now).dim }
     requires at { at ≤ length bytes.now }
-    ensures told { result ≡ behind (group_passed layout.now.order version group.now) bytes.now at }
+    ensures told { result ≡ offset_after (group_passed layout.now.order version group.now) bytes.now at }
     ensures within { IfSome result (λ next. next ≤ length bytes.now) }
 {
     let row = layout.row(n);
@@ -159,7 +159,7 @@ fn pass_group(
 fn find_dim(order: Order, row: &DimRow, least: u32, bytes: &[u8], at: usize) -> Option<Dim>
     requires row { IsDimRow row.now }
     requires at { at ≤ length bytes.now }
-    ensures told { (dim : List Member) → DimIs row.now dim → option_map (λ d. (d.block, d.count)) result ≡ result_ok (dim_told order dim least bytes.now at) }
+    ensures told { (dim : List Member) → DimIs row.now dim → option_map (λ d. (d.block, d.count)) result ≡ result_ok (dim_from order dim least bytes.now at) }
     ensures after { IfSome result (λ d. d.after ≡ at + row.now.width) }
     ensures within { IfSome result (λ d. d.after ≤ length bytes.now) }
 {
@@ -188,7 +188,7 @@ fn pass_entries(
     requires checked { IsChecked layout.now }
     requires level { level_at layout.now n ≡ Some level.now }
     requires at { dim.after ≤ length bytes.now }
-    ensures told { result ≡ steps_behind (behind (entry_in layout.now.order version level.now dim.block) bytes.now) dim.count dim.after }
+    ensures told { result ≡ steps_behind (offset_after (entry_in layout.now.order version level.now dim.block) bytes.now) dim.count dim.after }
     ensures within { IfSome result (λ next. next ≤ length bytes.now) }
 {
     if is_flat(level) {

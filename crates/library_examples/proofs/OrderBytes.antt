@@ -27,7 +27,7 @@ use Rattle.body_walk.proofs.Bodies.{root_level}
 use Rattle.body_walk.proofs.Opens.{child_here, item_at, level_within}
 use Rattle.typed_writer.specs.declared.stack.Frame.{Frame}
 use Rattle.typed_writer.specs.declared.stack.Frame.TheVariants.{Tail}
-use Rattle.typed_writer.specs.Empty.{behind, empty_block}
+use Rattle.typed_writer.specs.Empty.{followed_by, empty_block}
 use Rattle.typed_writer.specs.Held.{Held}
 use Rattle.typed_writer.specs.States.{SetsFields, block_at, level_of}
 use Rattle.typed_writer.specs.Steps.{Adds, Begins, Groups, Opens, SetsField, block_in, dimension_in, ends, goes_on_as, header_in, next_data, next_group}
@@ -150,20 +150,20 @@ module _ (schema : WireSchema) (ready : IsReadySchema schema) (order : IsOrderSc
 
   -- an entry that was begun, set and closed
   pub leg_written : (quantity : ℤ) (t : Frame) (old opened filled tailed new : Held) → level_of old.frames ≡ legs_of schema → Opens schema old opened → SetsFields schema opened → SetsFields schema filled →
-      SetsField schema (level_of opened.frames) 0 (value.Num quantity) opened filled → tailed ≡ goes_on_as filled t → new ≡ ends tailed → behind old.bytes (leg_bytes schema quantity) ≡ Some new.bytes
+      SetsField schema (level_of opened.frames) 0 (value.Num quantity) opened filled → tailed ≡ goes_on_as filled t → new ≡ ends tailed → followed_by old.bytes (leg_bytes schema quantity) ≡ Some new.bytes
   leg_written quantity t old opened filled tailed new here opens state now sets goes ended =
       let n : ℕ = level_of old.frames in
       let at : level_at schema n ≡ Some legs = ap (level_at schema) here ∙ levels.legs_at in
       let at_opened : level_at schema (level_of opened.frames) ≡ Some legs = ap (λ fs. level_at schema (level_of fs)) opens.frames ∙ at in
       let fills = one_filled schema legs (leg_block quantity) (value.Num quantity) ready levels.leg_field (leg_fields quantity) opened filled at_opened state now sets in
       let long : ℕ = (out-Level legs).block_length in
-      let empty : behind old.bytes (empty_block schema.order long (out-Level legs).fields) ≡ Some opened.bytes =
-      sym (ap (λ b. behind old.bytes (empty_block schema.order b (fields_at schema n))) (own_block schema n legs at)
-      ∙ ap (λ o. behind old.bytes (empty_block schema.order long (fields_in o))) at)
+      let empty : followed_by old.bytes (empty_block schema.order long (out-Level legs).fields) ≡ Some opened.bytes =
+      sym (ap (λ b. followed_by old.bytes (empty_block schema.order b (fields_at schema n))) (own_block schema n legs at)
+      ∙ ap (λ o. followed_by old.bytes (empty_block schema.order long (fields_in o))) at)
       ∙ opens.bytes in
       let block = fills.bytes old.bytes (sym opens.at) empty in
-      let tail : behind filled.bytes (tail_bytes schema.order legs (leg_block quantity)) ≡ Some filled.bytes = ap (behind filled.bytes) (no_tail schema.order legs quantity levels.leg_groups levels.leg_parts) ∙ behind_none filled.bytes in
-      ap (behind old.bytes) (leg_put quantity) ∙ behind_both old.bytes filled.bytes filled.bytes _ _ block tail ∙ ap (λ (h : Held). Some h.bytes) (sym (ended ∙ ap ends goes))
+      let tail : followed_by filled.bytes (tail_bytes schema.order legs (leg_block quantity)) ≡ Some filled.bytes = ap (followed_by filled.bytes) (no_tail schema.order legs quantity levels.leg_groups levels.leg_parts) ∙ behind_none filled.bytes in
+      ap (followed_by old.bytes) (leg_put quantity) ∙ behind_both old.bytes filled.bytes filled.bytes _ _ block tail ∙ ap (λ (h : Held). Some h.bytes) (sym (ended ∙ ap ends goes))
 
   -- ---- all legs
 
@@ -175,22 +175,22 @@ module _ (schema : WireSchema) (ready : IsReadySchema schema) (order : IsOrderSc
   legs_put (x ∷ xs) = ap₂ both (leg_put x) (legs_put xs)
 
   -- one leg more
-  pub legs_next : (xs : List ℤ) (i : ℕ) (x : ℤ) (old now new : List ℕ) → i < length xs → x ≡ get_or xs i x → behind now (leg_bytes schema x) ≡ Some new →
-      behind now (legs_in (drop i xs)) ≡ behind old (legs_in xs) → behind new (legs_in (drop (i + 1) xs)) ≡ behind old (legs_in xs)
+  pub legs_next : (xs : List ℤ) (i : ℕ) (x : ℤ) (old now new : List ℕ) → i < length xs → x ≡ get_or xs i x → followed_by now (leg_bytes schema x) ≡ Some new →
+      followed_by now (legs_in (drop i xs)) ≡ followed_by old (legs_in xs) → followed_by new (legs_in (drop (i + 1) xs)) ≡ followed_by old (legs_in xs)
   legs_next xs i x old now new low is one so_far =
       let on : suc i ≡ i + 1 = omega arith in
       let front : drop i xs ≡ x ∷ drop (i + 1) xs = drop_at xs i x (item_at xs i x low is) ∙ ap (λ j. x ∷ drop j xs) on in
-      left_behind now new (leg_bytes schema x) (legs_in (drop (i + 1) xs)) (legs_in (drop i xs)) (behind old (legs_in xs)) one (ap (all_bytes (leg_bytes schema)) front) so_far
+      left_behind now new (leg_bytes schema x) (legs_in (drop (i + 1) xs)) (legs_in (drop i xs)) (followed_by old (legs_in xs)) one (ap (all_bytes (leg_bytes schema)) front) so_far
 
   -- the dimension, and all legs after it
   pub legs_written : (xs : List ℤ) (i : ℕ) (old opened last new : Held) → old.frames ≡ Tail (root_of schema 0) 0 ∷ [] → Groups schema (length xs) old opened → length xs ≤ i →
-      behind last.bytes (legs_in (drop i xs)) ≡ behind opened.bytes (legs_in xs) → new ≡ ends last → behind old.bytes (legs_bytes schema xs) ≡ Some new.bytes
+      followed_by last.bytes (legs_in (drop i xs)) ≡ followed_by opened.bytes (legs_in xs) → new ≡ ends last → followed_by old.bytes (legs_bytes schema xs) ≡ Some new.bytes
   legs_written xs i old opened last new at groups over left ended =
       let next : next_group schema old.frames ≡ legs_of schema = ap (next_group schema) at in
-      let all : behind opened.bytes (legs_in xs) ≡ Some last.bytes =
-      nothing_left last.bytes (legs_in (drop i xs)) (behind opened.bytes (legs_in xs)) (ap (all_bytes (leg_bytes schema)) (drop_all i xs over)) left in
+      let all : followed_by opened.bytes (legs_in xs) ≡ Some last.bytes =
+      nothing_left last.bytes (legs_in (drop i xs)) (followed_by opened.bytes (legs_in xs)) (ap (all_bytes (leg_bytes schema)) (drop_all i xs over)) left in
       behind_both old.bytes opened.bytes new.bytes _ _
-      (ap (λ k. behind old.bytes (dimension_in schema k (length xs))) (sym next) ∙ groups.bytes)
+      (ap (λ k. followed_by old.bytes (dimension_in schema k (length xs))) (sym next) ∙ groups.bytes)
       (all ∙ ap (λ (h : Held). Some h.bytes) (sym ended))
 
   -- ---- the whole
@@ -210,8 +210,8 @@ module _ (schema : WireSchema) (ready : IsReadySchema schema) (order : IsOrderSc
       ∙ ap₂ both (ap (λ k. named_bytes schema.order (dimension_numbers long k) 0 (out-Group g).dim) (length-map xs leg_block) ∙ sym dim) (sym (legs_put xs))
 
   -- the group and the data after the root's block
-  tail_written : (number : ℤ) (xs : List ℤ) (note front : List ℕ) (mid last : Held) → behind front (legs_bytes schema xs) ≡ Some mid.bytes → mid.frames ≡ Tail (root_of schema 0) 1 ∷ [] → Adds schema note mid last →
-      behind front (tail_bytes schema.order levels.root (order_block number xs note)) ≡ Some last.bytes
+  tail_written : (number : ℤ) (xs : List ℤ) (note front : List ℕ) (mid last : Held) → followed_by front (legs_bytes schema xs) ≡ Some mid.bytes → mid.frames ≡ Tail (root_of schema 0) 1 ∷ [] → Adds schema note mid last →
+      followed_by front (tail_bytes schema.order levels.root (order_block number xs note)) ≡ Some last.bytes
   unfolding carrier.out
   tail_written number xs note front mid last legs_there at adds =
       let root : Level = levels.root in
@@ -220,17 +220,17 @@ module _ (schema : WireSchema) (ready : IsReadySchema schema) (order : IsOrderSc
       ap (next_data schema) at
       ∙ ap (λ o. slice_get (parts_in o) (1 - length (groups_in o))) levels.root_at
       ∙ ap₂ (λ ps (gs : List Group). slice_get ps (1 - length gs)) levels.parts levels.groups in
-      let group : behind front (both (group_bytes schema.order levels.group v) (Some [])) ≡ Some mid.bytes =
-      behind_both front mid.bytes mid.bytes _ _ (ap (behind front) (group_put xs) ∙ legs_there) (behind_none mid.bytes) in
-      let part : behind mid.bytes (part_bytes schema.order levels.part (dataval.Bytes note)) ≡ Some last.bytes =
-      sym (ap (λ (o : Option DataField). behind mid.bytes (option_and_then (λ (p : DataField). part_bytes schema.order p (dataval.Bytes note)) o)) next) ∙ adds.bytes in
-      ap (behind front)
+      let group : followed_by front (both (group_bytes schema.order levels.group v) (Some [])) ≡ Some mid.bytes =
+      behind_both front mid.bytes mid.bytes _ _ (ap (followed_by front) (group_put xs) ∙ legs_there) (behind_none mid.bytes) in
+      let part : followed_by mid.bytes (part_bytes schema.order levels.part (dataval.Bytes note)) ≡ Some last.bytes =
+      sym (ap (λ (o : Option DataField). followed_by mid.bytes (option_and_then (λ (p : DataField). part_bytes schema.order p (dataval.Bytes note)) o)) next) ∙ adds.bytes in
+      ap (followed_by front)
       (tail_bytes_is schema.order root (order_block number xs note)
       ∙ ap₂ (λ gs ps. both (groups_put schema.order gs (v ∷ [])) (parts_bytes schema.order ps (dataval.Bytes note ∷ []))) levels.groups levels.parts)
       ∙ behind_both front mid.bytes last.bytes _ _ group (behind_both mid.bytes last.bytes last.bytes _ _ part (behind_none last.bytes))
 
   pub order_written : (number : ℤ) (xs : List ℤ) (note : List ℕ) (t : Frame) (old begun filled tailed mid last : Held) → Begins schema 0 old begun → SetsFields schema begun → SetsFields schema filled →
-      SetsField schema (level_of begun.frames) 0 (value.Num number) begun filled → tailed ≡ goes_on_as filled t → behind tailed.bytes (legs_bytes schema xs) ≡ Some mid.bytes → mid.frames ≡ Tail (root_of schema 0) 1 ∷ [] →
+      SetsField schema (level_of begun.frames) 0 (value.Num number) begun filled → tailed ≡ goes_on_as filled t → followed_by tailed.bytes (legs_bytes schema xs) ≡ Some mid.bytes → mid.frames ≡ Tail (root_of schema 0) 1 ∷ [] →
       Adds schema note mid last → canonical schema (order_message schema.version number xs note) ≡ Some last.bytes
   unfolding canonical
   order_written number xs note t old begun filled tailed mid last begins state now sets goes legs_there at adds =
@@ -245,13 +245,13 @@ module _ (schema : WireSchema) (ready : IsReadySchema schema) (order : IsOrderSc
       sym (ap (λ (o : Option Level). option_and_then (λ (l : Level). named_bytes schema.order (header_numbers schema l) 0 schema.header.members) o) levels.message) ∙ parts.2 in
       let wide = named_long schema.order (header_numbers schema root) 0 schema.header.members parts.0 (header_stands schema ready.checked) (header_holds schema 0 root ready.checked levels.message) header in
       let ends_there : length parts.0 ≡ begun.at = omega (arith, wide, begins.at) in
-      let empty : behind parts.0 (empty_block schema.order long (out-Level root).fields) ≡ Some begun.bytes =
-      sym (ap (λ b. behind parts.0 (empty_block schema.order b (fields_at schema n))) (own_block schema n root levels.root_at)
-      ∙ ap (λ o. behind parts.0 (empty_block schema.order long (fields_in o))) levels.root_at)
-      ∙ ap (behind parts.0) parts.3 ∙ ap Some (sym parts.4) in
+      let empty : followed_by parts.0 (empty_block schema.order long (out-Level root).fields) ≡ Some begun.bytes =
+      sym (ap (λ b. followed_by parts.0 (empty_block schema.order b (fields_at schema n))) (own_block schema n root levels.root_at)
+      ∙ ap (λ o. followed_by parts.0 (empty_block schema.order long (fields_in o))) levels.root_at)
+      ∙ ap (followed_by parts.0) parts.3 ∙ ap Some (sym parts.4) in
       let own : Option (List ℕ) = block_bytes schema.order long (out-Level root).fields (out-Block block).fields in
       let tail : Option (List ℕ) = tail_bytes schema.order root block in
-      let there = subst (λ (h : Held). behind h.bytes (legs_bytes schema xs) ≡ Some mid.bytes) goes legs_there in
+      let there = subst (λ (h : Held). followed_by h.bytes (legs_bytes schema xs) ≡ Some mid.bytes) goes legs_there in
       ap (root_bytes schema block) levels.message
       ∙ ap (λ o. both o (both own tail)) header
       ∙ both_behind parts.0 (both own tail)

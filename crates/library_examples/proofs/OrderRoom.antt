@@ -28,7 +28,7 @@ use Rattle.typed_writer.specs.declared.states.StartErr.{StartErr}
 use Rattle.typed_writer.specs.declared.states.TailErr.{TailErr}
 use Rattle.typed_writer.specs.declared.stack.Frame.{Frame}
 use Rattle.typed_writer.specs.declared.stack.Frame.TheVariants.{Entries, Tail}
-use Rattle.typed_writer.specs.Empty.{behind}
+use Rattle.typed_writer.specs.Empty.{followed_by}
 use Rattle.typed_writer.specs.Held.{Held}
 use Rattle.typed_writer.specs.States.{AppendsEntries, SetsFields, entries_left, level_of, parts_done, parts_in_tail}
 use Rattle.typed_writer.specs.Steps.{Begins, DataRefused, GroupRefused, Groups, Opens, SetsField, StartRefused, ends, first_unset, goes_on_as, misfit_at, next_data, next_group, unset_from}
@@ -132,7 +132,7 @@ module _ (schema : WireSchema) (ready : IsReadySchema schema) (order : IsOrderSc
 
         tail : Puts (tail_stretch schema.order level leg) (behind_all schema tailed.frames) tailed tailed
         tail = record {
-          bytes = ap (behind tailed.bytes) (no_tail schema.order level quantity no_groups no_parts) ∙ behind_none tailed.bytes;
+          bytes = ap (followed_by tailed.bytes) (no_tail schema.order level quantity no_groups no_parts) ∙ behind_none tailed.bytes;
           counted = nothing_taken;
           frames = frames_same;
           limit = refl;

@@ -15,7 +15,7 @@ use Rattle.schema_facts.specs.Levels.{Node, all_nodes, groups_at, groups_in, roo
 use Rattle.layout_tables.specs.Parts.{group_number}
 use Rattle.layout_names.specs.Names.{template_named, field_named, group_named}
 use Rattle.flyweight_view.specs.declared.values.FieldBytes.{FieldBytes}
-use Rattle.flyweight_view.specs.Seen.{composite_seen, field_seen, members_of, values_in}
+use Rattle.flyweight_view.specs.Seen.{typed_composite, typed_field, members_of, values_in}
 use Rattle.flyweight_view.specs.ShownIn.{IsShownIn}
 use Rattle.library_examples.specs.declared.prices.EntryField.{EntryField}
 use Rattle.library_examples.specs.declared.prices.EntryNames.{EntryNames}
@@ -26,23 +26,23 @@ some_is h = cc
 
 -- ---- a composite
 
-kind_there : (order : Order) (known : Bool) (kind : Kind) (v : Value) (b : List ℕ) → Shows order known kind v b → is_composite kind ≡ true → IsSome (composite_seen (members_of kind) (values_in v))
-kind_there order known (Comp' n members) v b h is = subst (λ (x : Value). IsSome (composite_seen (members_of (Comp' n members)) (values_in x))) (sym h.1.1) refl
+kind_there : (order : Order) (known : Bool) (kind : Kind) (v : Value) (b : List ℕ) → Shows order known kind v b → is_composite kind ≡ true → IsSome (typed_composite (members_of kind) (values_in v))
+kind_there order known (Comp' n members) v b h is = subst (λ (x : Value). IsSome (typed_composite (members_of (Comp' n members)) (values_in x))) (sym h.1.1) refl
 kind_there order known (Leaf l) v b h is = cc
 kind_there order known (Enum l names) v b h is = cc
 kind_there order known (Set p names) v b h is = cc
 kind_there order known (Const c) v b h is = cc
 
 -- the members of a composite that is there
-pub members_there : (field : FieldBytes) (f : Option Field) (o : Option Value) → option_map (λ p. p.kind) f ≡ Some field.kind.now → IsShownIn field o → is_composite field.kind.now ≡ true → IsSome (field_seen f o)
+pub members_there : (field : FieldBytes) (f : Option Field) (o : Option Value) → option_map (λ p. p.kind) f ≡ Some field.kind.now → IsShownIn field o → is_composite field.kind.now ≡ true → IsSome (typed_field f o)
 members_there field None o kind h is = cc
 members_there field (Some f) None kind h is = absurd h
 members_there field (Some f) (Some v) kind h is =
-    subst (λ (k : Kind). IsSome (composite_seen (members_of k) (values_in v))) (sym (some_is kind)) (kind_there field.order h.0 field.kind.now v field.bytes.now h.1 is)
+    subst (λ (k : Kind). IsSome (typed_composite (members_of k) (values_in v))) (sym (some_is kind)) (kind_there field.order h.0 field.kind.now v field.bytes.now h.1 is)
 
 -- ---- no composite, or none that is there
 
-no_kind : (kind : Kind) (vs : Option (List Value)) → is_composite kind ≡ false → composite_seen (members_of kind) vs ≡ None
+no_kind : (kind : Kind) (vs : Option (List Value)) → is_composite kind ≡ false → typed_composite (members_of kind) vs ≡ None
 no_kind (Comp' n members) vs is = cc
 no_kind (Leaf l) vs is = refl
 no_kind (Enum l names) vs is = refl
@@ -50,22 +50,22 @@ no_kind (Set p names) vs is = refl
 no_kind (Const c) vs is = refl
 
 -- a field of another kind has no members
-pub no_members : (kind : Kind) (f : Option Field) (o : Option Value) → option_map (λ p. p.kind) f ≡ Some kind → is_composite kind ≡ false → None ≡ field_seen f o
+pub no_members : (kind : Kind) (f : Option Field) (o : Option Value) → option_map (λ p. p.kind) f ≡ Some kind → is_composite kind ≡ false → None ≡ typed_field f o
 no_members kind None o k is = cc
 no_members kind (Some f) None k is = refl
 no_members kind (Some f) (Some v) k is = sym (no_kind f.kind (values_in v) (ap is_composite (some_is k) ∙ is))
 
-no_values : (members : Option (List Member)) → composite_seen members None ≡ None
+no_values : (members : Option (List Member)) → typed_composite members None ≡ None
 no_values None = refl
 no_values (Some members) = refl
 
-no_value : (f : Option Field) → field_seen f (Some value.Absent) ≡ None
+no_value : (f : Option Field) → typed_field f (Some value.Absent) ≡ None
 no_value None = refl
 no_value (Some f) = no_values (members_of f.kind)
 
 -- a field that is absent has none
-pub absent_members : (f : Option Field) (o : Option Value) → o ≡ Some value.Absent → None ≡ field_seen f o
-absent_members f o h = sym (ap (field_seen f) h ∙ no_value f)
+pub absent_members : (f : Option Field) (o : Option Value) → o ≡ Some value.Absent → None ≡ typed_field f o
+absent_members f o h = sym (ap (typed_field f) h ∙ no_value f)
 
 -- ---- levels
 

@@ -10,7 +10,7 @@ use Rattle.sbe_wire.specs.Lays.{Lays}
 use Rattle.schema_facts.specs.Levels.{root_of}
 use Rattle.layout_tables.specs.Parts.{group_number}
 use Rattle.layout_names.specs.Names.{template_named, field_named, group_named}
-use Rattle.flyweight_view.specs.Seen.{Seen, SeenMessage, seen_level, field_seen}
+use Rattle.flyweight_view.specs.Seen.{TypedBlock, TypedMessage, typed_level, typed_field}
 use Rattle.library_examples.specs.declared.prices.EntryField.{EntryField}
 use Rattle.library_examples.specs.declared.prices.EntryNames.{EntryNames}
 use Rattle.library_examples.specs.Sums.{number_at, group_entries}
@@ -43,11 +43,11 @@ is_composite (Set p names) = false
 is_composite (Const c) = false
 
 -- the members of field i of a block, if it is a composite with a value
-abbrev pub composite_at : ℕ → Seen → Option Seen
-composite_at i seen = field_seen (slice_get seen.fields i) (slice_get (out-Block seen.block).fields i)
+abbrev pub composite_at : ℕ → TypedBlock → Option TypedBlock
+composite_at i seen = typed_field (slice_get seen.fields i) (slice_get (out-Block seen.block).fields i)
 
 -- the mantissa of a price: the number of a composite's first member
-abbrev pub mantissa_at : ℕ → Seen → Option ℤ
+abbrev pub mantissa_at : ℕ → TypedBlock → Option ℤ
 mantissa_at i seen = if nat_lt i (length seen.fields) then option_and_then (number_at 0) (composite_at i seen) else None
 
 -- the later of two prices, where there is one
@@ -56,19 +56,19 @@ later earlier (Some price) = Some price
 later earlier None = earlier
 
 -- the price of the last entry that has one, or else an earlier one
-abbrev pub last_after : ℕ → Option ℤ → List Seen → Option ℤ
+abbrev pub last_after : ℕ → Option ℤ → List TypedBlock → Option ℤ
 last_after i earlier [] = earlier
 last_after i earlier (e ∷ es) = last_after i (later earlier (mantissa_at i e)) es
 
 -- the price of the last entry that has one
-abbrev pub last_price : ℕ → List Seen → Option ℤ
+abbrev pub last_price : ℕ → List TypedBlock → Option ℤ
 last_price i entries = last_after i None entries
 
 -- the last price of a message's entries, where it is one of that template
-abbrev pub price_in : EntryField → SeenMessage → Option ℤ
+abbrev pub price_in : EntryField → TypedMessage → Option ℤ
 price_in price seen =
     if nat_eq seen.message.template price.template
-    then last_price price.field (group_entries price.group (seen_level seen.level seen.message.block)) else None
+    then last_price price.field (group_entries price.group (typed_level seen.level seen.message.block)) else None
 
 -- A message lies in the body, and this is its last price.
 pub record IsLastPrice (schema : WireSchema) (body : List ℕ) (field : EntryField) (price : Option ℤ) : Type 0 where

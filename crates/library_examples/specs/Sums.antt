@@ -12,7 +12,7 @@ use Rattle.sbe_types.specs.declared.message.Msg.{Msg}
 use Rattle.sbe_wire.specs.Faults.{FirstFault}
 use Rattle.sbe_wire.specs.Lays.{Lays}
 use Rattle.field_values.specs.Told.{number_in}
-use Rattle.flyweight_view.specs.Seen.{Seen, seen_level, group_seen}
+use Rattle.flyweight_view.specs.Seen.{TypedBlock, typed_level, typed_group}
 use Rattle.body_walk.specs.Refusals.{refused}
 use Rattle.library_examples.specs.declared.sums.SumErr.{SumErr}
 use Rattle.library_examples.specs.declared.sums.SumErr.TheVariants.{Refused, Over}
@@ -34,32 +34,32 @@ is_number_kind (Const c) = false
 is_number_kind (Comp' n members) = false
 
 -- the number of field i of a block, if it has one
-abbrev pub number_at : ℕ → Seen → Option ℤ
+abbrev pub number_at : ℕ → TypedBlock → Option ℤ
 number_at i seen = if nat_lt i (length seen.fields) then option_and_then number_in (slice_get (out-Block seen.block).fields i) else None
 
 -- the sum of field i over entries; one without a number counts as 0
-abbrev pub sum_at : ℕ → List Seen → ℤ
+abbrev pub sum_at : ℕ → List TypedBlock → ℤ
 sum_at i [] = pos 0
 sum_at i (e ∷ es) = unwrap_or (number_at i e) (pos 0) +ℤ sum_at i es
 
 -- the entries of a group; none if it is absent
-abbrev pub all_entries : Option (Option (List Seen)) → List Seen
+abbrev pub all_entries : Option (Option (List TypedBlock)) → List TypedBlock
 all_entries None = []
 all_entries (Some None) = []
 all_entries (Some (Some es)) = es
 
 -- the entries of group number `group` of a block
-abbrev pub group_entries : ℕ → Seen → List Seen
-group_entries group seen = all_entries (group_seen (slice_get seen.groups group) (slice_get (out-Block seen.block).groups group))
+abbrev pub group_entries : ℕ → TypedBlock → List TypedBlock
+group_entries group seen = all_entries (typed_group (slice_get seen.groups group) (slice_get (out-Block seen.block).groups group))
 
 -- the sum of a field over the entries of group number `group` of a block
-abbrev pub group_sum : ℕ → ℕ → Seen → ℤ
+abbrev pub group_sum : ℕ → ℕ → TypedBlock → ℤ
 group_sum group field seen = sum_at field (group_entries group seen)
 
 -- The sum of a field over some of the first entries exceeds 128 bits.
-pub record PassesRange (field : ℕ) (entries : List Seen) : Type 0 where
-  pub front : List Seen
-  pub back : List Seen
+pub record PassesRange (field : ℕ) (entries : List TypedBlock) : Type 0 where
+  pub front : List TypedBlock
+  pub back : List TypedBlock
   pub first : entries ≡ front ++ back
   pub over : FitsSigned w128 (sum_at field front) → ⊥
 
@@ -69,7 +69,7 @@ pub record IsSum (schema : WireSchema) (body : List ℕ) (group field : ℕ) (su
   pub level : Level
   pub lies : Lays schema message body
   pub root : slice_get schema.messages message.template ≡ Some level
-  pub is : sum ≡ group_sum group field (seen_level level message.block)
+  pub is : sum ≡ group_sum group field (typed_level level message.block)
 
 -- A message lies in the body, and over some of the first entries of one of its groups the sum of a field exceeds 128
 -- bits.
@@ -78,7 +78,7 @@ pub record IsOver (schema : WireSchema) (body : List ℕ) (group field : ℕ) : 
   pub level : Level
   pub lies : Lays schema message body
   pub root : slice_get schema.messages message.template ≡ Some level
-  pub passes : PassesRange field (group_entries group (seen_level level message.block))
+  pub passes : PassesRange field (group_entries group (typed_level level message.block))
 
 -- the first fault of the body, or that a sum exceeds 128 bits
 abbrev pub IsNoSum : WireSchema → List ℕ → ℕ → ℕ → SumErr → Type 0

@@ -4,7 +4,7 @@ ghost use Rattle.sbe_wire.specs.Canonical.{canonical};
 ghost use Rattle.sbe_wire.specs.Fits.{Fits};
 ghost use Rattle.schema_facts.specs.Levels.{root_of};
 ghost use Rattle.body_walk.specs.inner.Ready.{IsReadySchema};
-ghost use Rattle.typed_writer.specs.Empty.{behind};
+ghost use Rattle.typed_writer.specs.Empty.{followed_by};
 ghost use Rattle.typed_writer.specs.States.{entries_left, level_of, AppendsEntries, AppendsParts};
 ghost use Rattle.library_examples.specs.Orders.{leg_bytes, legs_bytes, message_of_order, AtLegs, IsNoOrder, IsOrderSchema, LegFits, LegHasRoom, LegsFit, LegsHaveRoom, PutsLeg, PutsLegs};
 
@@ -111,7 +111,7 @@ fn write_legs(layout: &Layout, tail: &mut TailW<'_>, legs: &[i128]) -> Result<()
     ensures same_layout { tail.new.layout ≡ tail.old.layout }
     ensures ready { OnOk result (AppendsParts layout.now tail.new.buf.now) }
     ensures fits { OnOk result (LegsFit layout.now legs.now) }
-    ensures bytes { OnOk result (behind tail.old.buf.now.bytes (legs_bytes layout.now legs.now) ≡ Some tail.new.buf.now.bytes) }
+    ensures bytes { OnOk result (followed_by tail.old.buf.now.bytes (legs_bytes layout.now legs.now) ≡ Some tail.new.buf.now.bytes) }
     ensures behind { OnOk result (tail.new.buf.now.frames ≡ Frame.Tail (root_of layout.now 0) 1 ∷ []) }
     ensures puts { OnOk result (LegsHaveRoom layout.now legs.now tail.old.buf.now → PutsLegs layout.now legs.now tail.old.buf.now tail.new.buf.now) }
     ensures refused { OnErr result (LegsHaveRoom layout.now legs.now tail.old.buf.now → ⊥) }
@@ -141,7 +141,7 @@ fn write_leg(layout: &Layout, entries: &mut EntriesW<'_>, quantity: i128) -> Res
     ensures same_reference { entries.new.buf.ghost_name ≡ entries.old.buf.ghost_name }
     ensures same_layout { entries.new.layout ≡ entries.old.layout }
     ensures fits { OnOk result (LegFits layout.now quantity) }
-    ensures bytes { OnOk result (behind entries.old.buf.now.bytes (leg_bytes layout.now quantity) ≡ Some entries.new.buf.now.bytes) }
+    ensures bytes { OnOk result (followed_by entries.old.buf.now.bytes (leg_bytes layout.now quantity) ≡ Some entries.new.buf.now.bytes) }
     ensures next { OnOk result (entries.new.buf.now.frames ≡ Frame.Entries (level_of entries.old.buf.now.frames) (entries_left entries.old.buf.now.frames - 1) ∷ drop 1 entries.old.buf.now.frames) }
     ensures puts { OnOk result (LegHasRoom layout.now quantity entries.old.buf.now → PutsLeg layout.now quantity entries.old.buf.now entries.new.buf.now) }
     ensures refused { OnErr result (LegHasRoom layout.now quantity entries.old.buf.now → ⊥) }

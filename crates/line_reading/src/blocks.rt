@@ -3,7 +3,7 @@ ghost use Rattle.json_data.specs.Trees.{data_of, items_of};
 ghost use Rattle.line_values.specs.Refusals.{Gives};
 ghost use Rattle.line_values.specs.Objects.{each, at_item as at_place};
 ghost use Rattle.line_reading.specs.Lines.{entry_of, entry_in, entries_in, group_in, block_read, group_read};
-ghost use Rattle.line_values.specs.Code.{seen};
+ghost use Rattle.line_values.specs.Code.{object_members};
 ghost use Rattle.line_reading.specs.Code.{group_list_read, block_opened};
 
 use crate::fields::read_fields;
@@ -24,7 +24,7 @@ fn read_opened(
     level: &Level,
     object: Option<&[Pair<'_>]>,
 ) -> Result<Block, LineFault>
-    ensures { Gives result (block_opened level.now (seen object.entry)) }
+    ensures { Gives result (block_opened level.now (object_members object.entry)) }
 {
     let fields = level.fields.as_slice();
     let groups = level.groups.as_slice();
@@ -49,7 +49,7 @@ pub fn read_block(
     level: &Level,
     object: Option<&[Pair<'_>]>,
 ) -> Result<Block, LineFault>
-    ensures { Gives result (block_read level.now (seen object.entry)) }
+    ensures { Gives result (block_read level.now (object_members object.entry)) }
 {
     read_opened(alloc, level, object)
 }
@@ -62,7 +62,7 @@ fn read_groups(
     groups: &[Group],
     object: Option<&[Pair<'_>]>,
 ) -> Result<GroupValList, LineFault>
-    ensures { Gives result (group_list_read groups.now (seen object.entry)) }
+    ensures { Gives result (group_list_read groups.now (object_members object.entry)) }
 {
     let mut out = List::new(alloc);
     for group in groups {
@@ -78,7 +78,7 @@ fn read_group(
     group: &Group,
     object: Option<&[Pair<'_>]>,
 ) -> Result<GroupVal, LineFault>
-    ensures { Gives result (group_read group.now (seen object.entry)) }
+    ensures { Gives result (group_read group.now (object_members object.entry)) }
 {
     let name = name_of(group);
     inside(
@@ -144,7 +144,7 @@ fn read_entry(alloc: Global, level: &Level, item: &Json<'_>) -> Result<Block, Li
 /// Reads the contents of an entry's object.
 #[cycle(block)]
 fn read_known(alloc: Global, level: &Level, object: Option<&[Pair<'_>]>) -> Result<Block, LineFault>
-    ensures { Gives result (entry_of (block_read level.now) (seen object.entry)) }
+    ensures { Gives result (entry_of (block_read level.now) (object_members object.entry)) }
 {
     refuse_unknown(alloc, &Names::Entry, object)?;
     read_block(alloc, level, object)

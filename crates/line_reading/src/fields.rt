@@ -1,7 +1,7 @@
 ghost use Rattle.std.specs.Prelude.{◌≡◌};
 ghost use Rattle.line_values.specs.Refusals.{Gives};
 ghost use Rattle.line_reading.specs.Lines.{fields_read};
-ghost use Rattle.line_values.specs.Code.{seen};
+ghost use Rattle.line_values.specs.Code.{object_members};
 
 use json_data::{Json, Pair};
 use line_values::{LineFault, read_value};
@@ -16,7 +16,7 @@ pub fn read_fields(
     fields: &[Field],
     object: Option<&[Pair<'_>]>,
 ) -> Result<ValueList, LineFault>
-    ensures { Gives result (fields_read fields.now (seen object.entry)) }
+    ensures { Gives result (fields_read fields.now (object_members object.entry)) }
 {
     let mut out = List::new(alloc);
     for field in fields {

@@ -2,7 +2,7 @@ ghost use Rattle.std.specs.Prelude.{◌≡◌, option_map};
 ghost use Rattle.json_data.specs.Trees.{data_of};
 ghost use Rattle.line_values.specs.Refusals.{Gives, GivesAs};
 ghost use Rattle.line_reading.specs.Lines.{level_named, named_template, template_in, is_version, version_in, message_read, message_in, tree_of};
-ghost use Rattle.line_values.specs.Code.{seen};
+ghost use Rattle.line_values.specs.Code.{object_members};
 ghost use Rattle.line_reading.specs.Code.{template};
 
 use crate::blocks::read_block;
@@ -75,7 +75,7 @@ fn read_message(
     schema: &WireSchema,
     object: Option<&[Pair<'_>]>,
 ) -> Result<Msg, LineFault>
-    ensures { Gives result (message_read schema.now (seen object.entry)) }
+    ensures { Gives result (message_read schema.now (object_members object.entry)) }
 {
     let levels = schema.messages.as_slice();
     let (number, level) = read_template(alloc, levels, find_in(object, b"template"))?;

@@ -2,7 +2,7 @@ ghost use Rattle.std.specs.Prelude.{◌≡◌, option_map};
 ghost use Rattle.json_data.specs.Trees.{data_of};
 ghost use Rattle.line_values.specs.Refusals.{Gives};
 ghost use Rattle.line_reading.specs.Lines.{data_there, data_read, parts_read};
-ghost use Rattle.line_values.specs.Code.{seen};
+ghost use Rattle.line_values.specs.Code.{object_members};
 
 use json_data::{Json, Pair};
 use line_values::{LineFault, find_in, inside, read_bytes};
@@ -26,7 +26,7 @@ fn read_part(
     part: &DataField,
     object: Option<&[Pair<'_>]>,
 ) -> Result<DataVal, LineFault>
-    ensures { Gives result (data_read part.now (seen object.entry)) }
+    ensures { Gives result (data_read part.now (object_members object.entry)) }
 {
     let name = part.name.as_slice();
     inside(alloc, name, read_data(alloc, find_in(object, name)))
@@ -39,7 +39,7 @@ pub fn read_parts(
     parts: &[DataField],
     object: Option<&[Pair<'_>]>,
 ) -> Result<DataValList, LineFault>
-    ensures { Gives result (parts_read parts.now (seen object.entry)) }
+    ensures { Gives result (parts_read parts.now (object_members object.entry)) }
 {
     let mut out = List::new(alloc);
     for part in parts {

@@ -16,9 +16,9 @@ use Rattle.line_values.specs.Values.{value_in}
 use Rattle.line_values.specs.Keys.{field_names, data_names, group_name, entry_names, message_names}
 
 -- an object's members; none if it is missing
-abbrev pub seen : Option (Bor (List (Bor (List ℕ) × Json))) → Members
-seen None = no_members
-seen (Some ms) = members_of ms.now
+abbrev pub object_members : Option (Bor (List (Bor (List ℕ) × Json))) → Members
+object_members None = no_members
+object_members (Some ms) = members_of ms.now
 
 -- the least, by bytes, of a key and one that was found before
 abbrev pub least_of : Option (List ℕ) → List ℕ → List ℕ

@@ -4,7 +4,7 @@ ghost use Rattle.sbe_types.specs.declared.kind.Kind.{Comp};
 ghost use Rattle.line_values.specs.Refusals.{Gives};
 ghost use Rattle.line_values.specs.Objects.{there_or};
 ghost use Rattle.line_values.specs.Values.{lack as lack_in, composite_of, composite_in, kind_in, value_in};
-ghost use Rattle.line_values.specs.Code.{seen, member_list_names, member_list_read};
+ghost use Rattle.line_values.specs.Code.{object_members, member_list_names, member_list_read};
 
 use crate::choices::{read_constant, read_enum, read_set};
 use crate::leaves::{lack_as, lack_leaf, read_leaf};
@@ -73,7 +73,7 @@ fn read_inner(
     members: &[Member],
     object: Option<&[Pair<'_>]>,
 ) -> Result<Value, LineFault>
-    ensures { Gives result (composite_of (member_list_names members.now) (member_list_read members.now) (seen object.entry)) }
+    ensures { Gives result (composite_of (member_list_names members.now) (member_list_read members.now) (object_members object.entry)) }
 {
     refuse_unknown(alloc, &Names::Members(members), object)?;
     Ok(Value::Comp(read_members(alloc, members, object)?))
@@ -87,7 +87,7 @@ fn read_members(
     members: &[Member],
     object: Option<&[Pair<'_>]>,
 ) -> Result<ValueList, LineFault>
-    ensures { Gives result (member_list_read members.now (seen object.entry)) }
+    ensures { Gives result (member_list_read members.now (object_members object.entry)) }
 {
     let mut out = List::new(alloc);
     for member in members {
@@ -104,7 +104,7 @@ pub fn read_value(
     kind: &Kind,
     object: Option<&[Pair<'_>]>,
 ) -> Result<Value, LineFault>
-    ensures { Gives result (value_in name.now kind.now (seen object.entry)) }
+    ensures { Gives result (value_in name.now kind.now (object_members object.entry)) }
 {
     inside(alloc, name, read_there(alloc, kind, find_in(object, name)))
 }

@@ -3,7 +3,7 @@ ghost use Rattle.serde_json.specs.Find.{get_member};
 ghost use Rattle.json_data.specs.Trees.{data_of, members_of};
 ghost use Rattle.line_values.specs.Refusals.{Reading, Gives, GivesAs};
 ghost use Rattle.line_values.specs.Objects.{known, members_in, part, at_item};
-ghost use Rattle.line_values.specs.Code.{seen, names_in};
+ghost use Rattle.line_values.specs.Code.{object_members, names_in};
 
 use crate::names::{Names, unknown};
 use crate::refusals::{JCode, LineFault, inside, refuse};
@@ -13,7 +13,7 @@ use std::alloc::Global;
 
 /// The value under a name in an object. Both may be missing.
 pub fn find_in<'v, 'a>(members: Option<&'v [Pair<'a>]>, name: &[u8]) -> Option<&'v Json<'a>>
-    ensures { option_map (λ v. data_of v.now) result ≡ get_member name.now (seen members.entry) }
+    ensures { option_map (λ v. data_of v.now) result ≡ get_member name.now (object_members members.entry) }
 {
     match members {
         None => None,
@@ -27,7 +27,7 @@ pub fn refuse_unknown(
     names: &Names<'_>,
     members: Option<&[Pair<'_>]>,
 ) -> Result<(), LineFault>
-    ensures { Gives result (known (names_in names.now) (seen members.entry)) }
+    ensures { Gives result (known (names_in names.now) (object_members members.entry)) }
 {
     match members {
         None => Ok(()),
@@ -44,7 +44,7 @@ fn members_at<'v, 'a>(
     key: &str,
     members: Option<&'v [Pair<'a>]>,
 ) -> Result<Option<&'v [Pair<'a>]>, LineFault>
-    ensures { GivesAs seen result (members_in key.now (get_member key.now (seen members.entry))) }
+    ensures { GivesAs object_members result (members_in key.now (get_member key.now (object_members members.entry))) }
 {
     let Some(found) = find_in(members, key.as_bytes()) else {
         return Ok(None);
@@ -62,7 +62,7 @@ pub fn part<'v, 'a>(
     names: &Names<'_>,
     members: Option<&'v [Pair<'a>]>,
 ) -> Result<Option<&'v [Pair<'a>]>, LineFault>
-    ensures { GivesAs seen result (part key.now (names_in names.now) (seen members.entry)) }
+    ensures { GivesAs object_members result (part key.now (names_in names.now) (object_members members.entry)) }
 {
     let found = members_at(alloc, key, members)?;
     refuse_unknown(alloc, names, found)?;

@@ -9,7 +9,7 @@ use Rattle.json_elements.specs.Files.{value_of}
 use Rattle.sbe_base.specs.Loads.{Loads as LoadsBytes, OutOfMemory}
 use Rattle.sbe_base.specs.declared.files.LoadErr.TheVariants.{Absent as absent, TooLong, Memory}
 use Rattle.map_types.specs.declared.tree.Repository.{Repository}
-use Rattle.orchestra_map.specs.Mappings.{judged}
+use Rattle.orchestra_map.specs.Mappings.{mapping_from}
 use Rattle.map_elements.specs.Repositories.{repository_of}
 use Rattle.schema_files.specs.declared.files.FileRefusal.TheVariants.{Absent}
 use Rattle.schema_files.specs.declared.files.LoadStop.{LoadStop}
@@ -18,7 +18,7 @@ use Rattle.map_files.specs.Maps.{in_file, file_map, too_long, ReadsMap, LoadsMap
 
 -- a file over its limit holds no mapping
 long_map : (bytes : List ℕ) → FILE_LIMIT < length bytes → file_map (Some bytes) ≡ Err too_long
-long_map bytes over = ap (λ r. in_file (judged r)) no_repository
+long_map bytes over = ap (λ r. in_file (mapping_from r)) no_repository
   where
     no_value : value_of bytes ≡ refuse over_limit
     no_value = rw is_over refl

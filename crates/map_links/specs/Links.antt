@@ -2,7 +2,7 @@
 use Rattle.std.specs.Prelude.{ℕ, ◌+◌, Bool, is_none, List, [], ◌∷◌, ◌++◌, map, filter_map, Option, Some, None, option_map, option_and_then}
 use Rattle.std.specs.Borrow.{Bor}
 use Rattle.map_types.specs.Trees.{ref_in, Members}
-use Rattle.map_members.specs.Seen.{seen}
+use Rattle.map_members.specs.Seen.{lent_members}
 use Rattle.id_tables.specs.Places.{place_of}
 use Rattle.reference_graph.specs.declared.graph.Link.{Link}
 use Rattle.reference_graph.specs.declared.graph.Link.TheVariants.{Field, To}
@@ -30,7 +30,7 @@ linked_of m = record { components = m.components; groups = m.groups; messages = 
 
 -- The components, groups and messages that are lent.
 abbrev pub linked : List (Bor ComponentEl) → List (Bor GroupEl) → List (Bor MessageEl) → Linked
-linked components groups messages = record { components = seen components; groups = seen groups; messages = seen messages }
+linked components groups messages = record { components = lent_members components; groups = lent_members groups; messages = lent_members messages }
 
 -- the ids of these members, and the MsgTypes
 abbrev pub ids_of : List FieldEl → Linked → Ids

@@ -2,7 +2,7 @@ ghost use Rattle.std.specs.Prelude.{◌≡◌, ◌+◌, ◌^◌, ◌<◌, length
 ghost use Rattle.reference_graph.specs.declared.graph.Link.TheVariants.{To};
 ghost use Rattle.id_tables.specs.Places.{place_of};
 ghost use Rattle.map_links.specs.Links.{link_of, is_unknown, ids_of, linked};
-ghost use Rattle.map_members.specs.Seen.{seen};
+ghost use Rattle.map_members.specs.Seen.{lent_members};
 
 use id_tables::{IdTable, NameTable};
 use lists::{List, NoMem, Text};
@@ -28,7 +28,7 @@ impl Ids {
         groups: &[&GroupEl],
         messages: &[&MessageEl],
     ) -> Result<Ids, NoMem>
-        ensures { IfOk result (λ ids. ids ≡ ids_of (seen fields.now) (linked components.now groups.now messages.now)) }
+        ensures { IfOk result (λ ids. ids ≡ ids_of (lent_members fields.now) (linked components.now groups.now messages.now)) }
     {
         let fields = field_table(alloc, fields)?;
         let components = component_table(alloc, components)?;
@@ -86,31 +86,31 @@ impl Ids {
 }
 
 fn field_table(alloc: Global, fields: &[&FieldEl]) -> Result<IdTable, NoMem>
-    ensures { IfOk result (λ table. table ≡ map (λ f. f.id) (seen fields.now)) }
+    ensures { IfOk result (λ table. table ≡ map (λ f. f.id) (lent_members fields.now)) }
 {
     IdTable::new(alloc, field_ids(alloc, fields)?)
 }
 
 fn component_table(alloc: Global, components: &[&ComponentEl]) -> Result<IdTable, NoMem>
-    ensures { IfOk result (λ table. table ≡ map (λ c. c.id) (seen components.now)) }
+    ensures { IfOk result (λ table. table ≡ map (λ c. c.id) (lent_members components.now)) }
 {
     IdTable::new(alloc, component_ids(alloc, components)?)
 }
 
 fn group_table(alloc: Global, groups: &[&GroupEl]) -> Result<IdTable, NoMem>
-    ensures { IfOk result (λ table. table ≡ map (λ g. g.id) (seen groups.now)) }
+    ensures { IfOk result (λ table. table ≡ map (λ g. g.id) (lent_members groups.now)) }
 {
     IdTable::new(alloc, group_ids(alloc, groups)?)
 }
 
 fn type_table(alloc: Global, messages: &[&MessageEl]) -> Result<NameTable, NoMem>
-    ensures { IfOk result (λ table. table ≡ map (λ m. m.msg_type) (seen messages.now)) }
+    ensures { IfOk result (λ table. table ≡ map (λ m. m.msg_type) (lent_members messages.now)) }
 {
     NameTable::new(alloc, msg_types(alloc, messages)?)
 }
 
 fn field_ids(alloc: Global, fields: &[&FieldEl]) -> Result<List<u32>, NoMem>
-    ensures { IfOk result (λ ids. ids ≡ map (λ f. f.id) (seen fields.now)) }
+    ensures { IfOk result (λ ids. ids ≡ map (λ f. f.id) (lent_members fields.now)) }
 {
     let mut ids = List::new(alloc);
     for field in fields {
@@ -120,7 +120,7 @@ fn field_ids(alloc: Global, fields: &[&FieldEl]) -> Result<List<u32>, NoMem>
 }
 
 fn component_ids(alloc: Global, components: &[&ComponentEl]) -> Result<List<u32>, NoMem>
-    ensures { IfOk result (λ ids. ids ≡ map (λ c. c.id) (seen components.now)) }
+    ensures { IfOk result (λ ids. ids ≡ map (λ c. c.id) (lent_members components.now)) }
 {
     let mut ids = List::new(alloc);
     for component in components {
@@ -130,7 +130,7 @@ fn component_ids(alloc: Global, components: &[&ComponentEl]) -> Result<List<u32>
 }
 
 fn group_ids(alloc: Global, groups: &[&GroupEl]) -> Result<List<u32>, NoMem>
-    ensures { IfOk result (λ ids. ids ≡ map (λ g. g.id) (seen groups.now)) }
+    ensures { IfOk result (λ ids. ids ≡ map (λ g. g.id) (lent_members groups.now)) }
 {
     let mut ids = List::new(alloc);
     for group in groups {
@@ -140,7 +140,7 @@ fn group_ids(alloc: Global, groups: &[&GroupEl]) -> Result<List<u32>, NoMem>
 }
 
 fn msg_types(alloc: Global, messages: &[&MessageEl]) -> Result<List<Text>, NoMem>
-    ensures { IfOk result (λ types. types ≡ map (λ m. m.msg_type) (seen messages.now)) }
+    ensures { IfOk result (λ types. types ≡ map (λ m. m.msg_type) (lent_members messages.now)) }
 {
     let mut types = List::new(alloc);
     for message in messages {

@@ -3,7 +3,7 @@ ghost use Rattle.reference_graph.specs.declared.graph.Link.{Link};
 ghost use Rattle.reference_graph.specs.declared.graph.Node.{Node};
 ghost use Rattle.map_links.specs.declared.ids.Ids.{Ids};
 ghost use Rattle.map_links.specs.Links.{link_of, item_link, component_node, group_node, message_node, count_of, structure_of, nodes_of, linked};
-ghost use Rattle.map_members.specs.Seen.{seen};
+ghost use Rattle.map_members.specs.Seen.{lent_members};
 
 use crate::ids::Ids;
 use lists::{List, NoMem};
@@ -83,7 +83,7 @@ fn push_nodes<M: Linking>(
     nodes: &mut List<Node>,
 ) -> Result<(), NoMem>
     requires { count + length ids.now.groups < 2 ^ 64 }
-    ensures { OnOk result (nodes.new ≡ nodes.old ++ map (M.node count ids.now) (seen members.now)) }
+    ensures { OnOk result (nodes.new ≡ nodes.old ++ map (M.node count ids.now) (lent_members members.now)) }
 {
     for member in members {
         nodes.push(member.node(alloc, ids, count)?)?;

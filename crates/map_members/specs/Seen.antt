@@ -3,5 +3,5 @@ use Rattle.std.specs.Prelude.{List, map}
 use Rattle.std.specs.Borrow.{Bor}
 
 -- the members that are lent
-abbrev pub seen : {A : Type 0} → List (Bor A) → List A
-seen members = map (λ m. m.now) members
+abbrev pub lent_members : {A : Type 0} → List (Bor A) → List A
+lent_members members = map (λ m. m.now) members

@@ -1,7 +1,7 @@
 ghost use Rattle.std.specs.Prelude.{◌≡◌, List, flat_map, IfOk};
 ghost use Rattle.map_types.specs.declared.tree.RepositoryItem.{RepositoryItem};
 ghost use Rattle.map_types.specs.Trees.{datatypes_of, code_sets_of, fields_of, components_of, groups_of, messages_of};
-ghost use Rattle.map_members.specs.Seen.{seen};
+ghost use Rattle.map_members.specs.Seen.{lent_members};
 
 use lists::NoMem;
 use map_types::{CodeSetEl, ComponentEl, DatatypeEl, FieldEl, GroupEl, MessageEl, RepositoryItem};
@@ -19,7 +19,7 @@ pub trait Member {
 
 /// All members of one kind, in their order.
 pub fn members_in<M: Member>(alloc: Global, items: &[RepositoryItem]) -> Result<Vec<&M>, NoMem>
-    ensures { IfOk result (λ all. seen all.items ≡ flat_map M.listed items.now) }
+    ensures { IfOk result (λ all. lent_members all.items ≡ flat_map M.listed items.now) }
 {
     let mut all = Vec::new(alloc);
     for item in items {

@@ -1,5 +1,5 @@
 ghost use Rattle.std.specs.Prelude.{◌≡◌, ◌||◌, ◌<◌, map, codes, length, slice_get, Some, IfOk};
-ghost use Rattle.map_members.specs.Seen.{seen};
+ghost use Rattle.map_members.specs.Seen.{lent_members};
 ghost use Rattle.map_rules.specs.Verdicts.{first_broken, list_verdict, Answers};
 ghost use Rattle.map_rules.specs.Rules.{found_earlier, has_again, code_set_rules};
 
@@ -17,7 +17,7 @@ pub fn judge_code_sets(
     code_sets: &[&CodeSetEl],
 ) -> Result<(), MapErr>
     requires names { tables.now.code_sets ≡ map (λ s. s.now.name) code_sets.now }
-    ensures { Answers result (list_verdict (codes "codeSets") (code_set_rules tables.now) 0 (seen code_sets.now)) }
+    ensures { Answers result (list_verdict (codes "codeSets") (code_set_rules tables.now) 0 (lent_members code_sets.now)) }
 {
     for (i, code_set) in code_sets.iter().enumerate() {
         let broken = code_set_broken(alloc, tables, i, code_set)?;

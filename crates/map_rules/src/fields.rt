@@ -1,6 +1,6 @@
 ghost use Rattle.std.specs.Prelude.{◌≡◌, ◌||◌, ◌<◌, map, codes, length, is_none, slice_get, Some};
 ghost use Rattle.id_tables.specs.Places.{place_of};
-ghost use Rattle.map_members.specs.Seen.{seen};
+ghost use Rattle.map_members.specs.Seen.{lent_members};
 ghost use Rattle.map_rules.specs.Verdicts.{first_broken, list_verdict, Answers};
 ghost use Rattle.map_rules.specs.Rules.{of_length, length_or_zero, stands_earlier, is_framing, is_other, is_other_at, field_rules};
 
@@ -19,7 +19,7 @@ pub fn judge_fields(
 ) -> Result<(), MapErr>
     requires ids { ids.now.fields ≡ map (λ f. f.now.id) fields.now }
     requires lengths { tables.now.lengths ≡ map (λ f. length_or_zero f.now.length_id) fields.now }
-    ensures { Answers result (list_verdict (codes "fields") (field_rules ids.now tables.now (seen fields.now)) 0 (seen fields.now)) }
+    ensures { Answers result (list_verdict (codes "fields") (field_rules ids.now tables.now (lent_members fields.now)) 0 (lent_members fields.now)) }
 {
     for (i, field) in fields.iter().enumerate() {
         refuse_at(
@@ -42,7 +42,7 @@ fn field_broken(
 ) -> Option<MCode>
     requires id { slice_get ids.now.fields i ≡ Some field.now.id }
     requires length { slice_get tables.now.lengths i ≡ Some (length_or_zero field.now.length_id) }
-    ensures { result ≡ first_broken (field_rules ids.now tables.now (seen fields.now) i field.now) }
+    ensures { result ≡ first_broken (field_rules ids.now tables.now (lent_members fields.now) i field.now) }
 {
     let again = ids.fields.is_again(i);
     let known = tables.is_type(field.type_name.as_slice());
@@ -114,7 +114,7 @@ fn is_framing(id: u32) -> bool
 
 /// Whether a lengthId refers to a field whose type isn't Length.
 fn is_length_other(ids: &Ids, fields: &[&FieldEl], length_id: Option<u32>) -> bool
-    ensures { result ≡ of_length (λ id. is_other_at (seen fields.now) (place_of id ids.now.fields)) length_id }
+    ensures { result ≡ of_length (λ id. is_other_at (lent_members fields.now) (place_of id ids.now.fields)) length_id }
 {
     match length_id {
         None => false,
@@ -127,7 +127,7 @@ fn is_length_other(ids: &Ids, fields: &[&FieldEl], length_id: Option<u32>) -> bo
 
 /// Whether the type of the field at an index isn't Length.
 fn is_other_at(fields: &[&FieldEl], j: usize) -> bool
-    ensures { result ≡ is_other_at (seen fields.now) (Some j) }
+    ensures { result ≡ is_other_at (lent_members fields.now) (Some j) }
 {
     match fields.get(j) {
         None => false,

@@ -2,7 +2,7 @@ ghost use Rattle.std.specs.Prelude.{◌≡◌, map, ◌-◌, ◌≤◌, ◌+◌,
 ghost use Rattle.std.specs.List.{list_any};
 ghost use Rattle.reference_graph.specs.Graphs.{Ends};
 ghost use Rattle.map_types.specs.declared.tree.MessageEl.{MessageEl};
-ghost use Rattle.map_members.specs.Seen.{seen};
+ghost use Rattle.map_members.specs.Seen.{lent_members};
 ghost use Rattle.map_links.specs.Links.{is_unknown, structure_of, component_node, group_node, message_node, nodes_of, linked};
 ghost use Rattle.map_rules.specs.Verdicts.{first_broken, list_verdict, Answers};
 ghost use Rattle.map_rules.specs.Standing.{StandAt};
@@ -66,7 +66,7 @@ fn judge_components(
 ) -> Result<(), MapErr>
     requires ids { ids.now.components ≡ map (λ c. c.now.id) components.now }
     requires nodes { StandAt (λ i. i) structures.now (component_node count ids.now) components.now }
-    ensures { Answers result (list_verdict (codes "components") (component_rules count ids.now structures.now) 0 (seen components.now)) }
+    ensures { Answers result (list_verdict (codes "components") (component_rules count ids.now structures.now) 0 (lent_members components.now)) }
 {
     for (i, component) in components.iter().enumerate() {
         refuse_at(
@@ -128,7 +128,7 @@ fn judge_groups(
     requires fits { count + length groups.now < 2 ^ 64 }
     requires ids { ids.now.groups ≡ map (λ g. g.now.id) groups.now }
     requires nodes { StandAt (λ i. count + i) structures.now (group_node count ids.now) groups.now }
-    ensures { Answers result (list_verdict (codes "groups") (group_rules count ids.now structures.now) 0 (seen groups.now)) }
+    ensures { Answers result (list_verdict (codes "groups") (group_rules count ids.now structures.now) 0 (lent_members groups.now)) }
 {
     for (i, group) in groups.iter().enumerate() {
         refuse_at(
@@ -173,7 +173,7 @@ fn judge_messages(
     requires ids { ids.now.msg_types ≡ map (λ m. m.now.msg_type) messages.now }
     requires nodes { StandAt (λ i. length structures.now - length messages.now + i) structures.now (message_node count ids.now) messages.now }
     requires ends { (m : MessageEl) → Ends structures.now (message_node count ids.now m).links }
-    ensures { Answers result (list_verdict (codes "messages") (message_rules count ids.now structures.now) 0 (seen messages.now)) }
+    ensures { Answers result (list_verdict (codes "messages") (message_rules count ids.now structures.now) 0 (lent_members messages.now)) }
 {
     let first = structures.len() - messages.len();
     for (i, message) in messages.iter().enumerate() {

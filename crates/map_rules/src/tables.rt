@@ -1,5 +1,5 @@
 ghost use Rattle.std.specs.Prelude.{◌≡◌, ◌<◌, map, length, slice_get, Some, IfOk};
-ghost use Rattle.map_members.specs.Seen.{seen};
+ghost use Rattle.map_members.specs.Seen.{lent_members};
 ghost use Rattle.map_rules.specs.Rules.{is_named, is_datatype, is_type, tables_of, length_or_zero};
 
 use crate::datatypes::is_standard;
@@ -25,7 +25,7 @@ impl Tables {
         code_sets: &[&CodeSetEl],
         fields: &[&FieldEl],
     ) -> Result<Tables, NoMem>
-        ensures { IfOk result (λ tables. tables ≡ tables_of (seen datatypes.now) (seen code_sets.now) (seen fields.now)) }
+        ensures { IfOk result (λ tables. tables ≡ tables_of (lent_members datatypes.now) (lent_members code_sets.now) (lent_members fields.now)) }
     {
         let datatypes = datatype_table(alloc, datatypes)?;
         let code_sets = code_set_table(alloc, code_sets)?;
@@ -53,25 +53,25 @@ impl Tables {
 }
 
 fn datatype_table(alloc: Global, datatypes: &[&DatatypeEl]) -> Result<NameTable, NoMem>
-    ensures { IfOk result (λ table. table ≡ map (λ d. d.name) (seen datatypes.now)) }
+    ensures { IfOk result (λ table. table ≡ map (λ d. d.name) (lent_members datatypes.now)) }
 {
     NameTable::new(alloc, datatype_names(alloc, datatypes)?)
 }
 
 fn code_set_table(alloc: Global, code_sets: &[&CodeSetEl]) -> Result<NameTable, NoMem>
-    ensures { IfOk result (λ table. table ≡ map (λ s. s.name) (seen code_sets.now)) }
+    ensures { IfOk result (λ table. table ≡ map (λ s. s.name) (lent_members code_sets.now)) }
 {
     NameTable::new(alloc, code_set_names(alloc, code_sets)?)
 }
 
 fn length_table(alloc: Global, fields: &[&FieldEl]) -> Result<IdTable, NoMem>
-    ensures { IfOk result (λ table. table ≡ map (λ f. length_or_zero f.length_id) (seen fields.now)) }
+    ensures { IfOk result (λ table. table ≡ map (λ f. length_or_zero f.length_id) (lent_members fields.now)) }
 {
     IdTable::new(alloc, length_ids(alloc, fields)?)
 }
 
 fn datatype_names(alloc: Global, datatypes: &[&DatatypeEl]) -> Result<List<Text>, NoMem>
-    ensures { IfOk result (λ names. names ≡ map (λ d. d.name) (seen datatypes.now)) }
+    ensures { IfOk result (λ names. names ≡ map (λ d. d.name) (lent_members datatypes.now)) }
 {
     let mut names = List::new(alloc);
     for datatype in datatypes {
@@ -81,7 +81,7 @@ fn datatype_names(alloc: Global, datatypes: &[&DatatypeEl]) -> Result<List<Text>
 }
 
 fn code_set_names(alloc: Global, code_sets: &[&CodeSetEl]) -> Result<List<Text>, NoMem>
-    ensures { IfOk result (λ names. names ≡ map (λ s. s.name) (seen code_sets.now)) }
+    ensures { IfOk result (λ names. names ≡ map (λ s. s.name) (lent_members code_sets.now)) }
 {
     let mut names = List::new(alloc);
     for code_set in code_sets {
@@ -91,7 +91,7 @@ fn code_set_names(alloc: Global, code_sets: &[&CodeSetEl]) -> Result<List<Text>,
 }
 
 fn length_ids(alloc: Global, fields: &[&FieldEl]) -> Result<List<u32>, NoMem>
-    ensures { IfOk result (λ ids. ids ≡ map (λ f. length_or_zero f.length_id) (seen fields.now)) }
+    ensures { IfOk result (λ ids. ids ≡ map (λ f. length_or_zero f.length_id) (lent_members fields.now)) }
 {
     let mut ids = List::new(alloc);
     for field in fields {

@@ -1,6 +1,6 @@
 ghost use Rattle.std.specs.Prelude.{◌≡◌, ◌+◌, ◌^◌, ◌<◌, map, flat_map, length, IfOk};
 ghost use Rattle.map_types.specs.Trees.{datatypes_of, components_of, groups_of, messages_of, members_of};
-ghost use Rattle.map_members.specs.Seen.{seen};
+ghost use Rattle.map_members.specs.Seen.{lent_members};
 ghost use Rattle.map_links.specs.Links.{linked};
 ghost use Rattle.map_rules.specs.Verdicts.{Answers};
 ghost use Rattle.map_rules.specs.Rules.{length_or_zero, tables_of, verdict_by, fields_verdict, items_linked, lists_verdict, verdict};
@@ -36,7 +36,7 @@ fn judge_lists(
     code_sets: &[&CodeSetEl],
     fields: &[&FieldEl],
 ) -> Result<(), MapErr>
-    ensures { Answers result (lists_verdict items.now (seen code_sets.now) (seen fields.now)) }
+    ensures { Answers result (lists_verdict items.now (lent_members code_sets.now) (lent_members fields.now)) }
 {
     let tables = tables_in(alloc, items, code_sets, fields)?;
     judge_code_sets(alloc, &tables, code_sets)?;
@@ -50,7 +50,7 @@ fn tables_in(
     code_sets: &[&CodeSetEl],
     fields: &[&FieldEl],
 ) -> Result<Tables, NoMem>
-    ensures { IfOk result (λ tables. tables ≡ tables_of (flat_map datatypes_of items.now) (seen code_sets.now) (seen fields.now)) }
+    ensures { IfOk result (λ tables. tables ≡ tables_of (flat_map datatypes_of items.now) (lent_members code_sets.now) (lent_members fields.now)) }
 {
     let datatypes = members_in::<DatatypeEl>(alloc, items)?;
     Tables::new(alloc, datatypes.as_slice(), code_sets, fields)
@@ -64,7 +64,7 @@ fn judge_items(
     fields: &[&FieldEl],
 ) -> Result<(), MapErr>
     requires lengths { tables.now.lengths ≡ map (λ f. length_or_zero f.now.length_id) fields.now }
-    ensures { Answers result (fields_verdict tables.now (seen fields.now) (items_linked items.now)) }
+    ensures { Answers result (fields_verdict tables.now (lent_members fields.now) (items_linked items.now)) }
 {
     let components = members_in::<ComponentEl>(alloc, items)?;
     let groups = members_in::<GroupEl>(alloc, items)?;
@@ -94,7 +94,7 @@ fn judge_by_ids(
 ) -> Result<(), MapErr>
     requires lengths { tables.now.lengths ≡ map (λ f. length_or_zero f.now.length_id) fields.now }
     requires fits { length components.now + length groups.now < 2 ^ 64 }
-    ensures { Answers result (fields_verdict tables.now (seen fields.now) (linked components.now groups.now messages.now)) }
+    ensures { Answers result (fields_verdict tables.now (lent_members fields.now) (linked components.now groups.now messages.now)) }
 {
     let ids = Ids::new(alloc, fields, components, groups, messages)?;
     judge_with_ids(alloc, &ids, tables, fields, components, groups, messages)
@@ -116,7 +116,7 @@ fn judge_with_ids(
     requires components { ids.now.components ≡ map (λ c. c.now.id) components.now }
     requires groups { ids.now.groups ≡ map (λ g. g.now.id) groups.now }
     requires messages { ids.now.msg_types ≡ map (λ m. m.now.msg_type) messages.now }
-    ensures { Answers result (verdict_by ids.now tables.now (seen fields.now) (linked components.now groups.now messages.now)) }
+    ensures { Answers result (verdict_by ids.now tables.now (lent_members fields.now) (linked components.now groups.now messages.now)) }
 {
     judge_fields(alloc, ids, tables, fields)?;
     judge_linked(alloc, ids, components, groups, messages)

@@ -10,40 +10,40 @@ use Rattle.bridge_terms.specs.Parts.{TagLists}
 use Rattle.message_walk.specs.declared.halt.Halt.{Halt}
 use Rattle.message_walk.specs.declared.halt.Cause.TheVariants as cause
 use Rattle.message_walk.specs.declared.put.Put.TheVariants as put
-use Rattle.message_walk.specs.Rows.{value_seen}
+use Rattle.message_walk.specs.Rows.{value_of_bytes}
 use Rattle.message_walk.specs.States.{IsPut, PutResult}
 
 pub raw_none : (lists : TagLists) (d : Draft) (h : Halt) (tag : ℕ) (leaf : LeafOf) (found : Option (List ℕ)) → found ≡ None
-    → IsPut lists d tag (text_by (raw_data leaf) (value_seen found)) (record { put = put.Nothing; draft = d; halt = h })
+    → IsPut lists d tag (text_by (raw_data leaf) (value_of_bytes found)) (record { put = put.Nothing; draft = d; halt = h })
 raw_none lists d h tag leaf None is = (refl, refl)
 raw_none lists d h tag leaf (Some t) is = absurd cc
 
 pub raw_empty : (lists : TagLists) (d : Draft) (h : Halt) (tag : ℕ) (leaf : LeafOf) (found : Option (List ℕ)) (t : List ℕ) → found ≡ Some t → length t ≡ 0
-    → IsPut lists d tag (text_by (raw_data leaf) (value_seen found)) (record { put = put.Nothing; draft = d; halt = h })
+    → IsPut lists d tag (text_by (raw_data leaf) (value_of_bytes found)) (record { put = put.Nothing; draft = d; halt = h })
 raw_empty lists d h tag leaf found [] is none =
-    subst (λ o. IsPut lists d tag (text_by (raw_data leaf) (value_seen o)) (record { put = put.Nothing; draft = d; halt = h })) (sym is) (refl, refl)
+    subst (λ o. IsPut lists d tag (text_by (raw_data leaf) (value_of_bytes o)) (record { put = put.Nothing; draft = d; halt = h })) (sym is) (refl, refl)
 raw_empty lists d h tag leaf found (b ∷ bs) is none = absurd (omega (arith, none))
 
 pub raw_some : (lists : TagLists) (d : Draft) (r : PutResult) (tag : ℕ) (leaf : LeafOf) (found : Option (List ℕ)) (t : List ℕ) → found ≡ Some t → 0 < length t
-    → IsPut lists d tag (Ok (Some t)) r → IsPut lists d tag (text_by (raw_data leaf) (value_seen found)) r
+    → IsPut lists d tag (Ok (Some t)) r → IsPut lists d tag (text_by (raw_data leaf) (value_of_bytes found)) r
 raw_some lists d r tag leaf found [] is some put = absurd (omega (arith, some))
-raw_some lists d r tag leaf found (b ∷ bs) is some put = subst (λ o. IsPut lists d tag (text_by (raw_data leaf) (value_seen o)) r) (sym is) put
+raw_some lists d r tag leaf found (b ∷ bs) is some put = subst (λ o. IsPut lists d tag (text_by (raw_data leaf) (value_of_bytes o)) r) (sym is) put
 
 pub passage_none : (lists : TagLists) (d : Draft) (h : Halt) (tag : ℕ) (leaf : LeafOf) (found : Option (List ℕ)) → found ≡ None
-    → IsPut lists d tag (text_by (text_data leaf) (value_seen found)) (record { put = put.Nothing; draft = d; halt = h })
+    → IsPut lists d tag (text_by (text_data leaf) (value_of_bytes found)) (record { put = put.Nothing; draft = d; halt = h })
 passage_none lists d h tag leaf None is = (refl, refl)
 passage_none lists d h tag leaf (Some t) is = absurd cc
 
 pub passage_empty : (lists : TagLists) (d : Draft) (h : Halt) (tag : ℕ) (leaf : LeafOf) (found : Option (List ℕ)) (t : List ℕ) → found ≡ Some t → length t ≡ 0
-    → IsPut lists d tag (text_by (text_data leaf) (value_seen found)) (record { put = put.Nothing; draft = d; halt = h })
+    → IsPut lists d tag (text_by (text_data leaf) (value_of_bytes found)) (record { put = put.Nothing; draft = d; halt = h })
 passage_empty lists d h tag leaf found [] is none =
-    subst (λ o. IsPut lists d tag (text_by (text_data leaf) (value_seen o)) (record { put = put.Nothing; draft = d; halt = h })) (sym is) (refl, refl)
+    subst (λ o. IsPut lists d tag (text_by (text_data leaf) (value_of_bytes o)) (record { put = put.Nothing; draft = d; halt = h })) (sym is) (refl, refl)
 passage_empty lists d h tag leaf found (b ∷ bs) is none = absurd (omega (arith, none))
 
 pub passage_some : (lists : TagLists) (d : Draft) (r : PutResult) (tag : ℕ) (leaf : LeafOf) (found : Option (List ℕ)) (t : List ℕ) → found ≡ Some t → 0 < length t
-    → IsPut lists d tag (field_text (judged_text t (text_shown t))) r → IsPut lists d tag (text_by (text_data leaf) (value_seen found)) r
+    → IsPut lists d tag (field_text (judged_text t (text_shown t))) r → IsPut lists d tag (text_by (text_data leaf) (value_of_bytes found)) r
 passage_some lists d r tag leaf found [] is some put = absurd (omega (arith, some))
-passage_some lists d r tag leaf found (b ∷ bs) is some put = subst (λ o. IsPut lists d tag (text_by (text_data leaf) (value_seen o)) r) (sym is) put
+passage_some lists d r tag leaf found (b ∷ bs) is some put = subst (λ o. IsPut lists d tag (text_by (text_data leaf) (value_of_bytes o)) r) (sym is) put
 
 pub judged_fine : (lists : TagLists) (d : Draft) (r : PutResult) (tag : ℕ) (t : List ℕ) → text_shown t ≡ Ok tt → IsPut lists d tag (Ok (Some t)) r
     → IsPut lists d tag (field_text (judged_text t (text_shown t))) r

@@ -2,7 +2,7 @@
 use Rattle.std.proofs.Common.{◌≡◌, ℕ, Bool, true, false, List, Option, Some, None, Result, Ok, Err, refl, sym, ap, ◌∙◌}
 use Rattle.fix_values.specs.declared.rule.V.{V}
 use Rattle.tagvalue_codec.specs.Drafts.{Draft}
-use Rattle.flyweight_view.specs.Seen.{Seen}
+use Rattle.flyweight_view.specs.Seen.{TypedBlock}
 use Rattle.bridge_rules.specs.Rules.{Rule}
 use Rattle.bridge_rules.specs.Texts.{text_by}
 use Rattle.bridge_terms.specs.Parts.{TagLists}
@@ -40,16 +40,16 @@ unchanged lists d e h tag (Ok None) is = ap (λ s. s.draft) is.0
 unchanged lists d e h tag (Ok (Some t)) is = absurd (false_true is.1)
 unchanged lists d e h tag (Err v) is = absurd (false_true is.1)
 
-pub unbegun : (lists : TagLists) (d : Draft) (g : Halt) (p : Plan) (seen : Seen) → g ≡ undelimited_here → begins p (values_of p seen.block) ≡ false
+pub unbegun : (lists : TagLists) (d : Draft) (g : Halt) (p : Plan) (seen : TypedBlock) → g ≡ undelimited_here → begins p (values_of p seen.block) ≡ false
     → outcome false d g ≡ after lists d (entry_places p seen)
 unbegun lists d g p seen is bare =
     ap (λ h. record { draft = d; halt = Some h }) is ∙ sym (ap (λ b. after lists d (begun_places b (places_of p (values_of p seen.block)))) bare)
 
-begun_true : (lists : TagLists) (d : Draft) (p : Plan) (seen : Seen) → begins p (values_of p seen.block) ≡ true
+begun_true : (lists : TagLists) (d : Draft) (p : Plan) (seen : TypedBlock) → begins p (values_of p seen.block) ≡ true
     → after lists d (places_of p (values_of p seen.block)) ≡ after lists d (entry_places p seen)
 begun_true lists d p seen gives = sym (ap (λ b. after lists d (begun_places b (places_of p (values_of p seen.block)))) gives)
 
-pub entry_on_slot : {R : Type 0} (spells : R → Rule → Type 0) (lists : TagLists) (d e : Draft) (h : Halt) (s : State) (p : Plan) (row : PlanRow R) (others : List (PlanRow R)) (seen : Seen)
+pub entry_on_slot : {R : Type 0} (spells : R → Rule → Type 0) (lists : TagLists) (d e : Draft) (h : Halt) (s : State) (p : Plan) (row : PlanRow R) (others : List (PlanRow R)) (seen : TypedBlock)
     (at : AtSlot spells lists p row others seen) → IsPut lists d row.lead (text_by at.slot.rule (value_at at.slot.place seen.block)) (record { put = put.Written; draft = e; halt = h })
     → s ≡ after lists e (places_of at.rest (values_of at.rest seen.block)) → s ≡ after lists d (entry_places p seen)
 entry_on_slot spells lists d e h s p row others seen at is more =
@@ -59,7 +59,7 @@ entry_on_slot spells lists d e h s p row others seen at is more =
     ∙ ap (after lists d) (sym at.places)
     ∙ begun_true lists d p seen (at.begun ∙ sym is.1)
 
-pub entry_off_slot : {R : Type 0} (spells : R → Rule → Type 0) (lists : TagLists) (d e : Draft) (h g : Halt) (p : Plan) (row : PlanRow R) (others : List (PlanRow R)) (seen : Seen)
+pub entry_off_slot : {R : Type 0} (spells : R → Rule → Type 0) (lists : TagLists) (d e : Draft) (h g : Halt) (p : Plan) (row : PlanRow R) (others : List (PlanRow R)) (seen : TypedBlock)
     (at : AtSlot spells lists p row others seen) → IsPut lists d row.lead (text_by at.slot.rule (value_at at.slot.place seen.block)) (record { put = put.Refused; draft = e; halt = h })
     → g ≡ record { cause = h.cause; way = pushed (to_part row.lead) h.way } → outcome false e g ≡ after lists d (entry_places p seen)
 entry_off_slot spells lists d e h g p row others seen at is same =
@@ -68,7 +68,7 @@ entry_off_slot spells lists d e h g p row others seen at is same =
     ∙ ap (after lists d) (sym at.places)
     ∙ begun_true lists d p seen (at.begun ∙ sym is.1)
 
-pub entry_bare_slot : {R : Type 0} (spells : R → Rule → Type 0) (lists : TagLists) (d e : Draft) (h g : Halt) (p : Plan) (row : PlanRow R) (others : List (PlanRow R)) (seen : Seen)
+pub entry_bare_slot : {R : Type 0} (spells : R → Rule → Type 0) (lists : TagLists) (d e : Draft) (h g : Halt) (p : Plan) (row : PlanRow R) (others : List (PlanRow R)) (seen : TypedBlock)
     (at : AtSlot spells lists p row others seen) → IsPut lists d row.lead (text_by at.slot.rule (value_at at.slot.place seen.block)) (record { put = put.Nothing; draft = e; halt = h })
     → g ≡ undelimited_here → outcome false e g ≡ after lists d (entry_places p seen)
 entry_bare_slot spells lists d e h g p row others seen at is bare =

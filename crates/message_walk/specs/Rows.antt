@@ -10,7 +10,7 @@ use Rattle.sbe_types.specs.declared.schema.Level.{out-Level}
 use Rattle.sbe_types.specs.declared.message.Block.{out-Block}
 use Rattle.sbe_types.specs.declared.message.Value.{Value}
 use Rattle.sbe_types.specs.declared.message.Value.TheVariants as value
-use Rattle.flyweight_view.specs.Seen.{Seen}
+use Rattle.flyweight_view.specs.Seen.{TypedBlock}
 use Rattle.bridge_rules.specs.Datatypes.{Datatype}
 use Rattle.bridge_rules.specs.Rules.{Rule, raw_data, text_data}
 use Rattle.bridge_rules.specs.Table.{rule_of}
@@ -85,27 +85,27 @@ Fits (group g inner rest) fields groups parts =
     × Fits rest fields groups parts
 
 -- the same for what a view of a level shows
-abbrev pub FitsSeen : Plan → Seen → Type 0
-FitsSeen p seen = Fits p seen.fields seen.groups seen.parts
+abbrev pub FitsBlock : Plan → TypedBlock → Type 0
+FitsBlock p seen = Fits p seen.fields seen.groups seen.parts
 
 -- ---- views
 
 -- the value of the field with this number
-abbrev pub field_of : Seen → ℕ → Value
+abbrev pub field_of : TypedBlock → ℕ → Value
 field_of seen i = nth_or value.Absent i (out-Block seen.block).fields
 
 -- the value of the data that a view shows
-abbrev pub value_seen : Option (List ℕ) → Value
-value_seen None = value.Absent
-value_seen (Some bytes) = value.Text bytes
+abbrev pub value_of_bytes : Option (List ℕ) → Value
+value_of_bytes None = value.Absent
+value_of_bytes (Some bytes) = value.Text bytes
 
 -- the entries that a view shows
-abbrev pub entries_seen : Option (List Seen) → List Seen
-entries_seen None = []
-entries_seen (Some es) = es
+abbrev pub entries_shown : Option (List TypedBlock) → List TypedBlock
+entries_shown None = []
+entries_shown (Some es) = es
 
 -- the places of an entry that a view shows
-abbrev pub entry_places : Plan → Seen → Places
+abbrev pub entry_places : Plan → TypedBlock → Places
 entry_places p e = begun_places (begins p (values_of p e.block)) (places_of p (values_of p e.block))
 
 -- the places of a group's count and its entries, without the step to the group

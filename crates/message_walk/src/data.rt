@@ -8,7 +8,7 @@ ghost use Rattle.fix_values.specs.Values.{text_shown};
 ghost use Rattle.bridge_rules.specs.Texts.{text_by, field_text, judged_text};
 ghost use Rattle.bridge_terms.specs.MessageFields.{length_in};
 ghost use Rattle.bridge_terms.specs.Parts.{TagLists};
-ghost use Rattle.message_walk.specs.Rows.{value_seen};
+ghost use Rattle.message_walk.specs.Rows.{value_of_bytes};
 ghost use Rattle.message_walk.specs.States.{IsPut};
 
 use crate::halt::{Cause, Halt};
@@ -29,7 +29,7 @@ fn put_raw(
     requires { out.old.phase ≡ Open }
     ensures open { out.new.phase ≡ Open }
     ensures put { (lists : TagLists) (leaf : Leaf) → length_in lead.now lists.lengths ≡ Some length_lead.now
-        → IsPut lists out.old lead.now (text_by (raw_data leaf) (value_seen (option_map (λ b. b.now) found.entry)))
+        → IsPut lists out.old lead.now (text_by (raw_data leaf) (value_of_bytes (option_map (λ b. b.now) found.entry)))
         (record { put = result; draft = out.new; halt = halt.new }) }
 {
     match found {
@@ -49,7 +49,7 @@ fn put_passage(lead: &Lead, found: Option<&[u8]>, out: &mut FixWriter, halt: &mu
     requires { out.old.phase ≡ Open }
     ensures open { out.new.phase ≡ Open }
     ensures put { (lists : TagLists) (leaf : Leaf) → length_in lead.now lists.lengths ≡ None
-        → IsPut lists out.old lead.now (text_by (text_data leaf) (value_seen (option_map (λ b. b.now) found.entry)))
+        → IsPut lists out.old lead.now (text_by (text_data leaf) (value_of_bytes (option_map (λ b. b.now) found.entry)))
         (record { put = result; draft = out.new; halt = halt.new }) }
 {
     match found {
@@ -93,10 +93,10 @@ pub(crate) fn put_data(
     requires { out.old.phase ≡ Open }
     ensures open { out.new.phase ≡ Open }
     ensures raw { (own : ℕ) (lists : TagLists) (leaf : Leaf) → length_lead.now ≡ Some own → length_in lead.now lists.lengths ≡ Some own
-        → IsPut lists out.old lead.now (text_by (raw_data leaf) (value_seen (option_map (λ b. b.now) found.entry)))
+        → IsPut lists out.old lead.now (text_by (raw_data leaf) (value_of_bytes (option_map (λ b. b.now) found.entry)))
         (record { put = result; draft = out.new; halt = halt.new }) }
     ensures passage { (lists : TagLists) (leaf : Leaf) → length_lead.now ≡ None → length_in lead.now lists.lengths ≡ None
-        → IsPut lists out.old lead.now (text_by (text_data leaf) (value_seen (option_map (λ b. b.now) found.entry)))
+        → IsPut lists out.old lead.now (text_by (text_data leaf) (value_of_bytes (option_map (λ b. b.now) found.entry)))
         (record { put = result; draft = out.new; halt = halt.new }) }
 {
     match length_lead {

@@ -6,7 +6,7 @@ ghost use Rattle.bridge_terms.specs.Parts.{TagLists};
 ghost use Rattle.bridge_terms.specs.Places.{places_of};
 ghost use Rattle.bridge_terms.specs.Plans.{Plan};
 ghost use Rattle.message_walk.specs.Messages.{IsMessagePut};
-ghost use Rattle.message_walk.specs.Rows.{AreRows, FitsSeen};
+ghost use Rattle.message_walk.specs.Rows.{AreRows, FitsBlock};
 ghost use Rattle.message_walk.specs.States.{outcome};
 
 use crate::halt::Halt;
@@ -26,7 +26,7 @@ pub fn put_message<R: PutValue>(
 ) -> bool
     requires { out.old.phase ≡ Open }
     ensures open { out.new.phase ≡ Open }
-    ensures put { (lists : TagLists) (p : Plan) → AreRows R.spells lists p rows.now → FitsSeen p root.now
+    ensures put { (lists : TagLists) (p : Plan) → AreRows R.spells lists p rows.now → FitsBlock p root.now
         → IsMessagePut lists out.old (places_of p (values_of p root.now.block)) (outcome result out.new halt.new) }
 {
     put_rows(rows, root, out, halt)

@@ -36,7 +36,7 @@ pub fn put_rows<R: PutValue>(
 ) -> bool
     requires { out.old.phase ≡ Open }
     ensures open { out.new.phase ≡ Open }
-    ensures put { (lists : TagLists) (p : Plan) → AreRows R.spells lists p rows.now → FitsSeen p block.now
+    ensures put { (lists : TagLists) (p : Plan) → AreRows R.spells lists p rows.now → FitsBlock p block.now
         → outcome result out.new halt.new ≡ after lists out.old (places_of p (values_of p block.now.block)) }
 {
     let mut left = rows;
@@ -151,8 +151,8 @@ fn put_group<R: PutValue>(
     requires { out.old.phase ≡ Open }
     ensures open { out.new.phase ≡ Open }
     ensures put { (lists : TagLists) (p : Plan) → length_in lead.now lists.lengths ≡ None → AreRows R.spells lists p rows.now
-        → Each (FitsSeen p) (entries_seen entries.entry)
-        → outcome result out.new halt.new ≡ after lists out.old (run_places lead.now (entry_places p) (entries_seen entries.entry)) }
+        → Each (FitsBlock p) (entries_shown entries.entry)
+        → outcome result out.new halt.new ≡ after lists out.old (run_places lead.now (entry_places p) (entries_shown entries.entry)) }
 {
     let Some(entries) = entries else {
         return true;
@@ -176,7 +176,7 @@ fn put_run<R: PutValue>(
     requires { out.old.phase ≡ Open }
     ensures open { out.new.phase ≡ Open }
     ensures put { (lists : TagLists) (p : Plan) → length_in lead.now lists.lengths ≡ None → AreRows R.spells lists p rows.now
-        → Each (FitsSeen p) entries.entry
+        → Each (FitsBlock p) entries.entry
         → outcome result out.new halt.new ≡ after lists out.old (run_inside lead.now (entry_places p) entries.entry) }
 {
     let count = entries.len();
@@ -199,7 +199,7 @@ fn put_entries<R: PutValue>(
 ) -> bool
     requires { out.old.phase ≡ Open }
     ensures open { out.new.phase ≡ Open }
-    ensures put { (lists : TagLists) (p : Plan) → AreRows R.spells lists p rows.now → Each (FitsSeen p) entries.entry
+    ensures put { (lists : TagLists) (p : Plan) → AreRows R.spells lists p rows.now → Each (FitsBlock p) entries.entry
         → outcome result out.new halt.new ≡ after lists out.old (entries_places (entry_places p) 0 entries.entry) }
 {
     let count = entries.len();
@@ -232,7 +232,7 @@ fn put_entry<R: PutValue>(
 ) -> bool
     requires { out.old.phase ≡ Open }
     ensures open { out.new.phase ≡ Open }
-    ensures put { (lists : TagLists) (p : Plan) → AreRows R.spells lists p rows.now → FitsSeen p entry.now
+    ensures put { (lists : TagLists) (p : Plan) → AreRows R.spells lists p rows.now → FitsBlock p entry.now
         → outcome result out.new halt.new ≡ after lists out.old (entry_places p entry.now) }
 {
     if rows.is_empty() {

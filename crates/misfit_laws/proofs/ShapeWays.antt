@@ -19,38 +19,38 @@ use Rattle.sbe_wire.specs.Misfit.{Misfit, misfit_in, or_else, bad_shape, parts_s
 use Rattle.layout_tables.specs.Paths.{Inside, in_level, in_group, in_nothing, group_part, data_part, level_parts, parts_inside}
 use Rattle.writing_laws.proofs.Refusals.{some_none}
 use Rattle.misfit_laws.proofs.Leading.{part_leads, entry_leads, Behind, first_is, next_are, groups_stand, data_stand}
-use Rattle.misfit_laws.proofs.ValueWays.{Told, told_here, told_or, told_step}
+use Rattle.misfit_laws.proofs.ValueWays.{LeadsOn, told_here, told_or, told_step}
 
 -- ---- the parts of a block
 
-pub bad : (inside : Inside) → Told inside bad_shape
+pub bad : (inside : Inside) → LeadsOn inside bad_shape
 bad inside = told_here inside code.Shape (pos 0) refl
 
-parts_told : (inside : Inside) (i : ℕ) (ps : List DataField) (vs : List DataVal) → length ps ≡ length vs → Behind (parts_inside inside) i (map data_part ps) → Told inside (parts_shape i vs)
+parts_told : (inside : Inside) (i : ℕ) (ps : List DataField) (vs : List DataVal) → length ps ≡ length vs → Behind (parts_inside inside) i (map data_part ps) → LeadsOn inside (parts_shape i vs)
 parts_told inside i ps [] many stand = tt
 parts_told inside i [] (v ∷ vs) many stand = absurd (omega (arith, many))
 parts_told inside i (p ∷ ps) (dataval.Absent ∷ vs) many stand =
     told_step inside (way.Part i) in_nothing bad_shape (part_leads inside i (data_part p) (first_is (parts_inside inside) i (data_part p) (map data_part ps) stand)) (bad in_nothing)
 parts_told inside i (p ∷ ps) (dataval.Bytes bytes ∷ vs) many stand = parts_told inside (suc i) ps vs (omega (arith, many)) (next_are (parts_inside inside) i (data_part p) (map data_part ps) stand)
 
-each_told : (level : Level) (entry : Block → Option Misfit) → ((block : Block) → Told (in_level level) (entry block)) → (i : ℕ) (blocks : List Block) → Told (in_group level) (each_misfit entry i blocks)
+each_told : (level : Level) (entry : Block → Option Misfit) → ((block : Block) → LeadsOn (in_level level) (entry block)) → (i : ℕ) (blocks : List Block) → LeadsOn (in_group level) (each_misfit entry i blocks)
 each_told level entry told i [] = tt
 each_told level entry told i (block ∷ blocks) =
     told_or (in_group level) (misfit_in (way.Entry i) (entry block)) (each_misfit entry (suc i) blocks)
     (told_step (in_group level) (way.Entry i) (in_level level) (entry block) (entry_leads level i) (told block))
     (each_told level entry told (suc i) blocks)
 
-told_where : (inside : Inside) (t : Bool) (m : Option Misfit) → Told inside m → Told inside (cond t m None)
+told_where : (inside : Inside) (t : Bool) (m : Option Misfit) → LeadsOn inside m → LeadsOn inside (cond t m None)
 told_where inside true m h = h
 told_where inside false m h = tt
 
-entries_told : (level : Level) (entry : Block → Option Misfit) → ((block : Block) → Told (in_level level) (entry block)) → (blocks : Option (List Block)) → Told (in_group level) (entries_shape entry blocks)
+entries_told : (level : Level) (entry : Block → Option Misfit) → ((block : Block) → LeadsOn (in_level level) (entry block)) → (blocks : Option (List Block)) → LeadsOn (in_group level) (entries_shape entry blocks)
 entries_told level entry told None = bad (in_group level)
 entries_told level entry told (Some blocks) = told_where (in_group level) (nat_lt (length blocks) (2 ^ 32)) (each_misfit entry 0 blocks) (each_told level entry told 0 blocks)
 
 -- ---- three numbers of parts
 
-told_shape : (inside : Inside) (a b c : Bool) (m : Option Misfit) → (b ≡ true → c ≡ true → Told inside m) → Told inside (cond (a && b && c) m bad_shape)
+told_shape : (inside : Inside) (a b c : Bool) (m : Option Misfit) → (b ≡ true → c ≡ true → LeadsOn inside m) → LeadsOn inside (cond (a && b && c) m bad_shape)
 told_shape inside true true true m h = h refl refl
 told_shape inside false b c m h = bad inside
 told_shape inside true false c m h = bad inside
@@ -66,7 +66,7 @@ data_behind level groups many = subst (λ m. Behind (level_parts level) (length 
 mutual
   unfolding block_shape levels.out-Level groups_of.out-Group carrier.out
 
-  pub block_told : (level : Level) (block : Block) → Told (in_level level) (block_shape level block)
+  pub block_told : (level : Level) (block : Block) → LeadsOn (in_level level) (block_shape level block)
   block_told (Level' name id semantic since block_length fields n groups parts) block =
       let level = Level' name id semantic since block_length fields n groups parts in
       let gs = (out-Block block).groups in
@@ -80,7 +80,7 @@ mutual
       (parts_told (in_level level) (length fields + length gs) parts ps ((Decides-eqb (length parts) (length ps)).0 as_parts)
       (data_behind level (length gs) (ap length same ∙ (Decides-eqb (length (items-the_row-Group _ groups)) (length gs)).0 as_groups))))
 
-  groups_told : (inside : Inside) (i : ℕ) {n : _} (row : Row_of-Group n) (vs : List GroupVal) → Behind (parts_inside inside) i (map group_part (items-the_row-Group _ row)) → Told inside (groups_shape i row vs)
+  groups_told : (inside : Inside) (i : ℕ) {n : _} (row : Row_of-Group n) (vs : List GroupVal) → Behind (parts_inside inside) i (map group_part (items-the_row-Group _ row)) → LeadsOn inside (groups_shape i row vs)
   groups_told inside i end_of-Group vs stand = tt
   groups_told inside i (more_of-Group g rest) [] stand = tt
   groups_told inside i (more_of-Group g rest) (v ∷ vs) stand =
@@ -89,7 +89,7 @@ mutual
       (told_step inside (way.Part i) (in_group (out-Group g).level) (group_shape g v) (part_leads inside i (group_part g) (first_is (parts_inside inside) i (group_part g) others stand)) (group_told g v))
       (groups_told inside (suc i) rest vs (next_are (parts_inside inside) i (group_part g) others stand))
 
-  group_told : (g : Group) (v : GroupVal) → Told (in_group (out-Group g).level) (group_shape g v)
+  group_told : (g : Group) (v : GroupVal) → LeadsOn (in_group (out-Group g).level) (group_shape g v)
   group_told (Group' dim level) v = entries_told level (λ block. block_shape level block) (λ block. block_told level block) (entries_in v)
 
 -- ---- blocks without a misfit of their shape

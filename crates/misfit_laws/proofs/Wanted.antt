@@ -43,7 +43,7 @@ use Rattle.schema_facts.proofs.LevelForms.{all_apart, all_of_message, holds_belo
 use Rattle.layout_tables.specs.Paths.{Inside, in_level}
 use Rattle.misfit_laws.specs.Misfits.{part_bound, IsWanted}
 use Rattle.misfit_laws.proofs.Leading.{fields_stand}
-use Rattle.misfit_laws.proofs.ValueWays.{Told, fields_told}
+use Rattle.misfit_laws.proofs.ValueWays.{LeadsOn, fields_told}
 use Rattle.misfit_laws.proofs.Ways.{root_cases, misfit_is, no_template}
 
 -- ---- how many bytes a part may have
@@ -141,7 +141,7 @@ near_bytes limit before n within few = by (nat_le (before + n) limit) refl
         let over : limit < before + n = grind (arith, nat_tests, e) in
         record { bytes = before + n; told = refl; over = over; near = omega (arith, within, few) }
 
-near_passed : (inside : Inside) (limit n : ℕ) (m : Option Misfit) → n ≤ limit → Told inside m → Near limit (passed n m)
+near_passed : (inside : Inside) (limit n : ℕ) (m : Option Misfit) → n ≤ limit → LeadsOn inside m → Near limit (passed n m)
 near_passed inside limit n None within h = within
 near_passed inside limit n (Some m) within h = λ full. absurd (not_full m.code h.0 full)
 

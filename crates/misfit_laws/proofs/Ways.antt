@@ -32,7 +32,7 @@ use Rattle.writing_laws.specs.Writable.{IsWritableDimension, IsWritableLevel, Ar
 use Rattle.writing_laws.proofs.Refusals.{or_none, in_none}
 use Rattle.writable_schemas.proofs.CheckedSchemas.{schema_writable}
 use Rattle.misfit_laws.proofs.Leading.{Leads, LeadsBy, here, part_leads, entry_leads, Behind, first_is, next_are, fields_stand, groups_stand}
-use Rattle.misfit_laws.proofs.ValueWays.{Told, fields_told}
+use Rattle.misfit_laws.proofs.ValueWays.{LeadsOn, fields_told}
 use Rattle.misfit_laws.proofs.ShapeWays.{bad, block_told, data_behind, shape_of, looked_at}
 
 -- ---- bytes that are counted, or a misfit
@@ -41,54 +41,54 @@ use Rattle.misfit_laws.proofs.ShapeWays.{bad, block_told, data_behind, shape_of,
 abbrev pub Way : Inside → Misfit → Type 0
 Way inside m = (is_full m.code ≡ true → m.path ≡ []) × Leads inside m.path
 
-abbrev pub Went : Inside → Taken → Type 0
-Went inside (Ok n) = ⊤
-Went inside (Err m) = Way inside m
+abbrev pub LeadsOnOrCounts : Inside → Taken → Type 0
+LeadsOnOrCounts inside (Ok n) = ⊤
+LeadsOnOrCounts inside (Err m) = Way inside m
 
 never_full : (m : Misfit) → is_full m.code ≡ false → is_full m.code ≡ true → m.path ≡ []
 never_full m h full = absurd (true≢false (sym full ∙ h))
 
-went_then : (inside : Inside) (r : Taken) (f : ℕ → Taken) → Went inside r → ((n : ℕ) → Went inside (f n)) → Went inside (r then f)
+went_then : (inside : Inside) (r : Taken) (f : ℕ → Taken) → LeadsOnOrCounts inside r → ((n : ℕ) → LeadsOnOrCounts inside (f n)) → LeadsOnOrCounts inside (r then f)
 went_then inside (Ok n) f h g = g n
 went_then inside (Err m) f h g = h
 
-went_step : (inside : Inside) (step : Step) (below : Inside) (r : Taken) → LeadsBy inside step below → Went below r → Went inside (taken_in step r)
+went_step : (inside : Inside) (step : Step) (below : Inside) (r : Taken) → LeadsBy inside step below → LeadsOnOrCounts below r → LeadsOnOrCounts inside (taken_in step r)
 went_step inside step below (Ok n) leads h = tt
 went_step inside step below (Err m) leads h = by (is_full m.code) refl
   where
-    by : (t : Bool) → is_full m.code ≡ t → Went inside (Err (cond t m (inside_step step m)))
+    by : (t : Bool) → is_full m.code ≡ t → LeadsOnOrCounts inside (Err (cond t m (inside_step step m)))
     by true e = (h.0, here inside m.path (h.0 e))
     by false e = (never_full (inside_step step m) e, leads m.path h.1)
 
-went_refused : (inside : Inside) (c : NCode) (n : ℕ) → Went inside (refused c n)
+went_refused : (inside : Inside) (c : NCode) (n : ℕ) → LeadsOnOrCounts inside (refused c n)
 went_refused inside c n = (λ full. refl, here inside [] refl)
 
-went_where : (inside : Inside) (t : Bool) (r : Taken) (c : NCode) (n : ℕ) → Went inside r → Went inside (cond t r (refused c n))
+went_where : (inside : Inside) (t : Bool) (r : Taken) (c : NCode) (n : ℕ) → LeadsOnOrCounts inside r → LeadsOnOrCounts inside (cond t r (refused c n))
 went_where inside true r c n h = h
 went_where inside false r c n h = went_refused inside c n
 
-went_bytes : (inside : Inside) (limit before n : ℕ) → Went inside (take_bytes limit before n)
+went_bytes : (inside : Inside) (limit before n : ℕ) → LeadsOnOrCounts inside (take_bytes limit before n)
 went_bytes inside limit before n = went_where inside (nat_le (before + n) limit) (Ok (before + n)) code.Full (before + n) tt
 
-went_passed : (inside : Inside) (n : ℕ) (m : Option Misfit) → Told inside m → Went inside (passed n m)
+went_passed : (inside : Inside) (n : ℕ) (m : Option Misfit) → LeadsOn inside m → LeadsOnOrCounts inside (passed n m)
 went_passed inside n None h = tt
 went_passed inside n (Some m) h = (never_full m h.0, h.1)
 
 -- ---- blocks and data
 
-pub went_block : (level : Level) (limit before n : ℕ) (values : List Value) → Went (in_level level) (block_taken limit before n (out-Level level).fields values)
+pub went_block : (level : Level) (limit before n : ℕ) (values : List Value) → LeadsOnOrCounts (in_level level) (block_taken limit before n (out-Level level).fields values)
 went_block level limit before n values =
     let fields = (out-Level level).fields in
     went_then (in_level level) (take_bytes limit before n) (λ after. passed after (fields_misfit 0 fields values)) (went_bytes (in_level level) limit before n)
     (λ after. went_passed (in_level level) after (fields_misfit 0 fields values) (fields_told (in_level level) 0 fields values (fields_stand level)))
 
-went_data : (inside : Inside) (limit before : ℕ) (part : DataField) (v : DataVal) → Went inside (part_taken limit before part v)
+went_data : (inside : Inside) (limit before : ℕ) (part : DataField) (v : DataVal) → LeadsOnOrCounts inside (part_taken limit before part v)
 went_data inside limit before part dataval.Absent = tt
 went_data inside limit before part (dataval.Bytes bytes) =
     went_where inside (admits part.length (pos (length bytes))) (take_bytes limit before (prim_width part.length.prim + length bytes)) code.Length (length bytes)
     (went_bytes inside limit before (prim_width part.length.prim + length bytes))
 
-went_parts : (inside : Inside) (limit i before : ℕ) (ps : List DataField) (vs : List DataVal) → Behind (parts_inside inside) i (map data_part ps) → Went inside (parts_taken limit i before ps vs)
+went_parts : (inside : Inside) (limit i before : ℕ) (ps : List DataField) (vs : List DataVal) → Behind (parts_inside inside) i (map data_part ps) → LeadsOnOrCounts inside (parts_taken limit i before ps vs)
 went_parts inside limit i before [] vs stand = tt
 went_parts inside limit i before (p ∷ ps) [] stand = tt
 went_parts inside limit i before (p ∷ ps) (v ∷ vs) stand =
@@ -99,8 +99,8 @@ went_parts inside limit i before (p ∷ ps) (v ∷ vs) stand =
 
 -- ---- entries
 
-went_each : (level : Level) (shape : Block → Option Misfit) (taken : ℕ → Block → Taken) → ((block : Block) (before : ℕ) → shape block ≡ None → Went (in_level level) (taken before block)) →
-    (i j before : ℕ) (blocks : List Block) → each_misfit shape j blocks ≡ None → Went (in_group level) (each_taken taken i before blocks)
+went_each : (level : Level) (shape : Block → Option Misfit) (taken : ℕ → Block → Taken) → ((block : Block) (before : ℕ) → shape block ≡ None → LeadsOnOrCounts (in_level level) (taken before block)) →
+    (i j before : ℕ) (blocks : List Block) → each_misfit shape j blocks ≡ None → LeadsOnOrCounts (in_group level) (each_taken taken i before blocks)
 went_each level shape taken went i j before [] h = tt
 went_each level shape taken went i j before (block ∷ blocks) h =
     let two = or_none (misfit_in (way.Entry j) (shape block)) (each_misfit shape (suc j) blocks) h in
@@ -109,13 +109,13 @@ went_each level shape taken went i j before (block ∷ blocks) h =
     (λ after. went_each level shape taken went (suc i) (suc j) after blocks two.1)
 
 -- what comes only where a number of entries is admitted
-went_admitted : (inside : Inside) (t : Bool) (r : Taken) (n : ℕ) → (t ≡ true → Went inside r) → Went inside (cond t r (refused code.Count n))
+went_admitted : (inside : Inside) (t : Bool) (r : Taken) (n : ℕ) → (t ≡ true → LeadsOnOrCounts inside r) → LeadsOnOrCounts inside (cond t r (refused code.Count n))
 went_admitted inside true r n h = h refl
 went_admitted inside false r n h = went_refused inside code.Count n
 
 went_entries : (level : Level) (limit before block_length : ℕ) (dim : List Member) (shape : Block → Option Misfit) (taken : ℕ → Block → Taken) → IsWritableDimension dim block_length →
-    ((block : Block) (at : ℕ) → shape block ≡ None → Went (in_level level) (taken at block)) → (blocks : Option (List Block)) → entries_shape shape blocks ≡ None →
-    Went (in_group level) (entries_taken limit before dim taken blocks)
+    ((block : Block) (at : ℕ) → shape block ≡ None → LeadsOnOrCounts (in_level level) (taken at block)) → (blocks : Option (List Block)) → entries_shape shape blocks ≡ None →
+    LeadsOnOrCounts (in_group level) (entries_taken limit before dim taken blocks)
 went_entries level limit before block_length dim shape taken writable went None h = tt
 went_entries level limit before block_length dim shape taken writable went (Some blocks) h =
     went_admitted (in_group level) (is_admitted dim (codes "numInGroup") (length blocks)) (take_bytes limit before (members_end 0 dim) then (λ after. each_taken taken 0 after blocks)) (length blocks)
@@ -129,7 +129,7 @@ module _ (version limit : ℕ) where
   mutual
     unfolding block_shape tail_taken levels.out-Level groups_of.out-Group carrier.out
 
-    pub went_tail : (level : Level) → IsWritableLevel version level → (block : Block) (before : ℕ) → block_shape level block ≡ None → Went (in_level level) (tail_taken limit before level block)
+    pub went_tail : (level : Level) → IsWritableLevel version level → (block : Block) (before : ℕ) → block_shape level block ≡ None → LeadsOnOrCounts (in_level level) (tail_taken limit before level block)
     went_tail (Level' name id semantic since block_length fields n groups parts) writable block before shape =
         let level = Level' name id semantic since block_length fields n groups parts in
         let gs = (out-Block block).groups in
@@ -143,7 +143,7 @@ module _ (version limit : ℕ) where
         (λ after. went_parts (in_level level) limit (length fields + length gs) after parts ps (data_behind level (length gs) (ap length same ∙ right.0)))
 
     went_groups : (inside : Inside) (i j before : ℕ) {n : _} (row : Row_of-Group n) → AreWritableGroups version row → (vs : List GroupVal) → Behind (parts_inside inside) i (map group_part (items-the_row-Group _ row)) →
-        groups_shape j row vs ≡ None → Went inside (groups_taken limit i before row vs)
+        groups_shape j row vs ≡ None → LeadsOnOrCounts inside (groups_taken limit i before row vs)
     went_groups inside i j before end_of-Group writable vs stand h = tt
     went_groups inside i j before (more_of-Group g rest) writable [] stand h = tt
     went_groups inside i j before (more_of-Group g rest) writable (v ∷ vs) stand h =
@@ -154,7 +154,7 @@ module _ (version limit : ℕ) where
         (went_step inside (way.Part i) (in_group (out-Group g).level) (group_taken limit before g v) leads (went_group g writable.0 v before (in_none (way.Part j) (group_shape g v) two.0)))
         (λ after. went_groups inside (suc i) (suc j) after rest writable.1 vs (next_are (parts_inside inside) i (group_part g) others stand) two.1)
 
-    went_group : (g : Group) → IsWritableGroup version g → (v : GroupVal) (before : ℕ) → group_shape g v ≡ None → Went (in_group (out-Group g).level) (group_taken limit before g v)
+    went_group : (g : Group) → IsWritableGroup version g → (v : GroupVal) (before : ℕ) → group_shape g v ≡ None → LeadsOnOrCounts (in_group (out-Group g).level) (group_taken limit before g v)
     went_group (Group' dim level) writable v before h =
         went_entries level limit before (out-Level level).block_length dim (λ block. block_shape level block)
         (λ at entry. block_taken limit at (out-Level level).block_length (out-Level level).fields (out-Block entry).fields then (λ after. tail_taken limit after level entry)) writable.1
@@ -176,23 +176,23 @@ module _ (schema : WireSchema) (m : Msg) (limit : ℕ) (why : Misfit) where
 
   -- the misfit is of the message's version or shape, or of its parts
   abbrev pub OfRoot : Level → Type 0
-  OfRoot level = Told (in_level level) (Some why) ⊎ ((block_shape level m.block ≡ None) × (root_taken schema limit level m.block ≡ Err why))
+  OfRoot level = LeadsOn (in_level level) (Some why) ⊎ ((block_shape level m.block ≡ None) × (root_taken schema limit level m.block ≡ Err why))
 
   pub root_cases : (level : Level) → root_misfit schema m limit (Some level) ≡ Some why → OfRoot level
   root_cases level h = version (unless (m.version == schema.version) bad_shape) (told_version (m.version == schema.version)) h
     where
-      told_version : (t : Bool) → Told (in_level level) (unless t bad_shape)
+      told_version : (t : Bool) → LeadsOn (in_level level) (unless t bad_shape)
       told_version true = tt
       told_version false = bad (in_level level)
 
-      told : (x : Misfit) → Told (in_level level) (Some x) → ◌≡◌ {A = Option Misfit} (Some x) (Some why) → OfRoot level
-      told x h is = inl (subst (λ y. Told (in_level level) (Some y)) (is_why x is) h)
+      told : (x : Misfit) → LeadsOn (in_level level) (Some x) → ◌≡◌ {A = Option Misfit} (Some x) (Some why) → OfRoot level
+      told x h is = inl (subst (λ y. LeadsOn (in_level level) (Some y)) (is_why x is) h)
 
       shaped : (o : Option Misfit) → block_shape level m.block ≡ o → or_else o (refusal_of (root_taken schema limit level m.block)) ≡ Some why → OfRoot level
       shaped None shape is = inr (shape, err_why (root_taken schema limit level m.block) is)
-      shaped (Some x) shape is = told x (subst (Told (in_level level)) shape (block_told level m.block)) is
+      shaped (Some x) shape is = told x (subst (LeadsOn (in_level level)) shape (block_told level m.block)) is
 
-      version : (o : Option Misfit) → Told (in_level level) o → or_else o (or_else (block_shape level m.block) (refusal_of (root_taken schema limit level m.block))) ≡ Some why → OfRoot level
+      version : (o : Option Misfit) → LeadsOn (in_level level) o → or_else o (or_else (block_shape level m.block) (refusal_of (root_taken schema limit level m.block))) ≡ Some why → OfRoot level
       version None h is = shaped (block_shape level m.block) refl is
       version (Some x) h is = told x h is
 
@@ -209,11 +209,11 @@ module _ (schema : WireSchema) (m : Msg) (limit : ℕ) (why : Misfit) where
     | inl told ↦ (never_full why told.0, told.1)
     | inr parts ↦
         let size : ℕ = members_end 0 schema.header.members + (out-Level level).block_length in
-        let went : Went (in_level level) (root_taken schema limit level m.block) =
+        let went : LeadsOnOrCounts (in_level level) (root_taken schema limit level m.block) =
         went_then (in_level level) (block_taken limit 0 size (out-Level level).fields (out-Block m.block).fields) (λ after. tail_taken limit after level m.block)
         (went_block level limit 0 size (out-Block m.block).fields)
         (λ after. went_tail schema.version limit level (writable.levels m.template level at) m.block after parts.0) in
-        subst (Went (in_level level)) parts.1 went
+        subst (LeadsOnOrCounts (in_level level)) parts.1 went
   ]
 
   leads_path : (level : Level) (steps : List Step) → slice_get schema.messages m.template ≡ Some level → Leads (in_level level) steps → IsPathOf schema m.template steps

@@ -8,12 +8,12 @@ use Rattle.std.proofs.lemmas.List.{drop-take, drop-drop}
 use Rattle.byte_digits.specs.Digits.{IsBytes, digits_high_first}
 use Rattle.byte_digits.proofs.Bytes.{IsBytes-take, IsBytes-drop, IsBytes-back}
 use Rattle.byte_digits.proofs.HighFirst.{number-digits-fit, digits-number, number-lt}
-use Rattle.open_framing.specs.Pieces.{joined}
+use Rattle.open_framing.specs.Pieces.{concat_pieces}
 use Rattle.open_framing.specs.declared.head.TheConstants.{HEAD_BYTES}
 use Rattle.open_framing.specs.declared.head.Head.{Head}
 use Rattle.open_framing.specs.declared.head.HeadErr.{HeadErr}
 use Rattle.open_framing.specs.declared.head.HeadErr.TheVariants.{HeadShort, LengthShort, LengthOver, Encoding}
-use Rattle.open_framing.specs.Heads.{length_in, encoding_in, is_encoding, judged, head_of}
+use Rattle.open_framing.specs.Heads.{length_in, encoding_in, is_encoding, head_by, head_of}
 use Rattle.open_framing.specs.Frames.{Item, frame_of, IsFrame, item_by, first_item, items_of, Cut, CutEnd, cut_of, end_of}
 use Rattle.open_framing.proofs.PieceLemmas.{more_behind, FindsPieces, pieces_found, rest_found, pieces_once}
 
@@ -23,7 +23,7 @@ pub record AreHead (size encoding limit : ℕ) : Type 0 where
   pub within : size ≤ limit
   pub known : is_encoding encoding ≡ true
 
-pub judged_ok : (size encoding limit : ℕ) → AreHead size encoding limit → judged size encoding limit ≡ Ok (record { length = size; encoding = encoding })
+pub judged_ok : (size encoding limit : ℕ) → AreHead size encoding limit → head_by size encoding limit ≡ Ok (record { length = size; encoding = encoding })
 judged_ok size encoding limit are = grind (arith, nat_tests, are.known, are.counts, are.within)
 
 pub head_whole : (bytes : List ℕ) (limit : ℕ) → HEAD_BYTES ≤ length bytes → AreHead (length_in bytes) (encoding_in bytes) limit →
@@ -168,10 +168,10 @@ cut_once stream limit input xs ys a b c d =
     (same.0, c.ends ∙ ap (end_of limit (nat_lt input (length stream))) same.1 ∙ sym d.ends)
 
 -- a head's six bytes show its two numbers
-pub head_back : (size encoding limit : ℕ) → size < 256 ^ 4 → encoding < 256 ^ 2 → head_of (digits_high_first 4 size ++ digits_high_first 2 encoding) limit ≡ judged size encoding limit
+pub head_back : (size encoding limit : ℕ) → size < 256 ^ 4 → encoding < 256 ^ 2 → head_of (digits_high_first 4 size ++ digits_high_first 2 encoding) limit ≡ head_by size encoding limit
 head_back size encoding limit fits fits' =
-    ap (λ k. judged k (encoding_in (digits_high_first 4 size ++ digits_high_first 2 encoding)) limit) (number-digits-fit 4 size fits)
-    ∙ ap (λ k. judged size k limit) (number-digits-fit 2 encoding fits')
+    ap (λ k. head_by k (encoding_in (digits_high_first 4 size ++ digits_high_first 2 encoding)) limit) (number-digits-fit 4 size fits)
+    ∙ ap (λ k. head_by size k limit) (number-digits-fit 2 encoding fits')
 
 -- one more frame at the front of a stream
 pub cut_more : (stream : List ℕ) (limit input : ℕ) (item : Item) (items : List Item) (end : CutEnd) → IsFrame limit item → Cut stream limit input items end →
@@ -182,7 +182,7 @@ cut_more stream limit input item items end is cut =
     record {
       rest = cut.rest;
       pieces = record {
-        whole = take-append-add (frame_of item) stream input ∙ ap (λ back. frame_of item ++ back) all.whole ∙ sym (append_assoc (frame_of item) (joined frame_of items) cut.rest);
+        whole = take-append-add (frame_of item) stream input ∙ ap (λ back. frame_of item ++ back) all.whole ∙ sym (append_assoc (frame_of item) (concat_pieces frame_of items) cut.rest);
         each = (is, all.each);
         longest = all.longest;
       };

@@ -4,7 +4,7 @@ use Rattle.std.proofs.Math.Seq.{take-append-add}
 use Rattle.std.proofs.lemmas.Bool.{lt-ltb, leb-true, le-leb, ne_eqb, eqb-true, eq-eqb}
 use Rattle.std.specs.Prelude.{nat_lt, nat_le, ◌==◌, ◌≢◌, if◌then◌else◌, ⊤}
 use Rattle.std.specs.List.{AllByRecursion}
-use Rattle.open_framing.specs.Pieces.{joined, pieces_in, rest_of}
+use Rattle.open_framing.specs.Pieces.{concat_pieces, pieces_in, rest_of}
 use Rattle.open_framing.specs.Lines.{LineOver, longest_line, line_end, ended, IsLine, LineEnd, last_of, Lines, with_byte, before_end, if_within, first_line, ended_lines_of, lines_of}
 use Rattle.open_framing.proofs.PieceLemmas.{more_behind, FindsPieces, pieces_found, rest_found, pieces_once}
 
@@ -88,7 +88,7 @@ lines_more stream input line lines end is cut =
       before = line ∷ cut.before;
       rest = cut.rest;
       pieces = record {
-        whole = take-append-add (ended line) stream input ∙ ap (λ back. ended line ++ back) all.whole ∙ sym (append_assoc (ended line) (joined ended cut.before) cut.rest);
+        whole = take-append-add (ended line) stream input ∙ ap (λ back. ended line ++ back) all.whole ∙ sym (append_assoc (ended line) (concat_pieces ended cut.before) cut.rest);
         each = (is, all.each);
         longest = all.longest;
       };

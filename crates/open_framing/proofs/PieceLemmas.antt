@@ -4,7 +4,7 @@ use Rattle.std.specs.Prelude.{nat_lt}
 use Rattle.std.proofs.lemmas.Bool.Decides.{nat_tests}
 use Rattle.std.proofs.lemmas.List.{append_cancel_left}
 use Rattle.std.proofs.Math.Seq.{drop-append_seam}
-use Rattle.open_framing.specs.Pieces.{joined, Pieces, then_pieces, pieces_in, rest_of}
+use Rattle.open_framing.specs.Pieces.{concat_pieces, Pieces, then_pieces, pieces_in, rest_of}
 
 -- A reader of the first piece: it tells pieces, on good bytes, and it tells every piece.
 pub record FindsPieces {X : Type 0} (IsGood : List ℕ → Type 0) (IsPiece : X → Type 0) (bytes_of : X → List ℕ) (first : List ℕ → Option X) : Type 0 where
@@ -44,7 +44,7 @@ one_more {X} {G} {P} {b} {first} reads n later found bytes good size (Some x) to
     let cut = next.1 in (
       next.0,
       record {
-        whole = rw left (e ∙ ap (λ back. b x ++ back) cut.whole ∙ sym (append_assoc (b x) (joined b (later more)) next.0));
+        whole = rw left (e ∙ ap (λ back. b x ++ back) cut.whole ∙ sym (append_assoc (b x) (concat_pieces b (later more)) next.0));
         each = rw left ((read.0, cut.each));
         longest = cut.longest;
       },
@@ -59,22 +59,22 @@ pieces_found {b = b} {first = first} reads (suc n) bytes good size = one_more re
 
 -- so is the rest
 pub rest_found : {X : Type 0} {P : X → Type 0} {b : X → List ℕ} {bytes : List ℕ} {pieces : List X} {rest : List ℕ} → Pieces P b bytes pieces rest → rest_of b bytes pieces ≡ rest
-rest_found {b = b} {pieces = pieces} {rest = rest} cut = ap (drop (length (joined b pieces))) cut.whole ∙ drop-append_seam (joined b pieces) rest
+rest_found {b = b} {pieces = pieces} {rest = rest} cut = ap (drop (length (concat_pieces b pieces))) cut.whole ∙ drop-append_seam (concat_pieces b pieces) rest
 
 -- a cut is the only one
 pub pieces_once : {X : Type 0} {G : List ℕ → Type 0} {P : X → Type 0} {b : X → List ℕ} {first : List ℕ → Option X} → FindsPieces G P b first →
     (bytes : List ℕ) (xs ys : List X) (r s : List ℕ) → Pieces P b bytes xs r → Pieces P b bytes ys s → (xs ≡ ys) × (r ≡ s)
 pieces_once reads bytes [] [] r s c d = (refl, sym c.whole ∙ d.whole)
-pieces_once {b = b} reads bytes [] (y ∷ ys) r s c d = absurd (c.longest y (joined b ys ++ s) d.each.0 (sym c.whole ∙ d.whole ∙ append_assoc (b y) (joined b ys) s))
-pieces_once {b = b} reads bytes (x ∷ xs) [] r s c d = absurd (d.longest x (joined b xs ++ r) c.each.0 (sym d.whole ∙ c.whole ∙ append_assoc (b x) (joined b xs) r))
+pieces_once {b = b} reads bytes [] (y ∷ ys) r s c d = absurd (c.longest y (concat_pieces b ys ++ s) d.each.0 (sym c.whole ∙ d.whole ∙ append_assoc (b y) (concat_pieces b ys) s))
+pieces_once {b = b} reads bytes (x ∷ xs) [] r s c d = absurd (d.longest x (concat_pieces b xs ++ r) c.each.0 (sym d.whole ∙ c.whole ∙ append_assoc (b x) (concat_pieces b xs) r))
 pieces_once {X} {G} {P} {b} {first} reads bytes (x ∷ xs) (y ∷ ys) r s c d =
-    let at_x : bytes ≡ b x ++ (joined b xs ++ r) = c.whole ∙ append_assoc (b x) (joined b xs) r in
-    let at_y : bytes ≡ b y ++ (joined b ys ++ s) = d.whole ∙ append_assoc (b y) (joined b ys) s in
-    let first_x : first bytes ≡ Some x = ap first at_x ∙ reads.complete x (joined b xs ++ r) c.each.0 in
-    let first_y : first bytes ≡ Some y = ap first at_y ∙ reads.complete y (joined b ys ++ s) d.each.0 in
+    let at_x : bytes ≡ b x ++ (concat_pieces b xs ++ r) = c.whole ∙ append_assoc (b x) (concat_pieces b xs) r in
+    let at_y : bytes ≡ b y ++ (concat_pieces b ys ++ s) = d.whole ∙ append_assoc (b y) (concat_pieces b ys) s in
+    let first_x : first bytes ≡ Some x = ap first at_x ∙ reads.complete x (concat_pieces b xs ++ r) c.each.0 in
+    let first_y : first bytes ≡ Some y = ap first at_y ∙ reads.complete y (concat_pieces b ys ++ s) d.each.0 in
     let same : x ≡ y = cc in
-    let later : joined b xs ++ r ≡ joined b ys ++ s = append_cancel_left (b x) (joined b xs ++ r) (joined b ys ++ s) (sym at_x ∙ at_y ∙ ap (λ z. b z ++ (joined b ys ++ s)) (sym same)) in
-    let rest = pieces_once reads (joined b xs ++ r) xs ys r s (record { whole = refl; each = c.each.1; longest = c.longest }) (record { whole = later; each = d.each.1; longest = d.longest }) in
+    let later : concat_pieces b xs ++ r ≡ concat_pieces b ys ++ s = append_cancel_left (b x) (concat_pieces b xs ++ r) (concat_pieces b ys ++ s) (sym at_x ∙ at_y ∙ ap (λ z. b z ++ (concat_pieces b ys ++ s)) (sym same)) in
+    let rest = pieces_once reads (concat_pieces b xs ++ r) xs ys r s (record { whole = refl; each = c.each.1; longest = c.longest }) (record { whole = later; each = d.each.1; longest = d.longest }) in
     (let more : xs ≡ ys = rest.0 in cc, rest.1)
 
 -- whether a stream goes on after the input doesn't hang on what stands at its front

@@ -21,8 +21,8 @@ abbrev pub is_encoding : ℕ → Bool
 is_encoding n = n == SBE_BIG || n == SBE_LITTLE || n == TAG_VALUE
 
 -- the head that these two numbers make, or its first fault
-abbrev pub judged : ℕ → ℕ → ℕ → Result Head HeadErr
-judged size encoding limit =
+abbrev pub head_by : ℕ → ℕ → ℕ → Result Head HeadErr
+head_by size encoding limit =
     if nat_lt size HEAD_BYTES then Err (LengthShort size)
     else if nat_lt limit size then Err (LengthOver size)
     else if is_encoding encoding then Ok (record { length = size; encoding = encoding })
@@ -30,4 +30,4 @@ judged size encoding limit =
 
 -- the head at the front of the bytes, or its first fault
 abbrev pub head_of : List ℕ → ℕ → Result Head HeadErr
-head_of bytes limit = if nat_lt (length bytes) HEAD_BYTES then Err HeadShort else judged (length_in bytes) (encoding_in bytes) limit
+head_of bytes limit = if nat_lt (length bytes) HEAD_BYTES then Err HeadShort else head_by (length_in bytes) (encoding_in bytes) limit

@@ -3,12 +3,12 @@ use Rattle.std.specs.Prelude.{◌≡◌, ◌≢◌, ℕ, zero, suc, List, [], �
 use Rattle.std.specs.List.{flat_map, AllByRecursion}
 
 -- the bytes of the pieces, concatenated
-abbrev pub joined : {X : Type 0} → (X → List ℕ) → List X → List ℕ
-joined bytes_of pieces = flat_map bytes_of pieces
+abbrev pub concat_pieces : {X : Type 0} → (X → List ℕ) → List X → List ℕ
+concat_pieces bytes_of pieces = flat_map bytes_of pieces
 
 -- The bytes are these pieces and then the rest, and the rest doesn't begin with another piece.
 pub record Pieces {X : Type 0} (IsPiece : X → Type 0) (bytes_of : X → List ℕ) (bytes : List ℕ) (pieces : List X) (rest : List ℕ) : Type 0 where
-  pub whole : bytes ≡ joined bytes_of pieces ++ rest
+  pub whole : bytes ≡ concat_pieces bytes_of pieces ++ rest
   pub each : AllByRecursion IsPiece pieces
   pub longest : (x : X) (more : List ℕ) → IsPiece x → rest ≢ bytes_of x ++ more
 
@@ -24,4 +24,4 @@ pieces_in first bytes_of (suc n) bytes = then_pieces bytes_of (pieces_in first b
 
 -- what follows the pieces
 abbrev pub rest_of : {X : Type 0} → (X → List ℕ) → List ℕ → List X → List ℕ
-rest_of bytes_of bytes pieces = drop (length (joined bytes_of pieces)) bytes
+rest_of bytes_of bytes pieces = drop (length (concat_pieces bytes_of pieces)) bytes

@@ -1,6 +1,6 @@
 ghost use Rattle.std.specs.Prelude.{◌≡◌, ◌++◌, ℕ};
 ghost use Rattle.byte_digits.specs.Digits.{digits_high_first};
-ghost use Rattle.open_framing.specs.Heads.{head_of, judged};
+ghost use Rattle.open_framing.specs.Heads.{head_of, head_by};
 
 use byteorder::{BigEndian, ByteOrder};
 use thiserror::Error;
@@ -73,7 +73,7 @@ pub fn read_head(bytes: &[u8], limit: usize) -> Result<Head, HeadErr>
 /// Writes the six bytes of a head, as [`read_head`] reads them. The two numbers aren't checked.
 pub fn put_head(head: &Head, out: &mut [u8; 6])
     ensures bytes { out.new ≡ digits_high_first 4 head.now.length ++ digits_high_first 2 head.now.encoding }
-    ensures back { (limit : ℕ) → head_of out.new limit ≡ judged head.now.length head.now.encoding limit }
+    ensures back { (limit : ℕ) → head_of out.new limit ≡ head_by head.now.length head.now.encoding limit }
 {
     let Head { length, encoding } = *head;
     BigEndian::write_u32(&mut out[..4], length);

@@ -32,13 +32,13 @@ kept repository (Ok x) = Ok repository
 kept repository (Err e) = Err e
 
 -- the mapping of what was read: its elements are checked first, then the rules of its members
-abbrev pub judged : Reading Repository → Mapping
-judged (Ok repository) = kept repository (verdict (members_of repository))
-judged (Err e) = Err (record { code = code_of e.cause; path = e.path })
+abbrev pub mapping_from : Reading Repository → Mapping
+mapping_from (Ok repository) = kept repository (verdict (members_of repository))
+mapping_from (Err e) = Err (record { code = code_of e.cause; path = e.path })
 
 -- the mapping of a file, or the first refusal
 abbrev pub map_of : List ℕ → Mapping
-map_of bytes = judged (repository_of bytes)
+map_of bytes = mapping_from (repository_of bytes)
 
 -- the answer is the mapping, unless it is out of memory
 abbrev pub Answers : Result Repository MapErr → Mapping → Type 0

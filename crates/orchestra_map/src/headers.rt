@@ -1,7 +1,7 @@
 ghost use Rattle.std.specs.Prelude.{◌≡◌, IfOk};
 ghost use Rattle.reference_graph.specs.Graphs.{Ends};
 ghost use Rattle.map_types.specs.Trees.{members_of};
-ghost use Rattle.map_members.specs.Seen.{seen};
+ghost use Rattle.map_members.specs.Seen.{lent_members};
 ghost use Rattle.map_links.specs.Links.{linked};
 ghost use Rattle.orchestra_map.specs.Headers.{is_header, framing_links, header_links, graph_of, HasHeadersOf, HasHeaderTags, IsKept};
 
@@ -45,8 +45,8 @@ fn tags_by(
     groups: &[&GroupEl],
     messages: &[&MessageEl],
 ) -> Result<TagSet, NoMem>
-    requires ends { Ends (graph_of (seen fields.now) (linked components.now groups.now messages.now)) (header_links (seen components.now)) }
-    ensures { IfOk result (λ tags. HasHeadersOf (seen fields.now) (linked components.now groups.now messages.now) tags) }
+    requires ends { Ends (graph_of (lent_members fields.now) (linked components.now groups.now messages.now)) (header_links (lent_members components.now)) }
+    ensures { IfOk result (λ tags. HasHeadersOf (lent_members fields.now) (linked components.now groups.now messages.now) tags) }
 {
     if components.len().checked_add(groups.len()).is_none() {
         return Err(NoMem);
@@ -59,7 +59,7 @@ fn tags_by(
 
 /// Links to the fields that frame a message, and to the components named `StandardHeader`.
 fn header_links(alloc: Global, components: &[&ComponentEl]) -> Result<List<Link>, NoMem>
-    ensures { IfOk result (λ links. links ≡ header_links (seen components.now)) }
+    ensures { IfOk result (λ links. links ≡ header_links (lent_members components.now)) }
 {
     let mut links = framing_links(alloc)?;
     for (i, component) in components.iter().enumerate() {

@@ -1,7 +1,7 @@
 ghost use Rattle.std.specs.Prelude.{◌≡◌, Ok, Err, IfOk};
 ghost use Rattle.json_elements.specs.Reading.{Reading, Gives};
 ghost use Rattle.map_types.specs.declared.tree.Repository.{Repository};
-ghost use Rattle.orchestra_map.specs.Mappings.{code_of, judged, kept, map_of, Answers};
+ghost use Rattle.orchestra_map.specs.Mappings.{code_of, mapping_from, kept, map_of, Answers};
 ghost use Rattle.orchestra_map.specs.Headers.{IsKept};
 
 use json_elements::{Cause, ElementErr, path_of};
@@ -29,7 +29,7 @@ pub fn read_map(alloc: Global, bytes: &[u8]) -> Result<Repository, MapErr>
 
 /// The repository, if its members keep their rules.
 fn keep(alloc: Global, repository: Repository) -> Result<Repository, MapErr>
-    ensures answers { Answers result (judged (Ok repository)) }
+    ensures answers { Answers result (mapping_from (Ok repository)) }
     ensures kept { IfOk result (λ repository. IsKept repository) }
 {
     judge(alloc, &repository)?;
@@ -38,7 +38,7 @@ fn keep(alloc: Global, repository: Repository) -> Result<Repository, MapErr>
 
 /// The refusal of an element, an attribute or the file.
 fn refusal_of(alloc: Global, e: ElementErr) -> MapErr
-    ensures { (read : Reading Repository) → Gives (Err e) read → Answers (Err result) (judged read) }
+    ensures { (read : Reading Repository) → Gives (Err e) read → Answers (Err result) (mapping_from read) }
 {
     match e {
         ElementErr::Memory => MapErr::Memory,

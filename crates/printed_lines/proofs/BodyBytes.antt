@@ -30,7 +30,7 @@ use Rattle.sbe_types.specs.Shows.{Shows, MembersShow, ShowsLeaf, ShowsText, is_e
 use Rattle.sbe_types.specs.Wire.{member_values}
 use Rattle.sbe_wire.specs.declared.mode.Mode.{Mode}
 use Rattle.sbe_wire.specs.Versions.{is_alive, form_of, mode_of}
-use Rattle.sbe_wire.specs.Lays.{Joined, JoinedBoth, FieldsLay, DataLies, DataLays, EntryLays, GroupLies, TailLays, GroupsLay, GroupLays}
+use Rattle.sbe_wire.specs.Lays.{IsConcatenation, IsConcatenationOfBoth, FieldsLay, DataLies, DataLays, EntryLays, GroupLies, TailLays, GroupsLay, GroupLays}
 use Rattle.sbe_wire.specs.Fits.{EachFits}
 use Rattle.tree_json.specs.Lines.{entries_in}
 use Rattle.line_laws.specs.ValuesBack.{TextHasBytes, HasBytes, RowHasBytes}
@@ -123,7 +123,7 @@ part_by : (t : Bool) (order : Order) (p : DataField) (v : DataVal) (b : List ℕ
 part_by true order p v b good h = subst PartHasBytes (sym h.1) (IsBytes-back h.2.before h.0 (subst IsBytes h.2.whole good))
 part_by false order p v b good h = subst PartHasBytes (sym h.0) tt
 
-parts_bytes : (order : Order) (version : ℕ) (ps : List DataField) (vs : List DataVal) (b : List ℕ) → IsBytes b → JoinedBoth (DataLays order version) ps vs b → AllByRecursion PartHasBytes vs
+parts_bytes : (order : Order) (version : ℕ) (ps : List DataField) (vs : List DataVal) (b : List ℕ) → IsBytes b → IsConcatenationOfBoth (DataLays order version) ps vs b → AllByRecursion PartHasBytes vs
 parts_bytes order version [] [] b good h = tt
 parts_bytes order version [] (v ∷ vs) b good h = absurd h
 parts_bytes order version (p ∷ ps) [] b good h = absurd h
@@ -135,7 +135,7 @@ parts_bytes order version (p ∷ ps) (v ∷ vs) b good h =
 
 -- ---- entries
 
-each_bytes : {X : Type 0} (R : X → List ℕ → Type 0) (P : X → Type 0) → ((x : X) (b : List ℕ) → IsBytes b → R x b → P x) → (xs : List X) (b : List ℕ) → IsBytes b → Joined R xs b → EachFits P xs
+each_bytes : {X : Type 0} (R : X → List ℕ → Type 0) (P : X → Type 0) → ((x : X) (b : List ℕ) → IsBytes b → R x b → P x) → (xs : List X) (b : List ℕ) → IsBytes b → IsConcatenation R xs b → EachFits P xs
 each_bytes R P each [] b good h = tt
 each_bytes R P each (x ∷ xs) b good h =
     let whole : IsBytes (h.0 ++ h.1) = subst IsBytes h.2 good in

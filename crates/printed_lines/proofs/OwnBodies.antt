@@ -17,7 +17,7 @@ use Rattle.writing_laws.proofs.MessageMisfit.{fits_none}
 use Rattle.writable_schemas.proofs.CheckedSchemas.{schema_writable}
 use Rattle.tree_json.specs.Lines.{line_of, message_at}
 use Rattle.clean_bodies.specs.Bodies.{IsCanonicalOf}
-use Rattle.flyweight_view.specs.Seen.{SeenMessage}
+use Rattle.flyweight_view.specs.Seen.{TypedMessage}
 use Rattle.line_reading.specs.Lines.{tree_of}
 use Rattle.line_laws.specs.LinesBack.{MessageHasBytes}
 use Rattle.line_laws.proofs.MessageBack.{line_back}
@@ -37,7 +37,7 @@ reads_back schema m level line body checked fits lies good at constants printed 
     ap (tree_of schema) is ∙ line_back schema m checked bytes fits
 
 -- what a view shows of a body
-pub shown_own : (schema : WireSchema) (seen : SeenMessage) (template : ℕ) (line body : List ℕ) → IsChecked schema → All IsByteLevel schema.messages → IsBytes body → Lays schema seen.message body →
+pub shown_own : (schema : WireSchema) (seen : TypedMessage) (template : ℕ) (line body : List ℕ) → IsChecked schema → All IsByteLevel schema.messages → IsBytes body → Lays schema seen.message body →
     slice_get schema.messages seen.message.template ≡ Some seen.level → template ≡ seen.message.template → seen.message.version ≡ schema.version →
     line ≡ compact_text (message_at (Some seen.level) seen.message) → IsCanonicalOf schema template body → IsOwnBody schema line body
 shown_own schema seen template line body checked constants good lies at is current printed clean =

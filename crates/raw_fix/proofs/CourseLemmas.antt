@@ -23,7 +23,7 @@ use Rattle.raw_fix.specs.Fields.{fix_texts}
 use Rattle.raw_fix.specs.Stream.{RawState, Ahead, ahead, room, NoneBefore, Garbles, LetsGo, Stuck, Unsettled, TakesBy, so_far, item_room, RawFalls, RawHeldBy}
 use Rattle.raw_fix.specs.Taking.{IfTold, Lefts, TakesFrom, ComesBy, Meets, left_if}
 use Rattle.raw_fix.specs.Steps.{Whatever}
-use Rattle.raw_fix.specs.Items.{TextFits, ItemState, item_place, Drops, Waits, Settles, Finishes, texts_of, raw_shown, raw_told, text_told, Nexts}
+use Rattle.raw_fix.specs.Items.{TextFits, ItemState, item_place, Drops, Waits, Settles, Finishes, texts_of, raw_shown, settled_answer, text_length, Nexts}
 use Rattle.raw_fix.proofs.RawLemmas.{undecided_none, garbled_verdict, item_complete}
 use Rattle.raw_fix.proofs.MarkLemmas.{mark_missed}
 use Rattle.raw_fix.proofs.StepLemmas.{message_longer}
@@ -46,7 +46,7 @@ pub record Course (texts : Texts) (old new : ItemState) (l r : Option (List ℕ)
 
 -- the next item by the bytes of the source
 abbrev pub NextFrom : Texts → ItemState → ItemState → Option (List ℕ) → Option (List ℕ) → Result Settled RawErr → Type 0
-NextFrom texts old new l r result = TakesFrom texts (raw_shown 0 old None) (raw_shown (text_told result) new None) (record { before = l; after = r }) (raw_told result)
+NextFrom texts old new l r result = TakesFrom texts (raw_shown 0 old None) (raw_shown (text_length result) new None) (record { before = l; after = r }) (settled_answer result)
 
 consumes_none : (l : Option (List ℕ)) → Consumes l l []
 consumes_none None = tt

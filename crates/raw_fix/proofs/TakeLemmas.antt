@@ -16,9 +16,9 @@ use Rattle.raw_fix.specs.declared.taken.Run.{Run}
 use Rattle.raw_fix.specs.declared.items.Settled.{Settled}
 use Rattle.raw_fix.specs.declared.items.Settled.TheVariants as settled
 use Rattle.raw_fix.specs.Raw.{Texts, Item, Garbled, IsItem, item_bytes, Raw}
-use Rattle.raw_fix.specs.Stream.{RawState, RawBetween, ahead, room, Garbles, Unsettled, TakesBy, told_item, TakesItems, raw_end}
-use Rattle.raw_fix.specs.Items.{ItemState, IsRawStream, Nexts, raw_shown, raw_told, text_told}
-use Rattle.raw_fix.specs.Taking.{Lefts, TakesRaw, RawTextOf, TableOf, RawCause, ended_told, raw_ended_of}
+use Rattle.raw_fix.specs.Stream.{RawState, RawBetween, ahead, room, Garbles, Unsettled, TakesBy, item_of_answer, TakesItems, raw_end}
+use Rattle.raw_fix.specs.Items.{ItemState, IsRawStream, Nexts, raw_shown, settled_answer, text_length}
+use Rattle.raw_fix.specs.Taking.{Lefts, TakesRaw, RawTextOf, TableOf, RawCause, end_answer, raw_ended_of}
 use Rattle.raw_fix.proofs.RawLemmas.{raw_more}
 
 -- the text taken before is let go first
@@ -27,7 +27,7 @@ module _ (texts : Texts) (s new : ItemState) (text : ℕ) (end : Option RawEnded
   from = record { held = let_go_of text s.held; begun = s.begun; met = s.met }
 
   abbrev Takes : Result Settled RawErr → Type 0
-  Takes result = TakesRaw texts (raw_shown text s end) (raw_shown (text_told result) new (raw_ended_of (raw_told result))) lefts (raw_told result)
+  Takes result = TakesRaw texts (raw_shown text s end) (raw_shown (text_length result) new (raw_ended_of (settled_answer result))) lefts (settled_answer result)
 
   pub takes_next : (result : Result Settled RawErr) → Nexts texts from new lefts result → Takes result
   takes_next (Ok (settled.Message n)) h = record { from = h.from; falls = h.falls; held = h.held; comes = h.comes; meets = h.meets; ended = refl; counted = record { there = omega (arith, h.there, length-drop n new.held.bytes); within = h.within }; most = ap (λ k. k - 6) h.size; input = h.limit }
@@ -38,20 +38,20 @@ module _ (texts : Texts) (s new : ItemState) (text : ℕ) (end : Option RawEnded
 
 -- ---- an end that stays
 
-pub ended_text : (text : ℕ) (s : ItemState) (end : Option RawEnded) (e : RawEnded) → IsRawStream text s.held end → end ≡ Some e → RawTextOf (raw_shown text s end) (ended_told e)
+pub ended_text : (text : ℕ) (s : ItemState) (end : Option RawEnded) (e : RawEnded) → IsRawStream text s.held end → end ≡ Some e → RawTextOf (raw_shown text s end) (end_answer e)
 ended_text text s end e is at = by_end e where
   none : take text s.held.bytes ≡ []
   none = ap (λ k. take k s.held.bytes) (is.ended e at)
 
-  by_end : (told : RawEnded) → RawTextOf (raw_shown text s end) (ended_told told)
+  by_end : (told : RawEnded) → RawTextOf (raw_shown text s end) (end_answer told)
   by_end ended.End = none
   by_end ended.Limit = none
 
-pub ended_table : (tags : List Pair) (text : List ℕ) (table : List FixField) (e : RawEnded) → table ≡ [] → TableOf tags text (ended_told e) table
+pub ended_table : (tags : List Pair) (text : List ℕ) (table : List FixField) (e : RawEnded) → table ≡ [] → TableOf tags text (end_answer e) table
 ended_table tags text table ended.End none = none
 ended_table tags text table ended.Limit none = none
 
-pub ended_cause : (faults : ℕ) (e : RawEnded) → RawCause faults faults (ended_told e)
+pub ended_cause : (faults : ℕ) (e : RawEnded) → RawCause faults faults (end_answer e)
 ended_cause faults ended.End = refl
 ended_cause faults ended.Limit = refl
 
@@ -67,7 +67,7 @@ record Stands (texts : Texts) (old next : RawState) (b : RawBetween) (item : Ite
 some_is : {A : Type 0} {x y : A} → Some x ≡ Some y → x ≡ y
 some_is e = cc
 
-item_stands : (texts : Texts) (old next : RawState) (b : RawBetween) (told : RawTaken) (item : Item) → old.run ≡ None → TakesBy texts old next b (Ok told) → told_item b.stream next told ≡ Some item → Stands texts old next b item
+item_stands : (texts : Texts) (old next : RawState) (b : RawBetween) (told : RawTaken) (item : Item) → old.run ≡ None → TakesBy texts old next b (Ok told) → item_of_answer b.stream next told ≡ Some item → Stands texts old next b item
 item_stands texts old next b taken.Message item none t e = subst (Stands texts old next b) (some_is e) (record { is = t.2; fresh = t.1; falls = t.3; whole = t.4 })
 item_stands texts old next b (taken.Garbled code at many) item none t e =
     let run : Run = record { code = code; at = at; length = many } in
@@ -83,12 +83,12 @@ item_in_front : (texts : Texts) (front stream : List ℕ) (most : ℕ) (item : I
 item_in_front texts front stream most item is =
     subst (λ y. IsItem texts (nat_lt most (length stream)) y item) (take-append-add front stream most) (subst (λ t. IsItem texts t (take (length front + most) (front ++ stream)) item) (more_behind front stream most) is)
 
-raw_by_end : (texts : Texts) (next new : RawState) (b : RawBetween) (end : RawEnded) → next.run ≡ None → TakesBy texts next new b (ended_told end) → Raw texts b.stream (room next) [] (raw_end end)
+raw_by_end : (texts : Texts) (next new : RawState) (b : RawBetween) (end : RawEnded) → next.run ≡ None → TakesBy texts next new b (end_answer end) → Raw texts b.stream (room next) [] (raw_end end)
 raw_by_end texts next new b ended.End none t = t.1
 raw_by_end texts next new b ended.Limit none t = subst (λ r. Unsettled texts b.stream (room next) r) none t.0
 
 pub takes_are_items : (texts : Texts) (items : List Item) (old next new : RawState) (b : RawBetween) (left' : List ℕ) (end : RawEnded) → old.run ≡ None → TakesItems texts items old next b →
-    TakesBy texts next new (record { stream = b.left; left = left' }) (ended_told end) → Raw texts b.stream (room old) items (raw_end end)
+    TakesBy texts next new (record { stream = b.left; left = left' }) (end_answer end) → Raw texts b.stream (room old) items (raw_end end)
 takes_are_items texts [] old next new b left' end none h t =
     let last = raw_by_end texts next new (record { stream = b.left; left = left' }) end (ap (λ (s : RawState). s.run) h.1 ∙ none) t in
     subst (λ x. Raw texts x (room old) [] (raw_end end)) (sym h.0) (subst (λ (s : RawState). Raw texts b.left (room s) [] (raw_end end)) h.1 last)

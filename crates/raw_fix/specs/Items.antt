@@ -86,26 +86,26 @@ raw_shown text s end = record {
 }
 
 -- the answer by what was settled
-abbrev pub raw_told : Result Settled RawErr → Result RawTaken RawErr
-raw_told (Ok (settled.Message n)) = Ok taken.Message
-raw_told (Ok (settled.Garbled run)) = Ok (taken.Garbled run.code run.at run.length)
-raw_told (Ok settled.End) = Ok taken.End
-raw_told (Err e) = Err e
+abbrev pub settled_answer : Result Settled RawErr → Result RawTaken RawErr
+settled_answer (Ok (settled.Message n)) = Ok taken.Message
+settled_answer (Ok (settled.Garbled run)) = Ok (taken.Garbled run.code run.at run.length)
+settled_answer (Ok settled.End) = Ok taken.End
+settled_answer (Err e) = Err e
 
 -- how many of the first bytes are the text
-abbrev pub text_told : Result Settled RawErr → ℕ
-text_told (Ok (settled.Message n)) = n
-text_told (Ok (settled.Garbled run)) = 0
-text_told (Ok settled.End) = 0
-text_told (Err e) = 0
+abbrev pub text_length : Result Settled RawErr → ℕ
+text_length (Ok (settled.Message n)) = n
+text_length (Ok (settled.Garbled run)) = 0
+text_length (Ok settled.End) = 0
+text_length (Err e) = 0
 
 -- the next item, or why there is none
 pub record Nexts (texts : Texts) (old new : ItemState) (lefts : Lefts) (result : Result Settled RawErr) : Type 0 where
-  pub from : TakesFrom texts (raw_shown 0 old None) (raw_shown (text_told result) new None) lefts (raw_told result)
-  pub falls : RawFalls (raw_shown 0 old None) (raw_shown (text_told result) new None) (raw_told result)
-  pub held : RawHeldBy texts (raw_shown (text_told result) new None) (raw_told result)
-  pub comes : ComesBy texts (raw_shown 0 old None) (raw_shown (text_told result) new None) lefts (raw_told result)
-  pub meets : Meets old.met new.met lefts (raw_told result)
+  pub from : TakesFrom texts (raw_shown 0 old None) (raw_shown (text_length result) new None) lefts (settled_answer result)
+  pub falls : RawFalls (raw_shown 0 old None) (raw_shown (text_length result) new None) (settled_answer result)
+  pub held : RawHeldBy texts (raw_shown (text_length result) new None) (settled_answer result)
+  pub comes : ComesBy texts (raw_shown 0 old None) (raw_shown (text_length result) new None) lefts (settled_answer result)
+  pub meets : Meets old.met new.met lefts (settled_answer result)
   pub there : length new.held.bytes ≤ new.held.taken
   pub within : new.held.taken ≤ new.held.limit
   pub size : new.held.size ≡ old.held.size

@@ -134,8 +134,8 @@ abbrev pub prefix : List ℕ → Item
 prefix bytes = record { kind = Garbled code.Prefix; bytes = bytes }
 
 -- texts, concatenated
-abbrev pub joined : List (List ℕ) → List ℕ
-joined texts = flat_map (λ text. text) texts
+abbrev pub concat_texts : List (List ℕ) → List ℕ
+concat_texts texts = flat_map (λ text. text) texts
 
 -- Bytes before others, in which no text begins: they don't begin with 8, no mark begins in them, and at least one byte
 -- follows them.

@@ -127,16 +127,16 @@ RawHeldBy texts new (Err err.ReadFault) = Stuck texts new.held new.run
 -- ---- what is taken in order
 
 -- the item of a stream that an answer reports
-abbrev pub told_item : List ℕ → RawState → RawTaken → Option Item
-told_item stream new taken.Message = Some (message new.text)
-told_item stream new (taken.Garbled code at many) = Some (record { kind = Garbled code; bytes = take many stream })
-told_item stream new taken.End = None
+abbrev pub item_of_answer : List ℕ → RawState → RawTaken → Option Item
+item_of_answer stream new taken.Message = Some (message new.text)
+item_of_answer stream new (taken.Garbled code at many) = Some (record { kind = Garbled code; bytes = take many stream })
+item_of_answer stream new taken.End = None
 
 -- These items are taken of the stream one after another, and the bytes left are not.
 abbrev pub TakesItems : Texts → List Item → RawState → RawState → RawBetween → Type 0
 TakesItems texts [] old new b = (b.stream ≡ b.left) × (new ≡ old)
 TakesItems texts (item ∷ items) old new b =
-    (told : RawTaken) × (next : RawState) × (left' : List ℕ) × TakesBy texts old next (record { stream = b.stream; left = left' }) (Ok told) × (told_item b.stream next told ≡ Some item)
+    (told : RawTaken) × (next : RawState) × (left' : List ℕ) × TakesBy texts old next (record { stream = b.stream; left = left' }) (Ok told) × (item_of_answer b.stream next told ≡ Some item)
     × TakesItems texts items next new (record { stream = next.held ++ left'; left = b.left })
 
 -- the end of the items of a stream that ends like this

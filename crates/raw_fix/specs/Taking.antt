@@ -16,9 +16,9 @@ use Rattle.raw_fix.specs.Fields.{fix_texts}
 use Rattle.raw_fix.specs.Stream.{RawState, IsCounted, place, Garbles, LetsGo, TakesBy, RawFalls, RawHeldBy}
 
 -- the answer at an end
-abbrev pub ended_told : RawEnded → Result RawTaken RawErr
-ended_told ended.End = Ok taken.End
-ended_told ended.Limit = Err err.InputLimit
+abbrev pub end_answer : RawEnded → Result RawTaken RawErr
+end_answer ended.End = Ok taken.End
+end_answer ended.Limit = Err err.InputLimit
 
 -- the end that an answer reports, which stays
 abbrev pub raw_ended_of : Result RawTaken RawErr → Option RawEnded

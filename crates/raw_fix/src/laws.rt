@@ -16,10 +16,10 @@ ghost use Rattle.raw_fix.specs.declared.taken.RawErr.{RawErr};
 ghost use Rattle.raw_fix.specs.declared.taken.RawErr.TheVariants as err;
 ghost use Rattle.raw_fix.specs.Fields.{fix_texts};
 ghost use Rattle.raw_fix.specs.Stream.{RawState, RawBetween, IsCounted, TakesBy, TakesItems, room, raw_end};
-ghost use Rattle.raw_fix.specs.Taking.{ended_told};
+ghost use Rattle.raw_fix.specs.Taking.{end_answer};
 ghost use Rattle.raw_fix.specs.Rows.{heartbeat, broken, only_heartbeat, garbled};
 ghost use Rattle.raw_fix.specs.Raw.{Texts, Item, IsItem, RawEnd, End, InputLimit, Raw, raw_of, AreSized, IsText};
-ghost use Rattle.raw_fix.specs.Raw.{IsGarbage, item_bytes, message, prefix, joined};
+ghost use Rattle.raw_fix.specs.Raw.{IsGarbage, item_bytes, message, prefix, concat_texts};
 
 /// Bytes make one claim.
 pub fn claim_once()
@@ -65,22 +65,22 @@ pub fn raw_is_whole()
 /// A stream of texts gives exactly these as messages.
 pub fn texts_are_messages()
     ensures { (texts : Texts) → AreSized texts → (input : ℕ) (xs : List (List ℕ))
-        → AllByRecursion (IsText texts) xs → length (joined xs) ≤ input
-        → Raw texts (joined xs) input (map message xs) End }
+        → AllByRecursion (IsText texts) xs → length (concat_texts xs) ≤ input
+        → Raw texts (concat_texts xs) input (map message xs) End }
 {}
 
 /// Garbage in front of texts is one garbled item, and no text after it is lost.
 pub fn garbage_is_passed()
     ensures { (texts : Texts) → AreSized texts → (input : ℕ) (front : List ℕ) (xs : List (List ℕ))
-        → AllByRecursion (IsText texts) xs → length (front ++ joined xs) ≤ input → IsGarbage front (joined xs)
-        → Raw texts (front ++ joined xs) input (prefix front ∷ map message xs) End }
+        → AllByRecursion (IsText texts) xs → length (front ++ concat_texts xs) ≤ input → IsGarbage front (concat_texts xs)
+        → Raw texts (front ++ concat_texts xs) input (prefix front ∷ map message xs) End }
 {}
 
 /// The items that are taken, and the end after them, are those of the stream.
 pub fn takes_are_the_items()
     ensures { (texts : Texts) (items : List Item) (old next new : RawState) (b : RawBetween) (left : List ℕ) (end : RawEnded)
         → old.run ≡ None → TakesItems texts items old next b
-        → TakesBy texts next new (record { stream = b.left; left = left }) (ended_told end)
+        → TakesBy texts next new (record { stream = b.left; left = left }) (end_answer end)
         → Raw texts b.stream (room old) items (raw_end end) }
 {}
 

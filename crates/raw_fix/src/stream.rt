@@ -2,7 +2,7 @@ ghost use Rattle.std.specs.Prelude.{◌≡◌, ◌≤◌, true, None, IfOk, IfSo
 ghost use Rattle.frame_stream.specs.declared.stream.TheConstants.{LONGEST_FRAME};
 ghost use Rattle.raw_fix.specs.declared.items.TheConstants.{LEAST_FRAME};
 ghost use Rattle.raw_fix.specs.Items.{raw_opened};
-ghost use Rattle.raw_fix.specs.Taking.{RawCause, RawTextOf, TakesRaw, TableOf, ended_told, lefts_if, texts_for};
+ghost use Rattle.raw_fix.specs.Taking.{RawCause, RawTextOf, TakesRaw, TableOf, end_answer, lefts_if, texts_for};
 
 use crate::items::{Items, Settled};
 use crate::taken::{RawEnded, RawErr, RawTaken};
@@ -71,7 +71,7 @@ impl RawStream {
         tags: &DataTags,
         table: &mut FieldTable,
     ) -> Result<RawTaken, RawErr>
-        ensures stays { IfSome self.old.ended (λ ended. result ≡ ended_told ended) }
+        ensures stays { IfSome self.old.ended (λ ended. result ≡ end_answer ended) }
         ensures kept { IsSome self.old.ended → self.new ≡ self.old }
         ensures unread { IsSome self.old.ended → input.new ≡ input.old }
         ensures unread_met { self.old.met ≡ true → input.new ≡ input.old }
@@ -127,7 +127,7 @@ impl RawStream {
 
 /// The answer at and after an end.
 fn told(ended: RawEnded) -> Result<RawTaken, RawErr>
-    ensures { result ≡ ended_told ended }
+    ensures { result ≡ end_answer ended }
 {
     match ended {
         RawEnded::End => Ok(RawTaken::End),

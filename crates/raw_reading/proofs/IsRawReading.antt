@@ -6,7 +6,7 @@ use Rattle.std.proofs.lemmas.Bool.Decides.{nat_tests}
 use Rattle.std.proofs.lemmas.List.{append-nil, append_cancel_left, nil_from_length}
 use Rattle.std.proofs.Math.Seq.{take-append-add}
 use Rattle.open_framing.specs.Heads.{IsBytes}
-use Rattle.open_framing.specs.Pieces.{joined}
+use Rattle.open_framing.specs.Pieces.{concat_pieces}
 use Rattle.open_framing.proofs.PieceLemmas.{more_behind}
 use Rattle.command_steps.specs.Ahead.{Ahead, none_ahead}
 use Rattle.command_steps.specs.Splits.{IsReading, Front, Piece, PieceEnd, piece_bytes, taken_by}
@@ -90,7 +90,7 @@ module _ (texts : Texts) where
         (map piece_of found.0, k.3 ∙ ap (map piece_of) found.1 ∙ map_more h.items found.0 ∙ ap (λ z. z ++ map piece_of found.0) (sym h.pieces_are))
 
     counted : taken_by xs ≡ length (items_bytes h.items)
-    counted = ap (λ ps. length (joined piece_bytes ps)) h.pieces_are ∙ ap length (pieces_bytes h.items)
+    counted = ap (λ ps. length (concat_pieces piece_bytes ps)) h.pieces_are ∙ ap length (pieces_bytes h.items)
 
     front_within : length (items_bytes h.items) ≤ n
     front_within = omega (arith, h.within, length-append (items_bytes h.items) ahead.held)
@@ -124,10 +124,10 @@ module _ (texts : Texts) where
           k.4,
         )
 
-    more : (next : Ahead) (after : List ℕ) (ys : List Piece) → BeginsRaw texts (span_of (n - taken_by xs) next rest after) ys → Front ahead.held (joined piece_bytes ys ++ next.held) → (ahead.is_all ≡ true → next.is_all ≡ true) →
+    more : (next : Ahead) (after : List ℕ) (ys : List Piece) → BeginsRaw texts (span_of (n - taken_by xs) next rest after) ys → Front ahead.held (concat_pieces piece_bytes ys ++ next.held) → (ahead.is_all ≡ true → next.is_all ≡ true) →
         BeginsRaw texts (span_of n next stream after) (xs ++ ys)
     more next after ys k front stays =
-        let ys_bytes : joined piece_bytes ys ≡ items_bytes k.items = ap (joined piece_bytes) k.pieces_are ∙ pieces_bytes k.items in
+        let ys_bytes : concat_pieces piece_bytes ys ≡ items_bytes k.items = ap (concat_pieces piece_bytes) k.pieces_are ∙ pieces_bytes k.items in
         let held : items_bytes k.items ++ next.held ≡ ahead.held ++ front.0 = ap (λ b. b ++ next.held) (sym ys_bytes) ∙ front.1 in
         let last : ahead.is_all ≡ true → (front.0 ≡ []) × (not next.is_all ≡ false) = λ e.
         let size : length rest ≡ length ahead.held = ap length h.follows ∙ ap (λ l. length (ahead.held ++ l)) (h.all e) ∙ ap length (append-nil ahead.held) in
@@ -150,9 +150,9 @@ module _ (texts : Texts) where
         }
 
     held_so : (held left : List ℕ) → rest ≡ held ++ left → Front ahead.held held → ahead.is_all ≡ false → HoldsRaw texts held [] →
-        HoldsRaw texts (joined piece_bytes xs ++ held) xs × (stream ≡ (joined piece_bytes xs ++ held) ++ left)
+        HoldsRaw texts (concat_pieces piece_bytes xs ++ held) xs × (stream ≡ (concat_pieces piece_bytes xs ++ held) ++ left)
     held_so held left follows front reads k =
-        let bytes : joined piece_bytes xs ≡ items_bytes h.items = ap (joined piece_bytes) h.pieces_are ∙ pieces_bytes h.items in
+        let bytes : concat_pieces piece_bytes xs ≡ items_bytes h.items = ap (concat_pieces piece_bytes) h.pieces_are ∙ pieces_bytes h.items in
         let nothing : k.items ≡ [] = none_mapped k.items k.pieces_are in
         let rest_is : held ≡ k.rest = subst (λ (items : List Item). InTurn (IsItem texts true) item_bytes held items k.rest) nothing k.turns in
         let last : ahead.is_all ≡ true → (front.0 ≡ []) × (true ≡ false) = λ e. absurd (apart (sym e ∙ reads)) in
@@ -165,7 +165,7 @@ module _ (texts : Texts) where
             turns = subst (λ b. InTurn (IsItem texts true) item_bytes (b ++ held) h.items held) (sym bytes) there;
             none = subst (NoItem (IsItem texts true)) (sym rest_is) k.none;
           },
-          h.whole ∙ ap (λ b. b ++ rest) (sym bytes) ∙ ap (λ r. joined piece_bytes xs ++ r) follows ∙ sym (append_assoc (joined piece_bytes xs) held left),
+          h.whole ∙ ap (λ b. b ++ rest) (sym bytes) ∙ ap (λ r. concat_pieces piece_bytes xs ++ r) follows ∙ sym (append_assoc (concat_pieces piece_bytes xs) held left),
         )
       where
         apart : ◌≡◌ {A = Bool} true false → ⊥

@@ -2,7 +2,7 @@
 use Rattle.std.proofs.Common.{◌≡◌, ℕ, Bool, true, false, List, [], ◌∷◌, ◌++◌, map, Option, Some, inl, inr, refl, sym, ap, ◌∙◌, subst, append_assoc}
 use Rattle.std.proofs.lemmas.List.{append-nil, append_cancel_left}
 use Rattle.std.proofs.lemmas.List.Concat.{flat_map-append}
-use Rattle.open_framing.specs.Pieces.{joined}
+use Rattle.open_framing.specs.Pieces.{concat_pieces}
 use Rattle.command_steps.specs.Splits.{piece_bytes}
 use Rattle.raw_fix.specs.Turns.{InTurn}
 use Rattle.raw_fix.specs.Raw.{Texts, Kind, Message, Garbled, Item, IsItem, IsItemOf, IsRun, RunsOn, item_bytes}
@@ -69,7 +69,7 @@ shows_longer texts true goes_on held more items last h =
 
 -- ---- items as pieces
 
-pub pieces_bytes : (items : List Item) → joined piece_bytes (map piece_of items) ≡ items_bytes items
+pub pieces_bytes : (items : List Item) → concat_pieces piece_bytes (map piece_of items) ≡ items_bytes items
 pieces_bytes [] = refl
 pieces_bytes (item ∷ items) = ap (λ r. item_bytes item ++ r) (pieces_bytes items)
 

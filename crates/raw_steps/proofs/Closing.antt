@@ -13,7 +13,7 @@ use Rattle.raw_fix.specs.Raw.{Garbled, Item, message}
 use Rattle.raw_fix.specs.Stream.{RawState}
 use Rattle.raw_fix.specs.Taking.{RawCause}
 use Rattle.replies.specs.Drafts.{DeliversDraft}
-use Rattle.replies.specs.Outside.{Streams, Breaks, Told}
+use Rattle.replies.specs.Outside.{Streams, Breaks, NotesLine}
 use Rattle.replies.specs.Reply.{written_of}
 use Rattle.replies.specs.declared.verdict.Verdict.{Verdict}
 use Rattle.command_steps.specs.Ahead.{Follows}
@@ -41,7 +41,7 @@ module _ (tags : List Pair) (limits : Limits) (kept : Kept) (st st' : RawState) 
 
   -- the end of the input
   pub closed_end : (code : Status) → Takes tags limits kept st st' stands before after unread (Ok taken.End) → after.input.faults ≡ before.input.faults → after.sinks.output ≡ before.sinks.output →
-      Told [] (done_status kept.refused) before.sinks.notes after.sinks.notes code → Closed code
+      NotesLine [] (done_status kept.refused) before.sinks.notes after.sinks.notes code → Closed code
   closed_end code takes input output told =
       closed code (λ i f. ends tags limits kept st st' stands before after unread code i takes output told f)
       (end_causes before after code [] (done_status kept.refused) (done_is (nat_lt 0 kept.refused)) input output told)
@@ -49,7 +49,7 @@ module _ (tags : List Pair) (limits : Limits) (kept : Kept) (st st' : RawState) 
 
   -- more bytes than the limit
   pub closed_over : (code : Status) → Takes tags limits kept st st' stands before after unread (Err err.InputLimit) → after.input.faults ≡ before.input.faults → after.sinks.output ≡ before.sinks.output →
-      Told (stop_line (stop.InputLimit limits.input)) status.InputLimit before.sinks.notes after.sinks.notes code → Closed code
+      NotesLine (stop_line (stop.InputLimit limits.input)) status.InputLimit before.sinks.notes after.sinks.notes code → Closed code
   closed_over code takes input output told =
       closed code (λ i f. ends_over tags limits kept st st' stands before after unread code i takes output told f)
       (end_causes before after code (stop_line (stop.InputLimit limits.input)) status.InputLimit (record { step = tt; memory = λ h. cc; write = λ h. cc; read = λ h. cc }) input output told)
@@ -57,7 +57,7 @@ module _ (tags : List Pair) (limits : Limits) (kept : Kept) (st st' : RawState) 
 
   -- a read that failed
   pub closed_read : (code : Status) → Takes tags limits kept st st' stands before after unread (Err err.ReadFault) → RawCause {T = Unit {0}} before.input.faults after.input.faults (Err err.ReadFault) → after.sinks.output ≡ before.sinks.output →
-      Told (stop_line (stop.ReadFault st'.taken)) status.ReadFault before.sinks.notes after.sinks.notes code → Closed code
+      NotesLine (stop_line (stop.ReadFault st'.taken)) status.ReadFault before.sinks.notes after.sinks.notes code → Closed code
   closed_read code takes cause output told =
       let fault : Failed before.input after.input = record { rose = cause.1; later = cause.0 } in
       closed code (λ i f. stalls_at tags limits kept st st' stands before after unread code i takes fault output told f)

@@ -27,7 +27,7 @@ use Rattle.raw_fix.proofs.RawLemmas.{raw_joined}
 use Rattle.raw_fix.proofs.CourseLemmas.{unsettled_by}
 use Rattle.raw_reading.specs.Reading.{piece_of, items_bytes}
 use Rattle.raw_reading.proofs.ItemsOn.{item_longer}
-use Rattle.replies.specs.Outside.{Streams, Wrote, Calm, Told}
+use Rattle.replies.specs.Outside.{Streams, Wrote, Calm, NotesLine}
 use Rattle.replies.specs.Reply.{Reply, written_of}
 use Rattle.replies.specs.declared.verdict.Verdict.{Verdict}
 use Rattle.command_steps.specs.Ahead.{Follows}
@@ -150,7 +150,7 @@ module _ (tags : List Pair) (limits : Limits) (kept : Kept) (st st' : RawState) 
       -- ---- the end
 
       pub ends : (input : List ℕ) → Takes (Ok taken.End) → after.sinks.output ≡ before.sinks.output →
-          Told (end_notes answering End kept) (end_status End kept.refused) before.sinks.notes after.sinks.notes code → Follows (raw_ahead st) before.input.told input → Halts answering pump before after input code
+          NotesLine (end_notes answering End kept) (end_status End kept.refused) before.sinks.notes after.sinks.notes code → Follows (raw_ahead st) before.input.told input → Halts answering pump before after input code
       ends input takes same told f =
           let s = sourced (Ok taken.End) takes input f in
           let by = took (Ok taken.End) takes input f s in
@@ -165,7 +165,7 @@ module _ (tags : List Pair) (limits : Limits) (kept : Kept) (st st' : RawState) 
           })
 
       pub ends_over : (input : List ℕ) → Takes (Err err.InputLimit) → after.sinks.output ≡ before.sinks.output →
-          Told (end_notes answering InputLimit kept) (end_status InputLimit kept.refused) before.sinks.notes after.sinks.notes code → Follows (raw_ahead st) before.input.told input → Halts answering pump before after input code
+          NotesLine (end_notes answering InputLimit kept) (end_status InputLimit kept.refused) before.sinks.notes after.sinks.notes code → Follows (raw_ahead st) before.input.told input → Halts answering pump before after input code
       ends_over input takes same told f =
           let s = sourced (Err err.InputLimit) takes input f in
           let by = took (Err err.InputLimit) takes input f s in
@@ -185,7 +185,7 @@ module _ (tags : List Pair) (limits : Limits) (kept : Kept) (st st' : RawState) 
       not_met true new stays e = let yes = stays refl in cc
 
       pub stalls_at : (input : List ℕ) → Takes (Err err.ReadFault) → Failed before.input after.input → after.sinks.output ≡ before.sinks.output →
-          Told (stop_line (stop.ReadFault st'.taken)) status.ReadFault before.sinks.notes after.sinks.notes code → Follows (raw_ahead st) before.input.told input → Halts answering pump before after input code
+          NotesLine (stop_line (stop.ReadFault st'.taken)) status.ReadFault before.sinks.notes after.sinks.notes code → Follows (raw_ahead st) before.input.told input → Halts answering pump before after input code
       stalls_at input takes fault same told f =
           let s = sourced (Err err.ReadFault) takes input f in
           let gone = takes.comes.0 in
@@ -209,7 +209,7 @@ module _ (tags : List Pair) (limits : Limits) (kept : Kept) (st st' : RawState) 
             part = record { items = []; pieces_are = refl; rest = held; turns = refl; none = none_settled texts (place st) gone st'.held st'.run lets stuck };
             fault = fault;
             output = same;
-            noted = subst (λ n. Told (stop_line (stop.ReadFault n)) status.ReadFault before.sinks.notes after.sinks.notes code) at told;
+            noted = subst (λ n. NotesLine (stop_line (stop.ReadFault n)) status.ReadFault before.sinks.notes after.sinks.notes code) at told;
           })
 
     -- ---- an item

@@ -10,7 +10,7 @@ use Rattle.reference_graph.specs.declared.extent.Extent.{Extent}
 use Rattle.reference_graph.specs.declared.extent.TheConstants.{PLACE_LIMIT, DEPTH_LIMIT, EMPTY, ONE_FIELD}
 use Rattle.reference_graph.specs.Graphs.{of_node, links_in, goes_on, is_endless}
 use Rattle.reference_graph.specs.Structures.{tags, depth, counted_tags, counted_depth, tags_of, depth_of}
-use Rattle.reference_graph.specs.Learning.{extent_of, joined, entry_extent, looked_up, links_extent, counted_extent, node_extent, Learned, IsStuck, IsSettled, IsSound, Keeps, Passes, final_extent, HasExtents, known}
+use Rattle.reference_graph.specs.Learning.{extent_of, extent_of_both, entry_extent, looked_up, links_extent, counted_extent, node_extent, Learned, IsStuck, IsSettled, IsSound, Keeps, Passes, final_extent, HasExtents, known}
 use Rattle.reference_graph.proofs.Chains.{ends_within, enough}
 use Rattle.reference_graph.proofs.Settling.{settled, node_settled, settled_later}
 
@@ -116,9 +116,9 @@ either false q h = h
 
 unknown_first : (table : List (Option Extent)) (p : Link → Bool) → ((l : Link) → looked_up table l ≡ None → p l ≡ true) → (l : Link) (ls : List Link) (all : Extent) →
     ((new : Extent) → links_extent table new ls ≡ None → list_any p ls ≡ true) →
-    (o : Option Extent) → looked_up table l ≡ o → option_and_then (λ (f : Extent). links_extent table (joined all f) ls) o ≡ None → (p l || list_any p ls) ≡ true
+    (o : Option Extent) → looked_up table l ≡ o → option_and_then (λ (f : Extent). links_extent table (extent_of_both all f) ls) o ≡ None → (p l || list_any p ls) ≡ true
 unknown_first table p f l ls all more None is h = ap (λ b. b || list_any p ls) (f l is)
-unknown_first table p f l ls all more (Some extent) is h = either (p l) (list_any p ls) (more (joined all extent) h)
+unknown_first table p f l ls all more (Some extent) is h = either (p l) (list_any p ls) (more (extent_of_both all extent) h)
 
 -- some link is one of which nothing is known
 unknown : (table : List (Option Extent)) (p : Link → Bool) → ((l : Link) → looked_up table l ≡ None → p l ≡ true) → (ls : List Link) (all : Extent) → links_extent table all ls ≡ None → list_any p ls ≡ true

@@ -10,7 +10,7 @@ use Rattle.reference_graph.specs.declared.extent.Extent.{Extent}
 use Rattle.reference_graph.specs.declared.extent.TheConstants.{PLACE_LIMIT, DEPTH_LIMIT, EMPTY, ONE_FIELD}
 use Rattle.reference_graph.specs.Graphs.{of_node, of_link, of_links, folded, links_in, goes_on}
 use Rattle.reference_graph.specs.Structures.{tags, depth, counted_tags, counted_depth}
-use Rattle.reference_graph.specs.Learning.{joined, with_count, entry_extent, looked_up, links_extent, counted_extent, node_extent, IsSettled, IsSound, known}
+use Rattle.reference_graph.specs.Learning.{extent_of_both, with_count, entry_extent, looked_up, links_extent, counted_extent, node_extent, IsSettled, IsSound, known}
 use Rattle.reference_graph.proofs.Chains.{ends_later, one_more}
 
 Table : Type 0
@@ -35,7 +35,7 @@ capped_next a p h = omega arith
 capped_deeper : (a d : ℕ) → a ≡ min d 7 → min (a + 1) 7 ≡ min (suc d) 7
 capped_deeper a d h = omega arith
 
-of_both : (a b : Extent) (p q d e : ℕ) → IsOf a p d → IsOf b q e → IsOf (joined a b) (p + q) (max d e)
+of_both : (a b : Extent) (p q d e : ℕ) → IsOf a p d → IsOf b q e → IsOf (extent_of_both a b) (p + q) (max d e)
 of_both a b p q d e x y = record { many = capped_sum a.places b.places p q x.many y.many; far = capped_max a.depth b.depth d e x.far y.far }
 
 of_group : (a : Extent) (p d : ℕ) → IsOf a p d → IsOf (with_count a) (suc p) (suc d)
@@ -80,12 +80,12 @@ module _ (graph : List Node) (table : List (Option Extent)) (k : ℕ) where
 
   first : AreSettled → (l : Link) (ls : List Link) (all total : Extent) (p d : ℕ) → IsOf all p d →
       ((new : Extent) (q e : ℕ) → IsOf new q e → links_extent table new ls ≡ Some total → AreOf ls total q e) →
-      (o : Option Extent) → looked_up table l ≡ o → option_and_then (λ (f : Extent). links_extent table (joined all f) ls) o ≡ Some total → AreOf (l ∷ ls) total p d
+      (o : Option Extent) → looked_up table l ≡ o → option_and_then (λ (f : Extent). links_extent table (extent_of_both all f) ls) o ≡ Some total → AreOf (l ∷ ls) total p d
   first settled l ls all total p d x more None is h = cc
   first settled l ls all total p d x more (Some extent) is h =
       let one : IsSettled k graph l extent = settled l extent is in
       also l ls total extent p d one
-      (more (joined all extent) (p + length (of_link tags graph (folded tags k graph) l)) (max d (of_link depth graph (folded depth k graph) l))
+      (more (extent_of_both all extent) (p + length (of_link tags graph (folded tags k graph) l)) (max d (of_link depth graph (folded depth k graph) l))
       (of_both all extent p (length (of_link tags graph (folded tags k graph) l)) d (of_link depth graph (folded depth k graph) l) x (part l extent one)) h)
 
   -- what is looked_up of links is so

@@ -17,8 +17,8 @@ abbrev pub empty : Extent
 empty = EMPTY
 
 -- The extent of two structures in order.
-abbrev pub joined : Extent → Extent → Extent
-joined a b = record { places = min (a.places + b.places) (PLACE_LIMIT + 1); depth = max a.depth b.depth }
+abbrev pub extent_of_both : Extent → Extent → Extent
+extent_of_both a b = record { places = min (a.places + b.places) (PLACE_LIMIT + 1); depth = max a.depth b.depth }
 
 -- The extent of a group with these entries.
 abbrev pub with_count : Extent → Extent
@@ -43,7 +43,7 @@ looked_up table (To i) = entry_extent (slice_get table i)
 -- the extent that a table gives for links after the extent so far
 abbrev pub links_extent : List (Option Extent) → Extent → List Link → Option Extent
 links_extent table all [] = Some all
-links_extent table all (l ∷ ls) = option_and_then (λ extent. links_extent table (joined all extent) ls) (looked_up table l)
+links_extent table all (l ∷ ls) = option_and_then (λ extent. links_extent table (extent_of_both all extent) ls) (looked_up table l)
 
 -- The extent of a node by that of its parts: one more place and level if it is a group.
 abbrev pub counted_extent : Option ℕ → Extent → Extent

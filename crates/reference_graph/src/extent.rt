@@ -1,5 +1,5 @@
 ghost use Rattle.std.specs.Prelude.{◌≡◌, ◌+◌, ◌<◌, nat_lt, ◌||◌};
-ghost use Rattle.reference_graph.specs.Learning.{extent_of, joined, with_count, is_over};
+ghost use Rattle.reference_graph.specs.Learning.{extent_of, extent_of_both, with_count, is_over};
 
 /// The most places, which are fields and counts, that a structure may have.
 pub const PLACE_LIMIT: u32 = 4096;
@@ -31,7 +31,7 @@ pub const ONE_FIELD: Extent = Extent {
 impl Extent {
     /// The extent of one structure after another.
     pub fn joined(self, other: Extent) -> Extent
-        ensures { result ≡ joined self other }
+        ensures { result ≡ extent_of_both self other }
     {
         Extent {
             places: self

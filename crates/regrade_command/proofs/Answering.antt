@@ -29,7 +29,7 @@ use Rattle.build_command.proofs.Answering.{note_whole, note_part}
 use Rattle.regrade_laws.specs.Regraded.{NoTemplate, NoFill, moved, regraded}
 use Rattle.regrade_laws.specs.Counts.{dropped, filled}
 use Rattle.regrade.specs.declared.regrading.Regraded.{Regraded}
-use Rattle.regrade_command.specs.Regrade.{Regrading, of_no_template, written_reply, lack_line, told_reply, rewritten_reply, body_reply, regrade_reply, refused_so, counted_verdict}
+use Rattle.regrade_command.specs.Regrade.{Regrading, of_no_template, written_reply, lack_line, reply_by, rewritten_reply, body_reply, regrade_reply, refused_so, counted_verdict}
 
 -- ---- a note
 
@@ -105,15 +105,15 @@ module _ (on : Regrading) (number : ℕ) (m : Msg) where
   rewritten_is it limit at told drops fills =
       ap (λ n. written_reply on.pair.to number it (misfit on.pair.to it.msg n)) at
       ∙ ap₂ (λ d f. written_reply on.pair.to number (record { msg = it.msg; dropped = d; filled = f }) (misfit on.pair.to it.msg (body_limit on.frame))) drops fills
-      ∙ sym (ap (told_reply on number m) told)
+      ∙ sym (ap (reply_by on number m) told)
 
   pub no_template_is : regraded on.pair.from on.pair.to m ≡ Err NoTemplate →
       rewritten_reply on number m ≡ refused_reply (refused_line number of_no_template)
-  no_template_is told = ap (told_reply on number m) told
+  no_template_is told = ap (reply_by on number m) told
 
   pub no_fill_is : (path : List Step) → regraded on.pair.from on.pair.to m ≡ Err (NoFill path) →
       rewritten_reply on number m ≡ refused_reply (lack_line on.pair.to number path (moved on.pair.from on.pair.to m))
-  no_fill_is path told = ap (told_reply on number m) told
+  no_fill_is path told = ap (reply_by on number m) told
 
 -- ---- a message that is written
 

@@ -20,11 +20,11 @@ use Rattle.regrade.specs.declared.ways.WayErr.{WayErr}
 use Rattle.regrade.specs.declared.ways.WayErr.TheVariants as err
 use Rattle.regrade.specs.Ways.{GivesWay}
 use Rattle.regrade_command.specs.Regrade.{FromTo, Regrading, IsRegradable}
-use Rattle.regrade_command.specs.Regrades.{paired, pair_judged, regraded_for, JudgesPair, JudgesPairAs, regrade_files, way_stop}
+use Rattle.regrade_command.specs.Regrades.{paired, regrade_check, regraded_for, JudgesPair, JudgesPairAs, regrade_files, way_stop}
 
 module _ (told : Option (List ℕ → Option (List ℕ))) (from to : List ℕ) (frame : ℕ) where
   pub from_stopped : (why : LoadStop) → LoadsChecked told from (Err why) → LoadsFiles (regrade_files from to frame) told (Err (stop_of role.From why))
-  from_stopped (Refused why) h = record { judges = λ contents same. sym (ap (λ f. regraded_for frame (pair_judged f (file_schema (contents to)))) (h contents same)); fails = tt; good = tt }
+  from_stopped (Refused why) h = record { judges = λ contents same. sym (ap (λ f. regraded_for frame (regrade_check f (file_schema (contents to)))) (h contents same)); fails = tt; good = tt }
   from_stopped Fault h = record { judges = λ contents same. tt; fails = tt; good = tt }
   from_stopped NoMemory h = record { judges = λ contents same. tt; fails = tt; good = tt }
 
@@ -32,7 +32,7 @@ module _ (told : Option (List ℕ → Option (List ℕ))) (from to : List ℕ) (
       LoadsFiles (regrade_files from to frame) told (Err (stop_of role.To why))
   to_stopped first (Refused why) h k = record {
     judges = λ contents same.
-        sym (ap (λ f. regraded_for frame (pair_judged f (file_schema (contents to)))) (h contents same) ∙ ap (λ f. regraded_for frame (pair_judged (Ok first) f)) (k contents same));
+        sym (ap (λ f. regraded_for frame (regrade_check f (file_schema (contents to)))) (h contents same) ∙ ap (λ f. regraded_for frame (regrade_check (Ok first) f)) (k contents same));
     fails = tt;
     good = tt;
   }
@@ -44,8 +44,8 @@ module _ (told : Option (List ℕ → Option (List ℕ))) (from to : List ℕ) (
     pair = record { from = first; to = second }
 
     both : (contents : List ℕ → Option (List ℕ)) → told ≡ Some contents →
-        pair_judged (file_schema (contents from)) (file_schema (contents to)) ≡ paired pair (way_of first second)
-    both contents same = ap (λ f. pair_judged f (file_schema (contents to))) (h contents same) ∙ ap (pair_judged (Ok first)) (k contents same)
+        regrade_check (file_schema (contents from)) (file_schema (contents to)) ≡ paired pair (way_of first second)
+    both contents same = ap (λ f. regrade_check f (file_schema (contents to))) (h contents same) ∙ ap (regrade_check (Ok first)) (k contents same)
 
     pub pair_loaded : (r : Result Regrading JobStop) → JudgesPairAs pair frame r → LoadsFiles (regrade_files from to frame) told r
     pair_loaded (Ok on) judged = record { judges = λ contents same. judged.0 ∙ sym (ap (regraded_for frame) (both contents same)); fails = tt; good = judged.1 }
@@ -100,7 +100,7 @@ regrade_good from to frame contents on h = by (file_schema (contents from)) (fil
     by_way first second one other (Err path) e k = cc
 
     by : (a b : Result WireSchema FileRefusal) → file_schema (contents from) ≡ a → file_schema (contents to) ≡ b →
-        Ok on ≡ regraded_for frame (pair_judged a b) → IsRegradable on.pair
+        Ok on ≡ regraded_for frame (regrade_check a b) → IsRegradable on.pair
     by (Ok first) (Ok second) e f k = by_way first second (file_checked (contents from) first e) (file_checked (contents to) second f) (way_of first second) refl k
     by (Ok first) (Err why) e f k = cc
     by (Err why) b e f k = cc

@@ -25,7 +25,7 @@ use Rattle.build_command.specs.Build.{body_limit, refused_reply}
 use Rattle.build_command.proofs.Buildable.{body_there}
 use Rattle.regrade_laws.specs.Regraded.{Refusal, NoTemplate, NoFill, moved, regraded}
 use Rattle.regrade_laws.specs.Counts.{dropped, filled}
-use Rattle.regrade_command.specs.Regrade.{Regrading, IsRegradable, IsRegraded, other_encoding, a_fault, no_template, no_fill, no_room, a_frame, written_reply, rewritten_as, lack_line, told_reply, body_reply, regrade_reply, IsRegradeReply, sums_line}
+use Rattle.regrade_command.specs.Regrade.{Regrading, IsRegradable, IsRegraded, other_encoding, a_fault, no_template, no_fill, no_room, a_frame, written_reply, rewritten_as, lack_line, reply_by, body_reply, regrade_reply, IsRegradeReply, sums_line}
 use Rattle.regrade_command.proofs.Lacking.{lack_leads}
 use Rattle.regrade_command.proofs.Answering.{right_encoding, wrong_encoding, message_read}
 use Rattle.regrade_command.proofs.Sizes.{regraded_parts}
@@ -52,7 +52,7 @@ module _ (on : Regrading) (number : ℕ) (item : Item) (good : IsRegradable on.p
         let leads = lack_leads on.pair.to path (moved on.pair.from on.pair.to m) told in
         no_fill same m path (lies, told) leads.0 leads.1 (ap (λ o. refused_reply (lack_line on.pair.to number path o)) leads.1)
 
-    told_there : (r : Result Msg Refusal) → regraded on.pair.from on.pair.to m ≡ r → IsRegraded on number item (told_reply on number m r)
+    told_there : (r : Result Msg Refusal) → regraded on.pair.from on.pair.to m ≡ r → IsRegraded on number item (reply_by on number m r)
     told_there (Ok n) e = frame_there n e (misfit on.pair.to n (body_limit on.frame)) refl
     told_there (Err NoTemplate) e = no_template same m (lies, e) refl
     told_there (Err (NoFill path)) e = lack_there path e
@@ -90,8 +90,8 @@ module _ (on : Regrading) (number : ℕ) (item : Item) (good : IsRegradable on.p
   right same = right_encoding on number item.encoding item.body same
 
   read_as : (m : Msg) → item.encoding ≡ encoding_of on.pair.from.order → Lays on.pair.from m item.body → (r : Result Msg Refusal) →
-      regraded on.pair.from on.pair.to m ≡ r → regrade_reply on number item ≡ told_reply on number m r
-  read_as m same lies r told = message_read on number item.encoding item.body m same good.from.placed lies ∙ ap (told_reply on number m) told
+      regraded on.pair.from on.pair.to m ≡ r → regrade_reply on number item ≡ reply_by on number m r
+  read_as m same lies r told = message_read on number item.encoding item.body m same good.from.placed lies ∙ ap (reply_by on number m) told
 
   fault_as : (f : Fault) → item.encoding ≡ encoding_of on.pair.from.order → FirstFault on.pair.from f item.body →
       regrade_reply on number item ≡ refused_reply (refused_line number (of_fault on.pair.from item.body f))
@@ -122,7 +122,7 @@ module _ (on : Regrading) (number : ℕ) (item : Item) (good : IsRegradable on.p
   frame_parts m n lies None = regraded_parts on.pair m item.body good lies
   frame_parts m n lies (Some why) = refused_parts (length item.body)
 
-  told_parts : (m : Msg) → Lays on.pair.from m item.body → (r : Result Msg Refusal) → HasParts (length item.body) (told_reply on number m r).verdict
+  told_parts : (m : Msg) → Lays on.pair.from m item.body → (r : Result Msg Refusal) → HasParts (length item.body) (reply_by on number m r).verdict
   told_parts m lies (Ok n) = frame_parts m n lies (misfit on.pair.to n (body_limit on.frame))
   told_parts m lies (Err NoTemplate) = refused_parts (length item.body)
   told_parts m lies (Err (NoFill path)) = refused_parts (length item.body)

@@ -127,15 +127,15 @@ abbrev pub rewritten_as : FromTo → Msg → Msg → Regraded
 rewritten_as pair m n = record { msg = n; dropped = dropped pair.from pair.to m; filled = filled pair.from pair.to m }
 
 -- the reply to a message that is rewritten so
-abbrev pub told_reply : Regrading → ℕ → Msg → Result Msg Refusal → Reply
-told_reply on number m (Ok n) =
+abbrev pub reply_by : Regrading → ℕ → Msg → Result Msg Refusal → Reply
+reply_by on number m (Ok n) =
     written_reply on.pair.to number (rewritten_as on.pair m n) (misfit on.pair.to n (body_limit on.frame))
-told_reply on number m (Err NoTemplate) = refused_reply (refused_line number of_no_template)
-told_reply on number m (Err (NoFill path)) = refused_reply (lack_line on.pair.to number path (moved on.pair.from on.pair.to m))
+reply_by on number m (Err NoTemplate) = refused_reply (refused_line number of_no_template)
+reply_by on number m (Err (NoFill path)) = refused_reply (lack_line on.pair.to number path (moved on.pair.from on.pair.to m))
 
 -- the reply to a message
 abbrev pub rewritten_reply : Regrading → ℕ → Msg → Reply
-rewritten_reply on number m = told_reply on number m (regraded on.pair.from on.pair.to m)
+rewritten_reply on number m = reply_by on number m (regraded on.pair.from on.pair.to m)
 
 -- the reply to a body that is read so
 abbrev pub body_reply : Regrading → ℕ → List ℕ → Result Msg Fault → Reply

@@ -22,10 +22,10 @@ paired pair (Err path) = Err (refused_as role.To (NotAnExtension path))
 
 -- The file of the messages that are read is judged whole before that of those that are written; where both are accepted, the later schema has to
 -- extend the earlier one.
-abbrev pub pair_judged : Result WireSchema FileRefusal → Result WireSchema FileRefusal → Result FromTo RefusedFile
-pair_judged (Err why) to = Err (refused_as role.From why)
-pair_judged (Ok from) (Err why) = Err (refused_as role.To why)
-pair_judged (Ok from) (Ok to) = paired (record { from = from; to = to }) (way_of from to)
+abbrev pub regrade_check : Result WireSchema FileRefusal → Result WireSchema FileRefusal → Result FromTo RefusedFile
+regrade_check (Err why) to = Err (refused_as role.From why)
+regrade_check (Ok from) (Err why) = Err (refused_as role.To why)
+regrade_check (Ok from) (Ok to) = paired (record { from = from; to = to }) (way_of from to)
 
 -- the same, for frames of so many bytes
 abbrev pub regraded_for : ℕ → Result FromTo RefusedFile → Result Regrading RefusedFile
@@ -34,7 +34,7 @@ regraded_for frame (Err file) = Err file
 
 -- the files of these names are judged so
 abbrev pub JudgesPair : List ℕ → List ℕ → ℕ → (List ℕ → Option (List ℕ)) → Result Regrading RefusedFile → Type 0
-JudgesPair from to frame contents judged = judged ≡ regraded_for frame (pair_judged (file_schema (contents from)) (file_schema (contents to)))
+JudgesPair from to frame contents judged = judged ≡ regraded_for frame (regrade_check (file_schema (contents from)) (file_schema (contents to)))
 
 -- how a pair without a way is refused, unless it ran out of memory
 abbrev pub way_stop : WayErr → JobStop

@@ -1,5 +1,5 @@
 ghost use Rattle.printers.specs.Prints.{Prints};
-ghost use Rattle.replies.specs.Outside.{Told};
+ghost use Rattle.replies.specs.Outside.{NotesLine};
 ghost use Rattle.sbe_base.specs.Writes.{Writes};
 ghost use Rattle.command_steps.specs.Ends.{done_status};
 ghost use Rattle.regrade_command.specs.Regrade.{sums_line};
@@ -11,7 +11,7 @@ use sbe_base::{Sink, Status, WriteFault};
 
 /// Notes the last line of a run that read all of its input, and answers the status of the run.
 pub(crate) fn tell_sums<N: Sink>(kept: &Kept, notes: &mut N) -> Status
-    ensures { Told (sums_line kept.now) (done_status kept.now.refused) (N.state notes.old) (N.state notes.new) result }
+    ensures { NotesLine (sums_line kept.now) (done_status kept.now.refused) (N.state notes.old) (N.state notes.new) result }
 {
     match note_sums(kept, notes) {
         Ok(()) => done(kept),

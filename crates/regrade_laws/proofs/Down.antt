@@ -33,7 +33,7 @@ use Rattle.sbe_wire.specs.Placed.{IsPlaced}
 use Rattle.sbe_wire.proofs.Messages.{named_is}
 use Rattle.sbe_wire.specs.declared.mode.Mode.{Mode}
 use Rattle.sbe_wire.specs.Versions.{acting, is_alive, mode_of, form_of}
-use Rattle.sbe_wire.specs.Lays.{Joined, JoinedBoth, FieldsLay, DataLays, EntryLays, TailLays, GroupsLay, GroupLays, Lays}
+use Rattle.sbe_wire.specs.Lays.{IsConcatenation, IsConcatenationOfBoth, FieldsLay, DataLays, EntryLays, TailLays, GroupsLay, GroupLays, Lays}
 use Rattle.version_laws.specs.Differ.{differ, is_old, group_since}
 use Rattle.version_laws.specs.Plain.{AllOf}
 use Rattle.version_laws.specs.Projected.{projected, projected_from, lifted, with_block, each_entry, projected_list, old_field, old_part, projected_block, projected_groups, projected_group}
@@ -220,14 +220,14 @@ module _ (mode : Mode) (version : ℕ) (alive : (since : ℕ) → is_old version
   fields_lie e (f ∷ fs) (v ∷ vs) b lies =
       (by_bool _ (is_old version f.since) (λ o. take_it _ _ _ o (shows_there mode.order mode.known f.kind v _ (taken _ _ _ (alive f.since o) lies.0))) (λ o. pass_it _ _ _ o tt), fields_lie (end_past e f.offset f.kind) fs vs b lies.1)
 
-  parts_lie : (ps : List DataField) (vs : List DataVal) (b : List ℕ) → JoinedBoth (DataLays mode.order mode.version) ps vs b → ThereList part_or_fill (old_part version) ps vs
+  parts_lie : (ps : List DataField) (vs : List DataVal) (b : List ℕ) → IsConcatenationOfBoth (DataLays mode.order mode.version) ps vs b → ThereList part_or_fill (old_part version) ps vs
   parts_lie [] vs b lies = tt
   parts_lie (p ∷ ps) [] b lies = tt
   parts_lie (p ∷ ps) (v ∷ vs) b lies =
       (by_bool _ (is_old version p.since) (λ o. take_it _ _ _ o (let is = taken _ _ _ (alive p.since o) lies.3 in λ q. ap (part_or_fill q) is.1 ∙ ap Ok (sym is.1))) (λ o. pass_it _ _ _ o tt), parts_lie ps vs lies.1 lies.4)
 
   entries_lie : (level : Level) (k : ℕ) → ((e : Block) (b : List ℕ) → TailLays mode level e b → ThereTail version level e) → (es : List Block) (b : List ℕ) →
-      Joined (EntryLays (λ entry e. TailLays mode level entry e) (form_of mode level) k) es b → AllOf (λ e. ThereBlock version level e) es
+      IsConcatenation (EntryLays (λ entry e. TailLays mode level entry e) (form_of mode level) k) es b → AllOf (λ e. ThereBlock version level e) es
   entries_lie level k tail [] b lies = tt
   entries_lie level k tail (e ∷ es) b lies =
       ((fields_lie 0 (out-Level level).fields (out-Block e).fields (take k lies.0) lies.3.1.1, tail e (drop k lies.0) lies.3.2), entries_lie level k tail es lies.1 lies.4)

@@ -43,6 +43,6 @@ pub record Calm (old new : Streams) : Type 0 where
   pub notes : new.sinks.notes.faults ≡ old.sinks.notes.faults
 
 -- A line is noted and this status answered, or the write failed.
-pub data Told (line : List ℕ) (status : Status) (old new : Object (List ℕ)) (code : Status) : Type 0 where
-  noted : code ≡ status → Appends old.told new.told line → new.faults ≡ old.faults → Told line status old new code
-  failed : code ≡ answer.WriteFault → AppendsPart old.told new.told line → Failed old new → Told line status old new code
+pub data NotesLine (line : List ℕ) (status : Status) (old new : Object (List ℕ)) (code : Status) : Type 0 where
+  noted : code ≡ status → Appends old.told new.told line → new.faults ≡ old.faults → NotesLine line status old new code
+  failed : code ≡ answer.WriteFault → AppendsPart old.told new.told line → Failed old new → NotesLine line status old new code

@@ -10,7 +10,7 @@ use Rattle.command_steps.specs.Splits.{is_read, PieceEnd, End, EndInside, HeadFa
 use Rattle.replies.specs.Reply.{Written, Reply, written_of, then_written}
 use Rattle.command_steps.specs.Ends.{Outcome, end_status}
 use Rattle.sbe_cli.specs.Report.{JobReport, JudgedReport, CommandReport, Report}
-use Rattle.replies.specs.Outside.{Sinks, Wrote, Breaks, Told, noted, failed}
+use Rattle.replies.specs.Outside.{Sinks, Wrote, Breaks, NotesLine, noted, failed}
 use Rattle.sbe_cli.specs.Outside.{Outside}
 use Rattle.sbe_cli.specs.Jobs.{Job, answering_of, reading_of, IsReadAs, reads_input, spares_memory}
 use Rattle.sbe_cli.specs.Opens.{JudgedAs}
@@ -190,14 +190,14 @@ module _ (words : List (List ℕ)) (old new : Outside) (command : Command) (is_c
           apart_want : ◌≡◌ {A = Status} status.ReadFault status.NoMemory → ⊥
           apart_want k = cc
 
-          ended_apart : {P : Type 0} {line : List ℕ} (end : PieceEnd) (refused : ℕ) → Told line (end_status end refused) course.mid.sinks.notes new.streams.sinks.notes code → P
+          ended_apart : {P : Type 0} {line : List ℕ} (end : PieceEnd) (refused : ℕ) → NotesLine line (end_status end refused) course.mid.sinks.notes new.streams.sinks.notes code → P
           ended_apart end refused told = elim told [
             | noted c a k ↦ absurd (end_no_read end refused (sym is ∙ c))
             | failed c p f ↦ absurd (apart_write (sym is ∙ c))
           ]
 
           stalled : (s : Stalls on (running course.kept course.ahead) course.mid new.streams course.progress.left code) →
-              Told (read_line (given on (running course.kept course.ahead) old.streams course.mid new.streams input course.progress code s)) status.ReadFault course.mid.sinks.notes new.streams.sinks.notes code → StandsAtRead words old new contents
+              NotesLine (read_line (given on (running course.kept course.ahead) old.streams course.mid new.streams input course.progress code s)) status.ReadFault course.mid.sinks.notes new.streams.sinks.notes code → StandsAtRead words old new contents
           stalled s told = elim told [
             | noted c a k ↦ (
               given on (running course.kept course.ahead) old.streams course.mid new.streams input course.progress code s,

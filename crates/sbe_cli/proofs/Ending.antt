@@ -11,7 +11,7 @@ use Rattle.sbe_cli.specs.Report.{CommandReport, Report, only_noted}
 use Rattle.sbe_cli.specs.Stops.{unopened_line, usage_line}
 use Rattle.schema_files.specs.Refusals.{refusal_line, refusal_status}
 use Rattle.sbe_base.specs.Objects.{Object, Failed}
-use Rattle.replies.specs.Outside.{Streams, Told, noted, failed}
+use Rattle.replies.specs.Outside.{Streams, NotesLine, noted, failed}
 use Rattle.sbe_cli.specs.Outside.{Outside}
 use Rattle.command_steps.specs.Steps.{IsReported, Drains}
 use Rattle.sbe_cli.specs.Jobs.{answering_of}
@@ -63,7 +63,7 @@ module _ (words : List (List ℕ)) (old new : Outside) where
           let same : only_noted line last ≡ outcome = one_report contents bytes words (only_noted line last) outcome (is contents bytes known) report in
           (nothing_out old new outcome output, inl (subst (λ (o : Outcome). AppendsPart old.streams.sinks.notes.told new.streams.sinks.notes.told o.notes) same part))
 
-      pub noted_early : (code : Status) → IsReported last → (HasRead last → ⊥) → new.files ≡ old.files → Told line last old.streams.sinks.notes new.streams.sinks.notes code → Runs words old new code
+      pub noted_early : (code : Status) → IsReported last → (HasRead last → ⊥) → new.files ≡ old.files → NotesLine line last old.streams.sinks.notes new.streams.sinks.notes code → Runs words old new code
       noted_early code r unread files told = elim told [
         | noted c a k ↦ subst (λ (s : Status). Runs words old new s) (sym c)
             (runs_reported words old new last r (λ contents bytes known. (only_noted line last, is contents bytes known, refl, record { output = no_output output; notes = a }))
@@ -78,7 +78,7 @@ module _ (words : List (List ℕ)) (old new : Outside) where
     file_fronts role named f output part contents bytes outcome known report = (nothing_out old new outcome output, inr ([], outcome.notes, unopened_line (unopened.FileFault role), refl, inl (f, (role, named, refl)), part))
 
     pub file_failed : (code : Status) (role : FileRole) → NamesLoaded words old new role → Failed old.files new.files → new.streams.sinks.output ≡ old.streams.sinks.output →
-        Told (unopened_line (unopened.FileFault role)) status.FileFault old.streams.sinks.notes new.streams.sinks.notes code → Runs words old new code
+        NotesLine (unopened_line (unopened.FileFault role)) status.FileFault old.streams.sinks.notes new.streams.sinks.notes code → Runs words old new code
     file_failed code role named f output told = elim told [
       | noted c a k ↦ subst (λ (s : Status). Runs words old new s) (sym c)
           (runs_file words old new f (record { role = role; named = named; input = input; wrote = record { output = no_output output; notes = a } })
@@ -89,7 +89,7 @@ module _ (words : List (List ℕ)) (old new : Outside) where
 
     -- the words are no command
     pub usage_early : (code : Status) → command_of words ≡ None → new.files ≡ old.files → new.streams.sinks.output ≡ old.streams.sinks.output →
-        Told usage_line status.Usage old.streams.sinks.notes new.streams.sinks.notes code → Runs words old new code
+        NotesLine usage_line status.Usage old.streams.sinks.notes new.streams.sinks.notes code → Runs words old new code
     usage_early code none files output told =
         noted_early usage_line status.Usage (λ contents bytes known. subst (λ (c : Option Command). CommandReport c contents bytes (only_noted usage_line status.Usage)) (sym none) refl)
         output code tt (λ h. elim h [ inl e ↦ cc | inr e ↦ cc ]) files told

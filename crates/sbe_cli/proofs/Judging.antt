@@ -1,7 +1,7 @@
 -- Each command's files are judged in one way, and each piece of the input of an accepted job has exactly one reply.
 use Rattle.std.proofs.Common.{◌≡◌, ℕ, List, Option, Result, Ok, Err, refl, sym, ap, ◌∙◌, subst}
 use Rattle.schema_files.specs.Judged.{file_schema, JudgesSchemas}
-use Rattle.command_files.specs.Files.{judged_in}
+use Rattle.command_files.specs.Files.{in_role}
 use Rattle.schema_files.specs.declared.files.FileRole.TheVariants as role
 use Rattle.schema_files.specs.declared.files.RefusedFile.{RefusedFile}
 use Rattle.schema_files.proofs.Judging.{schemas_once, schemas_some, schemas_good}
@@ -11,15 +11,15 @@ use Rattle.command_words.specs.declared.forms.Form.TheVariants as form
 use Rattle.command_words.specs.Words.{file_at}
 use Rattle.command_steps.proofs.Folding.{AnswersOnce}
 use Rattle.check_command.proofs.Checked.{check_answers}
-use Rattle.coverage_command.specs.Coverage.{both_judged}
+use Rattle.coverage_command.specs.Coverage.{coverage_check}
 use Rattle.coverage_command.proofs.Told.{coverage_answers}
-use Rattle.compat_command.specs.Compat.{two_judged}
+use Rattle.compat_command.specs.Compat.{versions_check}
 use Rattle.compat_command.proofs.Compared.{compat_answers}
 use Rattle.dump_command.proofs.Replied.{dump_answers}
 use Rattle.build_command.specs.Builds.{built_for}
 use Rattle.build_command.proofs.Replied.{build_answers, build_checked}
 use Rattle.map_files.specs.Maps.{file_map}
-use Rattle.fixcheck_command.specs.FixCheck.{tags_judged}
+use Rattle.fixcheck_command.specs.FixCheck.{tags_check}
 use Rattle.fixcheck_command.proofs.Replied.{fixcheck_answers}
 use Rattle.tofix_command.specs.Bridges.{JudgesTranslating, bridge_of}
 use Rattle.tofix_command.proofs.Judging.{translating_once, translating_some, translating_good}
@@ -27,10 +27,10 @@ use Rattle.tofix_replies.proofs.Replied.{tofix_answers}
 use Rattle.raw_steps.proofs.Replied.{raw_answers}
 use Rattle.selftest_command.specs.Tests.{tested_by}
 use Rattle.selftest_command.proofs.Tested.{selftest_answers}
-use Rattle.tosbe_command.specs.Bridges.{bridge_judged}
+use Rattle.tosbe_command.specs.Bridges.{bridge_check}
 use Rattle.tosbe_command.proofs.Loaded.{bridge_good}
 use Rattle.tosbe_command.proofs.Replied.{tosbe_answers}
-use Rattle.regrade_command.specs.Regrades.{pair_judged, regraded_for}
+use Rattle.regrade_command.specs.Regrades.{regrade_check, regraded_for}
 use Rattle.regrade_command.proofs.Loaded.{regrade_good}
 use Rattle.regrade_command.proofs.Replied.{regrade_answers}
 use Rattle.sbe_cli.specs.Jobs as jobs
@@ -75,34 +75,34 @@ module _ {X : Type 0} (result : Result X RefusedFile) (make : X → Job) (good :
 
 -- One line a form.
 judging_by : (form : Form) (command : Command) (contents : List ℕ → Option (List ℕ)) → IsJudging ((commanding_by form command).files.AreJudged contents)
-judging_by form.Check command contents = computed (judged_in role.Schema (file_schema (contents (file_at command 0)))) jobs.Check (λ schema h. check_answers schema)
+judging_by form.Check command contents = computed (in_role role.Schema (file_schema (contents (file_at command 0)))) jobs.Check (λ schema h. check_answers schema)
 judging_by form.Coverage command contents =
-    computed (both_judged (file_schema (contents (file_at command 0))) (file_map (contents (file_at command 1)))) jobs.Coverage (λ pair h. coverage_answers pair)
+    computed (coverage_check (file_schema (contents (file_at command 0))) (file_map (contents (file_at command 1)))) jobs.Coverage (λ pair h. coverage_answers pair)
 judging_by form.Compat command contents =
-    computed (two_judged (file_schema (contents (file_at command 0))) (file_schema (contents (file_at command 1)))) jobs.Compat (λ pair h. compat_answers pair)
+    computed (versions_check (file_schema (contents (file_at command 0))) (file_schema (contents (file_at command 1)))) jobs.Compat (λ pair h. compat_answers pair)
 judging_by form.Dump command contents =
     made (JudgesSchemas contents (file_at command 0) command.also) (λ schemas. jobs.Dump schemas command.limits)
     (schemas_once contents (file_at command 0) command.also) (schemas_some contents (file_at command 0) command.also)
     (λ schemas h. dump_answers schemas command.limits (schemas_good contents (file_at command 0) command.also schemas h))
 judging_by form.Build command contents =
-    computed (built_for command.limits.frame (judged_in role.Schema (file_schema (contents (file_at command 0))))) (λ building. jobs.Build building command.limits.input)
+    computed (built_for command.limits.frame (in_role role.Schema (file_schema (contents (file_at command 0))))) (λ building. jobs.Build building command.limits.input)
     (λ building h. build_answers building command.limits.input (build_checked (file_at command 0) command.limits.frame contents building h))
 judging_by form.FixCheck command contents =
-    computed (tags_judged (judged_in role.Map (file_map (contents (file_at command 0))))) (λ tags. jobs.FixCheck tags command.limits) (λ tags h. fixcheck_answers tags command.limits)
+    computed (tags_check (in_role role.Map (file_map (contents (file_at command 0))))) (λ tags. jobs.FixCheck tags command.limits) (λ tags h. fixcheck_answers tags command.limits)
 judging_by form.ToFix command contents =
     made (JudgesTranslating (tofix_words command) contents) (λ translating. jobs.ToFix translating command.limits)
     (translating_once (tofix_words command) contents) (translating_some (tofix_words command) contents)
     (λ translating h. tofix_answers (bridge_of translating) command.limits (translating_good (tofix_words command) contents translating h))
 judging_by form.ToSbe command contents =
-    computed (bridge_judged command.limits.frame (file_schema (contents (file_at command 0))) (file_map (contents (file_at command 1))))
+    computed (bridge_check command.limits.frame (file_schema (contents (file_at command 0))) (file_map (contents (file_at command 1))))
     (λ bridge. jobs.ToSbe bridge command.limits) (λ bridge h. tosbe_answers bridge command.limits (bridge_good (file_at command 0) (file_at command 1) command.limits.frame contents bridge h))
 judging_by form.SelfTest command contents =
-    computed (tested_by (trial_of command) (judged_in role.Schema (file_schema (contents (file_at command 0))))) jobs.SelfTest (λ test h. selftest_answers test)
+    computed (tested_by (trial_of command) (in_role role.Schema (file_schema (contents (file_at command 0))))) jobs.SelfTest (λ test h. selftest_answers test)
 judging_by form.Regrade command contents =
-    computed (regraded_for command.limits.frame (pair_judged (file_schema (contents (file_at command 0))) (file_schema (contents (file_at command 1)))))
+    computed (regraded_for command.limits.frame (regrade_check (file_schema (contents (file_at command 0))) (file_schema (contents (file_at command 1)))))
     (λ on. jobs.Regrade on command.limits) (λ on h. regrade_answers on command.limits (regrade_good (file_at command 0) (file_at command 1) command.limits.frame contents on h))
 judging_by form.RawFrame command contents =
-    computed (tags_judged (judged_in role.Map (file_map (contents (file_at command 0))))) (λ tags. jobs.RawFrame tags command.limits) (λ tags h. raw_answers tags command.limits)
+    computed (tags_check (in_role role.Map (file_map (contents (file_at command 0))))) (λ tags. jobs.RawFrame tags command.limits) (λ tags h. raw_answers tags command.limits)
 
 pub judging : (command : Command) (contents : List ℕ → Option (List ℕ)) → IsJudging (Judges command contents)
 judging command contents = judging_by command.form command contents

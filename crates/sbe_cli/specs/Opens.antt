@@ -6,7 +6,7 @@ use Rattle.command_steps.specs.Steps.{Moment, opened}
 use Rattle.sbe_cli.specs.Jobs.{Job, IsReadAs, IsReady, Judges, HasFile, loads_of}
 use Rattle.sbe_cli.specs.Stops.{unopened_line, unopened_status}
 use Rattle.sbe_base.specs.Objects.{Failed}
-use Rattle.replies.specs.Outside.{Told}
+use Rattle.replies.specs.Outside.{NotesLine}
 use Rattle.sbe_cli.specs.Outside.{Desk, IsLast}
 use Rattle.schema_files.specs.declared.files.FileRole.{FileRole}
 use Rattle.schema_files.specs.declared.files.RefusedFile.{RefusedFile}
@@ -29,7 +29,7 @@ JudgedAs command before judged = (contents : List ℕ → Option (List ℕ)) →
 
 -- this is noted, and its status answered, or the write failed
 abbrev pub NotesWhy : Unopened → Desk → Desk → Status → Type 0
-NotesWhy why before after code = Told (unopened_line why) (unopened_status why) before.notes after.notes code
+NotesWhy why before after code = NotesLine (unopened_line why) (unopened_status why) before.notes after.notes code
 
 -- A file is refused, the files failed, or it is out of memory. The file that is reported is the last one that was
 -- loaded.

@@ -16,7 +16,7 @@ ghost use Rattle.replies.specs.Reply.{none_written};
 ghost use Rattle.command_steps.specs.Ends.{closed};
 ghost use Rattle.sbe_cli.specs.Report.{Report, JobReport, only_noted};
 ghost use Rattle.sbe_cli.specs.Jobs.{answering_of, Check, Compat, Dump, Build};
-ghost use Rattle.compat_command.specs.Compat.{two_judged};
+ghost use Rattle.compat_command.specs.Compat.{versions_check};
 ghost use Rattle.dump_lines.specs.declared.schemas.Schemas.{Schemas};
 ghost use Rattle.build_command.specs.Builds.{Building};
 ghost use Rattle.sbe_cli.specs.Rows.{so_far, only_output, two_pieces, ping_line, six_lines, two_way, one_way, other_kind, refused_second, refused_xml};
@@ -66,8 +66,8 @@ pub fn no_files()
 
 /// The older file is checked as a whole before the newer one.
 pub fn first_refusal()
-    ensures older { (why later : FileRefusal) → two_judged (Err why) (Err later) ≡ Err (refused_as role.Old why) }
-    ensures newer { (schema : WireSchema) (why : FileRefusal) → two_judged (Ok schema) (Err why) ≡ Err (refused_as role.New why) }
+    ensures older { (why later : FileRefusal) → versions_check (Err why) (Err later) ≡ Err (refused_as role.Old why) }
+    ensures newer { (schema : WireSchema) (why : FileRefusal) → versions_check (Ok schema) (Err why) ≡ Err (refused_as role.New why) }
 {}
 
 /// A schema in XML.

@@ -1,7 +1,7 @@
 ghost use Rattle.std.specs.Prelude.{◌≡◌};
 ghost use Rattle.sbe_base.specs.Writes.{Writes};
 ghost use Rattle.printers.specs.Prints.{Prints};
-ghost use Rattle.replies.specs.Outside.{Told};
+ghost use Rattle.replies.specs.Outside.{NotesLine};
 ghost use Rattle.sbe_cli.specs.Stops.{unopened_line, unopened_status};
 ghost use Rattle.sbe_cli.specs.declared.unopened.Unopened.TheVariants as unopened;
 
@@ -36,7 +36,7 @@ impl Unopened {
 /// Notes why the run ends, and returns its status. Allocates nothing.
 #[inline(never)]
 pub fn tell<N: Sink>(why: &Unopened, notes: &mut N) -> Status
-    ensures { Told (unopened_line why.now) (unopened_status why.now) (N.state notes.old) (N.state notes.new) result }
+    ensures { NotesLine (unopened_line why.now) (unopened_status why.now) (N.state notes.old) (N.state notes.new) result }
 {
     match note(why, notes) {
         Ok(()) => why.status(),

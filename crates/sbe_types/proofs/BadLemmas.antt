@@ -22,7 +22,7 @@ use Rattle.sbe_types.specs.Numbers.{number_of, prim_width}
 use Rattle.sbe_types.specs.Places.{width}
 use Rattle.sbe_types.specs.Shown.{admits, shown_element, shown_number}
 use Rattle.sbe_types.specs.Shows.{is_ranged, is_text_byte, text_value, EndsText, Shows, ShowsText, ShowsElements, ShowsLeaf}
-use Rattle.sbe_types.specs.LeafBad.{unshown, stopped_at, text_bad, elements_bad, shape_bad, leaf_bad, told}
+use Rattle.sbe_types.specs.LeafBad.{unshown, stopped_at, text_bad, elements_bad, shape_bad, leaf_bad, fault_unless}
 use Rattle.sbe_types.proofs.TextLemmas.{Stops, splits, passes, stops, fronts}
 
 untrue : ◌≡◌ {A = Bool} false true → ⊥

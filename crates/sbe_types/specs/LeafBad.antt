@@ -46,6 +46,6 @@ abbrev pub leaf_bad : Order → LeafOf → List ℕ → Option LeafFault
 leaf_bad order leaf b = shape_bad order leaf.shape leaf b
 
 -- the result that `true` or `false` and the fault slot encode
-abbrev pub told : Bool → LeafFault → Option LeafFault
-told true fault = None
-told false fault = Some fault
+abbrev pub fault_unless : Bool → LeafFault → Option LeafFault
+fault_unless true fault = None
+fault_unless false fault = Some fault

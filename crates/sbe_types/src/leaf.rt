@@ -2,7 +2,7 @@ ghost use Rattle.std.specs.Prelude.{◌≡◌, ◌||◌, length};
 ghost use Rattle.std.specs.Result.{result_err};
 ghost use Rattle.sbe_types.specs.declared.kind.Kind.{Leaf as LeafKind};
 ghost use Rattle.sbe_types.specs.declared.kind.LeafShape.TheVariants.{Number};
-ghost use Rattle.sbe_types.specs.LeafBad.{elements_bad, leaf_bad, text_bad, told, unshown};
+ghost use Rattle.sbe_types.specs.LeafBad.{elements_bad, leaf_bad, text_bad, fault_unless, unshown};
 ghost use Rattle.sbe_types.specs.Numbers.{number_of, prim_width};
 ghost use Rattle.sbe_types.specs.Places.{width};
 ghost use Rattle.sbe_types.specs.Shown.{admits, is_null, shown_element, shown_number};
@@ -74,7 +74,7 @@ pub fn leaf_reads(order: Order, leaf: &Leaf, bytes: &[u8]) -> Result<(), LeafFau
 pub fn leaf_judge(order: Order, leaf: &Leaf, bytes: &[u8], out: &mut LeafFault) -> bool
     requires wide { length bytes.now ≡ width (LeafKind leaf.now) }
     requires single { leaf.now.shape ≡ Number → leaf.now.length ≡ 1 }
-    ensures { told result out.new ≡ leaf_bad order leaf.now bytes.now }
+    ensures { fault_unless result out.new ≡ leaf_bad order leaf.now bytes.now }
 {
     match leaf.shape {
         LeafShape::Number => judge_number(order, leaf, bytes, out),
@@ -87,7 +87,7 @@ pub fn leaf_judge(order: Order, leaf: &Leaf, bytes: &[u8], out: &mut LeafFault) 
 /// Checks a single number.
 fn judge_number(order: Order, leaf: &Leaf, bytes: &[u8], out: &mut LeafFault) -> bool
     requires { length bytes.now ≡ prim_width leaf.now.prim }
-    ensures { let number = number_of order leaf.now.prim bytes.now in told result out.new ≡ unshown 0 number (shown_number leaf.now number) }
+    ensures { let number = number_of order leaf.now.prim bytes.now in fault_unless result out.new ≡ unshown 0 number (shown_number leaf.now number) }
 {
     let number = get_num(order, leaf.prim, bytes);
     if leaf.is_null(number) || leaf.admits(number) {
@@ -105,7 +105,7 @@ fn judge_number(order: Order, leaf: &Leaf, bytes: &[u8], out: &mut LeafFault) ->
 #[tactic(auto, using(crate::proofs::BadLemmas::text_start))]
 fn judge_text(leaf: &Leaf, bytes: &[u8], out: &mut LeafFault) -> bool
     requires { is_ranged leaf.now.shape ≡ true }
-    ensures { told result out.new ≡ text_bad leaf.now bytes.now }
+    ensures { fault_unless result out.new ≡ text_bad leaf.now bytes.now }
 {
     for (at, byte) in bytes.iter().enumerate() {
         if *byte == 0 {
@@ -128,7 +128,7 @@ fn judge_text(leaf: &Leaf, bytes: &[u8], out: &mut LeafFault) -> bool
 #[tactic(auto, using(crate::proofs::BadLemmas::room, crate::proofs::BadLemmas::left, crate::proofs::BadLemmas::elements_more, crate::proofs::BadLemmas::elements_end))]
 fn judge_elements(order: Order, leaf: &Leaf, bytes: &[u8], out: &mut LeafFault) -> bool
     requires { length bytes.now ≡ prim_width leaf.now.prim * leaf.now.length }
-    ensures { told result out.new ≡ elements_bad order leaf.now 0 leaf.now.length bytes.now }
+    ensures { fault_unless result out.new ≡ elements_bad order leaf.now 0 leaf.now.length bytes.now }
 {
     let wide = leaf.prim.width();
     let mut rest = bytes;
@@ -144,7 +144,7 @@ fn judge_elements(order: Order, leaf: &Leaf, bytes: &[u8], out: &mut LeafFault) 
 /// Checks element `at` of an array.
 fn judge_element(order: Order, leaf: &Leaf, at: usize, bytes: &[u8], out: &mut LeafFault) -> bool
     requires { length bytes.now ≡ prim_width leaf.now.prim }
-    ensures { let number = number_of order leaf.now.prim bytes.now in told result out.new ≡ unshown at number (shown_element leaf.now number) }
+    ensures { let number = number_of order leaf.now.prim bytes.now in fault_unless result out.new ≡ unshown at number (shown_element leaf.now number) }
 {
     let number = get_num(order, leaf.prim, bytes);
     if leaf.is_null(number) || leaf.admits(number) {

@@ -8,9 +8,9 @@ use Rattle.sbe_wire.specs.declared.codes.FCode.TheVariants as code
 use Rattle.std.specs.Bool.{MatchBool}
 use Rattle.sbe_types.specs.declared.path.Step.{Step}
 use Rattle.sbe_types.specs.declared.path.Step.TheVariants as way
-use Rattle.sbe_wire.specs.Lays.{Joined, JoinedBoth}
+use Rattle.sbe_wire.specs.Lays.{IsConcatenation, IsConcatenationOfBoth}
 use Rattle.sbe_wire.specs.Faults.{Fault, shifted, under, fault_at, FaultAfter, TooShort, Under, TimesFault, EachFault}
-use Rattle.sbe_wire.specs.Reading.{Reader, ◌>>=◌, later, inside, and_then, then_read, nothing, and_judged, read_judged, bytes_or, bytes_read, read_in, times_read, each_read, then_all}
+use Rattle.sbe_wire.specs.Reading.{Reader, ◌>>=◌, later, inside, and_then, then_read, nothing, and_check, read_and_check, bytes_or, bytes_read, read_in, times_read, each_read, then_all}
 use Rattle.sbe_wire.specs.Agree.{Reads, Judges}
 
 -- ---- answers
@@ -247,7 +247,7 @@ none_read {X} = record {
 
 -- the items of a group's entries
 abbrev pub Times : {X : Type 0} → (X → List ℕ → Type 0) → ℕ → List X → List ℕ → Type 0
-Times R n xs b = (length xs ≡ n) × Joined R xs b
+Times R n xs b = (length xs ≡ n) × IsConcatenation R xs b
 
 times_to : {X : Type 0} (R : X → List ℕ → Type 0) (n : ℕ) (xs : List X) (b : List ℕ) → After R (λ x. MadeOf (λ ys. x ∷ ys) (Times R n)) xs b → Times R (suc n) xs b
 times_to {X} R n xs b h =
@@ -265,7 +265,7 @@ times {X} p R F i zero reads =
     restated (λ b. Ok ([], b)) (λ (xs : List X) b. (xs ≡ []) × (b ≡ [])) (Times R zero) (λ _ _. ⊥) (TimesFault F R i zero)
     (λ xs b h. subst (λ ys. Times R zero ys b) (sym h.0) (refl, h.1)) (λ xs b h. no_items xs b h.0 h.1) (λ f b h. h) (λ f b h. h) none_read
   where
-    no_items : (xs : List X) (b : List ℕ) → length xs ≡ 0 → Joined R xs b → (xs ≡ []) × (b ≡ [])
+    no_items : (xs : List X) (b : List ℕ) → length xs ≡ 0 → IsConcatenation R xs b → (xs ≡ []) × (b ≡ [])
     no_items [] b h k = (refl, k)
     no_items (x ∷ xs) b h k = absurd (omega (arith, h))
 times {X} p R F i (suc n) reads =
@@ -275,31 +275,31 @@ times {X} p R F i (suc n) reads =
     (stepped (way.Entry i) p R F (reads (omega arith)))
     (λ x front h. made (times_read p (suc i) n) (λ xs. x ∷ xs) (Times R n) (TimesFault F R (suc i) n) (times p R F (suc i) n (λ some. reads (omega arith)))))
 
-each_to : {X Y : Type 0} (R : X → Y → List ℕ → Type 0) (x : X) (xs : List X) (ys : List Y) (b : List ℕ) → After (R x) (λ y. MadeOf (λ zs. y ∷ zs) (JoinedBoth R xs)) ys b → JoinedBoth R (x ∷ xs) ys b
+each_to : {X Y : Type 0} (R : X → Y → List ℕ → Type 0) (x : X) (xs : List X) (ys : List Y) (b : List ℕ) → After (R x) (λ y. MadeOf (λ zs. y ∷ zs) (IsConcatenationOfBoth R xs)) ys b → IsConcatenationOfBoth R (x ∷ xs) ys b
 each_to R x xs ys b h =
-    let whole : JoinedBoth R (x ∷ xs) (h.0 ∷ h.5.0) b = (h.1, h.2, h.3, h.4, h.5.2) in
-    subst (λ zs. JoinedBoth R (x ∷ xs) zs b) (sym h.5.1) whole
+    let whole : IsConcatenationOfBoth R (x ∷ xs) (h.0 ∷ h.5.0) b = (h.1, h.2, h.3, h.4, h.5.2) in
+    subst (λ zs. IsConcatenationOfBoth R (x ∷ xs) zs b) (sym h.5.1) whole
 
-each_from : {X Y : Type 0} (R : X → Y → List ℕ → Type 0) (x : X) (xs : List X) (ys : List Y) (b : List ℕ) → JoinedBoth R (x ∷ xs) ys b → After (R x) (λ y. MadeOf (λ zs. y ∷ zs) (JoinedBoth R xs)) ys b
+each_from : {X Y : Type 0} (R : X → Y → List ℕ → Type 0) (x : X) (xs : List X) (ys : List Y) (b : List ℕ) → IsConcatenationOfBoth R (x ∷ xs) ys b → After (R x) (λ y. MadeOf (λ zs. y ∷ zs) (IsConcatenationOfBoth R xs)) ys b
 each_from R x xs [] b h = absurd h
 each_from R x xs (y ∷ ys) b h = (y, h.0, h.1, h.2, h.3, (ys, refl, h.4))
 
 pub each : {X Y : Type 0} (p : X → Reader Y) (R : X → Y → List ℕ → Type 0) (F : X → Fault → List ℕ → Type 0) → ((x : X) → Reads (p x) (R x) (F x)) →
-    (i : ℕ) (xs : List X) → Reads (each_read p i xs) (JoinedBoth R xs) (EachFault F R i xs)
+    (i : ℕ) (xs : List X) → Reads (each_read p i xs) (IsConcatenationOfBoth R xs) (EachFault F R i xs)
 unfolding each_read
 each {X} {Y} p R F reads i [] =
-    restated (λ b. Ok ([], b)) (λ (ys : List Y) b. (ys ≡ []) × (b ≡ [])) (JoinedBoth R []) (λ _ _. ⊥) (EachFault F R i [])
-    (λ ys b h. subst (λ zs. JoinedBoth R [] zs b) (sym h.0) h.1) (λ ys b h. no_items ys b h) (λ f b h. h) (λ f b h. h) none_read
+    restated (λ b. Ok ([], b)) (λ (ys : List Y) b. (ys ≡ []) × (b ≡ [])) (IsConcatenationOfBoth R []) (λ _ _. ⊥) (EachFault F R i [])
+    (λ ys b h. subst (λ zs. IsConcatenationOfBoth R [] zs b) (sym h.0) h.1) (λ ys b h. no_items ys b h) (λ f b h. h) (λ f b h. h) none_read
   where
-    no_items : (ys : List Y) (b : List ℕ) → JoinedBoth R [] ys b → (ys ≡ []) × (b ≡ [])
+    no_items : (ys : List Y) (b : List ℕ) → IsConcatenationOfBoth R [] ys b → (ys ≡ []) × (b ≡ [])
     no_items [] b h = (refl, h)
     no_items (y ∷ ys) b h = absurd h
 each {X} {Y} p R F reads i (x ∷ xs) =
-    restated (each_read p i (x ∷ xs)) (After (R x) (λ y. MadeOf (λ zs. y ∷ zs) (JoinedBoth R xs))) (JoinedBoth R (x ∷ xs)) (FaultAfter (Under (way.Part i) (F x)) (R x) (λ _. EachFault F R (suc i) xs)) (EachFault F R i (x ∷ xs))
+    restated (each_read p i (x ∷ xs)) (After (R x) (λ y. MadeOf (λ zs. y ∷ zs) (IsConcatenationOfBoth R xs))) (IsConcatenationOfBoth R (x ∷ xs)) (FaultAfter (Under (way.Part i) (F x)) (R x) (λ _. EachFault F R (suc i) xs)) (EachFault F R i (x ∷ xs))
     (each_to R x xs) (each_from R x xs) (λ f b h. h) (λ f b h. h)
-    (after (read_in (way.Part i) (p x)) (λ y. then_read (each_read p (suc i) xs) (λ ys. nothing (y ∷ ys))) (R x) (Under (way.Part i) (F x)) (λ y. MadeOf (λ zs. y ∷ zs) (JoinedBoth R xs)) (λ _. EachFault F R (suc i) xs)
+    (after (read_in (way.Part i) (p x)) (λ y. then_read (each_read p (suc i) xs) (λ ys. nothing (y ∷ ys))) (R x) (Under (way.Part i) (F x)) (λ y. MadeOf (λ zs. y ∷ zs) (IsConcatenationOfBoth R xs)) (λ _. EachFault F R (suc i) xs)
     (stepped (way.Part i) (p x) (R x) (F x) (reads x))
-    (λ y front h. made (each_read p (suc i) xs) (λ ys. y ∷ ys) (JoinedBoth R xs) (EachFault F R (suc i) xs) (each p R F reads (suc i) xs)))
+    (λ y front h. made (each_read p (suc i) xs) (λ ys. y ∷ ys) (IsConcatenationOfBoth R xs) (EachFault F R (suc i) xs) (each p R F reads (suc i) xs)))
 
 -- ---- a value that is judged
 
@@ -309,13 +309,13 @@ JudgedOf {A} R S x b = (a : A) × R a b × S x a
 abbrev pub JudgedFault : {A : Type 0} → (Fault → List ℕ → Type 0) → (A → List ℕ → Type 0) → (Fault → A → Type 0) → Fault → List ℕ → Type 0
 JudgedFault {A} F R G f b = F f b ⊎ ((a : A) × (front : List ℕ) × (back : List ℕ) × (b ≡ front ++ back) × R a front × G f a)
 
-judged_ok : {A X : Type 0} (q : A → Result X Fault) (r : Result (A × List ℕ) Fault) (x : X) (rest : List ℕ) → and_judged q r ≡ Ok (x, rest) → (a : A) × (r ≡ Ok (a, rest)) × (q a ≡ Ok x)
+judged_ok : {A X : Type 0} (q : A → Result X Fault) (r : Result (A × List ℕ) Fault) (x : X) (rest : List ℕ) → and_check q r ≡ Ok (x, rest) → (a : A) × (r ≡ Ok (a, rest)) × (q a ≡ Ok x)
 judged_ok q (Err f) x rest h = cc
 judged_ok q (Ok r) x rest h =
     let found = bind_ok (q r.0) (λ y. Ok (y, r.1)) (x, rest) h in
     (r.0, ap (λ k. Ok (r.0, k)) (pair_snd (ok_is found.2)), found.1 ∙ ap Ok (pair_fst (ok_is found.2)))
 
-judged_err : {A X : Type 0} (q : A → Result X Fault) (r : Result (A × List ℕ) Fault) (f : Fault) → and_judged q r ≡ Err f → (r ≡ Err f) ⊎ ((a : A) × (rest : List ℕ) × (r ≡ Ok (a, rest)) × (q a ≡ Err f))
+judged_err : {A X : Type 0} (q : A → Result X Fault) (r : Result (A × List ℕ) Fault) (f : Fault) → and_check q r ≡ Err f → (r ≡ Err f) ⊎ ((a : A) × (rest : List ℕ) × (r ≡ Ok (a, rest)) × (q a ≡ Err f))
 judged_err q (Err g) f h = inl (ap Err (err_is h))
 judged_err q (Ok r) f h = elim (bind_err (q r.0) (λ y. Ok (y, r.1)) f h) [
   | inl e ↦ inr (r.0, r.1, refl, e)
@@ -326,20 +326,20 @@ judged_err q (Ok r) f h = elim (bind_err (q r.0) (λ y. Ok (y, r.1)) f h) [
     never k = cc
 
 pub computed : {A X : Type 0} (p : Reader A) (q : A → Result X Fault) (R : A → List ℕ → Type 0) (F : Fault → List ℕ → Type 0) (Given : A → Type 0) (S : X → A → Type 0) (G : Fault → A → Type 0) →
-    Reads p R F → ((a : A) (b : List ℕ) → R a b → Given a) → Judges Given q S G → Reads (read_judged p q) (JudgedOf R S) (JudgedFault F R G)
+    Reads p R F → ((a : A) (b : List ℕ) → R a b → Given a) → Judges Given q S G → Reads (read_and_check p q) (JudgedOf R S) (JudgedFault F R G)
 computed {A} {X} p q R F Given S G reads given judges = record { sound = sound; complete = complete; told = told; only = only }
   where
-    sound : (b : List ℕ) (x : X) (rest : List ℕ) → read_judged p q b ≡ Ok (x, rest) → (front : List ℕ) × (b ≡ front ++ rest) × JudgedOf R S x front
+    sound : (b : List ℕ) (x : X) (rest : List ℕ) → read_and_check p q b ≡ Ok (x, rest) → (front : List ℕ) × (b ≡ front ++ rest) × JudgedOf R S x front
     sound b x rest h =
         let found = judged_ok q (p b) x rest h in
         let first = reads.sound b found.0 rest found.1 in
         (first.0, first.1, (found.0, first.2, judges.sound found.0 x (given found.0 first.0 first.2) found.2))
 
-    complete : (x : X) (front rest : List ℕ) → JudgedOf R S x front → read_judged p q (front ++ rest) ≡ Ok (x, rest)
+    complete : (x : X) (front rest : List ℕ) → JudgedOf R S x front → read_and_check p q (front ++ rest) ≡ Ok (x, rest)
     complete x front rest h =
-        ap (and_judged q) (reads.complete h.0 front rest h.1) ∙ ap (λ r. r >>= (λ y. Ok (y, rest))) (judges.complete h.0 x h.2)
+        ap (and_check q) (reads.complete h.0 front rest h.1) ∙ ap (λ r. r >>= (λ y. Ok (y, rest))) (judges.complete h.0 x h.2)
 
-    told : (b : List ℕ) (f : Fault) → read_judged p q b ≡ Err f → JudgedFault F R G f b
+    told : (b : List ℕ) (f : Fault) → read_and_check p q b ≡ Err f → JudgedFault F R G f b
     told b f h = elim (judged_err q (p b) f h) [
       | inl e ↦ inl (reads.told b f e)
       | inr e ↦
@@ -347,12 +347,12 @@ computed {A} {X} p q R F Given S G reads given judges = record { sound = sound; 
           inr (e.0, first.0, e.1, first.1, first.2, judges.told e.0 f (given e.0 first.0 first.2) e.3)
     ]
 
-    only : (b : List ℕ) (f : Fault) → JudgedFault F R G f b → read_judged p q b ≡ Err f
+    only : (b : List ℕ) (f : Fault) → JudgedFault F R G f b → read_and_check p q b ≡ Err f
     only b f h = elim h [
-      | inl e ↦ ap (and_judged q) (reads.only b f e)
+      | inl e ↦ ap (and_check q) (reads.only b f e)
       | inr e ↦
           let read : p b ≡ Ok (e.0, e.2) = ap p e.3 ∙ reads.complete e.0 e.1 e.2 e.4 in
-          ap (and_judged q) read ∙ ap (λ r. r >>= (λ y. Ok (y, e.2))) (judges.only e.0 f e.5)
+          ap (and_check q) read ∙ ap (λ r. r >>= (λ y. Ok (y, e.2))) (judges.only e.0 f e.5)
     ]
 
 -- ---- what is left at the end is judged

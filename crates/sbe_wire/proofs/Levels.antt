@@ -17,7 +17,7 @@ use Rattle.sbe_types.specs.declared.message.GroupVal.{GroupVal}
 use Rattle.sbe_types.specs.declared.message.GroupVal.TheVariants as groupval
 use Rattle.sbe_wire.specs.declared.mode.Mode.{Mode}
 use Rattle.sbe_wire.specs.Versions.{is_alive, floor, BlockForm, form_of}
-use Rattle.sbe_wire.specs.Lays.{Joined, JoinedBoth, DataLays, DimensionLays, EntryLays, GroupLies, TailLays, GroupsLay, GroupLays}
+use Rattle.sbe_wire.specs.Lays.{IsConcatenation, IsConcatenationOfBoth, DataLays, DimensionLays, EntryLays, GroupLies, TailLays, GroupsLay, GroupLays}
 use Rattle.sbe_wire.specs.Faults.{Fault, FaultAfter, Under, TimesFault, EachFault, DataFault, DimensionFault, DimensionGood, EntryFault, TailFault, GroupsFault, GroupFault}
 use Rattle.sbe_wire.specs.Reading.{Reader, then_read, nothing, read_in, times_read, each_read, data_read, dimension_read, Tail, block_of, entry_read, tail_read, groups_read, group_read}
 use Rattle.sbe_wire.specs.Agree.{Reads}
@@ -55,7 +55,7 @@ module _ (mode : Mode) where
     this = Level' name id semantic since block_length fields n groups parts
 
     abbrev Two : Tail → List ℕ → Type 0
-    Two = After (GroupsLay mode groups) (λ gs. MadeOf (λ (ds : List DataVal). (gs, ds)) (JoinedBoth (DataLays mode.order mode.version) parts))
+    Two = After (GroupsLay mode groups) (λ gs. MadeOf (λ (ds : List DataVal). (gs, ds)) (IsConcatenationOfBoth (DataLays mode.order mode.version) parts))
 
     two_to : (t : Tail) (b : List ℕ) → Two t b → TailIs this t b
     two_to t b h =
@@ -74,9 +74,9 @@ module _ (mode : Mode) where
         two_to two_from (λ f b h. h) (λ f b h. h)
         (after (groups_read mode (length fields) groups) (λ gs. then_read (each_read (data_read mode.order mode.version) (length fields + length gs) parts) (λ ds. nothing (gs, ds)))
         (GroupsLay mode groups) (GroupsFault mode (length fields) groups)
-        (λ gs. MadeOf (λ (ds : List DataVal). (gs, ds)) (JoinedBoth (DataLays mode.order mode.version) parts)) (λ vs. EachFault (DataFault mode.order mode.version) (DataLays mode.order mode.version) (length fields + length vs) parts)
+        (λ gs. MadeOf (λ (ds : List DataVal). (gs, ds)) (IsConcatenationOfBoth (DataLays mode.order mode.version) parts)) (λ vs. EachFault (DataFault mode.order mode.version) (DataLays mode.order mode.version) (length fields + length vs) parts)
         here
-        (λ gs front h. made (each_read (data_read mode.order mode.version) (length fields + length gs) parts) (λ (ds : List DataVal). (gs, ds)) (JoinedBoth (DataLays mode.order mode.version) parts) (EachFault (DataFault mode.order mode.version) (DataLays mode.order mode.version) (length fields + length gs) parts)
+        (λ gs front h. made (each_read (data_read mode.order mode.version) (length fields + length gs) parts) (λ (ds : List DataVal). (gs, ds)) (IsConcatenationOfBoth (DataLays mode.order mode.version) parts) (EachFault (DataFault mode.order mode.version) (DataLays mode.order mode.version) (length fields + length gs) parts)
         (each (data_read mode.order mode.version) (DataLays mode.order mode.version) (DataFault mode.order mode.version) (λ part. data_reads mode.order part mode.version) (length fields + length gs) parts)))
 
   -- ---- groups
@@ -158,7 +158,7 @@ module _ (mode : Mode) where
         (h.5.0, h.5.1, (h.0.0, h.1, h.2, h.3, counted, h.5.2.1))
 
     -- where an entry lies, the block length reaches the floor
-    reaches : (k : ℕ) (es : List Block) (b : List ℕ) → Joined (EntryIs k) es b → (length es ≡ 0) ⊎ (least ≤ k)
+    reaches : (k : ℕ) (es : List Block) (b : List ℕ) → IsConcatenation (EntryIs k) es b → (length es ≡ 0) ⊎ (least ≤ k)
     reaches k [] b h = inl refl
     reaches k (e ∷ es) b h =
         let floor_met : least ≤ length (take k h.0) = h.3.1.0 in

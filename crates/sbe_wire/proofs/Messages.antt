@@ -15,7 +15,7 @@ use Rattle.sbe_wire.specs.Versions.{is_known, mode_of, form_of}
 use Rattle.sbe_wire.specs.Named.{number_named, place_named}
 use Rattle.sbe_wire.specs.Lays.{HeaderLays, BlockLays, EntryLays, TailLays, Lays}
 use Rattle.sbe_wire.specs.Faults.{Fault, fault_at, FaultAfter, EntryFault, TailFault, message_named, Heading, floor_in, HeadingLays, HeadingRefused, HeadingFault, HeadingGood, TrailingFault, FirstFault}
-use Rattle.sbe_wire.specs.Reading.{entry_read, tail_read, header_bytes, message_judged, heading_of, heading_read, rest_judged, headed, root_read, message_of}
+use Rattle.sbe_wire.specs.Reading.{entry_read, tail_read, header_bytes, message_check, heading_of, heading_read, rest_check, headed, root_read, message_of}
 use Rattle.sbe_wire.specs.Agree.{Judges, Reads}
 use Rattle.sbe_wire.specs.Placed.{IsPlaced, IsPlacedLevel}
 use Rattle.sbe_wire.proofs.Combine.{ok_is, err_is, empty_is, restated, After, All, Exactly, Fewer, so_many_or, JudgedOf, JudgedFault, computed, at_end}
@@ -77,7 +77,7 @@ module _ (schema : WireSchema) where
   floored u h = cond u (Err (fault_at code.BlockShort (place_named members (codes "blockLength")) (pos h.block))) (Ok h)
 
   abbrev named : Bool → Option (ℕ × Level) → List ℕ → Result Heading Fault
-  named t o head = cond t (message_judged schema head (says (codes "templateId") head) o) (Err (fault_at code.SchemaId (place_named members (codes "schemaId")) (pos (says (codes "schemaId") head))))
+  named t o head = cond t (message_check schema head (says (codes "templateId") head) o) (Err (fault_at code.SchemaId (place_named members (codes "schemaId")) (pos (says (codes "schemaId") head))))
 
   heading_lays : (head : List ℕ) (m : ℕ × Level) → length head ≡ wide → says (codes "schemaId") head ≡ schema.id → found_in head ≡ Some m → HeadingLays schema (heading head m) head
   heading_lays head m long same found =
@@ -209,11 +209,11 @@ module _ (schema : WireSchema) where
   rest_err true m f rest false e h = absurd (never h)
   rest_err false m f rest u e h = absurd (never h)
 
-  rest_complete : (known : Bool) (m n : Msg) (rest : List ℕ) → RestIs known m n rest → rest_judged known m rest ≡ Ok n
-  rest_complete true m n rest h = ap (λ r. rest_judged true m r) (h.1 refl) ∙ ap Ok (sym h.0)
+  rest_complete : (known : Bool) (m n : Msg) (rest : List ℕ) → RestIs known m n rest → rest_check known m rest ≡ Ok n
+  rest_complete true m n rest h = ap (λ r. rest_check true m r) (h.1 refl) ∙ ap Ok (sym h.0)
   rest_complete false m n rest h = ap Ok (sym h.0)
 
-  rest_only : (known : Bool) (m : Msg) (f : Fault) (rest : List ℕ) → TrailingFault known f rest → rest_judged known m rest ≡ Err f
+  rest_only : (known : Bool) (m : Msg) (f : Fault) (rest : List ℕ) → TrailingFault known f rest → rest_check known m rest ≡ Err f
   rest_only true m f rest h =
       let some : 0 < length rest = h.1 in
       let u_is : nat_lt 0 (length rest) ≡ true = grind (arith, nat_tests) in
@@ -223,7 +223,7 @@ module _ (schema : WireSchema) where
       untrue : IsTrue false → ⊥
       untrue k = cc
 
-  rest_judges : (known : Bool) (m : Msg) → Judges All (rest_judged known m) (RestIs known m) (TrailingFault known)
+  rest_judges : (known : Bool) (m : Msg) → Judges All (rest_check known m) (RestIs known m) (TrailingFault known)
   rest_judges known m = record {
     sound = λ rest n g h. rest_ok known m n rest (nat_lt 0 (length rest)) refl h;
     complete = λ rest n h. rest_complete known m n rest h;
@@ -250,7 +250,7 @@ module _ (schema : WireSchema) where
   root_judges placed h head good =
       let mode = mode_of schema h.version in
       let level = placed_level placed h head good in
-      at_end (entry_read (tail_read mode h.level) mode (out-Level h.level).fields h.block) (λ block. rest_judged mode.known (headed h block))
+      at_end (entry_read (tail_read mode h.level) mode (out-Level h.level).fields h.block) (λ block. rest_check mode.known (headed h block))
       (Root h) (RootBad h) (Ends h) (λ block. TrailingFault mode.known)
       (entry_reads mode (tail_read mode h.level) (λ entry e. TailLays mode h.level entry e) (TailFault mode h.level) (out-Level h.level).fields h.block
       (ignores mode h.level) good.1 (placed_fields h.level level) (tail_reads mode h.level level))

@@ -17,7 +17,7 @@ use Rattle.sbe_wire.specs.Versions.{is_alive}
 use Rattle.sbe_wire.specs.Named.{number_named, place_named, is_admitted}
 use Rattle.sbe_wire.specs.Lays.{DataLies, DataLays}
 use Rattle.sbe_wire.specs.Faults.{Fault, fault_at, TooShort, count_of, DataFault, DimensionRefused, DimensionFault, DimensionGood}
-use Rattle.sbe_wire.specs.Reading.{Reader, bytes_read, read_judged, data_whole, data_read, dimension_of, dimension_read}
+use Rattle.sbe_wire.specs.Reading.{Reader, bytes_read, read_and_check, data_whole, data_read, dimension_of, dimension_read}
 use Rattle.sbe_wire.specs.Agree.{Reads}
 use Rattle.sbe_wire.proofs.Combine.{ok_is, err_is, restated, so_many, choice, All, JudgedOf, JudgedFault, computed}
 use Rattle.sbe_wire.proofs.Judging.{never}
@@ -36,7 +36,7 @@ module _ (order : Order) (part : DataField) where
 
   -- n bytes after the length number
   abbrev piece : ℕ → Reader DataVal
-  piece n = read_judged (bytes_read (w + n)) value_in
+  piece n = read_and_check (bytes_read (w + n)) value_in
 
   abbrev PieceIs : ℕ → DataVal → List ℕ → Type 0
   PieceIs n = JudgedOf (λ x b. (length b ≡ w + n) × (x ≡ b)) (λ v whole. v ≡ dataval.Bytes (drop w whole))

@@ -28,16 +28,16 @@ use Rattle.sbe_wire.specs.Named.{number_named, is_admitted}
 -- ---- concatenated pieces of bytes
 
 -- the bytes are those of the items, concatenated
-abbrev pub Joined : {X : Type 0} → (X → List ℕ → Type 0) → List X → List ℕ → Type 0
-Joined R [] b = b ≡ []
-Joined R (x ∷ xs) b = (front : List ℕ) × (back : List ℕ) × (b ≡ front ++ back) × R x front × Joined R xs back
+abbrev pub IsConcatenation : {X : Type 0} → (X → List ℕ → Type 0) → List X → List ℕ → Type 0
+IsConcatenation R [] b = b ≡ []
+IsConcatenation R (x ∷ xs) b = (front : List ℕ) × (back : List ℕ) × (b ≡ front ++ back) × R x front × IsConcatenation R xs back
 
 -- the bytes are those of the pairs, concatenated
-abbrev pub JoinedBoth : {X Y : Type 0} → (X → Y → List ℕ → Type 0) → List X → List Y → List ℕ → Type 0
-JoinedBoth R [] [] b = b ≡ []
-JoinedBoth R [] (y ∷ ys) b = ⊥
-JoinedBoth R (x ∷ xs) [] b = ⊥
-JoinedBoth R (x ∷ xs) (y ∷ ys) b = (front : List ℕ) × (back : List ℕ) × (b ≡ front ++ back) × R x y front × JoinedBoth R xs ys back
+abbrev pub IsConcatenationOfBoth : {X Y : Type 0} → (X → Y → List ℕ → Type 0) → List X → List Y → List ℕ → Type 0
+IsConcatenationOfBoth R [] [] b = b ≡ []
+IsConcatenationOfBoth R [] (y ∷ ys) b = ⊥
+IsConcatenationOfBoth R (x ∷ xs) [] b = ⊥
+IsConcatenationOfBoth R (x ∷ xs) (y ∷ ys) b = (front : List ℕ) × (back : List ℕ) × (b ≡ front ++ back) × R x y front × IsConcatenationOfBoth R xs ys back
 
 -- ---- a block
 
@@ -91,14 +91,14 @@ EntryLays Tail form k entry b =
 abbrev pub GroupLies : (Block → List ℕ → Type 0) → BlockForm → List Member → List Block → List ℕ → Type 0
 GroupLies Tail form dim entries b =
     (k : ℕ) × (head : List ℕ) × (back : List ℕ) × (b ≡ head ++ back) × DimensionLays form.mode.order dim k (length entries) head
-    × Joined (EntryLays Tail form k) entries back
+    × IsConcatenation (EntryLays Tail form k) entries back
 
 abbrev mutual
   -- the groups of a level and then its data
   pub TailLays : Mode → Level → Block → List ℕ → Type 0
   TailLays mode (Level' name id semantic since block_length fields _ groups parts) block b =
       (front : List ℕ) × (back : List ℕ) × (b ≡ front ++ back) × GroupsLay mode groups (out-Block block).groups front
-      × JoinedBoth (DataLays mode.order mode.version) parts (out-Block block).parts back
+      × IsConcatenationOfBoth (DataLays mode.order mode.version) parts (out-Block block).parts back
 
   -- the groups of a level, in order
   pub GroupsLay : Mode → {n : _} → Row_of-Group n → List GroupVal → List ℕ → Type 0

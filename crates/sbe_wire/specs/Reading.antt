@@ -70,13 +70,13 @@ abbrev pub nothing : {X : Type 0} → X → Reader X
 nothing x b = Ok (x, b)
 
 -- a value that was read, as a check of it returns it
-abbrev pub and_judged : {X Y : Type 0} → (X → Result Y Fault) → Result (X × List ℕ) Fault → Result (Y × List ℕ) Fault
-and_judged q (Err f) = Err f
-and_judged q (Ok r) = q r.0 >>= (λ y. Ok (y, r.1))
+abbrev pub and_check : {X Y : Type 0} → (X → Result Y Fault) → Result (X × List ℕ) Fault → Result (Y × List ℕ) Fault
+and_check q (Err f) = Err f
+and_check q (Ok r) = q r.0 >>= (λ y. Ok (y, r.1))
 
 -- a reader whose value is checked; a fault of the check is where the value began
-abbrev pub read_judged : {X Y : Type 0} → Reader X → (X → Result Y Fault) → Reader Y
-read_judged p q b = and_judged q (p b)
+abbrev pub read_and_check : {X Y : Type 0} → Reader X → (X → Result Y Fault) → Reader Y
+read_and_check p q b = and_check q (p b)
 
 -- a reader, and then a check of all that is left
 abbrev pub then_all : {X Y : Type 0} → Reader X → (X → List ℕ → Result Y Fault) → List ℕ → Result Y Fault
@@ -181,7 +181,7 @@ fields_read mode e i (f ∷ fs) b = do
 
 -- the values of a block of k bytes
 abbrev pub block_read : Mode → List Field → ℕ → Reader (List Value)
-block_read mode fields k = read_judged (bytes_read k) (fields_read mode 0 0 fields)
+block_read mode fields k = read_and_check (bytes_read k) (fields_read mode 0 0 fields)
 
 -- ---- data and groups
 
@@ -189,7 +189,7 @@ block_read mode fields k = read_judged (bytes_read k) (fields_read mode 0 0 fiel
 abbrev pub data_bytes : Order → DataField → ℕ → Reader DataVal
 data_bytes order part n b =
     if admits part.length (pos n)
-    then read_judged (bytes_read (prim_width part.length.prim + n)) (λ whole. Ok (dataval.Bytes (drop (prim_width part.length.prim) whole))) b
+    then read_and_check (bytes_read (prim_width part.length.prim + n)) (λ whole. Ok (dataval.Bytes (drop (prim_width part.length.prim) whole))) b
     else Err (fault_at code.Length 0 (pos n))
 
 -- the length number, and then the data
@@ -216,7 +216,7 @@ dimension_of order dim least head =
 
 -- the dimension at the front of the bytes
 abbrev pub dimension_read : Order → List Member → ℕ → Reader (ℕ × ℕ)
-dimension_read order dim least = read_judged (bytes_read (members_end 0 dim)) (dimension_of order dim least)
+dimension_read order dim least = read_and_check (bytes_read (members_end 0 dim)) (dimension_of order dim least)
 
 -- the groups and the data of a level
 abbrev pub Tail : Type 0
@@ -259,17 +259,17 @@ abbrev pub header_bytes : ℕ → Reader (List ℕ)
 header_bytes n b = bytes_or (fault_at code.ShortHeader 0 (pos (length b))) n b
 
 -- the heading, if its block length reaches the floor
-abbrev pub floor_judged : WireSchema → Heading → Result Heading Fault
-floor_judged schema h =
+abbrev pub floor_check : WireSchema → Heading → Result Heading Fault
+floor_check schema h =
     if nat_lt h.block (floor_in schema h)
     then Err (fault_at code.BlockShort (place_named schema.header.members (codes "blockLength")) (pos h.block))
     else Ok h
 
 -- the heading, if a message has this id
-abbrev pub message_judged : WireSchema → List ℕ → ℕ → Option (ℕ × Level) → Result Heading Fault
-message_judged schema head id None = Err (fault_at code.Template (place_named schema.header.members (codes "templateId")) (pos id))
-message_judged schema head id (Some m) =
-    floor_judged schema (record {
+abbrev pub message_check : WireSchema → List ℕ → ℕ → Option (ℕ × Level) → Result Heading Fault
+message_check schema head id None = Err (fault_at code.Template (place_named schema.header.members (codes "templateId")) (pos id))
+message_check schema head id (Some m) =
+    floor_check schema (record {
       block = number_named schema.order schema.header.members (codes "blockLength") head;
       template = m.0;
       level = m.1;
@@ -282,16 +282,16 @@ heading_of schema head =
     let schema_id = number_named schema.order schema.header.members (codes "schemaId") head in
     let id = number_named schema.order schema.header.members (codes "templateId") head in
     if schema_id == schema.id
-    then message_judged schema head id (message_named 0 id schema.messages)
+    then message_check schema head id (message_named 0 id schema.messages)
     else Err (fault_at code.SchemaId (place_named schema.header.members (codes "schemaId")) (pos schema_id))
 
 -- the heading at the front of a body
 abbrev pub heading_read : WireSchema → Reader Heading
-heading_read schema = read_judged (header_bytes (members_end 0 schema.header.members)) (heading_of schema)
+heading_read schema = read_and_check (header_bytes (members_end 0 schema.header.members)) (heading_of schema)
 
 -- the message; what is left is skipped if its version is later than the schema's
-abbrev pub rest_judged : Bool → Msg → List ℕ → Result Msg Fault
-rest_judged known m rest = if known && nat_lt 0 (length rest) then Err (fault_at code.Trailing 0 (pos (length rest))) else Ok m
+abbrev pub rest_check : Bool → Msg → List ℕ → Result Msg Fault
+rest_check known m rest = if known && nat_lt 0 (length rest) then Err (fault_at code.Trailing 0 (pos (length rest))) else Ok m
 
 -- the message of this heading and block
 abbrev pub headed : Heading → Block → Msg
@@ -301,7 +301,7 @@ headed h block = record { template = h.template; version = h.version; block = bl
 abbrev pub root_read : WireSchema → Heading → List ℕ → Result Msg Fault
 root_read schema h =
     let mode = mode_of schema h.version in
-    then_all (entry_read (tail_read mode h.level) mode (out-Level h.level).fields h.block) (λ block. rest_judged mode.known (headed h block))
+    then_all (entry_read (tail_read mode h.level) mode (out-Level h.level).fields h.block) (λ block. rest_check mode.known (headed h block))
 
 -- the message that the body is, or its first fault
 unfoldable pub message_of : WireSchema → List ℕ → Result Msg Fault

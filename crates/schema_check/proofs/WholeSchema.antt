@@ -7,8 +7,8 @@ use Rattle.sbe_types.specs.declared.schema.WireSchema.{WireSchema}
 use Rattle.sbe_types.specs.declared.tree.MessageEl.{MessageEl}
 use Rattle.sbe_types.specs.declared.tree.Schema.{Schema}
 use Rattle.sbe_types.specs.declared.tree.TypesItem.{TypesItem}
-use Rattle.schema_rules.specs.Checked.{Outline, outline_of, judged, checked_of}
-use Rattle.schema_rules.specs.Judging.{Judged, ◌>>=◌}
+use Rattle.schema_rules.specs.Checked.{Outline, outline_of, tree_check, checked_of}
+use Rattle.schema_rules.specs.Judging.{CheckResult, ◌>>=◌}
 use Rattle.schema_rules.specs.Kinds.{members_named}
 use Rattle.schema_rules.specs.Names.{declared_types, messages_of}
 use Rattle.schema_rules.specs.Resolved.{resolved_message, resolved}
@@ -27,11 +27,11 @@ made schema types messages =
     }
 
 pub checked_is : (schema : Schema) (types : List TypesItem) (messages : List MessageEl) → types ≡ declared_types schema → messages ≡ messages_of schema →
-    judged (outline schema types) messages ≡ Ok tt → checked_of schema ≡ Ok (made schema types messages)
+    tree_check (outline schema types) messages ≡ Ok tt → checked_of schema ≡ Ok (made schema types messages)
 checked_is schema types messages same_types same_messages h =
-    ap (λ (r : Judged (Unit {0})). r >>= (λ _. Ok (resolved schema)))
-    (ap (λ (ts : List TypesItem). judged (outline schema ts) (messages_of schema)) (sym same_types)
-    ∙ ap (λ (ms : List MessageEl). judged (outline schema types) ms) (sym same_messages) ∙ h)
+    ap (λ (r : CheckResult (Unit {0})). r >>= (λ _. Ok (resolved schema)))
+    (ap (λ (ts : List TypesItem). tree_check (outline schema ts) (messages_of schema)) (sym same_types)
+    ∙ ap (λ (ms : List MessageEl). tree_check (outline schema types) ms) (sym same_messages) ∙ h)
     ∙ ap (λ (ts : List TypesItem). Ok (made schema ts (messages_of schema))) (sym same_types)
     ∙ ap (λ (ms : List MessageEl). Ok (made schema types ms)) (sym same_messages)
 

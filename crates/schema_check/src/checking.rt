@@ -4,7 +4,7 @@ ghost use Rattle.schema_rules.specs.Judging.{Gives};
 ghost use Rattle.schema_rules.specs.Names.{types_in, messages_in};
 ghost use Rattle.schema_rules.specs.Resolved.{resolved, resolved_message};
 ghost use Rattle.schema_rules.specs.Checked.{checked_of};
-ghost use Rattle.schema_laws.specs.Questions.{judged_by, questions};
+ghost use Rattle.schema_laws.specs.Questions.{check_by, questions};
 ghost use Rattle.schema_check.specs.Reach.{AreShortMessages};
 
 use crate::checked::Checked;
@@ -26,7 +26,7 @@ use type_kinds::Resolver;
 #[tactic(auto, using(schema_laws::proofs::Questions::answer_is))]
 pub fn check(alloc: Global, schema: Schema) -> Result<Checked, CheckErr>
     requires form { IsInForm schema }
-    ensures first { Gives result (judged_by (questions schema) (resolved schema)) }
+    ensures first { Gives result (check_by (questions schema) (resolved schema)) }
     ensures judged { Gives result (checked_of schema) }
 {
     let resolved = resolve_schema(alloc, schema)?;

@@ -1,6 +1,6 @@
 ghost use Rattle.std.specs.Prelude.{◌≡◌, codes};
-ghost use Rattle.schema_rules.specs.Judging.{Gives, first_of, behind};
-ghost use Rattle.schema_rules.specs.Checked.{header_rules, judged};
+ghost use Rattle.schema_rules.specs.Judging.{Gives, first_of, at_element};
+ghost use Rattle.schema_rules.specs.Checked.{header_rules, tree_check};
 
 use crate::messages::judge_messages;
 use sbe_types::MessageEl;
@@ -19,7 +19,7 @@ pub fn judge(
     version: u32,
     messages: &[MessageEl],
 ) -> Result<(), CheckErr>
-    ensures { Gives result (judged (record { types = known.now; header_type = header_type.now; id = id; version = version }) messages.now) }
+    ensures { Gives result (tree_check (record { types = known.now; header_type = header_type.now; id = id; version = version }) messages.now) }
 {
     judge_types(alloc, known)?;
     judge_header_named(alloc, known, header_type, id, version)?;
@@ -39,7 +39,7 @@ fn judge_header_named(
     id: u32,
     version: u32,
 ) -> Result<(), CheckErr>
-    ensures { Gives result (behind (codes "types/") header_type.now (first_of (header_rules (record { types = known.now; header_type = header_type.now; id = id; version = version })))) }
+    ensures { Gives result (at_element (codes "types/") header_type.now (first_of (header_rules (record { types = known.now; header_type = header_type.now; id = id; version = version })))) }
 {
     match judge_header(alloc, known, header_type, id, version) {
         Ok(()) => Ok(()),

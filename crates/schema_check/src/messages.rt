@@ -1,9 +1,9 @@
 ghost use Rattle.std.specs.Prelude.{◌≡◌, [], false, ◌||◌, codes, nat_eq, unwrap_or, OnOk};
 ghost use Rattle.std.specs.List.{list_any};
-ghost use Rattle.schema_rules.specs.Judging.{Gives, first_of, behind};
+ghost use Rattle.schema_rules.specs.Judging.{Gives, first_of, at_element};
 ghost use Rattle.schema_rules.specs.Names.{is_among};
 ghost use Rattle.schema_rules.specs.Kinds.{kind_named, members_of, members_named};
-ghost use Rattle.schema_rules.specs.Checked.{message_rules, message_end_rules, message_judged, messages_judged, no_message};
+ghost use Rattle.schema_rules.specs.Checked.{message_rules, message_end_rules, message_check, messages_check, no_message};
 
 use crate::parts::{block_of, is_bad_block, is_short, judge_parts};
 use lists::List;
@@ -22,7 +22,7 @@ pub fn judge_messages(
     level: LevelScope,
     messages: &[MessageEl],
 ) -> Result<(), CheckErr>
-    ensures { Gives result (messages_judged (members_of known.now (kind_named known.now) header.now) (record { types = known.now; level = level }) no_message messages.now) }
+    ensures { Gives result (messages_check (members_of known.now (kind_named known.now) header.now) (record { types = known.now; level = level }) no_message messages.now) }
 {
     let mut names = NameTable::new(alloc);
     let mut ids = List::new(alloc);
@@ -43,7 +43,7 @@ fn judge_named(
     ids: &[u32],
     message: &MessageEl,
 ) -> Result<(), CheckErr>
-    ensures judged { Gives result (behind (codes "messages/") message.now.name (message_judged (members_of known.now (kind_named known.now) header.now) (record { types = known.now; level = level }) (record { names = names.now; ids = ids.now }) message.now)) }
+    ensures judged { Gives result (at_element (codes "messages/") message.now.name (message_check (members_of known.now (kind_named known.now) header.now) (record { types = known.now; level = level }) (record { names = names.now; ids = ids.now }) message.now)) }
     ensures new { OnOk result (is_among names.now message.now.name ≡ false) }
 {
     match judge_message(alloc, known, header, level, names, ids, message) {
@@ -61,7 +61,7 @@ fn judge_message(
     ids: &[u32],
     message: &MessageEl,
 ) -> Result<(), CheckErr>
-    ensures judged { Gives result (message_judged (members_of known.now (kind_named known.now) header.now) (record { types = known.now; level = level }) (record { names = names.now; ids = ids.now }) message.now) }
+    ensures judged { Gives result (message_check (members_of known.now (kind_named known.now) header.now) (record { types = known.now; level = level }) (record { names = names.now; ids = ids.now }) message.now) }
     ensures new { OnOk result (is_among names.now message.now.name ≡ false) }
 {
     judge_begun(alloc, level.version, names, ids, message)?;

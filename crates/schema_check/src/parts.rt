@@ -1,10 +1,10 @@
 ghost use Rattle.std.specs.Prelude.{◌≡◌, false, codes, unwrap_or, OnOk};
 ghost use Rattle.sbe_types.specs.declared.tree.PartItem as part;
-ghost use Rattle.schema_rules.specs.Judging.{Gives, first_of, behind};
+ghost use Rattle.schema_rules.specs.Judging.{Gives, first_of, at_element};
 ghost use Rattle.schema_rules.specs.Names.{is_among};
 ghost use Rattle.schema_rules.specs.Kinds.{kind_named, members_of, members_named};
-ghost use Rattle.schema_rules.specs.PartRules.{rank, greatest_since, begins_wrong, part_rules, since_in, entries_level, no_part, with_field, with_group, with_data, facts_with, part_name, data_rules, data_judged, dimension_rules, is_short, is_bad_block, group_rules, part_judged, parts_judged};
-ghost use Rattle.schema_check.specs.Seen.{level_of, group_seen};
+ghost use Rattle.schema_rules.specs.PartRules.{rank, greatest_since, begins_wrong, part_rules, since_in, entries_level, no_part, with_field, with_group, with_data, facts_with, part_name, data_rules, data_check, dimension_rules, is_short, is_bad_block, group_rules, part_check, parts_check};
+ghost use Rattle.schema_check.specs.Seen.{level_of, group_check};
 
 use sbe_types::{DataEl, GroupEl, MemberItem, PartItem};
 use schema_rules::{CCode, CheckErr, Fact, LevelFacts, LevelScope, PartClass, PartHead};
@@ -32,7 +32,7 @@ pub fn judge_parts(
     level: LevelScope,
     parts: &[PartItem],
 ) -> Result<LevelFacts, CheckErr>
-    ensures { Gives result (level_of (parts_judged (record { types = known.now; level = level }) no_part parts.now)) }
+    ensures { Gives result (level_of (parts_check (record { types = known.now; level = level }) no_part parts.now)) }
 {
     let mut names = NameTable::new(alloc);
     let mut all = NO_PARTS;
@@ -53,7 +53,7 @@ fn judge_named(
     all: LevelFacts,
     part: &PartItem,
 ) -> Result<(), CheckErr>
-    ensures judged { Gives result (behind (codes ".") (part_name part.now) (part_judged (record { types = known.now; level = level }) (record { names = names.now; all = all }) part.now)) }
+    ensures judged { Gives result (at_element (codes ".") (part_name part.now) (part_check (record { types = known.now; level = level }) (record { names = names.now; all = all }) part.now)) }
     ensures new { OnOk result (is_among names.now (part_name part.now) ≡ false) }
 {
     match judge_part(alloc, known, level, names, all, part) {
@@ -71,7 +71,7 @@ fn judge_part(
     all: LevelFacts,
     part: &PartItem,
 ) -> Result<(), CheckErr>
-    ensures judged { Gives result (part_judged (record { types = known.now; level = level }) (record { names = names.now; all = all }) part.now) }
+    ensures judged { Gives result (part_check (record { types = known.now; level = level }) (record { names = names.now; all = all }) part.now) }
     ensures new { OnOk result (is_among names.now (part_name part.now) ≡ false) }
 {
     match part {
@@ -91,7 +91,7 @@ fn judge_group(
     all: LevelFacts,
     group: &GroupEl,
 ) -> Result<(), CheckErr>
-    ensures judged { Gives result (group_seen (record { types = known.now; level = level }) (record { names = names.now; all = all }) group.now) }
+    ensures judged { Gives result (group_check (record { types = known.now; level = level }) (record { names = names.now; all = all }) group.now) }
     ensures new { OnOk result (is_among names.now group.now.name ≡ false) }
 {
     judge_dimension(alloc, known, group.dimension_type.as_slice())?;
@@ -157,7 +157,7 @@ fn judge_data(
     all: LevelFacts,
     data_el: &DataEl,
 ) -> Result<(), CheckErr>
-    ensures judged { Gives result (data_judged (record { types = known.now; level = level }) (record { names = names.now; all = all }) data_el.now) }
+    ensures judged { Gives result (data_check (record { types = known.now; level = level }) (record { names = names.now; all = all }) data_el.now) }
     ensures new { OnOk result (is_among names.now data_el.now.name ≡ false) }
 {
     judge_data_type(alloc, known, data_el)?;

@@ -9,15 +9,15 @@ use Rattle.sbe_types.specs.declared.tree.PrimitiveType.{PrimitiveType}
 use Rattle.sbe_types.specs.declared.tree.TypesItem.{TypesItem}
 use Rattle.sbe_types.specs.declared.tree.TypesItem.TheVariants as item
 use Rattle.schema_rules.specs.declared.codes.CCode.TheVariants as rule
-use Rattle.schema_rules.specs.Judging.{first_of, behind}
+use Rattle.schema_rules.specs.Judging.{first_of, at_element}
 use Rattle.schema_rules.specs.Names.{name_of, is_among, place_of, declared_as, plain_type, plain_named, type_named, primitive_words}
-use Rattle.schema_rules.specs.CompositeRules.{item_judged, declared_judged, types_judged}
+use Rattle.schema_rules.specs.CompositeRules.{item_check, declared_check, types_check}
 use Rattle.schema_facts.specs.InOrder.{AreAccepted}
 use Rattle.schema_facts.proofs.KindPassed.{then_ok, behind_ok}
 
 -- a type that has passed them
 pub record Good (types : List TypesItem) (t : TypesItem) : Type 0 where
-  pub judged : item_judged types t ≡ Ok tt
+  pub judged : item_check types t ≡ Ok tt
   pub form : IsDeclaredInForm t
 
 -- ---- the type at a place
@@ -27,12 +27,12 @@ all_at P [] i x h found = cc
 all_at P (y ∷ xs) zero x h found = let same : y ≡ x = cc in subst P same h.0
 all_at P (y ∷ xs) (suc i) x h found = all_at P xs i x h.1 found
 
-each_judged : (types : List TypesItem) (earlier : List (List ℕ)) (ts : List TypesItem) → types_judged types earlier ts ≡ Ok tt →
-    AllByRecursion (λ (t : TypesItem). item_judged types t ≡ Ok tt) ts
+each_judged : (types : List TypesItem) (earlier : List (List ℕ)) (ts : List TypesItem) → types_check types earlier ts ≡ Ok tt →
+    AllByRecursion (λ (t : TypesItem). item_check types t ≡ Ok tt) ts
 each_judged types earlier [] h = tt
 each_judged types earlier (t ∷ ts) h =
-    let first = then_ok (behind (codes "types/") (name_of t) (declared_judged types earlier t)) _ tt h in
-    let judged = behind_ok (codes "types/") (name_of t) (declared_judged types earlier t) tt first.1 in
+    let first = then_ok (at_element (codes "types/") (name_of t) (declared_check types earlier t)) _ tt h in
+    let judged = behind_ok (codes "types/") (name_of t) (declared_check types earlier t) tt first.1 in
     let own = then_ok (first_of ((rule.DuplicateType, is_among earlier (name_of t)) ∷ [])) _ tt judged in
     (own.2, each_judged types (earlier ++ name_of t ∷ []) ts first.2)
 
@@ -47,7 +47,7 @@ declared_place types name t h = let found = then_some (slice_get types) (place_o
 pub good_at : (types : List TypesItem) → AreAccepted types → (i : ℕ) (t : TypesItem) → slice_get types i ≡ Some t → Good types t
 good_at types accepted i t found =
     record {
-      judged = all_at (λ (t : TypesItem). item_judged types t ≡ Ok tt) types i t (each_judged types [] types accepted.judged) found;
+      judged = all_at (λ (t : TypesItem). item_check types t ≡ Ok tt) types i t (each_judged types [] types accepted.judged) found;
       form = all_at IsDeclaredInForm types i t accepted.form found;
     }
 

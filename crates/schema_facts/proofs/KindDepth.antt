@@ -13,7 +13,7 @@ use Rattle.schema_rules.specs.declared.facts.Fact.{Fact}
 use Rattle.schema_rules.specs.Names.{declared_as}
 use Rattle.schema_rules.specs.Kinds.{as_declared, member_name, member_offset, member_kind, row_members, item_kind, kind_or_plain, kind_through}
 use Rattle.schema_rules.specs.Facts.{counted, no_members, with_member, member_fact, row_fact, item_fact, declared_or_plain, fact_through, fact_named}
-use Rattle.schema_rules.specs.CompositeRules.{Inside, deeper, MembersBefore, no_member, with_one, row_judged, member_judged, is_too_high, last_rules}
+use Rattle.schema_rules.specs.CompositeRules.{Inside, deeper, MembersBefore, no_member, with_one, row_check, member_check, is_too_high, last_rules}
 use Rattle.schema_facts.proofs.KindPassed.{all_pass, inside_passed, member_passed, row_passed, row_of, composite_row_fact, composite_row_kind}
 
 -- ---- the names that members refer to
@@ -68,14 +68,14 @@ ref_low around (suc k) a h = let low = kept_low around k h in omega (arith, a, l
 
 mutual
   pub row_low : (inside : Inside) (before after : MembersBefore) (n : _) (row : Row_of-MemberItem n) → 1 ≤ inside.around →
-      row_judged inside before row ≡ Ok after → RowRefs (IsLow inside.types) row
+      row_check inside before row ≡ Ok after → RowRefs (IsLow inside.types) row
   row_low inside before after n end_of-MemberItem a h = tt
   row_low inside before after n (more_of-MemberItem m rest) a h =
       let passed = row_passed inside before after m _ rest h in
       (member_low inside before m a passed.judged, row_low inside (with_one inside.types before m) after _ rest a passed.later)
 
   pub member_low : (inside : Inside) (before : MembersBefore) (m : MemberItem) → 1 ≤ inside.around →
-      member_judged inside before m ≡ Ok tt → MemberRefs (IsLow inside.types) m
+      member_check inside before m ≡ Ok tt → MemberRefs (IsLow inside.types) m
   member_low inside before (part.Type t) a h = tt
   member_low inside before (part.Enum e) a h = tt
   member_low inside before (part.Set s) a h = tt

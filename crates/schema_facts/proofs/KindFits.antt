@@ -16,7 +16,7 @@ use Rattle.sbe_types.specs.declared.tree.PrimitiveType.{PrimitiveType}
 use Rattle.schema_rules.specs.Names.{plain_type, declared_as, type_named}
 use Rattle.schema_rules.specs.Kinds.{unresolved, type_kind, Use, use_of, as_declared, member_offset, member_kind, row_members, members_of, composite_with, item_kind, found_kind, plain_kind, kind_or_plain, kind_through, kind_named, field_kind, found_members, members_named}
 use Rattle.schema_rules.specs.Facts.{counted, no_members, member_fact, item_fact, declared_or_plain, fact_through, fact_named}
-use Rattle.schema_rules.specs.CompositeRules.{Inside, MembersBefore, no_member, with_one, row_judged, member_judged}
+use Rattle.schema_rules.specs.CompositeRules.{Inside, MembersBefore, no_member, with_one, row_check, member_check}
 use Rattle.schema_facts.proofs.FactKinds.{Tells, past_tells, none_reaches, row_reaches, member_tells, through_tells}
 use Rattle.schema_facts.specs.InOrder.{AreAccepted}
 use Rattle.schema_facts.proofs.KindPassed.{inside_passed, row_passed, after_all, row_of, composite_row_fact, composite_row_kind, composite_row_form, declared_inside, composite_passed}
@@ -46,7 +46,7 @@ module _ (types : List TypesItem) where
   pub record FitsNamed (name : List ℕ) : Type 0 where
     pub fits : Fits (kind_through 5 types name)
 
-  row_end : (around : ℕ) (after : MembersBefore) (n : _) (row : Row_of-MemberItem n) → row_judged (at around) no_member row ≡ Ok after →
+  row_end : (around : ℕ) (after : MembersBefore) (n : _) (row : Row_of-MemberItem n) → row_check (at around) no_member row ≡ Ok after →
       counted after.all.width ≡ counted (members_end 0 (row_members types (kind_through 5 types) row))
   row_end around after n row h =
       let same = after_all (at around) no_member after _ row h in
@@ -55,7 +55,7 @@ module _ (types : List TypesItem) where
 
   mutual
     row_fits : (around : ℕ) (before after : MembersBefore) (n : _) (row : Row_of-MemberItem n) (e : ℕ) → AreMembersInForm row → RowRefs FitsNamed row →
-        row_judged (at around) before row ≡ Ok after → counted before.all.width ≡ counted e → FitsList e (row_members types (kind_through 5 types) row)
+        row_check (at around) before row ≡ Ok after → counted before.all.width ≡ counted e → FitsList e (row_members types (kind_through 5 types) row)
     row_fits around before after n end_of-MemberItem e form refs h reach = record { placed = tt; narrow = tt }
     row_fits around before after n (more_of-MemberItem m rest) e form refs h reach =
         let passed = row_passed (at around) before after m _ rest h in
@@ -68,7 +68,7 @@ module _ (types : List TypesItem) where
           narrow = (fits.narrow, later.narrow);
         }
 
-    member_fits : (around : ℕ) (before : MembersBefore) (m : MemberItem) → IsMemberInForm m → MemberRefs FitsNamed m → member_judged (at around) before m ≡ Ok tt →
+    member_fits : (around : ℕ) (before : MembersBefore) (m : MemberItem) → IsMemberInForm m → MemberRefs FitsNamed m → member_check (at around) before m ≡ Ok tt →
         Fits (member_kind types (kind_through 5 types) m)
     member_fits around before (part.Type t) form refs h = type_fits types as_declared t form.primitives
     member_fits around before (part.Enum e) form refs h = enum_fits types as_declared e

@@ -20,7 +20,7 @@ use Rattle.sbe_types.specs.declared.tree.PrimitiveType.{PrimitiveType}
 use Rattle.schema_rules.specs.Names.{plain_type, declared_as, is_among}
 use Rattle.schema_rules.specs.Kinds.{unresolved, type_kind, Use, use_of, as_declared, member_name, member_kind, row_members, members_of, item_kind, found_kind, plain_kind, kind_or_plain, kind_through, kind_named, field_kind, found_members, members_named}
 use Rattle.schema_rules.specs.TypeRules.{type_rules}
-use Rattle.schema_rules.specs.CompositeRules.{Inside, MembersBefore, no_member, with_one, row_judged, member_judged}
+use Rattle.schema_rules.specs.CompositeRules.{Inside, MembersBefore, no_member, with_one, row_check, member_check}
 use Rattle.schema_facts.specs.InOrder.{AreAccepted, IsKindFrom}
 use Rattle.schema_facts.proofs.KindPassed.{inside_passed, member_passed, row_passed, row_of, composite_row_kind, composite_row_form, composite_passed, then_ok}
 use Rattle.schema_facts.proofs.KindLists.{MadeOf, comp_made, names_of, KindsList}
@@ -69,7 +69,7 @@ module _ (types : List TypesItem) (accepted : AreAccepted types) where
   module _ (kinds : List ℕ → Kind) (known : (name : List ℕ) → IsKindFrom 0 (kinds name)) where
     mutual
       row_made : (around : ℕ) (before after : MembersBefore) (n : _) (row : Row_of-MemberItem n) → AreMembersInForm row →
-          row_judged (at around) before row ≡ Ok after → MadeBehind before.names (row_members types kinds row)
+          row_check (at around) before row ≡ Ok after → MadeBehind before.names (row_members types kinds row)
       row_made around before after n end_of-MemberItem form h = record { names = tt; once = refl; kinds = tt }
       row_made around before after n (more_of-MemberItem m rest) form h =
           let passed = row_passed (at around) before after m _ rest h in
@@ -80,7 +80,7 @@ module _ (types : List TypesItem) (accepted : AreAccepted types) where
             kinds = (member_made around before m form.0 passed.judged, later.kinds);
           }
 
-      member_made : (around : ℕ) (before : MembersBefore) (m : MemberItem) → IsMemberInForm m → member_judged (at around) before m ≡ Ok tt →
+      member_made : (around : ℕ) (before : MembersBefore) (m : MemberItem) → IsMemberInForm m → member_check (at around) before m ≡ Ok tt →
           IsKindFrom 0 (member_kind types kinds m)
       member_made around before (part.Type t) form h =
           type_parts types accepted as_declared t 0 (λ prim is. good_type types true prim t is (member_passed (at around) before (part.Type t) h).first form.primitives) (omega arith)

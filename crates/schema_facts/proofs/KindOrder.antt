@@ -24,8 +24,8 @@ use Rattle.schema_rules.specs.Judging.{first_of}
 use Rattle.schema_rules.specs.Names.{plain_type, integral, declared_as}
 use Rattle.schema_rules.specs.Kinds.{unresolved, Use, use_of, effective, encoding_named, type_over, type_in, enum_over, enum_in, set_in, composite_with, members_of, found_kind, kind_through, kind_named, field_kind, found_members, members_named}
 use Rattle.schema_rules.specs.Facts.{counted, no_members, row_fact, members_fact, simple_fact, type_fact_in, enum_fact_in, set_fact_in, fact_named, fact_of}
-use Rattle.schema_rules.specs.CompositeRules.{Inside, MembersBefore, no_member, with_one, row_judged, member_judged, last_rules, most_leaves, most_composites}
-use Rattle.schema_rules.specs.PartRules.{Scope, PartsBefore, field_rules, field_judged}
+use Rattle.schema_rules.specs.CompositeRules.{Inside, MembersBefore, no_member, with_one, row_check, member_check, last_rules, most_leaves, most_composites}
+use Rattle.schema_rules.specs.PartRules.{Scope, PartsBefore, field_rules, field_check}
 use Rattle.schema_facts.specs.InOrder.{AreAccepted, leaves, height, IsKindFrom, AreKindsFrom, IsKindWithin, IsKindInOrder, IsCompositeInOrder}
 use Rattle.schema_facts.proofs.KindLists.{leaves_comp, height_comp, IsFull, IsFullRow, comp_made}
 use Rattle.schema_facts.proofs.FactKinds.{Tells, composite_tells}
@@ -71,7 +71,7 @@ module _ (types : List TypesItem) where
 
   mutual
     row_high : (around : ℕ) (before after : MembersBefore) (n : _) (row : Row_of-MemberItem n) → around ≤ 4 → around + before.all.height ≤ 5 →
-        row_judged (at around) before row ≡ Ok after → around + after.all.height ≤ 5
+        row_check (at around) before row ≡ Ok after → around + after.all.height ≤ 5
     row_high around before after n end_of-MemberItem few low h =
         let same : before ≡ after = cc in
         subst (λ (b : MembersBefore). around + b.all.height ≤ 5) same low
@@ -80,7 +80,7 @@ module _ (types : List TypesItem) where
         row_high around (with_one types before m) after _ rest few
         (one_higher around before.all.height (fact_of types m).height low (member_high around before m few passed.judged)) passed.later
 
-    member_high : (around : ℕ) (before : MembersBefore) (m : MemberItem) → around ≤ 4 → member_judged (at around) before m ≡ Ok tt → around + (1 + (fact_of types m).height) ≤ 5
+    member_high : (around : ℕ) (before : MembersBefore) (m : MemberItem) → around ≤ 4 → member_check (at around) before m ≡ Ok tt → around + (1 + (fact_of types m).height) ≤ 5
     member_high around before (part.Type t) few h = let low = type_low None t (integral t.primitive_type) in omega arith
     member_high around before (part.Enum e) few h = let low = enum_low None (encoding_named types e.encoding_type) in omega arith
     member_high around before (part.Set s) few h = let low = set_low (encoding_named types s.encoding_type) in omega arith
@@ -213,7 +213,7 @@ field_in_order types accepted reached f h =
     }
 
 pub judged_in_order : (scope : Scope) (before : PartsBefore) (f : FieldEl) → AreAccepted scope.types →
-    field_judged scope before f ≡ Ok tt → IsKindInOrder (field_kind scope.types f)
+    field_check scope before f ≡ Ok tt → IsKindInOrder (field_kind scope.types f)
 judged_in_order scope before f accepted h =
     field_in_order scope.types accepted before.all.reached f (then_ok (first_of (field_rules scope.types before.all.reached f)) _ tt h).1
 

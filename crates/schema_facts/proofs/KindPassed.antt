@@ -13,20 +13,20 @@ use Rattle.sbe_types.specs.declared.kind.Member.{Member}
 use Rattle.schema_rules.specs.declared.codes.CCode.{CCode}
 use Rattle.schema_rules.specs.declared.codes.CCode.TheVariants as rule
 use Rattle.schema_rules.specs.declared.facts.Fact.{Fact}
-use Rattle.schema_rules.specs.Judging.{Judged, ◌>>=◌, Rules, first_of, behind}
+use Rattle.schema_rules.specs.Judging.{CheckResult, ◌>>=◌, Rules, first_of, at_element}
 use Rattle.schema_rules.specs.Names.{is_among}
 use Rattle.schema_rules.specs.Kinds.{member_name, member_offset, member_kind, row_members, members_of}
 use Rattle.schema_rules.specs.Facts.{no_members, with_member, member_fact, row_fact, members_fact, fact_named, fact_of}
 use Rattle.schema_rules.specs.Chains.{is_endless}
-use Rattle.schema_rules.specs.CompositeRules.{Inside, deeper, MembersBefore, no_member, with_one, begins_early, first_rules, member_rules, last_rules, composite_rules, entered, row_judged, member_judged, members_judged, composite_judged, most_bytes, most_leaves, most_composites}
+use Rattle.schema_rules.specs.CompositeRules.{Inside, deeper, MembersBefore, no_member, with_one, begins_early, first_rules, member_rules, last_rules, composite_rules, entered, row_check, member_check, members_check, composite_check, most_bytes, most_leaves, most_composites}
 
 -- ---- judgements
 
-pub then_ok : {A B : Type 0} (a : Judged A) (f : A → Judged B) (y : B) → (a >>= f) ≡ Ok y → (x : A) × (a ≡ Ok x) × (f x ≡ Ok y)
+pub then_ok : {A B : Type 0} (a : CheckResult A) (f : A → CheckResult B) (y : B) → (a >>= f) ≡ Ok y → (x : A) × (a ≡ Ok x) × (f x ≡ Ok y)
 then_ok (Ok x) f y h = (x, refl, h)
 then_ok (Err e) f y h = cc
 
-pub behind_ok : {A : Type 0} (front name : List ℕ) (j : Judged A) (x : A) → behind front name j ≡ Ok x → j ≡ Ok x
+pub behind_ok : {A : Type 0} (front name : List ℕ) (j : CheckResult A) (x : A) → at_element front name j ≡ Ok x → j ≡ Ok x
 behind_ok front name (Ok y) x h = h
 behind_ok front name (Err e) x h = cc
 
@@ -66,7 +66,7 @@ entered_passed inside before m h =
 -- a composite written inside another
 pub record PassedInside (inside : Inside) {n : _} (row : Row_of-MemberItem n) : Type 0 where
   pub after : MembersBefore
-  pub members : row_judged (deeper inside) no_member row ≡ Ok after
+  pub members : row_check (deeper inside) no_member row ≡ Ok after
   pub low : inside.around == most_composites ≡ false
   pub width : nat_lt most_bytes after.all.width ≡ false
   pub leaves : nat_lt most_leaves after.all.leaves ≡ false
@@ -79,19 +79,19 @@ IsPassedInside inside (part.Set s) = ⊤
 IsPassedInside inside (part.Ref r) = ⊤
 IsPassedInside inside (part.Composite' name offset since n row) = PassedInside inside row
 
-pub inside_passed : (inside : Inside) (before : MembersBefore) (m : MemberItem) → member_judged inside before m ≡ Ok tt → IsPassedInside inside m
+pub inside_passed : (inside : Inside) (before : MembersBefore) (m : MemberItem) → member_check inside before m ≡ Ok tt → IsPassedInside inside m
 inside_passed inside before (part.Type t) h = tt
 inside_passed inside before (part.Enum e) h = tt
 inside_passed inside before (part.Set s) h = tt
 inside_passed inside before (part.Ref r) h = tt
 inside_passed inside before (part.Composite' name offset since n row) h =
     let first = then_ok (entered inside before (part.Composite' name offset since n row)) _ tt h in
-    let members = then_ok (row_judged (deeper inside) no_member row) _ tt first.2 in
+    let members = then_ok (row_check (deeper inside) no_member row) _ tt first.2 in
     let each = all_pass (composite_rules inside.around members.0.all) members.2 in
     let sizes = neither (nat_lt most_bytes members.0.all.width) (nat_lt most_leaves members.0.all.leaves) each.1.0 in
     record { after = members.0; members = members.1; low = each.0; width = sizes.0; leaves = sizes.1 }
 
-pub member_passed : (inside : Inside) (before : MembersBefore) (m : MemberItem) → member_judged inside before m ≡ Ok tt → Passed inside before m
+pub member_passed : (inside : Inside) (before : MembersBefore) (m : MemberItem) → member_check inside before m ≡ Ok tt → Passed inside before m
 member_passed inside before (part.Type t) h = entered_passed inside before (part.Type t) h
 member_passed inside before (part.Enum e) h = entered_passed inside before (part.Enum e) h
 member_passed inside before (part.Set s) h = entered_passed inside before (part.Set s) h
@@ -103,20 +103,20 @@ member_passed inside before (part.Composite' name offset since n row) h =
 
 -- the first of members, and those after it
 pub record PassedRow (inside : Inside) (before after : MembersBefore) (m : MemberItem) {n : _} (rest : Row_of-MemberItem n) : Type 0 where
-  pub judged : member_judged inside before m ≡ Ok tt
+  pub judged : member_check inside before m ≡ Ok tt
   pub found : Passed inside before m
-  pub later : row_judged inside (with_one inside.types before m) rest ≡ Ok after
+  pub later : row_check inside (with_one inside.types before m) rest ≡ Ok after
 
 pub row_passed : (inside : Inside) (before after : MembersBefore) (m : MemberItem) (n : _) (rest : Row_of-MemberItem n) →
-    row_judged inside before (more_of-MemberItem m rest) ≡ Ok after → PassedRow inside before after m rest
+    row_check inside before (more_of-MemberItem m rest) ≡ Ok after → PassedRow inside before after m rest
 row_passed inside before after m n rest h =
-    let first = then_ok (behind (codes ".") (member_name m) (member_judged inside before m)) _ after h in
-    let judged = behind_ok (codes ".") (member_name m) (member_judged inside before m) tt first.1 in
+    let first = then_ok (at_element (codes ".") (member_name m) (member_check inside before m)) _ after h in
+    let judged = behind_ok (codes ".") (member_name m) (member_check inside before m) tt first.1 in
     record { judged = judged; found = member_passed inside before m judged; later = first.2 }
 
 -- what stands before the last is the composite of all
 pub after_all : (inside : Inside) (before after : MembersBefore) (n : _) (row : Row_of-MemberItem n) →
-    row_judged inside before row ≡ Ok after → row_fact inside.types (fact_named inside.types) before.all row ≡ after.all
+    row_check inside before row ≡ Ok after → row_fact inside.types (fact_named inside.types) before.all row ≡ after.all
 after_all inside before after n end_of-MemberItem h =
     let same : before ≡ after = cc in
     ap (λ (b : MembersBefore). b.all) same
@@ -152,10 +152,10 @@ pub composite_row_kind : (types : List TypesItem) (kinds : List ℕ → Kind) (c
 composite_row_kind types kinds c = kind_row types kinds _ (row_of c).1 ∙ ap (members_of types kinds) (items_hidden-the_row-MemberItem-0 c.children)
 
 judged_row : (inside : Inside) (before : MembersBefore) (n : _) (row : Row_of-MemberItem n) →
-    row_judged inside before row ≡ members_judged inside before (items-the_row-MemberItem n row)
+    row_check inside before row ≡ members_check inside before (items-the_row-MemberItem n row)
 judged_row inside before n end_of-MemberItem = refl
 judged_row inside before n (more_of-MemberItem m rest) =
-    ap (λ (r : Judged MembersBefore). behind (codes ".") (member_name m) (member_judged inside before m) >>= (λ _. r))
+    ap (λ (r : CheckResult MembersBefore). at_element (codes ".") (member_name m) (member_check inside before m) >>= (λ _. r))
     (judged_row inside (with_one inside.types before m) _ rest)
 
 form_row : (n : _) (row : Row_of-MemberItem n) → AllByRecursion IsMemberInForm (items-the_row-MemberItem n row) → AreMembersInForm row
@@ -174,19 +174,19 @@ declared_inside types = record { types = types; around = 1 }
 -- what the rules have found of it
 pub record PassedComposite (types : List TypesItem) (c : CompositeEl) : Type 0 where
   pub after : MembersBefore
-  pub members : row_judged (declared_inside types) no_member (row_of c).1 ≡ Ok after
+  pub members : row_check (declared_inside types) no_member (row_of c).1 ≡ Ok after
   pub width : nat_lt most_bytes after.all.width ≡ false
   pub leaves : nat_lt most_leaves after.all.leaves ≡ false
 
-pub composite_passed : (types : List TypesItem) (c : CompositeEl) → composite_judged types c ≡ Ok tt → PassedComposite types c
+pub composite_passed : (types : List TypesItem) (c : CompositeEl) → composite_check types c ≡ Ok tt → PassedComposite types c
 composite_passed types c h =
     let first = then_ok (first_of ((rule.Cycle, is_endless types c) ∷ [])) _ tt h in
-    let members = then_ok (members_judged (declared_inside types) no_member c.children) _ tt first.2 in
+    let members = then_ok (members_check (declared_inside types) no_member c.children) _ tt first.2 in
     let each = all_pass (composite_rules 0 members.0.all) members.2 in
     let sizes = neither (nat_lt most_bytes members.0.all.width) (nat_lt most_leaves members.0.all.leaves) each.1.0 in
     record {
       after = members.0;
-      members = judged_row (declared_inside types) no_member _ (row_of c).1 ∙ ap (members_judged (declared_inside types) no_member) (items_hidden-the_row-MemberItem-0 c.children) ∙ members.1;
+      members = judged_row (declared_inside types) no_member _ (row_of c).1 ∙ ap (members_check (declared_inside types) no_member) (items_hidden-the_row-MemberItem-0 c.children) ∙ members.1;
       width = sizes.0;
       leaves = sizes.1;
     }

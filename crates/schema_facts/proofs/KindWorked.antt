@@ -16,7 +16,7 @@ use Rattle.sbe_types.specs.InForm.{IsEnumInForm}
 use Rattle.schema_rules.specs.Judging.{first_of}
 use Rattle.schema_rules.specs.Facts.{fact_named}
 use Rattle.schema_rules.specs.Kinds.{kind_named, field_kind}
-use Rattle.schema_rules.specs.CompositeRules.{types_judged}
+use Rattle.schema_rules.specs.CompositeRules.{types_check}
 use Rattle.schema_rules.specs.PartRules.{field_rules}
 use Rattle.schema_rules.specs.Rows.Trees.{valid}
 
@@ -38,7 +38,7 @@ int32_is = leaf_kind int32 (record { null = refl; low = refl; high = refl; range
 
 -- ---- types and the composite that they stand for
 
-types_judge : types_judged types [] types ≡ Ok tt
+types_judge : types_check types [] types ≡ Ok tt
 unfolding fact_named
 types_judge = refl
 

@@ -11,7 +11,7 @@ use Rattle.sbe_types.specs.declared.tree.PartItem.{PartItem}
 use Rattle.sbe_types.specs.declared.tree.PartItem as part
 use Rattle.schema_rules.specs.declared.codes.CCode.{CCode}
 use Rattle.schema_rules.specs.declared.levels.LevelScope.{LevelScope}
-use Rattle.schema_rules.specs.Judging.{Judged, Rules, first_of, refuse}
+use Rattle.schema_rules.specs.Judging.{CheckResult, Rules, first_of, refuse}
 use Rattle.schema_rules.specs.PartRules.{PartsBefore, no_part, with_part, field_rules}
 use Rattle.schema_rules.specs.Resolved.{list_fields, list_data}
 use Rattle.schema_facts.specs.CheckedLevels.{HasDimensionKind, HasKinds, IsExact}
@@ -23,7 +23,7 @@ use Rattle.schema_facts.proofs.KindOrder.{field_in_order, members_in_order}
 use Rattle.schema_facts.proofs.LevelSteps.{Kept, EachKept, PartKept, not_false}
 use Rattle.schema_facts.proofs.LevelWalk.{Base, Head, Passed, DimKept, within_of, scope_of, level_of}
 
-one_passed : (b : Bool) (code : CCode) (rest : Judged (Unit {0})) → b ≡ false → rest ≡ Ok tt → (if b then refuse code else rest) ≡ Ok tt
+one_passed : (b : Bool) (code : CCode) (rest : CheckResult (Unit {0})) → b ≡ false → rest ≡ Ok tt → (if b then refuse code else rest) ≡ Ok tt
 one_passed true code rest h k = cc
 one_passed false code rest h k = k
 

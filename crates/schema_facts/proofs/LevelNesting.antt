@@ -14,8 +14,8 @@ use Rattle.sbe_types.specs.declared.tree.PartItem.{PartItem, Row_of-PartItem, en
 use Rattle.sbe_types.specs.declared.tree.PartItem as part
 use Rattle.schema_rules.specs.declared.levels.LevelScope.{LevelScope}
 use Rattle.schema_rules.specs.Kinds.{members_named}
-use Rattle.schema_rules.specs.PartRules.{Scope, PartsBefore, no_part, with_part, part_name, most_groups, entries_level, level_judged, part_judged, parts_judged}
-use Rattle.schema_rules.specs.Checked.{MessagesBefore, with_message, messages_judged}
+use Rattle.schema_rules.specs.PartRules.{Scope, PartsBefore, no_part, with_part, part_name, most_groups, entries_level, level_check, part_check, parts_check}
+use Rattle.schema_rules.specs.Checked.{MessagesBefore, with_message, messages_check}
 use Rattle.schema_rules.specs.Resolved.{Within, row_fields, row_groups, row_data, list_groups, with_group, resolved_message}
 use Rattle.schema_facts.specs.CheckedLevels.{groups_deep, row_deep, group_deep}
 use Rattle.schema_facts.proofs.LevelSteps.{EntriesKept, part_kept, first_part}
@@ -59,15 +59,15 @@ one_group d rest inner around is h k = omega arith
 mutual
   unfolding deep_of
 
-  row_shallow : (base : Base) (level : LevelScope) → level.around ≤ 6 → (before after : PartsBefore) {n : _} (row : Row_of-PartItem n) → level_judged (scope_of base level) before row ≡ Ok after →
+  row_shallow : (base : Base) (level : LevelScope) → level.around ≤ 6 → (before after : PartsBefore) {n : _} (row : Row_of-PartItem n) → level_check (scope_of base level) before row ≡ Ok after →
       deep_of (row_groups (within_of base level) row) + level.around ≤ 6
   row_shallow base level room before after end_of-PartItem h = omega (arith, room)
   row_shallow base level room before after (more_of-PartItem p rest) h =
       let scope : Scope = scope_of base level in
-      let two = first_part (part_name p) (part_judged scope before p) (level_judged scope (with_part scope before p) rest) after h in
+      let two = first_part (part_name p) (part_check scope before p) (level_check scope (with_part scope before p) rest) after h in
       part_shallow base level room before p (row_groups (within_of base level) rest) two.0 (row_shallow base level room (with_part scope before p) after rest two.1)
 
-  part_shallow : (base : Base) (level : LevelScope) → level.around ≤ 6 → (before : PartsBefore) (p : PartItem) (gs : List Group) → part_judged (scope_of base level) before p ≡ Ok tt →
+  part_shallow : (base : Base) (level : LevelScope) → level.around ≤ 6 → (before : PartsBefore) (p : PartItem) (gs : List Group) → part_check (scope_of base level) before p ≡ Ok tt →
       deep_of gs + level.around ≤ 6 → deep_of (with_group (within_of base level) p gs) + level.around ≤ 6
   part_shallow base level room before (part.Field f) gs h rest = rest
   part_shallow base level room before (part.Data d) gs h rest = rest
@@ -84,17 +84,17 @@ mutual
       group_made dim (row_level within head row) ∙ ap suc (deep_open (row_level within head row) ∙ ap deep_of (groups_of_level within head (row_fields within row) (row_groups within row) (row_data within row))) in
       one_group (group_deep (roll-Group (record { dim = dim; level = row_level within head row }))) (deep_of gs) (deep_of (row_groups within row)) level.around made (omega (arith, deep, space.1)) rest
 
-parts_shallow : (base : Base) (level : LevelScope) → level.around ≤ 6 → (before after : PartsBefore) (ps : List PartItem) → parts_judged (scope_of base level) before ps ≡ Ok after →
+parts_shallow : (base : Base) (level : LevelScope) → level.around ≤ 6 → (before after : PartsBefore) (ps : List PartItem) → parts_check (scope_of base level) before ps ≡ Ok after →
     deep_of (list_groups (within_of base level) ps) + level.around ≤ 6
 unfolding deep_of
 parts_shallow base level room before after [] h = omega (arith, room)
 parts_shallow base level room before after (p ∷ ps) h =
     let scope : Scope = scope_of base level in
-    let two = first_part (part_name p) (part_judged scope before p) (parts_judged scope (with_part scope before p) ps) after h in
+    let two = first_part (part_name p) (part_check scope before p) (parts_check scope (with_part scope before p) ps) after h in
     part_shallow base level room before p (list_groups (within_of base level) ps) two.0 (parts_shallow base level room (with_part scope before p) after ps two.1)
 
 -- no more than six groups of a message lie around one another
-pub messages_shallow : (base : Base) (before : MessagesBefore) (ms : List MessageEl) → messages_judged base.header (scope_of base (root_level base)) before ms ≡ Ok tt →
+pub messages_shallow : (base : Base) (before : MessagesBefore) (ms : List MessageEl) → messages_check base.header (scope_of base (root_level base)) before ms ≡ Ok tt →
     AllByRecursion (λ l. groups_deep l ≤ most_groups) (map (resolved_message base.types) ms)
 messages_shallow base before [] h = tt
 messages_shallow base before (m ∷ ms) h =

@@ -21,7 +21,7 @@ use Rattle.schema_rules.specs.declared.levels.LevelFacts.{LevelFacts}
 use Rattle.schema_rules.specs.declared.levels.LevelScope.{LevelScope}
 use Rattle.schema_rules.specs.declared.levels.PartHead.{PartHead}
 use Rattle.schema_rules.specs.Kinds.{members_named}
-use Rattle.schema_rules.specs.PartRules.{Scope, PartsBefore, no_part, with_part, part_name, entries_level, since_in, dimension_rules, group_rules, level_judged, part_judged, parts_judged, is_short, is_bad_block, begins_wrong, greatest_since}
+use Rattle.schema_rules.specs.PartRules.{Scope, PartsBefore, no_part, with_part, part_name, entries_level, since_in, dimension_rules, group_rules, level_check, part_check, parts_check, is_short, is_bad_block, begins_wrong, greatest_since}
 use Rattle.schema_rules.specs.Resolved.{Within, block_of, row_fields, row_groups, row_data, list_fields, list_groups, list_data, with_field, with_data, with_group}
 use Rattle.schema_facts.specs.Levels.{Node, nodes, nodes_below, nodes_of, node}
 use Rattle.schema_facts.proofs.LevelSteps.{neither, Kept, EachKept, PartKept, EntriesKept, part_kept, parts_kept, parts_after, first_part, row_list, entries_scope, head_of}
@@ -217,15 +217,15 @@ module _ (base : Base) (P : Node → Type 0) (gives : (t : ℕ) (dim : Option (L
 
   mutual
     row_walked : (t : ℕ) (level : LevelScope) → Known base level → (before after : PartsBefore) {n : _} (row : Row_of-PartItem n) →
-        level_judged (scope_of base level) before row ≡ Ok after → ArePartsInForm row → AllByRecursion P (flat_map (nodes_of t) (row_groups (within_of base level) row))
+        level_check (scope_of base level) before row ≡ Ok after → ArePartsInForm row → AllByRecursion P (flat_map (nodes_of t) (row_groups (within_of base level) row))
     row_walked t level known before after end_of-PartItem h form = tt
     row_walked t level known before after (more_of-PartItem p rest) h form =
         let scope : Scope = scope_of base level in
-        let two = first_part (part_name p) (part_judged scope before p) (level_judged scope (with_part scope before p) rest) after h in
+        let two = first_part (part_name p) (part_check scope before p) (level_check scope (with_part scope before p) rest) after h in
         part_walked t level known before p (row_groups (within_of base level) rest) two.0 form.0 (row_walked t level known (with_part scope before p) after rest two.1 form.1)
 
     part_walked : (t : ℕ) (level : LevelScope) → Known base level → (before : PartsBefore) (p : PartItem) (gs : List Group) →
-        part_judged (scope_of base level) before p ≡ Ok tt → IsPartInForm p → AllByRecursion P (flat_map (nodes_of t) gs) → AllByRecursion P (flat_map (nodes_of t) (with_group (within_of base level) p gs))
+        part_check (scope_of base level) before p ≡ Ok tt → IsPartInForm p → AllByRecursion P (flat_map (nodes_of t) gs) → AllByRecursion P (flat_map (nodes_of t) (with_group (within_of base level) p gs))
     part_walked t level known before (part.Field f) gs h form below = below
     part_walked t level known before (part.Data d) gs h form below = below
     part_walked t level known before (part.Group' name id dimension since stated n row) gs h form below =
@@ -245,9 +245,9 @@ module _ (base : Base) (P : Node → Type 0) (gives : (t : ℕ) (dim : Option (L
 
   -- the groups of parts that were judged, as a list
   pub parts_walked : (t : ℕ) (level : LevelScope) → Known base level → (before after : PartsBefore) (ps : List PartItem) →
-      parts_judged (scope_of base level) before ps ≡ Ok after → AllByRecursion IsPartInForm ps → AllByRecursion P (flat_map (nodes_of t) (list_groups (within_of base level) ps))
+      parts_check (scope_of base level) before ps ≡ Ok after → AllByRecursion IsPartInForm ps → AllByRecursion P (flat_map (nodes_of t) (list_groups (within_of base level) ps))
   parts_walked t level known before after [] h form = tt
   parts_walked t level known before after (p ∷ ps) h form =
       let scope : Scope = scope_of base level in
-      let two = first_part (part_name p) (part_judged scope before p) (parts_judged scope (with_part scope before p) ps) after h in
+      let two = first_part (part_name p) (part_check scope before p) (parts_check scope (with_part scope before p) ps) after h in
       part_walked t level known before p (list_groups (within_of base level) ps) two.0 form.0 (parts_walked t level known (with_part scope before p) after ps two.1 form.1)

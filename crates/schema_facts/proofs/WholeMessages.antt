@@ -17,7 +17,7 @@ use Rattle.sbe_wire.specs.Faults.{message_named}
 use Rattle.schema_rules.specs.Counters.{holds}
 use Rattle.schema_rules.specs.Names.{is_among, messages_of}
 use Rattle.schema_rules.specs.PartRules.{Scope}
-use Rattle.schema_rules.specs.Checked.{Outline, outline_of, header_members, message_scope, MessagesBefore, no_message, with_message, messages_judged}
+use Rattle.schema_rules.specs.Checked.{Outline, outline_of, header_members, message_scope, MessagesBefore, no_message, with_message, messages_check}
 use Rattle.schema_rules.specs.Resolved.{resolved_message}
 use Rattle.schema_facts.proofs.KindDeclared.{all_at}
 use Rattle.schema_facts.proofs.LevelSteps.{neither, not_false}
@@ -49,7 +49,7 @@ none_distinct : Distinct no_message
 unfolding IsDistinct
 none_distinct = record { names = tt; ids = tt }
 
-messages_distinct : (header : List Member) (scope : Scope) (before : MessagesBefore) (ms : List MessageEl) → messages_judged header scope before ms ≡ Ok tt → Distinct before → Distinct (messages_after before ms)
+messages_distinct : (header : List Member) (scope : Scope) (before : MessagesBefore) (ms : List MessageEl) → messages_check header scope before ms ≡ Ok tt → Distinct before → Distinct (messages_after before ms)
 unfolding messages_after
 messages_distinct header scope before [] h distinct = distinct
 messages_distinct header scope before (m ∷ ms) h distinct =
@@ -151,7 +151,7 @@ ids_lead tree schema f i root at =
 
 -- ---- the header holds the ids
 
-roots_held : (header : List Member) (scope : Scope) (before : MessagesBefore) (ms : List MessageEl) → messages_judged header scope before ms ≡ Ok tt →
+roots_held : (header : List Member) (scope : Scope) (before : MessagesBefore) (ms : List MessageEl) → messages_check header scope before ms ≡ Ok tt →
     AllByRecursion (λ l. holds header (codes "templateId") (out-Level l).id ≡ true) (map (resolved_message scope.types) ms)
 roots_held header scope before [] h = tt
 roots_held header scope before (m ∷ ms) h =

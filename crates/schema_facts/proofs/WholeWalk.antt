@@ -10,13 +10,13 @@ use Rattle.sbe_types.specs.declared.tree.SchemaItem.TheVariants as child
 use Rattle.sbe_types.specs.declared.tree.MessageEl.{MessageEl}
 use Rattle.sbe_types.specs.declared.tree.PartItem.{PartItem}
 use Rattle.sbe_types.specs.InForm.{IsChildInForm, IsMessageInForm, IsInForm}
-use Rattle.schema_rules.specs.Judging.{Judged, ◌>>=◌, first_of, behind}
+use Rattle.schema_rules.specs.Judging.{CheckResult, ◌>>=◌, first_of, at_element}
 use Rattle.schema_rules.specs.Names.{declared_types, messages_in, messages_of}
-use Rattle.schema_rules.specs.CompositeRules.{types_judged}
+use Rattle.schema_rules.specs.CompositeRules.{types_check}
 use Rattle.schema_rules.specs.declared.levels.LevelScope.{LevelScope}
-use Rattle.schema_rules.specs.PartRules.{Scope, PartsBefore, no_part, parts_judged}
+use Rattle.schema_rules.specs.PartRules.{Scope, PartsBefore, no_part, parts_check}
 use Rattle.schema_rules.specs.Resolved.{resolved, resolved_message, list_groups, list_fields, list_data}
-use Rattle.schema_rules.specs.Checked.{Outline, outline_of, header_members, header_rules, MessagesBefore, no_message, with_message, message_rules, message_end_rules, message_scope, message_judged, messages_judged, judged, checked_of}
+use Rattle.schema_rules.specs.Checked.{Outline, outline_of, header_members, header_rules, MessagesBefore, no_message, with_message, message_rules, message_end_rules, message_scope, message_check, messages_check, tree_check, checked_of}
 use Rattle.schema_facts.specs.Levels.{Node, nodes, nodes_from, all_nodes, node}
 use Rattle.schema_facts.proofs.LevelSteps.{Kept, steps, both, behind_ok, rules_kept, neither, parts_kept}
 use Rattle.schema_facts.proofs.LevelWalk.{Base, Head, Passed, Known, within_of, scope_of, told_of, level_of, one_level, parts_walked, all_joined}
@@ -26,18 +26,18 @@ use Rattle.schema_facts.proofs.LevelWalk.{Base, Head, Passed, Known, within_of, 
 -- what the checker found in order
 pub record Found (tree : Schema) (schema : WireSchema) : Type 0 where
   pub is : resolved tree ≡ schema
-  pub types : types_judged (declared_types tree) [] (declared_types tree) ≡ Ok tt
+  pub types : types_check (declared_types tree) [] (declared_types tree) ≡ Ok tt
   pub header : Kept (header_rules (outline_of tree))
-  pub messages : messages_judged (header_members (outline_of tree)) (message_scope (outline_of tree)) no_message (messages_of tree) ≡ Ok tt
+  pub messages : messages_check (header_members (outline_of tree)) (message_scope (outline_of tree)) no_message (messages_of tree) ≡ Ok tt
 
 -- where the checker answers a schema, it found all in order
 pub found : (tree : Schema) (schema : WireSchema) → checked_of tree ≡ Ok schema → Found tree schema
 found tree schema h =
     let outline : Outline = outline_of tree in
-    let messages : Judged (Unit {0}) = messages_judged (header_members outline) (message_scope outline) no_message (messages_of tree) in
-    let header : Judged (Unit {0}) = behind (codes "types/") outline.header_type (first_of (header_rules outline)) in
-    let a = both (judged outline (messages_of tree)) (Ok (resolved tree)) schema h in
-    let b = both (types_judged outline.types [] outline.types) (header >>= (λ _. messages)) tt a.0 in
+    let messages : CheckResult (Unit {0}) = messages_check (header_members outline) (message_scope outline) no_message (messages_of tree) in
+    let header : CheckResult (Unit {0}) = at_element (codes "types/") outline.header_type (first_of (header_rules outline)) in
+    let a = both (tree_check outline (messages_of tree)) (Ok (resolved tree)) schema h in
+    let b = both (types_check outline.types [] outline.types) (header >>= (λ _. messages)) tt a.0 in
     let c = both header messages tt b.1 in
     record {
       is = cc (a.1);
@@ -50,15 +50,15 @@ found tree schema h =
 pub record MessageKept (header : List Member) (scope : Scope) (before : MessagesBefore) (m : MessageEl) : Type 0 where
   pub head : Kept (message_rules scope.level.version before m)
   pub found : PartsBefore
-  pub parts : parts_judged scope no_part m.children ≡ Ok found
+  pub parts : parts_check scope no_part m.children ≡ Ok found
   pub ends : Kept (message_end_rules header m found.all)
 
 -- a message that was judged
-pub message_kept : (header : List Member) (scope : Scope) (before : MessagesBefore) (m : MessageEl) → message_judged header scope before m ≡ Ok tt → MessageKept header scope before m
+pub message_kept : (header : List Member) (scope : Scope) (before : MessagesBefore) (m : MessageEl) → message_check header scope before m ≡ Ok tt → MessageKept header scope before m
 message_kept header scope before m h =
-    let last : PartsBefore → Judged (Unit {0}) = λ parts. first_of (message_end_rules header m parts.all) in
-    let a = both (first_of (message_rules scope.level.version before m)) (parts_judged scope no_part m.children >>= last) tt h in
-    let b = steps (parts_judged scope no_part m.children) last tt a.1 in
+    let last : PartsBefore → CheckResult (Unit {0}) = λ parts. first_of (message_end_rules header m parts.all) in
+    let a = both (first_of (message_rules scope.level.version before m)) (parts_check scope no_part m.children >>= last) tt h in
+    let b = steps (parts_check scope no_part m.children) last tt a.1 in
     record {
       head = rules_kept (message_rules scope.level.version before m) a.0;
       found = b.found;
@@ -67,11 +67,11 @@ message_kept header scope before m h =
     }
 
 -- the first of some messages, and the rest
-pub first_message : (header : List Member) (scope : Scope) (before : MessagesBefore) (m : MessageEl) (ms : List MessageEl) → messages_judged header scope before (m ∷ ms) ≡ Ok tt →
-    MessageKept header scope before m × (messages_judged header scope (with_message before m) ms ≡ Ok tt)
+pub first_message : (header : List Member) (scope : Scope) (before : MessagesBefore) (m : MessageEl) (ms : List MessageEl) → messages_check header scope before (m ∷ ms) ≡ Ok tt →
+    MessageKept header scope before m × (messages_check header scope (with_message before m) ms ≡ Ok tt)
 first_message header scope before m ms h =
-    let two = both (behind (codes "messages/") m.name (message_judged header scope before m)) (messages_judged header scope (with_message before m) ms) tt h in
-    (message_kept header scope before m (behind_ok (codes "messages/") m.name (message_judged header scope before m) tt two.0), two.1)
+    let two = both (at_element (codes "messages/") m.name (message_check header scope before m)) (messages_check header scope (with_message before m) ms) tt h in
+    (message_kept header scope before m (behind_ok (codes "messages/") m.name (message_check header scope before m) tt two.0), two.1)
 
 -- the messages are in form
 messages_form : (items : List SchemaItem) → AllByRecursion IsChildInForm items → AllByRecursion IsMessageInForm (flat_map messages_in items)
@@ -122,7 +122,7 @@ message_passed base before m kept form =
 
 module _ (base : Base) (P : Node → Type 0) (gives : (t : ℕ) (dim : Option (List Member)) (level : LevelScope) (head : Head) (ps : List PartItem) →
     Passed base level dim head ps → P (node t dim (level_of (within_of base level) head ps))) where
-  messages_walked : (t : ℕ) (before : MessagesBefore) (ms : List MessageEl) → messages_judged base.header (scope_of base (root_level base)) before ms ≡ Ok tt →
+  messages_walked : (t : ℕ) (before : MessagesBefore) (ms : List MessageEl) → messages_check base.header (scope_of base (root_level base)) before ms ≡ Ok tt →
       AllByRecursion IsMessageInForm ms → AllByRecursion P (nodes_from t (map (resolved_message base.types) ms))
   messages_walked t before [] h form = tt
   messages_walked t before (m ∷ ms) h form =

@@ -19,7 +19,7 @@ use Rattle.sbe_types.specs.Places.{width}
 use Rattle.sbe_wire.specs.Placed.{IsPlacedKind}
 use Rattle.schema_rules.specs.Ranges.{is_number_of}
 use Rattle.schema_rules.specs.TypeRules.{is_constant, is_enum_primitive, is_set_primitive}
-use Rattle.schema_rules.specs.CompositeRules.{most_leaves, most_composites, types_judged}
+use Rattle.schema_rules.specs.CompositeRules.{most_leaves, most_composites, types_check}
 use Rattle.schema_facts.specs.Measured.{IsNarrow, IsSmall}
 
 -- ---- leaves
@@ -174,7 +174,7 @@ pub record IsKindInOrder (kind : Kind) : Type 0 where
 
 -- declared types that keep the rules
 pub record AreAccepted (types : List TypesItem) : Type 0 where
-  pub judged : types_judged types [] types ≡ Ok tt
+  pub judged : types_check types [] types ≡ Ok tt
   pub form : AllByRecursion IsDeclaredInForm types
 
 -- ---- the counters of the wire

@@ -17,7 +17,7 @@ ghost use Rattle.schema_rules.specs.Facts.{counted, fact_through, field_fact};
 ghost use Rattle.schema_rules.specs.Judging.{first_of};
 ghost use Rattle.schema_rules.specs.Kinds.{use_of, members_of, found_kind, kind_through, kind_named, field_kind, members_named};
 ghost use Rattle.schema_rules.specs.Names.{type_named};
-ghost use Rattle.schema_rules.specs.PartRules.{Scope, PartsBefore, field_rules, field_judged};
+ghost use Rattle.schema_rules.specs.PartRules.{Scope, PartsBefore, field_rules, field_check};
 ghost use Rattle.schema_rules.specs.Resolved.{length_in};
 ghost use Rattle.schema_facts.specs.InOrder.{leaves, height, AreAccepted};
 ghost use Rattle.schema_facts.specs.InOrder.{IsKindWithin, IsKindInOrder, IsCompositeInOrder, IsLengthInOrder};
@@ -31,7 +31,7 @@ ghost use Rattle.sbe_types.specs.declared.schema.Level.{out-Level};
 /// limits.
 pub fn kinds_of_fields_are_in_order()
     ensures judged { (scope : Scope) (before : PartsBefore) (f : FieldEl) → AreAccepted scope.types
-        → field_judged scope before f ≡ Ok tt → IsKindInOrder (field_kind scope.types f) }
+        → field_check scope before f ≡ Ok tt → IsKindInOrder (field_kind scope.types f) }
     ensures rules { (types : List TypesItem) (reached : ℕ) (f : FieldEl) → AreAccepted types
         → first_of (field_rules types reached f) ≡ Ok tt → IsKindInOrder (field_kind types f) }
 {}

@@ -8,7 +8,7 @@ use Rattle.sbe_types.specs.declared.tree.Schema.{Schema}
 use Rattle.sbe_types.specs.InForm.{IsInForm}
 use Rattle.sbe_schema.specs.Schemas.{schema_of}
 use Rattle.sbe_schema.proofs.SchemaInForm.{file_yields}
-use Rattle.schema_rules.specs.Judging.{Judged}
+use Rattle.schema_rules.specs.Judging.{CheckResult}
 use Rattle.schema_rules.specs.Checked.{checked_of}
 use Rattle.schema_facts.specs.IsChecked.{IsChecked}
 use Rattle.schema_facts.proofs.WholeChecked.{schema_checked}
@@ -28,7 +28,7 @@ use Rattle.schema_files.proofs.Forms.{form_decided}
 tree_checked : (tree : Schema) (schema : WireSchema) → IsInForm tree → in_order (checked_of tree) ≡ Ok schema → IsChecked schema
 tree_checked tree schema form h = schema_checked tree schema form (found (checked_of tree) h)
   where
-    found : (r : Judged WireSchema) → in_order r ≡ Ok schema → r ≡ Ok schema
+    found : (r : CheckResult WireSchema) → in_order r ≡ Ok schema → r ≡ Ok schema
     found (Ok s) e = let same : s ≡ schema = cc in ap Ok same
     found (Err broken) e = cc
 

@@ -8,7 +8,7 @@ use Rattle.sbe_base.specs.Loads.{Loads as LoadsBytes, MayLoad, OutOfMemory}
 use Rattle.sbe_base.specs.declared.files.LoadErr.TheVariants.{Memory}
 use Rattle.sbe_schema.specs.Schemas.{schema_of}
 use Rattle.sbe_types.specs.declared.tree.Schema.{Schema}
-use Rattle.schema_rules.specs.Judging.{Judged}
+use Rattle.schema_rules.specs.Judging.{CheckResult}
 use Rattle.schema_rules.specs.Checked.{checked_of}
 use Rattle.sbe_types.specs.declared.schema.WireSchema.{WireSchema}
 use Rattle.dump_lines.specs.declared.schemas.Schemas.{Schemas}
@@ -42,7 +42,7 @@ long_file file bytes there over = ap file_schema there ∙ by (nat_lt FILE_LIMIT
     by true e = refl
     by false e = let within : length bytes ≤ FILE_LIMIT = grind (arith, nat_tests) in absurd (omega (arith, over, within))
 
-found_read : (judged : Judged WireSchema) → IsRead (in_order judged)
+found_read : (judged : CheckResult WireSchema) → IsRead (in_order judged)
 found_read (Ok schema) = tt
 found_read (Err broken) = tt
 

@@ -105,9 +105,9 @@ loads_with_map role.To = 2
 -- ---- several schemas
 
 -- the answer about a further schema: that it is taken, or why it isn't
-abbrev pub joined_so : WireSchema → Option FileRefusal → Result WireSchema FileRefusal
-joined_so schema None = Ok schema
-joined_so schema (Some why) = Err why
+abbrev pub further_schema : WireSchema → Option FileRefusal → Result WireSchema FileRefusal
+further_schema schema None = Ok schema
+further_schema schema (Some why) = Err why
 
 -- what a further file is judged as, unless the files failed or it ran out of memory
 abbrev pub JoinsAs : Schemas → Result WireSchema FileRefusal → Result WireSchema LoadStop → Type 0

@@ -5,7 +5,7 @@ use Rattle.sbe_types.specs.declared.schema.WireSchema.{WireSchema}
 use Rattle.sbe_types.specs.declared.tree.Schema.{Schema}
 use Rattle.json_elements.specs.Reading.{Reading as Reads}
 use Rattle.sbe_schema.specs.Schemas.{schema_of}
-use Rattle.schema_rules.specs.Judging.{Judged}
+use Rattle.schema_rules.specs.Judging.{CheckResult}
 use Rattle.schema_rules.specs.Checked.{checked_of}
 use Rattle.schema_check.specs.Forms.{SameForm}
 use Rattle.dump_lines.specs.Chosen.{has_id}
@@ -20,7 +20,7 @@ use Rattle.json_elements.specs.declared.file.TheConstants.{FILE_LIMIT}
 -- ---- one file
 
 -- the schema of a check, or the rule that is broken, with the path of the element that breaks it
-abbrev pub in_order : Judged WireSchema → Result WireSchema FileRefusal
+abbrev pub in_order : CheckResult WireSchema → Result WireSchema FileRefusal
 in_order (Ok schema) = Ok schema
 in_order (Err broken) = Err (Broken broken.code broken.path)
 

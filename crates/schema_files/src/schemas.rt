@@ -3,7 +3,7 @@ ghost use Rattle.dump_lines.specs.Dumped.{AreInOrder};
 ghost use Rattle.sbe_base.specs.Causes.{one_more};
 ghost use Rattle.dump_lines.specs.declared.schemas.Schemas.{Schemas as SchemaSet};
 ghost use Rattle.schema_files.specs.Judged.{is_taken, Joins};
-ghost use Rattle.schema_files.specs.Files.{joined_so, FailsAt, JobCause, LoadCause, LoadsJoining, LoadsMore, LoadsSchemas, NamesLast};
+ghost use Rattle.schema_files.specs.Files.{further_schema, FailsAt, JobCause, LoadCause, LoadsJoining, LoadsMore, LoadsSchemas, NamesLast};
 
 use crate::files::{FileRefusal, FileRole, JobStop, LoadStop};
 use crate::schema_file::load_checked;
@@ -102,7 +102,7 @@ fn load_joining<F: Files>(
 /// first.
 pub fn why_not_joined(first: &Checked, taken: bool, further: &Checked) -> Option<FileRefusal>
     ensures { (schemas : SchemaSet) → schemas.first ≡ first.now → taken ≡ is_taken schemas further.now.id
-        → Joins schemas further.now (joined_so further.now result) }
+        → Joins schemas further.now (further_schema further.now result) }
 {
     if taken {
         return Some(FileRefusal::SameId);

@@ -17,7 +17,7 @@ use Rattle.sbe_types.specs.declared.schema.WireSchema.{WireSchema}
 use Rattle.schema_rules.specs.declared.codes.CCode.{CCode}
 use Rattle.schema_rules.specs.declared.codes.CCode.TheVariants as rule
 use Rattle.schema_rules.specs.declared.codes.PartClass.TheVariants as class
-use Rattle.schema_rules.specs.Judging.{Judged, Rules, refused}
+use Rattle.schema_rules.specs.Judging.{CheckResult, Rules, refused}
 use Rattle.schema_rules.specs.Names.{name_of, is_among, type_named, messages_of}
 use Rattle.schema_rules.specs.Chains.{is_endless}
 use Rattle.schema_rules.specs.Kinds.{member_name, members_named}
@@ -185,6 +185,6 @@ abbrev pub questions : Schema → List Question
 questions schema = of_outline (outline_of schema) (messages_of schema)
 
 -- The refusal of the first rule that is broken; if there is none, this schema.
-abbrev pub judged_by : List Question → WireSchema → Judged WireSchema
-judged_by [] schema = Ok schema
-judged_by (q ∷ qs) schema = if q.broken then Err (refused q.code q.path) else judged_by qs schema
+abbrev pub check_by : List Question → WireSchema → CheckResult WireSchema
+check_by [] schema = Ok schema
+check_by (q ∷ qs) schema = if q.broken then Err (refused q.code q.path) else check_by qs schema

@@ -8,7 +8,7 @@ ghost use Rattle.sbe_types.specs.declared.tree.Schema.{Schema};
 ghost use Rattle.schema_rules.specs.Chains.{is_endless};
 ghost use Rattle.schema_rules.specs.Checked.{checked_of};
 ghost use Rattle.schema_rules.specs.Resolved.{resolved};
-ghost use Rattle.schema_laws.specs.Questions.{questions, judged_by};
+ghost use Rattle.schema_laws.specs.Questions.{questions, check_by};
 ghost use Rattle.schema_laws.specs.Cycles.{MeetsTwice};
 
 /// A declared composite is endless exactly if a chain of composites that begins at it reaches one of them a second
@@ -20,5 +20,5 @@ pub fn endless_is_to_meet_twice()
 
 /// The answer for a schema is the first broken rule of all that apply to it, or the checked schema if none is broken.
 pub fn first_broken_rule_is_the_answer()
-    ensures { (schema : Schema) → checked_of schema ≡ judged_by (questions schema) (resolved schema) }
+    ensures { (schema : Schema) → checked_of schema ≡ check_by (questions schema) (resolved schema) }
 {}

@@ -8,12 +8,12 @@ use Rattle.sbe_types.specs.declared.tree.MessageEl.{MessageEl}
 use Rattle.sbe_types.specs.declared.tree.TypesItem.{TypesItem}
 use Rattle.schema_rules.specs.declared.codes.CCode.TheVariants as rule
 use Rattle.schema_rules.specs.declared.levels.LevelFacts.{LevelFacts}
-use Rattle.schema_rules.specs.Judging.{Judged, ◌>>=◌, Rules, first_of, behind}
+use Rattle.schema_rules.specs.Judging.{CheckResult, ◌>>=◌, Rules, first_of, at_element}
 use Rattle.schema_rules.specs.Names.{declared_types, messages_of, is_among, names_fraction, type_named}
-use Rattle.schema_rules.specs.CompositeRules.{types_judged}
+use Rattle.schema_rules.specs.CompositeRules.{types_check}
 use Rattle.schema_rules.specs.Counters.{is_header, holds}
 use Rattle.schema_rules.specs.Kinds.{members_named}
-use Rattle.schema_rules.specs.PartRules.{Scope, no_part, parts_judged, is_short, is_bad_block}
+use Rattle.schema_rules.specs.PartRules.{Scope, no_part, parts_check, is_short, is_bad_block}
 use Rattle.schema_rules.specs.Resolved.{resolved}
 
 -- what the rules for the header type and for messages need of a schema
@@ -79,30 +79,30 @@ abbrev pub message_scope : Outline → Scope
 message_scope outline = record { types = outline.types; level = record { version = outline.version; around = 0; since = 0 } }
 
 -- One message: its own rules, its parts, and the rules that follow them.
-abbrev pub message_judged : List Member → Scope → MessagesBefore → MessageEl → Judged (Unit {0})
-message_judged header scope before m = do
+abbrev pub message_check : List Member → Scope → MessagesBefore → MessageEl → CheckResult (Unit {0})
+message_check header scope before m = do
   _ ← first_of (message_rules scope.level.version before m)
-  parts ← parts_judged scope no_part m.children
+  parts ← parts_check scope no_part m.children
   first_of (message_end_rules header m parts.all)
 
 -- The messages in order, each after those before it.
-abbrev pub messages_judged : List Member → Scope → MessagesBefore → List MessageEl → Judged (Unit {0})
-messages_judged header scope before [] = Ok tt
-messages_judged header scope before (m ∷ ms) = do
-  _ ← behind (codes "messages/") m.name (message_judged header scope before m)
-  messages_judged header scope (with_message before m) ms
+abbrev pub messages_check : List Member → Scope → MessagesBefore → List MessageEl → CheckResult (Unit {0})
+messages_check header scope before [] = Ok tt
+messages_check header scope before (m ∷ ms) = do
+  _ ← at_element (codes "messages/") m.name (message_check header scope before m)
+  messages_check header scope (with_message before m) ms
 
 -- ---- the schema
 
 -- the declared types in order, the header type, and the messages in order
-abbrev pub judged : Outline → List MessageEl → Judged (Unit {0})
-judged outline messages = do
-  _ ← types_judged outline.types [] outline.types
-  _ ← behind (codes "types/") outline.header_type (first_of (header_rules outline))
-  messages_judged (header_members outline) (message_scope outline) no_message messages
+abbrev pub tree_check : Outline → List MessageEl → CheckResult (Unit {0})
+tree_check outline messages = do
+  _ ← types_check outline.types [] outline.types
+  _ ← at_element (codes "types/") outline.header_type (first_of (header_rules outline))
+  messages_check (header_members outline) (message_scope outline) no_message messages
 
 -- the schema with every type name resolved, or the first rule that an element breaks, with its path
-abbrev pub checked_of : Schema → Judged WireSchema
+abbrev pub checked_of : Schema → CheckResult WireSchema
 checked_of schema = do
-  _ ← judged (outline_of schema) (messages_of schema)
+  _ ← tree_check (outline_of schema) (messages_of schema)
   Ok (resolved schema)

@@ -9,7 +9,7 @@ use Rattle.sbe_types.specs.declared.tree.TypesItem.{TypesItem}
 use Rattle.sbe_types.specs.declared.tree.TypesItem.TheVariants as item
 use Rattle.sbe_types.specs.Places.{begin_of}
 use Rattle.schema_rules.specs.declared.codes.CCode.TheVariants as rule
-use Rattle.schema_rules.specs.Judging.{Judged, ◌>>=◌, Rules, first_of, behind}
+use Rattle.schema_rules.specs.Judging.{CheckResult, ◌>>=◌, Rules, first_of, at_element}
 use Rattle.schema_rules.specs.Names.{name_of, is_among, type_named, names_fraction}
 use Rattle.std.specs.Prelude.{is_none}
 use Rattle.schema_rules.specs.Kinds.{member_name, member_offset}
@@ -135,7 +135,7 @@ composite_rules around all =
 -- ---- the visit
 
 -- The rules for a member, before those for the members inside it.
-abbrev pub entered : Inside → MembersBefore → MemberItem → Judged (Unit {0})
+abbrev pub entered : Inside → MembersBefore → MemberItem → CheckResult (Unit {0})
 entered inside before m = do
   _ ← first_of (first_rules inside.types m)
   _ ← first_of (member_rules inside.types before m)
@@ -143,58 +143,58 @@ entered inside before m = do
 
 abbrev mutual
   -- the members of a composite in order, each with what is before it
-  pub row_judged : Inside → MembersBefore → {n : _} → Row_of-MemberItem n → Judged MembersBefore
-  row_judged inside before end_of-MemberItem = Ok before
-  row_judged inside before (more_of-MemberItem m rest) = do
-    _ ← behind (codes ".") (member_name m) (member_judged inside before m)
-    row_judged inside (with_one inside.types before m) rest
+  pub row_check : Inside → MembersBefore → {n : _} → Row_of-MemberItem n → CheckResult MembersBefore
+  row_check inside before end_of-MemberItem = Ok before
+  row_check inside before (more_of-MemberItem m rest) = do
+    _ ← at_element (codes ".") (member_name m) (member_check inside before m)
+    row_check inside (with_one inside.types before m) rest
 
   -- One member, and those inside it.
-  pub member_judged : Inside → MembersBefore → MemberItem → Judged (Unit {0})
-  member_judged inside before (part.Type t) = entered inside before (part.Type t)
-  member_judged inside before (part.Enum e) = entered inside before (part.Enum e)
-  member_judged inside before (part.Set s) = entered inside before (part.Set s)
-  member_judged inside before (part.Ref r) = entered inside before (part.Ref r)
-  member_judged inside before (part.Composite' name offset since n row) = do
+  pub member_check : Inside → MembersBefore → MemberItem → CheckResult (Unit {0})
+  member_check inside before (part.Type t) = entered inside before (part.Type t)
+  member_check inside before (part.Enum e) = entered inside before (part.Enum e)
+  member_check inside before (part.Set s) = entered inside before (part.Set s)
+  member_check inside before (part.Ref r) = entered inside before (part.Ref r)
+  member_check inside before (part.Composite' name offset since n row) = do
     _ ← entered inside before (part.Composite' name offset since n row)
-    members ← row_judged (deeper inside) no_member row
+    members ← row_check (deeper inside) no_member row
     first_of (composite_rules inside.around members.all)
 
 -- The members of a composite in order, as a list.
-abbrev pub members_judged : Inside → MembersBefore → List MemberItem → Judged MembersBefore
-members_judged inside before [] = Ok before
-members_judged inside before (m ∷ ms) = do
-  _ ← behind (codes ".") (member_name m) (member_judged inside before m)
-  members_judged inside (with_one inside.types before m) ms
+abbrev pub members_check : Inside → MembersBefore → List MemberItem → CheckResult MembersBefore
+members_check inside before [] = Ok before
+members_check inside before (m ∷ ms) = do
+  _ ← at_element (codes ".") (member_name m) (member_check inside before m)
+  members_check inside (with_one inside.types before m) ms
 
 -- ---- declared types
 
 -- C04 Cycle: a chain of composite members that begins at it meets a composite a second time. Only declared composites
 -- are asked, since each chain of one that is inside another belongs to a chain of that one.
-abbrev pub composite_judged : List TypesItem → CompositeEl → Judged (Unit {0})
-composite_judged types c = do
+abbrev pub composite_check : List TypesItem → CompositeEl → CheckResult (Unit {0})
+composite_check types c = do
   _ ← first_of ((rule.Cycle, is_endless types c) ∷ [])
-  members ← members_judged (record { types = types; around = 1 }) no_member c.children
+  members ← members_check (record { types = types; around = 1 }) no_member c.children
   first_of (composite_rules 0 members.all)
 
 -- One declared type, and its members.
-abbrev pub item_judged : List TypesItem → TypesItem → Judged (Unit {0})
-item_judged types (item.Type t) = do
+abbrev pub item_check : List TypesItem → TypesItem → CheckResult (Unit {0})
+item_check types (item.Type t) = do
   _ ← first_of (type_rules types false t)
   first_of (type_constant_rules t)
-item_judged types (item.Enum e) = first_of (enum_rules types e)
-item_judged types (item.Set s) = first_of (set_rules types s)
-item_judged types (item.Composite c) = composite_judged types c
+item_check types (item.Enum e) = first_of (enum_rules types e)
+item_check types (item.Set s) = first_of (set_rules types s)
+item_check types (item.Composite c) = composite_check types c
 
 -- C01 DuplicateType: its name is the name of an earlier declared type.
-abbrev pub declared_judged : List TypesItem → List (List ℕ) → TypesItem → Judged (Unit {0})
-declared_judged types earlier t = do
+abbrev pub declared_check : List TypesItem → List (List ℕ) → TypesItem → CheckResult (Unit {0})
+declared_check types earlier t = do
   _ ← first_of ((rule.DuplicateType, is_among earlier (name_of t)) ∷ [])
-  item_judged types t
+  item_check types t
 
 -- the declared types in order, each after the names before it
-abbrev pub types_judged : List TypesItem → List (List ℕ) → List TypesItem → Judged (Unit {0})
-types_judged types earlier [] = Ok tt
-types_judged types earlier (t ∷ ts) = do
-  _ ← behind (codes "types/") (name_of t) (declared_judged types earlier t)
-  types_judged types (earlier ++ name_of t ∷ []) ts
+abbrev pub types_check : List TypesItem → List (List ℕ) → List TypesItem → CheckResult (Unit {0})
+types_check types earlier [] = Ok tt
+types_check types earlier (t ∷ ts) = do
+  _ ← at_element (codes "types/") (name_of t) (declared_check types earlier t)
+  types_check types (earlier ++ name_of t ∷ []) ts

@@ -21,7 +21,7 @@ use Rattle.schema_rules.specs.declared.facts.Fact.{Fact}
 use Rattle.schema_rules.specs.declared.levels.LevelScope.{LevelScope}
 use Rattle.schema_rules.specs.declared.levels.LevelFacts.{LevelFacts}
 use Rattle.schema_rules.specs.declared.levels.PartHead.{PartHead}
-use Rattle.schema_rules.specs.Judging.{Judged, ◌>>=◌, Rules, first_of, behind}
+use Rattle.schema_rules.specs.Judging.{CheckResult, ◌>>=◌, Rules, first_of, at_element}
 use Rattle.schema_rules.specs.Names.{integral, is_among, names_fraction, type_named}
 use Rattle.schema_rules.specs.declared.encodings.Encoding.{Encoding}
 use Rattle.schema_rules.specs.Kinds.{encoding_named, effective, members_named}
@@ -211,8 +211,8 @@ abbrev pub field_head : Scope → FieldEl → PartHead
 field_head scope f = record { class = class.Field; since = f.since_version; is_fixed = (field_fact scope.types f).is_fixed }
 
 -- One field.
-abbrev pub field_judged : Scope → PartsBefore → FieldEl → Judged (Unit {0})
-field_judged scope before f = do
+abbrev pub field_check : Scope → PartsBefore → FieldEl → CheckResult (Unit {0})
+field_check scope before f = do
   _ ← first_of (field_rules scope.types before.all.reached f)
   _ ← first_of (part_rules scope.level before f.name (field_head scope f))
   first_of ((rule.Presence, has_bad_presence scope.types f (type_named scope.types f.type_name)) ∷ [])
@@ -228,8 +228,8 @@ data_rules types d =
     ∷ []))
 
 -- One data part.
-abbrev pub data_judged : Scope → PartsBefore → DataEl → Judged (Unit {0})
-data_judged scope before d = do
+abbrev pub data_check : Scope → PartsBefore → DataEl → CheckResult (Unit {0})
+data_check scope before d = do
   _ ← first_of (data_rules scope.types d)
   first_of (part_rules scope.level before d.name (record { class = class.Data; since = d.since_version; is_fixed = false }))
 
@@ -268,25 +268,25 @@ group_rules around dimension stated all =
 
 abbrev mutual
   -- the parts of a level in order, each with what is before it; a group's own parts right after it
-  pub level_judged : Scope → PartsBefore → {n : _} → Row_of-PartItem n → Judged PartsBefore
-  level_judged scope before end_of-PartItem = Ok before
-  level_judged scope before (more_of-PartItem p rest) = do
-    _ ← behind (codes ".") (part_name p) (part_judged scope before p)
-    level_judged scope (with_part scope before p) rest
+  pub level_check : Scope → PartsBefore → {n : _} → Row_of-PartItem n → CheckResult PartsBefore
+  level_check scope before end_of-PartItem = Ok before
+  level_check scope before (more_of-PartItem p rest) = do
+    _ ← at_element (codes ".") (part_name p) (part_check scope before p)
+    level_check scope (with_part scope before p) rest
 
   -- One part; for a group, also the parts inside it.
-  pub part_judged : Scope → PartsBefore → PartItem → Judged (Unit {0})
-  part_judged scope before (part.Field f) = field_judged scope before f
-  part_judged scope before (part.Data d) = data_judged scope before d
-  part_judged scope before (part.Group' name id dimension since length n row) = do
+  pub part_check : Scope → PartsBefore → PartItem → CheckResult (Unit {0})
+  part_check scope before (part.Field f) = field_check scope before f
+  part_check scope before (part.Data d) = data_check scope before d
+  part_check scope before (part.Group' name id dimension since length n row) = do
     _ ← first_of (dimension_rules scope.types dimension)
     _ ← first_of (part_rules scope.level before name (record { class = class.Group; since = since; is_fixed = false }))
-    parts ← level_judged (record { types = scope.types; level = entries_level scope.level since }) no_part row
+    parts ← level_check (record { types = scope.types; level = entries_level scope.level since }) no_part row
     first_of (group_rules scope.level.around (members_named scope.types dimension) length parts.all)
 
 -- The parts of a level in order, as a list.
-abbrev pub parts_judged : Scope → PartsBefore → List PartItem → Judged PartsBefore
-parts_judged scope before [] = Ok before
-parts_judged scope before (p ∷ ps) = do
-  _ ← behind (codes ".") (part_name p) (part_judged scope before p)
-  parts_judged scope (with_part scope before p) ps
+abbrev pub parts_check : Scope → PartsBefore → List PartItem → CheckResult PartsBefore
+parts_check scope before [] = Ok before
+parts_check scope before (p ∷ ps) = do
+  _ ← at_element (codes ".") (part_name p) (part_check scope before p)
+  parts_check scope (with_part scope before p) ps

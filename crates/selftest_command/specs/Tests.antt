@@ -6,7 +6,7 @@ use Rattle.replies.specs.declared.verdict.Verdict.TheVariants.{Answered}
 use Rattle.schema_files.specs.Judged.{file_schema, IsWithin}
 use Rattle.schema_files.specs.declared.files.FileRole.TheVariants as role
 use Rattle.schema_files.specs.declared.files.RefusedFile.{RefusedFile}
-use Rattle.command_files.specs.Files.{FilesOf, judged_in}
+use Rattle.command_files.specs.Files.{FilesOf, in_role}
 use Rattle.selftest_command.specs.declared.trial.Trial.{Trial}
 use Rattle.selftest_command.specs.Selftest.{sums_line, sums_until}
 
@@ -27,7 +27,7 @@ tested_by trial (Err file) = Err file
 
 -- the file with this name contains this, or is refused
 abbrev pub JudgesSelftest : List ℕ → Trial → (List ℕ → Option (List ℕ)) → Result Testing RefusedFile → Type 0
-JudgesSelftest name trial contents judged = judged ≡ tested_by trial (judged_in role.Schema (file_schema (contents name)))
+JudgesSelftest name trial contents judged = judged ≡ tested_by trial (in_role role.Schema (file_schema (contents name)))
 
 -- The files of `selftest`: only the schema.
 abbrev pub selftest_files : List ℕ → Trial → FilesOf Testing

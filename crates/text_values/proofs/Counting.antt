@@ -4,7 +4,7 @@ use Rattle.std.proofs.lemmas.Bool.Decides.{nat_tests}
 use Rattle.sbe_types.specs.declared.kind.Leaf.{Leaf as LeafOf}
 use Rattle.sbe_types.specs.declared.message.Value.{Value}
 use Rattle.fix_values.specs.declared.rule.V.{V}
-use Rattle.fix_values.specs.Decimals.{judged}
+use Rattle.fix_values.specs.Decimals.{leaf_number}
 use Rattle.fix_dates.specs.declared.moment.Moment.{Moment}
 use Rattle.date_answers.specs.Answers.{Instant, in_unit, least_unit}
 use Rattle.bridge_rules.specs.Rules.{UnitBy, always, on_wire}
@@ -35,7 +35,7 @@ unit_of_nine d = by_test (nat_le d 9) refl
 same_count : (leaf : LeafOf) (unit : UnitBy) (nanos : ℤ) (digits own : ℕ) → own ≡ min 9 digits → counted_of leaf unit nanos own ≡ counted_of leaf unit nanos digits
 same_count leaf (always u) nanos digits own is = refl
 same_count leaf (on_wire l) nanos digits own is =
-    ap (λ unit. value_from (moment_value (on_wire l)) (unit_admitted l (time_count unit (judged leaf (in_unit nanos unit))))) (ap least_unit is ∙ unit_of_nine digits)
+    ap (λ unit. value_from (moment_value (on_wire l)) (unit_admitted l (time_count unit (leaf_number leaf (in_unit nanos unit))))) (ap least_unit is ∙ unit_of_nine digits)
 
 pub instant_counted : (leaf : LeafOf) (unit : UnitBy) (r : Result Moment V) (o : Result Instant V) (m : Moment) → IsInstant r o → r ≡ Ok m
     → counted_of leaf unit m.nanos m.digits ≡ value_from (moment_value unit) (in_unit_of leaf unit o)

@@ -10,7 +10,7 @@ use Rattle.fix_values.specs.declared.rule.V.{V}
 use Rattle.fix_values.specs.declared.rule.V.TheVariants.{Spelling, Range, Inexact}
 use Rattle.fix_values.specs.declared.rule.Dec.{Dec}
 use Rattle.fix_values.specs.Numerals.{signed, is_below_zero}
-use Rattle.fix_values.specs.Decimals.{are_digits, decimal_of, dec, digits_counted, parts_of, reduced, without_leading, without_trailing, fitted, judged, mantissa_under, narrowed, widened}
+use Rattle.fix_values.specs.Decimals.{are_digits, decimal_of, dec, digits_counted, parts_of, reduced, without_leading, without_trailing, fitted, leaf_number, mantissa_under, narrowed, widened}
 use Rattle.fix_values.proofs.DecimalLemmas.{far_narrowed, far_widened, under_wide, under_narrow}
 use Rattle.fix_values.proofs.LeafLemmas.{outside}
 use Rattle.date_answers.specs.Answers.{in_unit}
@@ -25,20 +25,20 @@ zero_narrowed k = by_power (10 ^ k) (one-le-pow k 10 (omega arith))
 zero_widened : (k : ℕ) → widened (pos 0) k ≡ pos 0
 zero_widened k = let none : 0 * 10 ^ k ≡ 0 = omega arith in ap pos none
 
-pub zero_fitted : (d : Dec) (leaf : LeafOf) (e : ℤ) → d.mantissa ≡ pos 0 → fitted d leaf e ≡ judged leaf (Ok (pos 0))
-zero_fitted d leaf e is = ap (judged leaf) (by_test (int_le e d.exponent) refl)
+pub zero_fitted : (d : Dec) (leaf : LeafOf) (e : ℤ) → d.mantissa ≡ pos 0 → fitted d leaf e ≡ leaf_number leaf (Ok (pos 0))
+zero_fitted d leaf e is = ap (leaf_number leaf) (by_test (int_le e d.exponent) refl)
   where
     by_test : (b : Bool) → int_le e d.exponent ≡ b → mantissa_under d e ≡ Ok (pos 0)
     by_test true low = under_wide d e (unsigned_abs (d.exponent -ℤ e)) low refl ∙ ap (λ n. Ok (widened n (unsigned_abs (d.exponent -ℤ e)))) is ∙ ap Ok (zero_widened (unsigned_abs (d.exponent -ℤ e)))
     by_test false high = under_narrow d e (unsigned_abs (e -ℤ d.exponent)) high refl ∙ ap (λ n. narrowed n (unsigned_abs (e -ℤ d.exponent))) is ∙ zero_narrowed (unsigned_abs (e -ℤ d.exponent))
 
 pub far_above : (d : Dec) (leaf : LeafOf) (e : ℤ) → FitsSigned w128 d.mantissa → ¬ (d.mantissa ≡ pos 0) → int_le e d.exponent ≡ false → 38 < unsigned_abs (e -ℤ d.exponent) → fitted d leaf e ≡ Err Inexact
-far_above d leaf e fits some high many = ap (judged leaf) (under_narrow d e (unsigned_abs (e -ℤ d.exponent)) high refl ∙ sym (far_narrowed d.mantissa (unsigned_abs (e -ℤ d.exponent)) fits some many))
+far_above d leaf e fits some high many = ap (leaf_number leaf) (under_narrow d e (unsigned_abs (e -ℤ d.exponent)) high refl ∙ sym (far_narrowed d.mantissa (unsigned_abs (e -ℤ d.exponent)) fits some many))
 
 pub far_below : (d : Dec) (leaf : LeafOf) (e : ℤ) → FitsSigned w128 leaf.low → FitsSigned w128 leaf.high → ¬ (d.mantissa ≡ pos 0) → int_le e d.exponent ≡ true → 38 < unsigned_abs (d.exponent -ℤ e) → fitted d leaf e ≡ Err Range
 far_below d leaf e low high some under many =
     let wide = widened d.mantissa (unsigned_abs (d.exponent -ℤ e)) in
-    ap (judged leaf) (under_wide d e (unsigned_abs (d.exponent -ℤ e)) under refl)
+    ap (leaf_number leaf) (under_wide d e (unsigned_abs (d.exponent -ℤ e)) under refl)
     ∙ ap (λ b. cond b (Ok wide) (Err Range)) (outside leaf wide low high (far_widened d.mantissa (unsigned_abs (d.exponent -ℤ e)) some many))
 
 -- ---- exponents that no i32 holds
@@ -149,8 +149,8 @@ whole_under n zero =
         rw (rest, whole) (ap Ok (signed_abs n))
 whole_under n (suc k) = under_narrow (dec n (pos 0)) (pos (suc k)) (suc k) (grind (arith, ints)) (omega (arith, ints))
 
-pub counted_in : (leaf : LeafOf) (n e : ℤ) (k unit : ℕ) → e ≡ pos k → k ≡ 9 - unit → fitted (dec n (pos 0)) leaf e ≡ judged leaf (in_unit n unit)
-counted_in leaf n e k unit is places = ap (fitted (dec n (pos 0)) leaf) is ∙ ap (judged leaf) (whole_under n k) ∙ ap (λ k. judged leaf (narrowed n k)) places
+pub counted_in : (leaf : LeafOf) (n e : ℤ) (k unit : ℕ) → e ≡ pos k → k ≡ 9 - unit → fitted (dec n (pos 0)) leaf e ≡ leaf_number leaf (in_unit n unit)
+counted_in leaf n e k unit is places = ap (fitted (dec n (pos 0)) leaf) is ∙ ap (leaf_number leaf) (whole_under n k) ∙ ap (λ k. leaf_number leaf (narrowed n k)) places
 
 pub small_is : (n : ℕ) → n ≤ 9 → to_z w32 n ≡ pos n
 small_is n h = grind (arith, ints)

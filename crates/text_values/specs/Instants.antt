@@ -3,7 +3,7 @@ use Rattle.std.specs.Prelude.{◌≡◌, ℕ, min, ℤ, Result, Ok, Err}
 use Rattle.sbe_types.specs.declared.kind.Leaf.{Leaf as LeafOf}
 use Rattle.sbe_types.specs.declared.message.Value.{Value}
 use Rattle.fix_values.specs.declared.rule.V.{V}
-use Rattle.fix_values.specs.Decimals.{judged}
+use Rattle.fix_values.specs.Decimals.{leaf_number}
 use Rattle.fix_dates.specs.declared.moment.Moment.{Moment}
 use Rattle.date_answers.specs.Answers.{Instant, in_unit}
 use Rattle.bridge_rules.specs.Rules.{UnitBy}
@@ -18,7 +18,7 @@ IsInstant (Err v) (Ok i) = ⊥
 
 -- a number of nanoseconds counted in a unit, as one of the leaf's numbers
 abbrev pub count_of : LeafOf → ℕ → ℤ → Result TimeCount V
-count_of leaf unit nanos = time_count unit (judged leaf (in_unit nanos unit))
+count_of leaf unit nanos = time_count unit (leaf_number leaf (in_unit nanos unit))
 
 -- the value of an instant in the unit of its part
 abbrev pub counted_of : LeafOf → UnitBy → ℤ → ℕ → Result Value Misread

@@ -7,7 +7,7 @@ use Rattle.sbe_types.specs.declared.message.Value as value
 use Rattle.sbe_types.specs.Numbers.{natural}
 use Rattle.fix_values.specs.declared.rule.V.TheVariants as why
 use Rattle.fix_values.specs.Codes.{has_soh}
-use Rattle.fix_values.specs.Decimals.{decimal_of, judged}
+use Rattle.fix_values.specs.Decimals.{decimal_of, leaf_number}
 use Rattle.fix_values.specs.Values.{text_read, value_of}
 use Rattle.date_answers.specs.Answers.{day_read, month_read}
 use Rattle.bridge_rules.specs.Rules.{Rule, MonthLeaves}
@@ -54,7 +54,7 @@ leaves_of leaves = record { year = leaves.year; month = leaves.month; day = leav
 abbrev pub const_value : ConstValue → List ℕ → Result Value Misread
 const_value (fixed.Text own) t = if_constant (value.Text own) (Ok (value.Text t))
 const_value (fixed.Number rule leaf own) t = if_constant (value.Num own) (value_from value.Num (value_of rule leaf t))
-const_value (fixed.Day own) t = if_constant (value.Num own) (value_from value.Num (judged any_leaf (day_read t)))
+const_value (fixed.Day own) t = if_constant (value.Num own) (value_from value.Num (leaf_number any_leaf (day_read t)))
 const_value (fixed.Listed rule leaf own) t = if_constant (value.Enum own) (value_from value.Enum (value_of rule leaf t))
 
 -- the value of a text that a field may have
@@ -67,7 +67,7 @@ value_in_row (row.Floating mantissa exponent) t = value_from floating_value (dec
 value_in_row (row.Passage leaf) t = value_from value.Text (judged_text t (text_read leaf t))
 value_in_row (row.Octets leaf) t = value_from value.Text (bytes_admitted leaf t)
 value_in_row (row.Words leaf) t = value_from value.Text (bytes_admitted leaf t)
-value_in_row (row.Day leaf) t = value_from value.Num (judged leaf (day_read t))
+value_in_row (row.Day leaf) t = value_from value.Num (leaf_number leaf (day_read t))
 value_in_row (row.Moment from leaf unit) t = value_from (moment_value (unit_of unit)) (in_unit_of leaf (unit_of unit) (instant_read (epoch_of from) t))
 value_in_row (row.Month leaves) t = value_from month_value (month_admitted (leaves_of leaves) (month_read t))
 value_in_row (row.Const own) t = const_value own t

@@ -2,13 +2,13 @@
 ghost use Rattle.std.specs.Prelude.{◌≡◌, ◌≤◌, unsigned_abs, FitsSigned, Ok};
 ghost use Rattle.std.specs.Int.{w32};
 ghost use Rattle.fix_values.specs.declared.decimal.TheConstants.{MOST_DIGITS};
-ghost use Rattle.fix_values.specs.Decimals.{decimal_of, fitted, judged};
+ghost use Rattle.fix_values.specs.Decimals.{decimal_of, fitted, leaf_number};
 ghost use Rattle.fix_values.specs.Numerals.{is_value};
 ghost use Rattle.sbe_types.specs.declared.message.Value as values;
 ghost use Rattle.bridge_rules.specs.Members.{decimal_value};
 ghost use Rattle.bridge_rules.specs.Texts.{decimal_in_types};
 ghost use Rattle.bridge_rules.specs.Values.{floating_value, mantissa_of, value_from};
-ghost use Rattle.text_values.specs.Read.{answer_seen};
+ghost use Rattle.text_values.specs.Read.{answer_of_read};
 
 use crate::given::not_read;
 use crate::value::{Misread, ReadValue};
@@ -21,7 +21,7 @@ pub(crate) fn decimal_in<'a>(
     exponent: i128,
     text: &'a [u8],
 ) -> Result<ReadValue<'a>, Misread>
-    ensures { answer_seen result ≡ value_from (λ m. decimal_value (values.Num m)) (mantissa_of leaf.now exponent (decimal_of text.now)) }
+    ensures { answer_of_read result ≡ value_from (λ m. decimal_value (values.Num m)) (mantissa_of leaf.now exponent (decimal_of text.now)) }
 {
     match mantissa_of(leaf, exponent, text) {
         Ok(mantissa) => Ok(ReadValue::Scaled(Some(mantissa))),
@@ -76,7 +76,7 @@ fn fitted_far(number: &Dec, leaf: &Leaf, exponent: i128) -> Result<i128, V>
 
 /// The number, if it is one of the leaf's.
 pub(crate) fn judged(leaf: &Leaf, n: i128) -> Result<i128, V>
-    ensures { result ≡ judged leaf.now (Ok n) }
+    ensures { result ≡ leaf_number leaf.now (Ok n) }
 {
     if is_value(leaf, n) {
         return Ok(n);
@@ -97,7 +97,7 @@ pub(crate) fn floating_in<'a>(
     exponent: &Leaf,
     text: &'a [u8],
 ) -> Result<ReadValue<'a>, Misread>
-    ensures { answer_seen result ≡ value_from floating_value (decimal_in_types mantissa.now exponent.now (decimal_of text.now)) }
+    ensures { answer_of_read result ≡ value_from floating_value (decimal_in_types mantissa.now exponent.now (decimal_of text.now)) }
 {
     match typed_decimal(mantissa, exponent, text) {
         Ok(number) => Ok(ReadValue::Pair(Some(number.mantissa), Some(number.exponent as i128))),

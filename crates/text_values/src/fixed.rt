@@ -2,7 +2,7 @@
 ghost use Rattle.std.specs.Prelude.{◌≡◌, Ok, Err, if◌then◌else◌};
 ghost use Rattle.sbe_types.specs.declared.message.Value as values;
 ghost use Rattle.bridge_rules.specs.Values.{if_constant, not_the_constant, value_from};
-ghost use Rattle.text_values.specs.Read.{answer_seen};
+ghost use Rattle.text_values.specs.Read.{answer_of_read};
 ghost use Rattle.text_values.specs.Rows.{const_value};
 
 use crate::given::not_read;
@@ -16,7 +16,7 @@ use sbe_types::{Leaf, Prim};
 
 /// The value of a constant, if the text is read as that constant.
 pub(crate) fn constant_in<'a>(own: &ConstValue, text: &'a [u8]) -> Result<ReadValue<'a>, Misread>
-    ensures { answer_seen result ≡ const_value own.now text.now }
+    ensures { answer_of_read result ≡ const_value own.now text.now }
 {
     match own {
         ConstValue::Text(own) => constant_if(own.as_slice() == text),
@@ -28,7 +28,7 @@ pub(crate) fn constant_in<'a>(own: &ConstValue, text: &'a [u8]) -> Result<ReadVa
 
 /// The constant, or that the text is read as another value.
 fn constant_if<'a>(same: bool) -> Result<ReadValue<'a>, Misread>
-    ensures { answer_seen result ≡ (if same then Ok values.Const else Err not_the_constant) }
+    ensures { answer_of_read result ≡ (if same then Ok values.Const else Err not_the_constant) }
 {
     if same {
         return Ok(ReadValue::Constant);
@@ -37,7 +37,7 @@ fn constant_if<'a>(same: bool) -> Result<ReadValue<'a>, Misread>
 }
 
 fn same_number<'a>(own: i128, read: Result<i128, V>) -> Result<ReadValue<'a>, Misread>
-    ensures { answer_seen result ≡ if_constant (values.Num own) (value_from values.Num read) }
+    ensures { answer_of_read result ≡ if_constant (values.Num own) (value_from values.Num read) }
 {
     match read {
         Ok(n) => constant_if(own == n),
@@ -46,7 +46,7 @@ fn same_number<'a>(own: i128, read: Result<i128, V>) -> Result<ReadValue<'a>, Mi
 }
 
 fn same_listed<'a>(own: i128, read: Result<i128, V>) -> Result<ReadValue<'a>, Misread>
-    ensures { answer_seen result ≡ if_constant (values.Enum own) (value_from values.Enum read) }
+    ensures { answer_of_read result ≡ if_constant (values.Enum own) (value_from values.Enum read) }
 {
     match read {
         Ok(n) => constant_if(own == n),

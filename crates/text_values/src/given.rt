@@ -1,7 +1,7 @@
 // Texts that a field may have.
 ghost use Rattle.std.specs.Prelude.{◌≡◌, Err};
 ghost use Rattle.bridge_rules.specs.Values.{not_read};
-ghost use Rattle.text_values.specs.Read.{answer_seen};
+ghost use Rattle.text_values.specs.Read.{answer_of_read};
 ghost use Rattle.text_values.specs.Rows.{given};
 
 use crate::value::{Misread, ReadValue};
@@ -22,7 +22,7 @@ pub(crate) fn is_given(any: bool, text: &[u8]) -> bool
 
 /// A text that can't be read.
 pub(crate) fn not_read<'a>(why: V) -> Result<ReadValue<'a>, Misread>
-    ensures { answer_seen result ≡ Err (not_read why) }
+    ensures { answer_of_read result ≡ Err (not_read why) }
 {
     Err(Misread::NotRead(why))
 }

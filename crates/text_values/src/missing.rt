@@ -6,7 +6,7 @@ ghost use Rattle.sbe_types.specs.declared.message.Value as values;
 ghost use Rattle.bridge_rules.specs.Members.{number_or_null, two_members};
 ghost use Rattle.bridge_rules.specs.Values.{empty_if_admitted, if_optional, least_or_null, null_month, unit_of_null};
 ghost use Rattle.bridge_table.specs.Rows.{unit_of};
-ghost use Rattle.text_values.specs.Read.{value_seen};
+ghost use Rattle.text_values.specs.Read.{value_of_read};
 ghost use Rattle.text_values.specs.Rows.{leaves_of, row_missing};
 
 use crate::row::TextValue;
@@ -16,7 +16,7 @@ use sbe_types::{Leaf, Presence};
 
 /// The value of a row's part without a field, if it has one.
 pub(crate) fn missing_value<'a>(row: &TextValue) -> Option<ReadValue<'a>>
-    ensures { row_missing row.now ≡ option_map value_seen result }
+    ensures { row_missing row.now ≡ option_map value_of_read result }
 {
     match row {
         TextValue::Number(_, leaf) => if_optional(leaf, ReadValue::Number(None)),
@@ -38,7 +38,7 @@ pub(crate) fn missing_value<'a>(row: &TextValue) -> Option<ReadValue<'a>>
 
 /// The value, if the leaf is optional.
 fn if_optional<'a>(leaf: &Leaf, value: ReadValue<'a>) -> Option<ReadValue<'a>>
-    ensures { if_optional leaf.now (value_seen value.entry) ≡ option_map value_seen result }
+    ensures { if_optional leaf.now (value_of_read value.entry) ≡ option_map value_of_read result }
 {
     if is_optional(leaf) {
         return Some(value);
@@ -58,7 +58,7 @@ pub(crate) fn is_optional(leaf: &Leaf) -> bool
 
 /// A time that is null, and its unit.
 fn moment_without<'a>(unit: &Unit) -> ReadValue<'a>
-    ensures { value_seen result ≡ two_members values.Null (unit_of_null (unit_of unit.now)) }
+    ensures { value_of_read result ≡ two_members values.Null (unit_of_null (unit_of unit.now)) }
 {
     match unit {
         Unit::Always(_) => ReadValue::Scaled(None),
@@ -68,7 +68,7 @@ fn moment_without<'a>(unit: &Unit) -> ReadValue<'a>
 
 /// A month without a year.
 fn month_without<'a>(leaves: &MonthLeaves) -> ReadValue<'a>
-    ensures { value_seen result ≡ null_month (leaves_of leaves.now) }
+    ensures { value_of_read result ≡ null_month (leaves_of leaves.now) }
 {
     ReadValue::Month(
         None,
@@ -93,7 +93,7 @@ fn least_or_null(leaf: &Leaf) -> Option<i128>
 
 /// Empty data, if it is allowed.
 fn empty_if_admitted<'a>(length: &Leaf) -> Option<ReadValue<'a>>
-    ensures { empty_if_admitted length.now ≡ option_map value_seen result }
+    ensures { empty_if_admitted length.now ≡ option_map value_of_read result }
 {
     if length.admits(0) {
         return Some(ReadValue::Text(&[]));

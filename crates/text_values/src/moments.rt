@@ -1,12 +1,12 @@
 // The values of days and moments.
 ghost use Rattle.std.specs.Prelude.{◌≡◌};
-ghost use Rattle.fix_values.specs.Decimals.{judged};
+ghost use Rattle.fix_values.specs.Decimals.{leaf_number};
 ghost use Rattle.sbe_types.specs.declared.message.Value as values;
 ghost use Rattle.date_answers.specs.Answers.{day_read, in_unit, least_unit};
 ghost use Rattle.bridge_rules.specs.Rules.{always, on_wire};
 ghost use Rattle.bridge_rules.specs.Values.{in_unit_of, instant_read, moment_value, unit_admitted, value_from};
 ghost use Rattle.bridge_table.specs.Rows.{epoch_of, unit_of};
-ghost use Rattle.text_values.specs.Read.{answer_seen};
+ghost use Rattle.text_values.specs.Read.{answer_of_read};
 ghost use Rattle.text_values.specs.Instants.{count_of, counted_of, IsInstant};
 
 use crate::decimals::{is_value, judged};
@@ -19,7 +19,7 @@ use sbe_types::Leaf;
 
 /// The value of a day.
 pub(crate) fn day_in<'a>(leaf: &Leaf, text: &'a [u8]) -> Result<ReadValue<'a>, Misread>
-    ensures { answer_seen result ≡ value_from values.Num (judged leaf.now (day_read text.now)) }
+    ensures { answer_of_read result ≡ value_from values.Num (leaf_number leaf.now (day_read text.now)) }
 {
     match judged_day(leaf, text) {
         Ok(n) => Ok(ReadValue::Number(Some(n))),
@@ -29,7 +29,7 @@ pub(crate) fn day_in<'a>(leaf: &Leaf, text: &'a [u8]) -> Result<ReadValue<'a>, M
 
 /// The number of a day, as one of the leaf's.
 pub(crate) fn judged_day(leaf: &Leaf, text: &[u8]) -> Result<i128, V>
-    ensures { result ≡ judged leaf.now (day_read text.now) }
+    ensures { result ≡ leaf_number leaf.now (day_read text.now) }
 {
     match day_number(text) {
         Ok(n) => judged(leaf, n),
@@ -52,7 +52,7 @@ pub(crate) fn moment_in<'a>(
     unit: &Unit,
     text: &'a [u8],
 ) -> Result<ReadValue<'a>, Misread>
-    ensures { answer_seen result
+    ensures { answer_of_read result
         ≡ value_from (moment_value (unit_of unit.now)) (in_unit_of leaf.now (unit_of unit.now) (instant_read (epoch_of epoch) text.now)) }
 {
     match moment_of(epoch, text) {
@@ -87,7 +87,7 @@ fn time_of(text: &[u8]) -> Result<Moment, V>
 
 /// The value of a moment in its unit: the constant one, or the least one that has a place for each digit.
 fn counted_value<'a>(leaf: &Leaf, unit: &Unit, moment: &Moment) -> Result<ReadValue<'a>, Misread>
-    ensures { answer_seen result ≡ counted_of leaf.now (unit_of unit.now) moment.now.nanos moment.now.digits }
+    ensures { answer_of_read result ≡ counted_of leaf.now (unit_of unit.now) moment.now.nanos moment.now.digits }
 {
     match unit {
         Unit::Always(unit) => scaled_count(leaf, *unit, moment.nanos),
@@ -96,7 +96,7 @@ fn counted_value<'a>(leaf: &Leaf, unit: &Unit, moment: &Moment) -> Result<ReadVa
 }
 
 fn scaled_count<'a>(leaf: &Leaf, unit: u8, nanos: i128) -> Result<ReadValue<'a>, Misread>
-    ensures { answer_seen result ≡ value_from (moment_value (always unit)) (count_of leaf.now unit nanos) }
+    ensures { answer_of_read result ≡ value_from (moment_value (always unit)) (count_of leaf.now unit nanos) }
 {
     match counted(leaf, unit, nanos) {
         Ok(n) => Ok(ReadValue::Scaled(Some(n))),
@@ -110,7 +110,7 @@ fn paired_count<'a>(
     unit: u8,
     nanos: i128,
 ) -> Result<ReadValue<'a>, Misread>
-    ensures { answer_seen result ≡ value_from (moment_value (on_wire own.now)) (unit_admitted own.now (count_of leaf.now unit nanos)) }
+    ensures { answer_of_read result ≡ value_from (moment_value (on_wire own.now)) (unit_admitted own.now (count_of leaf.now unit nanos)) }
 {
     match counted(leaf, unit, nanos) {
         Ok(n) => {
@@ -125,7 +125,7 @@ fn paired_count<'a>(
 
 /// Nanoseconds in a unit, as one of the leaf's numbers.
 fn counted(leaf: &Leaf, unit: u8, nanos: i128) -> Result<i128, V>
-    ensures { result ≡ judged leaf.now (in_unit nanos unit) }
+    ensures { result ≡ leaf_number leaf.now (in_unit nanos unit) }
 {
     let places = 9u8.saturating_sub(unit);
     let number = Dec {

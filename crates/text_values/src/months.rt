@@ -3,7 +3,7 @@ ghost use Rattle.std.specs.Prelude.{◌≡◌};
 ghost use Rattle.date_answers.specs.Answers.{month_read};
 ghost use Rattle.bridge_rules.specs.Members.{month_value};
 ghost use Rattle.bridge_rules.specs.Values.{is_month_of, is_value_or_none, month_admitted, value_from};
-ghost use Rattle.text_values.specs.Read.{answer_seen};
+ghost use Rattle.text_values.specs.Read.{answer_of_read};
 ghost use Rattle.text_values.specs.Rows.{leaves_of};
 
 use crate::decimals::is_value;
@@ -17,7 +17,7 @@ use sbe_types::Leaf;
 
 /// The value of a month.
 pub(crate) fn month_in<'a>(leaves: &MonthLeaves, text: &'a [u8]) -> Result<ReadValue<'a>, Misread>
-    ensures { answer_seen result ≡ value_from month_value (month_admitted (leaves_of leaves.now) (month_read text.now)) }
+    ensures { answer_of_read result ≡ value_from month_value (month_admitted (leaves_of leaves.now) (month_read text.now)) }
 {
     match month_of(leaves, text) {
         Ok(month) => Ok(ReadValue::Month(

@@ -5,7 +5,7 @@ ghost use Rattle.sbe_types.specs.Numbers.{natural};
 ghost use Rattle.fix_values.specs.Values.{text_read, value_of};
 ghost use Rattle.bridge_rules.specs.Texts.{judged_text};
 ghost use Rattle.bridge_rules.specs.Values.{bytes_admitted, value_from};
-ghost use Rattle.text_values.specs.Read.{answer_seen};
+ghost use Rattle.text_values.specs.Read.{answer_of_read};
 ghost use Rattle.text_values.specs.Rows.{any_leaf, given};
 
 use crate::given::not_read;
@@ -20,7 +20,7 @@ pub(crate) fn number_in<'a>(
     leaf: &Leaf,
     text: &'a [u8],
 ) -> Result<ReadValue<'a>, Misread>
-    ensures { answer_seen result ≡ value_from values.Num (value_of rule.now leaf.now text.now) }
+    ensures { answer_of_read result ≡ value_from values.Num (value_of rule.now leaf.now text.now) }
 {
     match rule.number(leaf, text) {
         Ok(n) => Ok(ReadValue::Number(Some(n))),
@@ -34,7 +34,7 @@ pub(crate) fn listed_in<'a>(
     leaf: &Leaf,
     text: &'a [u8],
 ) -> Result<ReadValue<'a>, Misread>
-    ensures { answer_seen result ≡ value_from values.Enum (value_of rule.now leaf.now text.now) }
+    ensures { answer_of_read result ≡ value_from values.Enum (value_of rule.now leaf.now text.now) }
 {
     match rule.number(leaf, text) {
         Ok(n) => Ok(ReadValue::Listed(n)),
@@ -45,7 +45,7 @@ pub(crate) fn listed_in<'a>(
 /// The value of a set.
 pub(crate) fn choices_in<'a>(rule: &ChoiceReading, text: &'a [u8]) -> Result<ReadValue<'a>, Misread>
     requires given { given false text.now ≡ true }
-    ensures { answer_seen result ≡ value_from (λ n. values.Set (natural n)) (value_of rule.now any_leaf text.now) }
+    ensures { answer_of_read result ≡ value_from (λ n. values.Set (natural n)) (value_of rule.now any_leaf text.now) }
 {
     match rule.bits(text) {
         Ok(bits) => Ok(ReadValue::Choices(bits)),
@@ -55,7 +55,7 @@ pub(crate) fn choices_in<'a>(rule: &ChoiceReading, text: &'a [u8]) -> Result<Rea
 
 /// The value of a text of a char array.
 pub(crate) fn passage_in<'a>(leaf: &Leaf, text: &'a [u8]) -> Result<ReadValue<'a>, Misread>
-    ensures { answer_seen result ≡ value_from values.Text (judged_text text.now (text_read leaf.now text.now)) }
+    ensures { answer_of_read result ≡ value_from values.Text (judged_text text.now (text_read leaf.now text.now)) }
 {
     match read_text(leaf, text) {
         Ok(()) => Ok(ReadValue::Text(text)),
@@ -65,7 +65,7 @@ pub(crate) fn passage_in<'a>(leaf: &Leaf, text: &'a [u8]) -> Result<ReadValue<'a
 
 /// The value of data.
 pub(crate) fn octets_in<'a>(length: &Leaf, text: &'a [u8]) -> Result<ReadValue<'a>, Misread>
-    ensures { answer_seen result ≡ value_from values.Text (bytes_admitted length.now text.now) }
+    ensures { answer_of_read result ≡ value_from values.Text (bytes_admitted length.now text.now) }
 {
     if length.admits(text.len() as i128) {
         return Ok(ReadValue::Text(text));

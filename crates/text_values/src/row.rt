@@ -3,7 +3,7 @@ ghost use Rattle.std.specs.Prelude.{◌≡◌, true};
 ghost use Rattle.std.specs.Option.{option_map};
 ghost use Rattle.bridge_rules.specs.Rules.{Rule};
 ghost use Rattle.bridge_rules.specs.Values.{missing_by, value_by};
-ghost use Rattle.text_values.specs.Read.{answer_seen, value_seen};
+ghost use Rattle.text_values.specs.Read.{answer_of_read, value_of_read};
 ghost use Rattle.text_values.specs.Rows.{given, is_data, row_missing, row_value, value_in_row, Reads};
 
 use crate::decimals::{decimal_in, floating_in};
@@ -65,21 +65,21 @@ impl TextValue {
     ///
     /// Why the text can't be read, or that it isn't read as the constant.
     pub fn read<'a>(&self, text: &'a [u8]) -> Result<ReadValue<'a>, Misread>
-        ensures { (rule : Rule) → Reads self.now rule → value_by rule text.now ≡ answer_seen result }
+        ensures { (rule : Rule) → Reads self.now rule → value_by rule text.now ≡ answer_of_read result }
     {
         read_row(self, text)
     }
 
     /// The value of a part without a field, if it has one.
     pub fn missing<'a>(&self) -> Option<ReadValue<'a>>
-        ensures { (rule : Rule) → Reads self.now rule → missing_by rule ≡ option_map value_seen result }
+        ensures { (rule : Rule) → Reads self.now rule → missing_by rule ≡ option_map value_of_read result }
     {
         missing_value(self)
     }
 }
 
 fn read_row<'a>(row: &TextValue, text: &'a [u8]) -> Result<ReadValue<'a>, Misread>
-    ensures { answer_seen result ≡ row_value row.now text.now }
+    ensures { answer_of_read result ≡ row_value row.now text.now }
 {
     if !is_given(is_data(row), text) {
         return not_read(V::Spelling);
@@ -110,7 +110,7 @@ fn is_data(row: &TextValue) -> bool
 /// The value of a text that a field may have.
 fn read_given<'a>(row: &TextValue, text: &'a [u8]) -> Result<ReadValue<'a>, Misread>
     requires given { given (is_data row.now) text.now ≡ true }
-    ensures { answer_seen result ≡ value_in_row row.now text.now }
+    ensures { answer_of_read result ≡ value_in_row row.now text.now }
 {
     match row {
         TextValue::Number(rule, leaf) => number_in(rule, leaf, text),

@@ -2,7 +2,7 @@
 ghost use Rattle.std.specs.Prelude.{◌≡◌, ◌∷◌, [], IfOk};
 ghost use Rattle.bridge_rules.specs.Members.{decimal_value, number_or_null, two_members};
 ghost use Rattle.sbe_types.specs.declared.message.Value.{Comp};
-ghost use Rattle.text_values.specs.Read.{value_seen};
+ghost use Rattle.text_values.specs.Read.{value_of_read};
 
 use fix_values::V;
 use lists::{List, NoMem};
@@ -49,7 +49,7 @@ impl ReadValue<'_> {
     ///
     /// If memory runs out.
     pub fn value(&self, alloc: Global) -> Result<Value, NoMem>
-        ensures { IfOk result (λ v. v ≡ value_seen self.now) }
+        ensures { IfOk result (λ v. v ≡ value_of_read self.now) }
     {
         match self {
             ReadValue::Number(n) => Ok(number_value(*n)),

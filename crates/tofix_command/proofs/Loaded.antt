@@ -7,7 +7,7 @@ use Rattle.map_elements.specs.Repositories.{repository_of}
 use Rattle.map_rules.specs.Rules.{verdict}
 use Rattle.map_rules.specs.Verdicts.{Verdict}
 use Rattle.json_elements.specs.Reading.{Reading}
-use Rattle.orchestra_map.specs.Mappings.{judged, kept, map_of, Mapping}
+use Rattle.orchestra_map.specs.Mappings.{mapping_from, kept, map_of, Mapping}
 use Rattle.bridge_mapping.specs.Mapped.{mapping_of}
 use Rattle.fix_messages.specs.Heads.{Head}
 use Rattle.fix_translation.specs.Translations.{HasKinds}
@@ -30,8 +30,8 @@ use Rattle.command_files.specs.Files.{JudgedSo, LoadsFiles}
 use Rattle.tofix_command.specs.Bridges.{tofix_files, BridgeWords, GoesOnTo, IsBridgeRole, IsMade, JudgesMapped, JudgesRest, JudgesTranslating, LoadsMapped, MappedSo, Translating}
 
 -- what follows an accepted file
-goes_on : {X : Type 0} (at : FileRole) (r : Result X FileRefusal) (x : X) (Next : X → Type 0) (judged : Result Translating RefusedFile) → r ≡ Ok x → Next x → GoesOnTo at r Next judged
-goes_on {X} at r x Next judged is next = subst (λ (f : Result X FileRefusal). GoesOnTo at f Next judged) (sym is) next
+goes_on : {X : Type 0} (at : FileRole) (r : Result X FileRefusal) (x : X) (Next : X → Type 0) (answer : Result Translating RefusedFile) → r ≡ Ok x → Next x → GoesOnTo at r Next answer
+goes_on {X} at r x Next answer is next = subst (λ (f : Result X FileRefusal). GoesOnTo at f Next answer) (sym is) next
 
 -- a refused file ends all
 ends_all : {X : Type 0} (at : FileRole) (r : Result X FileRefusal) (why : FileRefusal) (Next : X → Type 0) → r ≡ Err why → GoesOnTo {Y = Translating} at r Next (Err (refused_as at why))
@@ -88,9 +88,9 @@ module _ (told : Option (List ℕ → Option (List ℕ))) (words : BridgeWords) 
     -- ---- the mapping is there
 
     module _ (repository : Repository) (mapped : LoadsMap told words.map (Ok repository)) where
-      rest_judged : (contents : List ℕ → Option (List ℕ)) → told ≡ Some contents → (judged : Result Translating RefusedFile) → JudgesRest contents words first judged repository
-          → JudgesMapped contents words judged first
-      rest_judged contents same judged rest = goes_on role.Map (file_map (contents words.map)) repository (JudgesRest contents words first judged) judged (mapped contents same) rest
+      rest_judged : (contents : List ℕ → Option (List ℕ)) → told ≡ Some contents → (answer : Result Translating RefusedFile) → JudgesRest contents words first answer repository
+          → JudgesMapped contents words answer first
+      rest_judged contents same answer rest = goes_on role.Map (file_map (contents words.map)) repository (JudgesRest contents words first answer) answer (mapped contents same) rest
 
       pub further_stopped : (why : JobStop) → LoadsMore told (alone first) words.also (Err why) → FailsAt (length words.also) (Err why) → LoadsMapped words first told (Err why)
       further_stopped (stop.Refused file) h fails =
@@ -144,11 +144,11 @@ module _ (r : Repository) where
   read_so : (bytes : List ℕ) → map_of bytes ≡ Ok r → repository_of bytes ≡ Ok r
   read_so bytes h = by (repository_of bytes) refl h
     where
-      by : (q : Reading Repository) → repository_of bytes ≡ q → ◌≡◌ {A = Mapping} (judged q) (Ok r) → repository_of bytes ≡ Ok r
+      by : (q : Reading Repository) → repository_of bytes ≡ q → ◌≡◌ {A = Mapping} (mapping_from q) (Ok r) → repository_of bytes ≡ Ok r
       by (Ok s) e k = e ∙ ap Ok (same_read s (verdict (members_of s)) k)
       by (Err x) e k = absurd (no_mapping k)
         where
-          no_mapping : ◌≡◌ {A = Mapping} (judged (Err x)) (Ok r) → ⊥
+          no_mapping : ◌≡◌ {A = Mapping} (mapping_from (Err x)) (Ok r) → ⊥
           no_mapping q = cc
 
   -- each MsgType of a mapping that was loaded may be the value of a field

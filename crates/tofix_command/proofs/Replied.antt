@@ -13,7 +13,7 @@ use Rattle.sbe_wire.specs.Faults.{Fault, FirstFault}
 use Rattle.sbe_wire.specs.Lays.{Lays}
 use Rattle.open_framing.specs.Frames.{Item}
 use Rattle.body_walk.specs.Refusals.{Misread}
-use Rattle.flyweight_view.specs.Seen.{SeenMessage}
+use Rattle.flyweight_view.specs.Seen.{TypedMessage}
 use Rattle.bridge_terms.specs.Blocks.{values_of}
 use Rattle.bridge_terms.specs.Places.{Places, Unsent, place_fields, places_of}
 use Rattle.bridge_terms.specs.Plans.{Plan, Tree}
@@ -137,7 +137,7 @@ module _ (b : Bridge) (kept : Kept) (all : Translations) (encoding : ℕ) (body 
     right : encoding ≡ encoding_of b.schemas.first.order
     right = same ∙ ap encoding_of order_is
 
-    pub message_replied : (seen : SeenMessage) → Lays t.layout seen.message body → slice_get t.layout.messages seen.message.template ≡ Some seen.level
+    pub message_replied : (seen : TypedMessage) → Lays t.layout seen.message body → slice_get t.layout.messages seen.message.template ≡ Some seen.level
         → DeliversDraft (cover_reply b kept seen.level seen.message.block (cover_of b.mapping seen.level)) old new result → Answers
     message_replied seen lies there h = (
       cover_reply b kept seen.level seen.message.block (cover_of b.mapping seen.level),

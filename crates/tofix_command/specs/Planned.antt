@@ -13,7 +13,7 @@ use Rattle.dump_lines.specs.Dumped.{AreInOrder}
 use Rattle.dump_lines.specs.declared.schemas.Schemas.{Schemas}
 use Rattle.schema_files.specs.declared.files.LoadStop.{LoadStop}
 use Rattle.schema_files.specs.declared.files.JobStop.{JobStop}
-use Rattle.flyweight_view.specs.Seen.{SeenMessage}
+use Rattle.flyweight_view.specs.Seen.{TypedMessage}
 use Rattle.command_steps.specs.declared.kept.Kept.{Kept}
 use Rattle.fix_translation.specs.Translations.{HasKinds}
 use Rattle.tofix_replies.specs.ToFix.{head_after, text_limit, Bridge}
@@ -66,7 +66,7 @@ pub record IsWith (b : Bridge) (kept : Kept) (head : Head) (limit : ℕ) : Type 
   pub limit_is : limit ≡ text_limit b.frame
 
 -- a message of the schema, whose plans are by a mapping with such MsgTypes
-pub record IsMessageOf (t : Translation) (seen : SeenMessage) : Type 0 where
+pub record IsMessageOf (t : Translation) (seen : TypedMessage) : Type 0 where
   pub mapping : Mapping
   pub kinds : HasKinds mapping
   pub planned : IsPlannedBy mapping t

@@ -26,9 +26,9 @@ dotted [] = []
 dotted (name ∷ names) = codes "." ++ (name ++ dotted names)
 
 -- names joined by dots
-abbrev pub joined : List (List ℕ) → List ℕ
-joined [] = []
-joined (name ∷ names) = name ++ dotted names
+abbrev pub dot_path : List (List ℕ) → List ℕ
+dot_path [] = []
+dot_path (name ∷ names) = name ++ dotted names
 
 -- the refusal of a message whose template has no message in the mapping
 abbrev pub of_no_message : RefusedItem
@@ -36,7 +36,7 @@ of_no_message = record { code = codes "B01"; offset = None; path = []; detail = 
 
 -- the refusal of a message with a part that the mapping doesn't cover
 abbrev pub of_uncovered : List (List ℕ) → RefusedItem
-of_uncovered path = record { code = codes "B02"; offset = None; path = joined path; detail = [] }
+of_uncovered path = record { code = codes "B02"; offset = None; path = dot_path path; detail = [] }
 
 -- the refusal of a place that isn't written: a value without a text, or an entry without its delimiter
 abbrev pub of_why : Why → List ℕ → RefusedItem

@@ -9,7 +9,7 @@ ghost use Rattle.bridge_terms.specs.Blocks.{values_of};
 ghost use Rattle.bridge_terms.specs.Parts.{TagLists};
 ghost use Rattle.bridge_terms.specs.Places.{place_fields, places_of};
 ghost use Rattle.bridge_terms.specs.Plans.{Plan};
-ghost use Rattle.message_walk.specs.Rows.{AreRows, FitsSeen};
+ghost use Rattle.message_walk.specs.Rows.{AreRows, FitsBlock};
 ghost use Rattle.fix_messages.specs.Heads.{head_of, IsHeadReady};
 ghost use Rattle.fix_messages.specs.Texts.{message_text, text_refusal};
 ghost use Rattle.command_steps.specs.Replies.{Wants};
@@ -78,7 +78,7 @@ pub fn answer_covered<O: Sink, N: Sink, R: PutValue>(
     requires kind { IsValue template.now.msg_type.now }
     requires room { space.old.out.limit < 2 ^ 24 }
     requires covered { IsCovered R.spells template.now.rows.now root.now }
-    ensures delivers { (lists : TagLists) (p : Plan) → AreRows R.spells lists p template.now.rows.now → FitsSeen p root.now
+    ensures delivers { (lists : TagLists) (p : Plan) → AreRows R.spells lists p template.now.rows.now → FitsBlock p root.now
         → AreNear (text_refusal lists space.old.out.limit template.now.msg_type.now (head_of head.now) (places_of p (values_of p root.now.block)))
         → DeliversDraft (text_reply item level.now p (message_text lists template.now.msg_type.now (head_of head.now) (place_fields (places_of p (values_of p root.now.block)).places))
         (text_refusal lists space.old.out.limit template.now.msg_type.now (head_of head.now) (places_of p (values_of p root.now.block))))

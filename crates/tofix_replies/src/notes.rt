@@ -10,7 +10,7 @@ ghost use Rattle.bridge_terms.specs.Places.{no_delimiter, no_text, Unsent};
 ghost use Rattle.bridge_terms.specs.Plans.{Plan};
 ghost use Rattle.message_walk.specs.Halts.{halt_of};
 ghost use Rattle.message_walk.specs.Rows.{AreRows};
-ghost use Rattle.tofix_replies.specs.Unsent.{dotted, joined, of_full, of_no_message, of_uncovered, of_why, unsent_line, value_code, IsNear};
+ghost use Rattle.tofix_replies.specs.Unsent.{dotted, dot_path, of_full, of_no_message, of_uncovered, of_why, unsent_line, value_code, IsNear};
 ghost use Rattle.message_walk.specs.Ways.{way_of};
 ghost use Rattle.way_texts.specs.WayTexts.{way_text};
 
@@ -109,7 +109,7 @@ fn put_uncovered<N: Sink>(printer: &mut Printer<'_, N>, item: u64, path: &[Text]
 
 /// Prints names, separated by dots.
 fn put_names<N: Sink>(printer: &mut Printer<'_, N>, names: &[Text])
-    ensures { Prints N.state printer.old printer.new (joined names.now) }
+    ensures { Prints N.state printer.old printer.new (dot_path names.now) }
 {
     let [name, rest @ ..] = names else {
         return;

@@ -8,7 +8,7 @@ use Rattle.map_elements.specs.Repositories.{repository_of}
 use Rattle.map_rules.specs.Rules.{verdict}
 use Rattle.map_rules.specs.Verdicts.{Verdict}
 use Rattle.orchestra_map.specs.Headers.{IsKept}
-use Rattle.orchestra_map.specs.Mappings.{judged, kept, map_of, Mapping}
+use Rattle.orchestra_map.specs.Mappings.{mapping_from, kept, map_of, Mapping}
 use Rattle.map_files.specs.Maps.{file_map, in_file, LoadsMap, WasRead}
 use Rattle.field_types.proofs.ShortCodes.{codes_are_short, fields_mapped}
 use Rattle.bridge_plan.specs.CheckedLevels.{HasShortCodes}
@@ -26,7 +26,7 @@ use Rattle.schema_files.specs.declared.files.LoadStop.TheVariants.{Refused, Faul
 use Rattle.schema_files.specs.declared.files.RefusedFile.{RefusedFile}
 use Rattle.schema_files.proofs.Judging.{file_checked}
 use Rattle.command_files.specs.Files.{LoadsFiles}
-use Rattle.tosbe_command.specs.Bridges.{bridge_judged, tosbe_files, BackBridge, IsBackBridge, IsReadPair, JudgesBridge}
+use Rattle.tosbe_command.specs.Bridges.{bridge_check, tosbe_files, BackBridge, IsBackBridge, IsReadPair, JudgesBridge}
 use Rattle.tosbe_command.specs.declared.files.BridgeFiles.{BridgeFiles}
 
 -- ---- a mapping that was read
@@ -45,11 +45,11 @@ kept_by r s bytes (Err e) read is h = absurd (no_mapping h)
     no_mapping : ◌≡◌ {A = Mapping} (Err e) (Ok r) → ⊥
     no_mapping q = cc
 
-kept_from : (r : Repository) (bytes : List ℕ) (q : Reading Repository) → repository_of bytes ≡ q → ◌≡◌ {A = Mapping} (judged q) (Ok r) → WasKept r bytes
+kept_from : (r : Repository) (bytes : List ℕ) (q : Reading Repository) → repository_of bytes ≡ q → ◌≡◌ {A = Mapping} (mapping_from q) (Ok r) → WasKept r bytes
 kept_from r bytes (Ok s) e h = kept_by r s bytes (verdict (members_of s)) e refl h
 kept_from r bytes (Err x) e h = absurd (no_mapping h)
   where
-    no_mapping : ◌≡◌ {A = Mapping} (judged (Err x)) (Ok r) → ⊥
+    no_mapping : ◌≡◌ {A = Mapping} (mapping_from (Err x)) (Ok r) → ⊥
     no_mapping q = cc
 
 pub was_kept : (r : Repository) (bytes : List ℕ) → map_of bytes ≡ Ok r → WasKept r bytes
@@ -96,7 +96,7 @@ bridge_good schema map frame contents b h = by (file_schema (contents schema)) (
     never e = cc
 
     by : (x : Result WireSchema FileRefusal) (y : Result Repository FileRefusal) → file_schema (contents schema) ≡ x → file_map (contents map) ≡ y
-        → ◌≡◌ {A = Result BackBridge RefusedFile} (Ok b) (bridge_judged frame x y) → IsBackBridge b
+        → ◌≡◌ {A = Result BackBridge RefusedFile} (Ok b) (bridge_check frame x y) → IsBackBridge b
     by (Ok s) (Ok r) e f k = subst IsBackBridge (sym (bridge_is k)) (good s r e f)
     by (Ok s) (Err why) e f k = absurd (never k)
     by (Err why) y e f k = absurd (never k)
@@ -106,7 +106,7 @@ bridge_good schema map frame contents b h = by (file_schema (contents schema)) (
 module _ (told : Option (List ℕ → Option (List ℕ))) (schema map : List ℕ) (frame : ℕ) where
   pub schema_stopped : (why : LoadStop) → LoadsChecked told schema (Err why) → LoadsFiles (tosbe_files schema map frame) told (Err (stop_of role.Schema why))
   schema_stopped (Refused why) h =
-      record { judges = λ contents same. sym (ap (λ f. bridge_judged frame f (file_map (contents map))) (h contents same)); fails = tt; good = tt }
+      record { judges = λ contents same. sym (ap (λ f. bridge_check frame f (file_map (contents map))) (h contents same)); fails = tt; good = tt }
   schema_stopped Fault h = record { judges = λ contents same. tt; fails = tt; good = tt }
   schema_stopped NoMemory h = record { judges = λ contents same. tt; fails = tt; good = tt }
 
@@ -114,7 +114,7 @@ module _ (told : Option (List ℕ → Option (List ℕ))) (schema map : List ℕ
       → LoadsFiles (tosbe_files schema map frame) told (Err (stop_of role.Map why))
   map_stopped first (Refused why) h k = record {
     judges = λ contents same.
-        sym (ap (λ f. bridge_judged frame f (file_map (contents map))) (h contents same) ∙ ap (λ f. bridge_judged frame (Ok first) f) (k contents same));
+        sym (ap (λ f. bridge_check frame f (file_map (contents map))) (h contents same) ∙ ap (λ f. bridge_check frame (Ok first) f) (k contents same));
     fails = tt;
     good = tt;
   }
@@ -126,7 +126,7 @@ module _ (told : Option (List ℕ → Option (List ℕ))) (schema map : List ℕ
       → LoadsFiles (tosbe_files schema map frame) told (Ok (record { schema = first; repository = second; frame = frame }))
   both_loaded first second good h k = record {
     judges = λ contents same.
-        sym (ap (λ f. bridge_judged frame f (file_map (contents map))) (h contents same) ∙ ap (λ f. bridge_judged frame (Ok first) f) (k contents same));
+        sym (ap (λ f. bridge_check frame f (file_map (contents map))) (h contents same) ∙ ap (λ f. bridge_check frame (Ok first) f) (k contents same));
     fails = tt;
     good = good;
   }

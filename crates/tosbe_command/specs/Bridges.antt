@@ -61,14 +61,14 @@ pub record HasRoom (frame limit : ℕ) : Type 0 where
 -- ---- the files
 
 -- the schema's file is judged whole before the mapping's: its refusal comes first
-abbrev pub bridge_judged : ℕ → Result WireSchema FileRefusal → Result Repository FileRefusal → Result BackBridge RefusedFile
-bridge_judged frame (Err why) repository = Err (refused_as role.Schema why)
-bridge_judged frame (Ok schema) (Err why) = Err (refused_as role.Map why)
-bridge_judged frame (Ok schema) (Ok repository) = Ok (record { schema = schema; repository = repository; frame = frame })
+abbrev pub bridge_check : ℕ → Result WireSchema FileRefusal → Result Repository FileRefusal → Result BackBridge RefusedFile
+bridge_check frame (Err why) repository = Err (refused_as role.Schema why)
+bridge_check frame (Ok schema) (Err why) = Err (refused_as role.Map why)
+bridge_check frame (Ok schema) (Ok repository) = Ok (record { schema = schema; repository = repository; frame = frame })
 
 -- the files with these names are judged like this, for frames of at most `frame` bytes
 abbrev pub JudgesBridge : List ℕ → List ℕ → ℕ → (List ℕ → Option (List ℕ)) → Result BackBridge RefusedFile → Type 0
-JudgesBridge schema map frame contents judged = judged ≡ bridge_judged frame (file_schema (contents schema)) (file_map (contents map))
+JudgesBridge schema map frame contents judged = judged ≡ bridge_check frame (file_schema (contents schema)) (file_map (contents map))
 
 -- the role of a schema's file or of a mapping's
 abbrev pub IsBridgeRole : FileRole → Type 0

@@ -10,7 +10,7 @@ use Rattle.sbe_types.specs.declared.message.Block.{Block}
 use Rattle.sbe_types.specs.declared.message.GroupVal.{GroupVal, items-the_row-Block}
 use Rattle.sbe_types.specs.declared.message.GroupVal as groupval
 use Rattle.schema_facts.specs.CheckedLevels.{groups_deep, row_deep}
-use Rattle.flyweight_view.specs.Seen.{Seen, seen_level, entries_in, groups_seen}
+use Rattle.flyweight_view.specs.Seen.{TypedBlock, typed_level, entries_in, typed_groups}
 use Rattle.tree_codec.specs.Trees.{deepest, deepest_in}
 
 row_is : (n : _) (row : Row_of-Group n) → deepest (items-the_row-Group n row) ≡ row_deep row
@@ -22,34 +22,34 @@ level_is : (level : Level) → deepest (out-Level level).groups ≡ groups_deep 
 unfolding groups_deep levels.out-Level carrier.out
 level_is (Level' name id semantic since block_length fields n groups parts) = ap deepest (items_shown-the_row-Group-0 n groups) ∙ row_is _ groups
 
-blocks_are : (level : Level) (bs : List Block) → deepest_in (map (seen_level level) bs) ≤ groups_deep level
+blocks_are : (level : Level) (bs : List Block) → deepest_in (map (typed_level level) bs) ≤ groups_deep level
 blocks_are level [] = omega arith
 blocks_are level (b ∷ bs) = omega (arith, level_is level, blocks_are level bs)
 
 -- the groups of a block, each less deep than n
-abbrev pub AreWithin : ℕ → List (Option (List Seen)) → Type 0
+abbrev pub AreWithin : ℕ → List (Option (List TypedBlock)) → Type 0
 AreWithin n [] = ⊤
 AreWithin n (None ∷ os) = AreWithin n os
 AreWithin n (Some es ∷ os) = (deepest_in es < n) × AreWithin n os
 
-one_within : (n : ℕ) (level : Level) (v : GroupVal) (os : List (Option (List Seen))) → groups_deep level < n → AreWithin n os → AreWithin n (entries_in level v ∷ os)
+one_within : (n : ℕ) (level : Level) (v : GroupVal) (os : List (Option (List TypedBlock))) → groups_deep level < n → AreWithin n os → AreWithin n (entries_in level v ∷ os)
 one_within n level groupval.Absent os low h = h
 one_within n level (groupval.Entries' k row) os low h = (omega (arith, low, blocks_are level (items-the_row-Block _ row)), h)
 
-pub seen_within : (n : ℕ) (gs : List Group) (vs : List GroupVal) → deepest gs ≤ n → AreWithin n (groups_seen gs vs)
+pub seen_within : (n : ℕ) (gs : List Group) (vs : List GroupVal) → deepest gs ≤ n → AreWithin n (typed_groups gs vs)
 seen_within n [] vs low = tt
 seen_within n (g ∷ gs) [] low = tt
-seen_within n (g ∷ gs) (v ∷ vs) low = one_within n (out-Group g).level v (groups_seen gs vs) (omega (arith, low)) (seen_within n gs vs (omega (arith, low)))
+seen_within n (g ∷ gs) (v ∷ vs) low = one_within n (out-Group g).level v (typed_groups gs vs) (omega (arith, low)) (seen_within n gs vs (omega (arith, low)))
 
 -- the first of the groups
-abbrev pub deepest_of : Option (List Seen) → ℕ
+abbrev pub deepest_of : Option (List TypedBlock) → ℕ
 deepest_of None = 0
 deepest_of (Some es) = deepest_in es
 
-pub first_within : (n : ℕ) (o : Option (List Seen)) (os all : List (Option (List Seen))) → all ≡ o ∷ os → 0 < n → AreWithin n all → (deepest_of o < n) × AreWithin n os
+pub first_within : (n : ℕ) (o : Option (List TypedBlock)) (os all : List (Option (List TypedBlock))) → all ≡ o ∷ os → 0 < n → AreWithin n all → (deepest_of o < n) × AreWithin n os
 first_within n o os all is some h = one n o os some (subst (AreWithin n) is h)
   where
-    one : (n : ℕ) (o : Option (List Seen)) (os : List (Option (List Seen))) → 0 < n → AreWithin n (o ∷ os) → (deepest_of o < n) × AreWithin n os
+    one : (n : ℕ) (o : Option (List TypedBlock)) (os : List (Option (List TypedBlock))) → 0 < n → AreWithin n (o ∷ os) → (deepest_of o < n) × AreWithin n os
     one n None os some h = (some, h)
     one n (Some es) os some h = h
 

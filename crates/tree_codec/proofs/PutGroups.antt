@@ -22,7 +22,7 @@ use Rattle.body_walk.proofs.Opens.{Child, child_here, level_within}
 use Rattle.typed_writer.specs.declared.stack.Frame.TheVariants.{Fields, Tail, Entries}
 use Rattle.typed_writer.specs.declared.states.TailErr.{TailErr}
 use Rattle.typed_writer.specs.declared.states.TailErr.TheVariants as tail_err
-use Rattle.typed_writer.specs.Empty.{behind, empty_block}
+use Rattle.typed_writer.specs.Empty.{followed_by, empty_block}
 use Rattle.typed_writer.specs.Held.{Held}
 use Rattle.typed_writer.specs.States.{AppendsEntries, AppendsParts, block_at, entries_left, level_of, parts_done, parts_in_tail}
 use Rattle.typed_writer.specs.Steps.{GroupRefused, Groups, Opens, admits_entries, block_in, dimension_in, dimension_size, ends, goes_on_as, next_group}
@@ -59,7 +59,7 @@ groups_have_room limit before level block room =
 pub record GroupsAt (schema : WireSchema) (n : ℕ) (level : Level) (block : Block) (i : ℕ) (old now : Held) : Type 0 where
   pub state : AppendsParts schema now
   pub frames : now.frames ≡ Tail n i ∷ drop 1 old.frames
-  pub bytes : behind now.bytes (groups_put schema.order (drop i (out-Level level).groups) (drop i (out-Block block).groups)) ≡ behind old.bytes (groups_put schema.order (out-Level level).groups (out-Block block).groups)
+  pub bytes : followed_by now.bytes (groups_put schema.order (drop i (out-Level level).groups) (drop i (out-Block block).groups)) ≡ followed_by old.bytes (groups_put schema.order (out-Level level).groups (out-Block block).groups)
   pub counted : groups_room old.limit (length (out-Level level).fields + i) (length now.bytes) (drop i (out-Level level).groups) (drop i (out-Block block).groups)
       ≡ groups_room old.limit (length (out-Level level).fields) (length old.bytes) (out-Level level).groups (out-Block block).groups
   pub limit : now.limit ≡ old.limit
@@ -135,7 +135,7 @@ module _ (schema : WireSchema) (n : ℕ) (level : Level) (block : Block) (at : l
 
 -- the dimension of a group's entries was put
 pub record GroupOpened (schema : WireSchema) (n : ℕ) (g : Group) (es : List Block) (old mid : Held) : Type 0 where
-  pub bytes : behind old.bytes (named_bytes schema.order (dimension_numbers (out-Level (out-Group g).level).block_length (length es)) 0 (out-Group g).dim) ≡ Some mid.bytes
+  pub bytes : followed_by old.bytes (named_bytes schema.order (dimension_numbers (out-Level (out-Group g).level).block_length (length es)) 0 (out-Group g).dim) ≡ Some mid.bytes
   pub long : length mid.bytes ≡ length old.bytes + members_end 0 (out-Group g).dim
   pub frames : mid.frames ≡ Entries n (length es) ∷ Tail (level_of old.frames) (parts_done old.frames + 1) ∷ drop 1 old.frames
   pub limit : mid.limit ≡ old.limit
@@ -173,10 +173,10 @@ module _ (schema : WireSchema) (n : ℕ) (g : Group) (v : GroupVal) (es : List B
   pub group_opened : (mid : Held) → next_group schema old.frames ≡ n → Groups schema (length es) old mid → GroupOpened schema n g es old mid
   group_opened mid next groups =
       let numbers = dimension_numbers bl (length es) in
-      let told : behind old.bytes (named_bytes schema.order (dimension_numbers bl (length es)) 0 dim) ≡ Some mid.bytes =
-      sym (ap (λ k. behind old.bytes (dimension_in schema k (length es))) next
-      ∙ ap (λ (o : Option (List Member)). behind old.bytes (option_and_then (λ (dim : List Member). named_bytes schema.order (dimension_numbers (block_at schema n) (length es)) 0 dim) o)) dim_is
-      ∙ ap (λ b. behind old.bytes (named_bytes schema.order (dimension_numbers b (length es)) 0 dim)) (own_block schema n (out-Group g).level at))
+      let told : followed_by old.bytes (named_bytes schema.order (dimension_numbers bl (length es)) 0 dim) ≡ Some mid.bytes =
+      sym (ap (λ k. followed_by old.bytes (dimension_in schema k (length es))) next
+      ∙ ap (λ (o : Option (List Member)). followed_by old.bytes (option_and_then (λ (dim : List Member). named_bytes schema.order (dimension_numbers (block_at schema n) (length es)) 0 dim) o)) dim_is
+      ∙ ap (λ b. followed_by old.bytes (named_bytes schema.order (dimension_numbers b (length es)) 0 dim)) (own_block schema n (out-Group g).level at))
       ∙ groups.bytes in
       let piece = behind_is old.bytes (named_bytes schema.order (dimension_numbers bl (length es)) 0 dim) mid.bytes told in
       let back : named_bytes schema.order (dimension_numbers (block_at schema n) (length es)) 0 dim ≡ Some piece.0 =
@@ -202,8 +202,8 @@ module _ (schema : WireSchema) (n : ℕ) (g : Group) (v : GroupVal) (es : List B
   group_puts mid last new opened puts ended =
       let order = schema.order in
       let by : ℕ → ℕ → Block → Taken = λ m at entry. entry_room m (out-Group g).level at entry in
-      let written : behind old.bytes (group_bytes order g v) ≡ Some last.bytes =
-      ap (behind old.bytes) (group_bytes_is order g v ∙ ap (entries_bytes order dim bl (λ entry. entry_put order (out-Group g).level entry)) is)
+      let written : followed_by old.bytes (group_bytes order g v) ≡ Some last.bytes =
+      ap (followed_by old.bytes) (group_bytes_is order g v ∙ ap (entries_bytes order dim bl (λ entry. entry_put order (out-Group g).level entry)) is)
       ∙ behind_both old.bytes mid.bytes last.bytes _ _ opened.bytes puts.bytes in
       let counted : group_taken old.limit (length old.bytes) g v ≡ Ok (length last.bytes) =
       roomy.1 ∙ ap (λ k. each_taken (by old.limit) 0 k es) (sym opened.long) ∙ ap (λ m. each_taken (by m) 0 (length mid.bytes) es) (sym opened.limit) ∙ puts.counted in
@@ -221,7 +221,7 @@ module _ (schema : WireSchema) (n : ℕ) (g : Group) (v : GroupVal) (es : List B
 pub record EntriesAt (schema : WireSchema) (n : ℕ) (level : Level) (es : List Block) (i : ℕ) (old now : Held) : Type 0 where
   pub state : AppendsEntries schema now
   pub frames : now.frames ≡ Entries n (length es - i) ∷ drop 1 old.frames
-  pub bytes : behind now.bytes (all_bytes (λ entry. entry_put schema.order level entry) (drop i es)) ≡ behind old.bytes (all_bytes (λ entry. entry_put schema.order level entry) es)
+  pub bytes : followed_by now.bytes (all_bytes (λ entry. entry_put schema.order level entry) (drop i es)) ≡ followed_by old.bytes (all_bytes (λ entry. entry_put schema.order level entry) es)
   pub counted : each_taken (λ at entry. entry_room old.limit level at entry) i (length now.bytes) (drop i es) ≡ each_taken (λ at entry. entry_room old.limit level at entry) 0 (length old.bytes) es
   pub limit : now.limit ≡ old.limit
 
@@ -299,14 +299,14 @@ module _ (schema : WireSchema) (n : ℕ) (level : Level) (entry : Block) (old op
   abbrev declared : ℕ
   declared = (out-Level level).block_length
 
-  empty : behind old.bytes (empty_block schema.order declared (out-Level level).fields) ≡ Some opened.bytes
+  empty : followed_by old.bytes (empty_block schema.order declared (out-Level level).fields) ≡ Some opened.bytes
   empty =
-      sym (ap (λ k. behind old.bytes (block_in schema k)) here
-      ∙ ap (λ b. behind old.bytes (empty_block schema.order b (fields_at schema n))) (own_block schema n level at)
-      ∙ ap (λ o. behind old.bytes (empty_block schema.order declared (fields_in o))) at)
+      sym (ap (λ k. followed_by old.bytes (block_in schema k)) here
+      ∙ ap (λ b. followed_by old.bytes (empty_block schema.order b (fields_at schema n))) (own_block schema n level at)
+      ∙ ap (λ o. followed_by old.bytes (empty_block schema.order declared (fields_in o))) at)
       ∙ opens.bytes
 
-  block_is : behind old.bytes (block_bytes schema.order declared (out-Level level).fields (out-Block entry).fields) ≡ Some filled.bytes
+  block_is : followed_by old.bytes (block_bytes schema.order declared (out-Level level).fields (out-Block entry).fields) ≡ Some filled.bytes
   block_is = fills.bytes old.bytes (sym opens.at) empty
 
   pub entry_long : length filled.bytes ≡ length old.bytes + declared

@@ -16,7 +16,7 @@ use Rattle.layout_tables.specs.Parts.{dim_at}
 use Rattle.typed_writer.specs.declared.stack.Frame.TheVariants.{Tail, Entries}
 use Rattle.typed_writer.specs.declared.states.TailErr.{TailErr}
 use Rattle.typed_writer.specs.declared.states.TailErr.TheVariants as tail_err
-use Rattle.typed_writer.specs.Empty.{behind}
+use Rattle.typed_writer.specs.Empty.{followed_by}
 use Rattle.typed_writer.specs.Held.{Held}
 use Rattle.typed_writer.specs.States.{AppendsEntries, AppendsParts, block_at, deep_at, entries_left, level_of, parts_done, parts_in_tail}
 use Rattle.typed_writer.specs.Steps.{Adds, DataRefused, PartRefused, next_data}
@@ -87,8 +87,8 @@ module _ (schema : WireSchema) (part : DataField) (v : DataVal) (bytes : List �
       Puts (part_stretch schema.order part v) (Tail (level_of old.frames) (parts_done old.frames + 1)) old new
   part_puts new adds =
       let order = schema.order in
-      let told : behind old.bytes (part_bytes order part (dataval.Bytes bytes)) ≡ Some new.bytes =
-      sym (ap (λ (o : Option DataField). behind old.bytes (option_and_then (λ (p : DataField). part_bytes order p (dataval.Bytes bytes)) o)) next) ∙ adds.bytes in
+      let told : followed_by old.bytes (part_bytes order part (dataval.Bytes bytes)) ≡ Some new.bytes =
+      sym (ap (λ (o : Option DataField). followed_by old.bytes (option_and_then (λ (p : DataField). part_bytes order p (dataval.Bytes bytes)) o)) next) ∙ adds.bytes in
       let long = part_long order part bytes old.bytes new.bytes told in
       subst (λ x. Puts (part_stretch order part x) (Tail (level_of old.frames) (parts_done old.frames + 1)) old new) (sym is) (record {
         bytes = told;
@@ -104,7 +104,7 @@ module _ (schema : WireSchema) (part : DataField) (v : DataVal) (bytes : List �
 pub record PartsAt (schema : WireSchema) (n : ℕ) (level : Level) (block : Block) (i : ℕ) (old now : Held) : Type 0 where
   pub state : AppendsParts schema now
   pub frames : now.frames ≡ Tail n (length (out-Level level).groups + i) ∷ drop 1 old.frames
-  pub bytes : behind now.bytes (parts_bytes schema.order (drop i (out-Level level).parts) (drop i (out-Block block).parts)) ≡ behind old.bytes (parts_bytes schema.order (out-Level level).parts (out-Block block).parts)
+  pub bytes : followed_by now.bytes (parts_bytes schema.order (drop i (out-Level level).parts) (drop i (out-Block block).parts)) ≡ followed_by old.bytes (parts_bytes schema.order (out-Level level).parts (out-Block block).parts)
   pub counted : parts_taken old.limit (length (out-Level level).fields + length (out-Level level).groups + i) (length now.bytes) (drop i (out-Level level).parts) (drop i (out-Block block).parts)
       ≡ parts_taken old.limit (length (out-Level level).fields + length (out-Level level).groups) (length old.bytes) (out-Level level).parts (out-Block block).parts
   pub limit : now.limit ≡ old.limit
@@ -194,7 +194,7 @@ pub tail_puts : (schema : WireSchema) (k : ℕ) (level : Level) (block : Block) 
 tail_puts schema k level block old mid new shape a b =
     let parts : ℕ → ℕ → Taken = λ m at. parts_taken m (length (out-Level level).fields + length (out-Level level).groups) at (out-Level level).parts (out-Block block).parts in
     record {
-      bytes = ap (behind old.bytes) (tail_bytes_is schema.order level block) ∙ behind_both old.bytes mid.bytes new.bytes _ _ a.bytes b.bytes;
+      bytes = ap (followed_by old.bytes) (tail_bytes_is schema.order level block) ∙ behind_both old.bytes mid.bytes new.bytes _ _ a.bytes b.bytes;
       counted = sym (tail_went old.limit (length old.bytes) (length mid.bytes) level block (shaped level block shape).groups (sym a.counted))
           ∙ ap (λ m. parts m (length mid.bytes)) (sym a.limit) ∙ b.counted;
       frames = b.frames ∙ ap (λ fs. behind_all schema fs ∷ drop 1 fs) a.frames;

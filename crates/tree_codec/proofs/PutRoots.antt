@@ -16,7 +16,7 @@ use Rattle.schema_facts.specs.Levels.{level_at, fields_at, fields_in, root_of}
 use Rattle.typed_writer.specs.declared.stack.Frame.TheVariants.{Fields, Tail}
 use Rattle.typed_writer.specs.declared.states.StartErr.{StartErr}
 use Rattle.typed_writer.specs.declared.states.StartErr.TheVariants as start_err
-use Rattle.typed_writer.specs.Empty.{behind, empty_block}
+use Rattle.typed_writer.specs.Empty.{followed_by, empty_block}
 use Rattle.typed_writer.specs.Held.{Held}
 use Rattle.typed_writer.specs.States.{block_at, level_of, parts_done, parts_in_tail}
 use Rattle.typed_writer.specs.Steps.{Begins, StartRefused, block_in, first_unset, goes_on_as, header_in, unset_from}
@@ -97,14 +97,14 @@ module _ (schema : WireSchema) (m : Msg) (level : Level) (old : Held) (n : ℕ) 
           let wide = named_long schema.order numbers 0 schema.header.members parts.0 (header_stands schema checked) (header_holds schema m.template level checked there) header in
           omega (arith, wide)
 
-      empty : behind parts.0 (empty_block schema.order bl (out-Level level).fields) ≡ Some begun.bytes
+      empty : followed_by parts.0 (empty_block schema.order bl (out-Level level).fields) ≡ Some begun.bytes
       empty =
-          sym (ap (λ k. behind parts.0 (block_in schema k)) (sym is)
-          ∙ ap (λ b. behind parts.0 (empty_block schema.order b (fields_at schema n))) (own_block schema n level at)
-          ∙ ap (λ o. behind parts.0 (empty_block schema.order bl (fields_in o))) at)
-          ∙ ap (behind parts.0) parts.3 ∙ ap Some (sym parts.4)
+          sym (ap (λ k. followed_by parts.0 (block_in schema k)) (sym is)
+          ∙ ap (λ b. followed_by parts.0 (empty_block schema.order b (fields_at schema n))) (own_block schema n level at)
+          ∙ ap (λ o. followed_by parts.0 (empty_block schema.order bl (fields_in o))) at)
+          ∙ ap (followed_by parts.0) parts.3 ∙ ap Some (sym parts.4)
 
-      block_is : behind parts.0 (block_bytes schema.order bl (out-Level level).fields (out-Block m.block).fields) ≡ Some filled.bytes
+      block_is : followed_by parts.0 (block_bytes schema.order bl (out-Level level).fields (out-Block m.block).fields) ≡ Some filled.bytes
       block_is = fills.bytes parts.0 (header_long ∙ sym begins.at) empty
 
       root_long : length filled.bytes ≡ head + bl

@@ -37,7 +37,7 @@ use Rattle.schema_rules.specs.Counters.{leaf_in, is_counter, is_counter_primitiv
 use Rattle.schema_facts.proofs.KindCounters.{small_primitive}
 use Rattle.schema_facts.proofs.KindNumbers.{both_true}
 use Rattle.typed_writer.specs.Counted.{HasRoomFor, HaveRoomFor}
-use Rattle.typed_writer.specs.Empty.{behind}
+use Rattle.typed_writer.specs.Empty.{followed_by}
 use Rattle.typed_writer.specs.Ready.{MembersStand}
 use Rattle.typed_writer.proofs.Lists.{behind_next, behind_none}
 use Rattle.tree_codec.specs.Puts.{entry_put, groups_put}
@@ -129,15 +129,15 @@ both_are (Some x) None all h = absurd (none_some h)
 both_are (Some x) (Some y) all h = (x, y, refl, refl, sym (some_is h))
 
 -- the piece after the front
-pub behind_is : (front : List ℕ) (o : Option (List ℕ)) (all : List ℕ) → behind front o ≡ Some all → (piece : List ℕ) × (o ≡ Some piece) × (all ≡ front ++ piece)
+pub behind_is : (front : List ℕ) (o : Option (List ℕ)) (all : List ℕ) → followed_by front o ≡ Some all → (piece : List ℕ) × (o ≡ Some piece) × (all ≡ front ++ piece)
 behind_is front None all h = absurd (none_some h)
 behind_is front (Some piece) all h = (piece, refl, sym (some_is h))
 
-pub both_behind : (front : List ℕ) (o : Option (List ℕ)) → both (Some front) o ≡ behind front o
+pub both_behind : (front : List ℕ) (o : Option (List ℕ)) → both (Some front) o ≡ followed_by front o
 both_behind front None = refl
 both_behind front (Some piece) = refl
 
-pub part_long : (order : Order) (part : DataField) (bytes old new : List ℕ) → behind old (part_bytes order part (dataval.Bytes bytes)) ≡ Some new →
+pub part_long : (order : Order) (part : DataField) (bytes old new : List ℕ) → followed_by old (part_bytes order part (dataval.Bytes bytes)) ≡ Some new →
     length new ≡ length old + (prim_width part.length.prim + length bytes)
 part_long order part bytes old new h =
     let piece = behind_is old (part_bytes order part (dataval.Bytes bytes)) new h in
@@ -177,10 +177,10 @@ named_long order numbers e (m ∷ ms) piece stand room h =
     let one = kind_long order m.kind (numbers m.name) here.1 room.0.counter here.3 in
     let rest = named_long order numbers next ms all.1 stand.2 room.1 all.3 in
     let ends : next ≡ begin + width m.kind = ap (λ t. cond t e (begin + width m.kind)) one.moves in
-    let behind : e ≤ begin = stand.0 one.moves in
+    let begins : e ≤ begin = stand.0 one.moves in
     let gap : length here.0 ≡ begin - e = sym (ap length (some_is here.2)) ∙ length-replicate (begin - e) 0 in
     let wide = one.wide in
-    omega (arith, ap length all.4, length-append all.0 all.1, ap length here.4, length-append here.0 here.1, gap, wide, rest, ends, behind)
+    omega (arith, ap length all.4, length-append all.0 all.1, ap length here.4, length-append here.0 here.1, gap, wide, rest, ends, begins)
 
 -- ---- a number of entries that is admitted is one of four bytes
 
@@ -268,12 +268,12 @@ module _ (limit before : ℕ) (g : Group) (v : GroupVal) (es : List Block) (is :
 -- ---- one part of a row more
 
 -- what is left after a piece
-pub left_behind : (old new : List ℕ) (piece rest all goal : Option (List ℕ)) → behind old piece ≡ Some new → all ≡ both piece rest → behind old all ≡ goal → behind new rest ≡ goal
-left_behind old new piece rest all goal h is left = sym (behind_next old new piece rest h) ∙ ap (behind old) (sym is) ∙ left
+pub left_behind : (old new : List ℕ) (piece rest all goal : Option (List ℕ)) → followed_by old piece ≡ Some new → all ≡ both piece rest → followed_by old all ≡ goal → followed_by new rest ≡ goal
+left_behind old new piece rest all goal h is left = sym (behind_next old new piece rest h) ∙ ap (followed_by old) (sym is) ∙ left
 
 -- nothing is left
-pub nothing_left : (now : List ℕ) (all goal : Option (List ℕ)) → all ≡ Some [] → behind now all ≡ goal → goal ≡ Some now
-nothing_left now all goal is left = sym left ∙ ap (behind now) is ∙ behind_none now
+pub nothing_left : (now : List ℕ) (all goal : Option (List ℕ)) → all ≡ Some [] → followed_by now all ≡ goal → goal ≡ Some now
+nothing_left now all goal is left = sym left ∙ ap (followed_by now) is ∙ behind_none now
 
 module _ (order : Order) (i : ℕ) where
   on : suc i ≡ i + 1

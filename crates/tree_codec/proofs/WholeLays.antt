@@ -15,10 +15,10 @@ use Rattle.sbe_types.specs.declared.schema.Level.{Level, Level', out-Level, Row_
 use Rattle.sbe_types.specs.declared.schema.WireSchema.{WireSchema}
 use Rattle.sbe_types.specs.Places.{end_past}
 use Rattle.sbe_wire.specs.declared.mode.Mode.{Mode}
-use Rattle.sbe_wire.specs.Lays.{Lays, FieldsLay, TailLays, GroupsLay, GroupLays, GroupLies, EntryLays, Joined}
+use Rattle.sbe_wire.specs.Lays.{Lays, FieldsLay, TailLays, GroupsLay, GroupLays, GroupLies, EntryLays, IsConcatenation}
 use Rattle.sbe_wire.specs.Versions.{is_alive, form_of, mode_of}
-use Rattle.flyweight_view.specs.Seen.{seen_level}
-use Rattle.tree_codec.specs.Trees.{Each, IsWhole, AreWhole, GroupIsWhole, GroupsAreWhole, IsWholeSeen, entries_of}
+use Rattle.flyweight_view.specs.Seen.{typed_level}
+use Rattle.tree_codec.specs.Trees.{Each, IsWhole, AreWhole, GroupIsWhole, GroupsAreWhole, IsWholeBlock, entries_of}
 
 some_is : {A : Type 0} {x y : A} → ◌≡◌ {A = Option A} (Some x) (Some y) → x ≡ y
 some_is h = cc
@@ -30,7 +30,7 @@ fields_long mode e (f ∷ fs) [] b h = absurd h
 fields_long mode e (f ∷ fs) (v ∷ vs) b h = ap suc (fields_long mode (end_past e f.offset f.kind) fs vs b h.1)
 
 -- each item of joined ones
-each_joined : {R : Block → List ℕ → Type 0} {P : Block → Type 0} (xs : List Block) (b : List ℕ) → ((x : Block) (c : List ℕ) → R x c → P x) → Joined R xs b → Each P xs
+each_joined : {R : Block → List ℕ → Type 0} {P : Block → Type 0} (xs : List Block) (b : List ℕ) → ((x : Block) (c : List ℕ) → R x c → P x) → IsConcatenation R xs b → Each P xs
 each_joined [] b f h = tt
 each_joined (x ∷ xs) b f h = (f x h.0 h.3, each_joined xs h.1 f h.4)
 
@@ -70,7 +70,7 @@ row_list n (more_of-Group g rest) [] h = absurd h
 row_list n (more_of-Group g rest) (v ∷ vs) h = (h.0, row_list _ rest vs h.1)
 
 -- what is seen of a whole block
-pub seen_whole : (level : Level) (block : Block) → IsWhole level block → IsWholeSeen (seen_level level block)
+pub seen_whole : (level : Level) (block : Block) → IsWhole level block → IsWholeBlock (typed_level level block)
 unfolding levels.out-Level carrier.out
 seen_whole (Level' name id semantic since block_length fields n groups parts) block h = record {
   fields = h.0;
@@ -78,8 +78,8 @@ seen_whole (Level' name id semantic since block_length fields n groups parts) bl
 }
 
 -- what is seen of a message that lies in a body
-pub whole_message : (schema : WireSchema) (m : Msg) (level : Level) (body : List ℕ) → Lays schema m body → slice_get schema.messages m.template ≡ Some level → IsWholeSeen (seen_level level m.block)
+pub whole_message : (schema : WireSchema) (m : Msg) (level : Level) (body : List ℕ) → Lays schema m body → slice_get schema.messages m.template ≡ Some level → IsWholeBlock (typed_level level m.block)
 whole_message schema m level body h is =
     let same = some_is (sym h.5 ∙ is) in
     let whole = level_whole (mode_of schema m.version) h.0 m.block h.3 (fields_long (mode_of schema m.version) 0 _ _ _ h.8.1) h.9 in
-    subst (λ l. IsWholeSeen (seen_level l m.block)) same (seen_whole h.0 m.block whole)
+    subst (λ l. IsWholeBlock (typed_level l m.block)) same (seen_whole h.0 m.block whole)

@@ -13,7 +13,7 @@ use Rattle.sbe_wire.specs.Canonical.{all_bytes, block_bytes, group_bytes, part_b
 use Rattle.sbe_wire.specs.Misfit.{Taken, each_taken, group_taken, part_taken, parts_taken, refusal_of, tail_taken}
 use Rattle.typed_writer.specs.declared.stack.Frame.{Frame}
 use Rattle.typed_writer.specs.declared.stack.Frame.TheVariants.{Tail}
-use Rattle.typed_writer.specs.Empty.{behind, empty_block}
+use Rattle.typed_writer.specs.Empty.{followed_by, empty_block}
 use Rattle.typed_writer.specs.Held.{Held}
 use Rattle.typed_writer.specs.States.{level_of, parts_in_tail}
 use Rattle.typed_writer.specs.Steps.{unset_from}
@@ -88,7 +88,7 @@ behind_all schema frames = Tail (level_of frames) (parts_in_tail schema (level_o
 
 -- The stretch was appended, and the bytes are as many as it counts; the innermost writer continues as `top`.
 pub record Puts (stretch : Stretch) (top : Frame) (old new : Held) : Type 0 where
-  pub bytes : behind old.bytes stretch.bytes ≡ Some new.bytes
+  pub bytes : followed_by old.bytes stretch.bytes ≡ Some new.bytes
   pub counted : stretch.taken old.limit (length old.bytes) ≡ Ok (length new.bytes)
   pub frames : new.frames ≡ top ∷ drop 1 old.frames
   pub limit : new.limit ≡ old.limit
@@ -118,9 +118,9 @@ pub record HoldsNext (task : Task) (i : ℕ) (old new : Held) : Type 0 where
 -- The block that was begun last, if it was empty, is now that of the values; it is as long as the level states, and
 -- none of its fields is left to set.
 pub record Fills (task : Task) (old new : Held) : Type 0 where
-  pub bytes : (front : List ℕ) → length front ≡ old.at → behind front (empty_block task.order task.long task.fields) ≡ Some old.bytes
-      → behind front (block_bytes task.order task.long task.fields task.values) ≡ Some new.bytes
-  pub long : (front : List ℕ) → length front ≡ old.at → behind front (empty_block task.order task.long task.fields) ≡ Some old.bytes
+  pub bytes : (front : List ℕ) → length front ≡ old.at → followed_by front (empty_block task.order task.long task.fields) ≡ Some old.bytes
+      → followed_by front (block_bytes task.order task.long task.fields task.values) ≡ Some new.bytes
+  pub long : (front : List ℕ) → length front ≡ old.at → followed_by front (empty_block task.order task.long task.fields) ≡ Some old.bytes
       → length new.bytes ≡ length front + task.long
   pub set : unset_from 0 task.fields new.set ≡ None
   pub same : SameBlock old new

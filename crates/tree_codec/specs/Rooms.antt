@@ -14,9 +14,9 @@ use Rattle.tree_codec.specs.declared.first_misfit.FirstMisfit.{FirstMisfit}
 use Rattle.tree_codec.specs.Shapes.{misfit_of}
 
 -- the result that a number of bytes or None and the misfit slot encode
-abbrev pub went : Option ℕ → FirstMisfit → Taken
-went (Some n) unfit = Ok n
-went None unfit = Err (misfit_of unfit)
+abbrev pub place_or_misfit : Option ℕ → FirstMisfit → Taken
+place_or_misfit (Some n) unfit = Ok n
+place_or_misfit None unfit = Err (misfit_of unfit)
 
 -- the bytes so far after groups, counted from i
 abbrev pub groups_room : ℕ → ℕ → ℕ → List Group → List GroupVal → Taken

@@ -14,9 +14,9 @@ abbrev pub misfit_of : FirstMisfit → Misfit
 misfit_of unfit = record { code = unfit.code; path = unfit.path; detail = unfit.detail }
 
 -- the result that `true` or `false` and the misfit slot encode
-abbrev pub told : Bool → FirstMisfit → Option Misfit
-told true unfit = None
-told false unfit = Some (misfit_of unfit)
+abbrev pub misfit_unless : Bool → FirstMisfit → Option Misfit
+misfit_unless true unfit = None
+misfit_unless false unfit = Some (misfit_of unfit)
 
 -- the first misfit of groups, counted from i
 abbrev pub groups_unfit : ℕ → List Group → List GroupVal → Option Misfit

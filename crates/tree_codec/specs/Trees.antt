@@ -8,7 +8,7 @@ use Rattle.sbe_types.specs.declared.message.GroupVal as groupval
 use Rattle.sbe_types.specs.declared.schema.Group.{Group, Group', out-Group}
 use Rattle.sbe_types.specs.declared.schema.Level.{Level, Level', Row_of-Group, end_of-Group, more_of-Group}
 use Rattle.schema_facts.specs.CheckedLevels.{groups_deep}
-use Rattle.flyweight_view.specs.Seen.{Seen}
+use Rattle.flyweight_view.specs.Seen.{TypedBlock}
 
 -- ---- trees
 
@@ -18,11 +18,11 @@ part_of None = dataval.Absent
 part_of (Some bytes) = dataval.Bytes bytes
 
 -- the blocks of the entries that a view shows
-abbrev pub blocks_of : List Seen → List Block
-blocks_of entries = map (λ (s : Seen). s.block) entries
+abbrev pub blocks_of : List TypedBlock → List Block
+blocks_of entries = map (λ (s : TypedBlock). s.block) entries
 
 -- the group with these entries; without entries it is absent
-abbrev pub group_of : Option (List Seen) → GroupVal
+abbrev pub group_of : Option (List TypedBlock) → GroupVal
 group_of None = groupval.TheVariants.Absent
 group_of (Some entries) = groupval.TheVariants.Entries (blocks_of entries)
 
@@ -63,24 +63,24 @@ GroupsAreWhole (g ∷ gs) [] = ⊥
 GroupsAreWhole (g ∷ gs) (v ∷ vs) = GroupIsWhole g v × GroupsAreWhole gs vs
 
 -- what a block shows is whole
-pub record IsWholeSeen (s : Seen) : Type 0 where
+pub record IsWholeBlock (s : TypedBlock) : Type 0 where
   pub fields : length (out-Block s.block).fields ≡ length s.fields
   pub groups : GroupsAreWhole s.groups (out-Block s.block).groups
 
 -- the same for entries
-abbrev pub AllWhole : List Seen → Type 0
+abbrev pub AllWhole : List TypedBlock → Type 0
 AllWhole [] = ⊤
-AllWhole (s ∷ ss) = IsWholeSeen s × AllWhole ss
+AllWhole (s ∷ ss) = IsWholeBlock s × AllWhole ss
 
 -- the same for the entries of a group that is there
-abbrev pub GroupSeenWhole : Option (List Seen) → Type 0
-GroupSeenWhole None = ⊤
-GroupSeenWhole (Some es) = AllWhole es
+abbrev pub IsWholeGroup : Option (List TypedBlock) → Type 0
+IsWholeGroup None = ⊤
+IsWholeGroup (Some es) = AllWhole es
 
 -- the same for what groups show
-abbrev pub GroupsSeenWhole : List (Option (List Seen)) → Type 0
-GroupsSeenWhole [] = ⊤
-GroupsSeenWhole (o ∷ os) = GroupSeenWhole o × GroupsSeenWhole os
+abbrev pub AreWholeGroups : List (Option (List TypedBlock)) → Type 0
+AreWholeGroups [] = ⊤
+AreWholeGroups (o ∷ os) = IsWholeGroup o × AreWholeGroups os
 
 -- ---- depth
 
@@ -90,6 +90,6 @@ deepest [] = 0
 deepest (g ∷ gs) = max (suc (groups_deep (out-Group g).level)) (deepest gs)
 
 -- the greatest depth of the groups of blocks
-abbrev pub deepest_in : List Seen → ℕ
+abbrev pub deepest_in : List TypedBlock → ℕ
 deepest_in [] = 0
 deepest_in (s ∷ ss) = max (deepest s.groups) (deepest_in ss)

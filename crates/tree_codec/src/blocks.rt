@@ -2,7 +2,7 @@
 ghost use Rattle.std.specs.Prelude.{◌≡◌, ◌<◌, length, slice_get, Some, IfOk};
 ghost use Rattle.std.specs.Option.{option_map};
 ghost use Rattle.sbe_types.specs.declared.message.Block.{out-Block};
-ghost use Rattle.tree_codec.specs.Trees.{blocks_of, group_of, part_of, AllWhole, GroupSeenWhole, IsWholeSeen};
+ghost use Rattle.tree_codec.specs.Trees.{blocks_of, group_of, part_of, AllWhole, IsWholeGroup, IsWholeBlock};
 
 use crate::values::value_of;
 use flyweight_view::{BlockView, EntriesView};
@@ -13,7 +13,7 @@ use std::alloc::Global;
 /// The tree of a message's root or of an entry.
 #[cycle(block)]
 pub(crate) fn block_tree(alloc: Global, block: &BlockView<'_>) -> Result<Block, NoMem>
-    requires { IsWholeSeen block.now }
+    requires { IsWholeBlock block.now }
     ensures { IfOk result (λ b. b ≡ block.now.block) }
 {
     let fields = field_values(alloc, block)?;
@@ -82,7 +82,7 @@ fn part_tree(alloc: Global, bytes: Option<&[u8]>) -> Result<DataVal, NoMem>
 /// The groups of a block.
 #[cycle(block)]
 fn group_trees(alloc: Global, block: &BlockView<'_>) -> Result<GroupValList, NoMem>
-    requires { IsWholeSeen block.now }
+    requires { IsWholeBlock block.now }
     ensures { IfOk result (λ vs. vs ≡ (out-Block block.now.block).groups) }
 {
     let (_, count, _) = block.counts();
@@ -97,7 +97,7 @@ fn group_trees(alloc: Global, block: &BlockView<'_>) -> Result<GroupValList, NoM
 /// A group of these entries, or an absent one if there are none.
 #[cycle(block)]
 fn group_tree(alloc: Global, entries: Option<EntriesView<'_>>) -> Result<GroupVal, NoMem>
-    requires { GroupSeenWhole entries }
+    requires { IsWholeGroup entries }
     ensures { IfOk result (λ v. v ≡ group_of entries.entry) }
 {
     match entries {

@@ -1,8 +1,8 @@
 ghost use Rattle.std.specs.Prelude.{◌≡◌, IfOk, IfErr};
 ghost use Rattle.sbe_wire.specs.Lays.{Lays};
-ghost use Rattle.flyweight_view.specs.Seen.{seen_level};
+ghost use Rattle.flyweight_view.specs.Seen.{typed_level};
 ghost use Rattle.tree_codec.specs.Decoded.{IsRefused};
-ghost use Rattle.tree_codec.specs.Trees.{IsWholeSeen};
+ghost use Rattle.tree_codec.specs.Trees.{IsWholeBlock};
 
 use crate::blocks::block_tree;
 use flyweight_view::{MsgView, Refusal, validate};
@@ -40,7 +40,7 @@ pub fn decode(alloc: Global, layout: &Layout, body: &[u8]) -> Result<Msg, Decode
 
 /// The tree of a message, built from its view.
 fn message_tree(alloc: Global, view: &MsgView<'_>) -> Result<Msg, NoMem>
-    requires { IsWholeSeen (seen_level view.now.level view.now.message.block) }
+    requires { IsWholeBlock (typed_level view.now.level view.now.message.block) }
     ensures { IfOk result (λ m. m ≡ view.now.message) }
 {
     let block = block_tree(alloc, &view.root())?;

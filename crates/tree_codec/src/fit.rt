@@ -3,7 +3,7 @@ ghost use Rattle.std.specs.Prelude.{◌≡◌, ◌≤◌, false, length};
 ghost use Rattle.sbe_types.specs.declared.limits.TheConstants.{PART_LIMIT};
 ghost use Rattle.sbe_wire.specs.Misfit.{fields_misfit};
 ghost use Rattle.tree_codec.specs.Fitting.{AreReady};
-ghost use Rattle.tree_codec.specs.Shapes.{told};
+ghost use Rattle.tree_codec.specs.Shapes.{misfit_unless};
 
 use crate::first_misfit::FirstMisfit;
 use crate::rooms::shorter;
@@ -14,7 +14,7 @@ use sbe_types::{FieldList, Step, ValueList};
 pub(crate) fn fit_fields(fields: &FieldList, values: &ValueList, out: &mut FirstMisfit) -> bool
     requires ready { AreReady fields.now }
     requires few { length fields.now ≤ PART_LIMIT }
-    ensures told { told result out.new ≡ fields_misfit 0 fields.now values.now }
+    ensures told { misfit_unless result out.new ≡ fields_misfit 0 fields.now values.now }
     ensures low { result ≡ false → length out.new.path ≤ 6 }
 {
     let mut value = ValueMisfit::new();

@@ -15,7 +15,7 @@ ghost use Rattle.schema_facts.specs.Levels.{all_nodes, level_at};
 ghost use Rattle.layout_tables.specs.Parts.{dim_at};
 ghost use Rattle.body_walk.specs.inner.Ready.{IsReadySchema};
 ghost use Rattle.tree_codec.specs.Fitting.{AreReady};
-ghost use Rattle.tree_codec.specs.Rooms.{dim_room, entry_room, groups_room, went};
+ghost use Rattle.tree_codec.specs.Rooms.{dim_room, entry_room, groups_room, place_or_misfit};
 
 use crate::first_misfit::FirstMisfit;
 use crate::fit::fit_fields;
@@ -35,7 +35,7 @@ pub(crate) struct Walk<'a> {
 /// Adds `more` bytes, within the limit.
 fn take_room(limit: usize, before: usize, more: usize, out: &mut FirstMisfit) -> Option<usize>
     requires { before ≤ limit }
-    ensures told { went result out.new ≡ take_bytes limit before more }
+    ensures told { place_or_misfit result out.new ≡ take_bytes limit before more }
     ensures within { IfSome result (λ n. n ≤ limit) }
     ensures low { IfNone result (length out.new.path ≤ 0) }
 {
@@ -58,7 +58,7 @@ pub(crate) fn take_block(
     requires near { before ≤ limit }
     requires ready { AreReady fields.now }
     requires few { length fields.now ≤ PART_LIMIT }
-    ensures told { went result out.new ≡ block_taken limit before size fields.now values.now }
+    ensures told { place_or_misfit result out.new ≡ block_taken limit before size fields.now values.now }
     ensures within { IfSome result (λ n. n ≤ limit) }
     ensures low { IfNone result (length out.new.path ≤ 6) }
 {
@@ -84,7 +84,7 @@ fn take_part(
     out: &mut FirstMisfit,
 ) -> Option<usize>
     requires near { before ≤ limit }
-    ensures told { went result out.new ≡ part_taken limit before part.now value.now }
+    ensures told { place_or_misfit result out.new ≡ part_taken limit before part.now value.now }
     ensures within { IfSome result (λ n. n ≤ limit) }
     ensures low { IfNone result (length out.new.path ≤ 0) }
 {
@@ -103,7 +103,7 @@ fn take_data(
     out: &mut FirstMisfit,
 ) -> Option<usize>
     requires near { before ≤ limit }
-    ensures told { went result out.new ≡ part_taken limit before part.now (BytesVal bytes.now) }
+    ensures told { place_or_misfit result out.new ≡ part_taken limit before part.now (BytesVal bytes.now) }
     ensures within { IfSome result (λ n. n ≤ limit) }
     ensures low { IfNone result (length out.new.path ≤ 0) }
 {
@@ -126,7 +126,7 @@ fn take_parts(
     requires near { before ≤ limit }
     requires few { HasFewParts level.now }
     requires parts { length (out-Level level.now).parts ≡ length (out-Block block.now).parts }
-    ensures told { went result out.new ≡ parts_taken limit (length (out-Level level.now).fields + length (out-Level level.now).groups) before (out-Level level.now).parts (out-Block block.now).parts }
+    ensures told { place_or_misfit result out.new ≡ parts_taken limit (length (out-Level level.now).fields + length (out-Level level.now).groups) before (out-Level level.now).parts (out-Block block.now).parts }
     ensures within { IfSome result (λ n. n ≤ limit) }
     ensures low { IfNone result (length out.new.path ≤ 1) }
 {
@@ -162,7 +162,7 @@ fn take_entry(
     requires level { level_at walk.now.layout.now n ≡ Some level.now }
     requires shallow { groups_deep level.now ≤ most_groups }
     requires shape { block_shape level.now entry.now ≡ None }
-    ensures told { went result out.new ≡ entry_room walk.now.limit level.now before entry.now }
+    ensures told { place_or_misfit result out.new ≡ entry_room walk.now.limit level.now before entry.now }
     ensures within { IfSome result (λ k. k ≤ walk.now.limit) }
     ensures low { IfNone result (length out.new.path ≤ 2 * groups_deep level.now + 6) }
 {
@@ -188,7 +188,7 @@ pub(crate) fn take_tail(
     requires level { level_at walk.now.layout.now n ≡ Some level.now }
     requires shallow { groups_deep level.now ≤ most_groups }
     requires shape { block_shape level.now block.now ≡ None }
-    ensures told { went result out.new ≡ tail_taken walk.now.limit before level.now block.now }
+    ensures told { place_or_misfit result out.new ≡ tail_taken walk.now.limit before level.now block.now }
     ensures within { IfSome result (λ k. k ≤ walk.now.limit) }
     ensures low { IfNone result (length out.new.path ≤ 2 * groups_deep level.now + 6) }
 {
@@ -213,7 +213,7 @@ fn take_groups(
     requires level { level_at walk.now.layout.now n ≡ Some level.now }
     requires shallow { groups_deep level.now ≤ most_groups }
     requires shape { block_shape level.now block.now ≡ None }
-    ensures told { went result out.new ≡ groups_room walk.now.limit (length (out-Level level.now).fields) before (out-Level level.now).groups (out-Block block.now).groups }
+    ensures told { place_or_misfit result out.new ≡ groups_room walk.now.limit (length (out-Level level.now).fields) before (out-Level level.now).groups (out-Block block.now).groups }
     ensures within { IfSome result (λ k. k ≤ walk.now.limit) }
     ensures low { IfNone result (length out.new.path ≤ 2 * groups_deep level.now + 6) }
 {
@@ -259,7 +259,7 @@ fn take_group(
     requires dim { dim_at walk.now.layout.now n ≡ Some (out-Group group.now).dim }
     requires shallow { groups_deep (out-Group group.now).level ≤ most_groups }
     requires shape { group_shape group.now value.now ≡ None }
-    ensures told { went result out.new ≡ group_taken walk.now.limit before group.now value.now }
+    ensures told { place_or_misfit result out.new ≡ group_taken walk.now.limit before group.now value.now }
     ensures within { IfSome result (λ k. k ≤ walk.now.limit) }
     ensures low { IfNone result (length out.new.path ≤ 2 * groups_deep (out-Group group.now).level + 7) }
 {
@@ -287,7 +287,7 @@ fn take_dim(
     requires schema { IsReadySchema walk.now.layout.now }
     requires level { n < length (all_nodes walk.now.layout.now) }
     requires group { IsSome (dim_at walk.now.layout.now n) }
-    ensures told { (dim : List Member) → dim_at walk.now.layout.now n ≡ Some dim → went result out.new ≡ dim_room walk.now.limit before dim count }
+    ensures told { (dim : List Member) → dim_at walk.now.layout.now n ≡ Some dim → place_or_misfit result out.new ≡ dim_room walk.now.limit before dim count }
     ensures admitted { (dim : List Member) → dim_at walk.now.layout.now n ≡ Some dim → IfSome result (λ k. is_admitted dim (codes "numInGroup") count ≡ true) }
     ensures few { IfSome result (λ k. count < 2 ^ 32) }
     ensures within { IfSome result (λ k. k ≤ walk.now.limit) }
@@ -321,7 +321,7 @@ fn take_entries(
     requires shallow { groups_deep level.now ≤ most_groups }
     requires shape { each_misfit (λ entry. block_shape level.now entry) 0 entries.now ≡ None }
     requires few { length entries.now < 2 ^ 32 }
-    ensures told { went result out.new ≡ each_taken (λ at entry. entry_room walk.now.limit level.now at entry) 0 before entries.now }
+    ensures told { place_or_misfit result out.new ≡ each_taken (λ at entry. entry_room walk.now.limit level.now at entry) 0 before entries.now }
     ensures within { IfSome result (λ k. k ≤ walk.now.limit) }
     ensures low { IfNone result (length out.new.path ≤ 2 * groups_deep level.now + 7) }
 {

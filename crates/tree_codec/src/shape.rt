@@ -6,7 +6,7 @@ ghost use Rattle.sbe_wire.specs.Canonical.{entries_in};
 ghost use Rattle.sbe_wire.specs.Misfit.{bad_shape, block_shape, entries_shape, parts_shape};
 ghost use Rattle.schema_rules.specs.PartRules.{most_groups};
 ghost use Rattle.schema_facts.specs.CheckedLevels.{groups_deep, HasFewParts};
-ghost use Rattle.tree_codec.specs.Shapes.{groups_unfit, is_gone, told, Throughout};
+ghost use Rattle.tree_codec.specs.Shapes.{groups_unfit, is_gone, misfit_unless, Throughout};
 
 use crate::first_misfit::FirstMisfit;
 use sbe_types::{Block, DataVal, GroupVal, Level, List, Step};
@@ -18,7 +18,7 @@ use sbe_wire::NCode;
 pub(crate) fn shape_block(level: &Level, block: &Block, out: &mut FirstMisfit) -> bool
     requires few { Throughout HasFewParts level.now }
     requires shallow { groups_deep level.now ≤ most_groups }
-    ensures told { told result out.new ≡ block_shape level.now block.now }
+    ensures told { misfit_unless result out.new ≡ block_shape level.now block.now }
     ensures low { result ≡ false → length out.new.path ≤ 2 * groups_deep level.now + 1 }
 {
     if !same_counts(level, block) {
@@ -48,7 +48,7 @@ fn shape_groups(level: &Level, block: &Block, out: &mut FirstMisfit) -> bool
     requires few { Throughout HasFewParts level.now }
     requires shallow { groups_deep level.now ≤ most_groups }
     requires same { length (out-Level level.now).groups ≡ length (out-Block block.now).groups }
-    ensures told { told result out.new ≡ groups_unfit (length (out-Level level.now).fields) (out-Level level.now).groups (out-Block block.now).groups }
+    ensures told { misfit_unless result out.new ≡ groups_unfit (length (out-Level level.now).fields) (out-Level level.now).groups (out-Block block.now).groups }
     ensures low { result ≡ false → length out.new.path ≤ 2 * groups_deep level.now + 1 }
 {
     let first = level.fields.len();
@@ -66,7 +66,7 @@ fn shape_groups(level: &Level, block: &Block, out: &mut FirstMisfit) -> bool
 fn shape_group(level: &Level, group: &GroupVal, out: &mut FirstMisfit) -> bool
     requires few { Throughout HasFewParts level.now }
     requires shallow { groups_deep level.now ≤ most_groups }
-    ensures told { told result out.new ≡ entries_shape (λ entry. block_shape level.now entry) (entries_in group.now) }
+    ensures told { misfit_unless result out.new ≡ entries_shape (λ entry. block_shape level.now entry) (entries_in group.now) }
     ensures low { result ≡ false → length out.new.path ≤ 2 * groups_deep level.now + 2 }
 {
     match group {
@@ -83,7 +83,7 @@ fn shape_group(level: &Level, group: &GroupVal, out: &mut FirstMisfit) -> bool
 fn shape_entries(level: &Level, entries: &List<Block>, out: &mut FirstMisfit) -> bool
     requires few { Throughout HasFewParts level.now }
     requires shallow { groups_deep level.now ≤ most_groups }
-    ensures told { told result out.new ≡ entries_shape (λ entry. block_shape level.now entry) (Some entries.now) }
+    ensures told { misfit_unless result out.new ≡ entries_shape (λ entry. block_shape level.now entry) (Some entries.now) }
     ensures low { result ≡ false → length out.new.path ≤ 2 * groups_deep level.now + 2 }
 {
     if entries.len() > u32::MAX as usize {
@@ -103,7 +103,7 @@ fn shape_parts(level: &Level, block: &Block, out: &mut FirstMisfit) -> bool
     requires few { HasFewParts level.now }
     requires groups { length (out-Level level.now).groups ≡ length (out-Block block.now).groups }
     requires parts { length (out-Level level.now).parts ≡ length (out-Block block.now).parts }
-    ensures told { told result out.new ≡ parts_shape (length (out-Level level.now).fields + length (out-Block block.now).groups) (out-Block block.now).parts }
+    ensures told { misfit_unless result out.new ≡ parts_shape (length (out-Level level.now).fields + length (out-Block block.now).groups) (out-Block block.now).parts }
     ensures low { result ≡ false → length out.new.path ≤ 1 }
 {
     let first = level.fields.len() + level.groups.len();

@@ -2,7 +2,7 @@ ghost use Rattle.std.specs.Prelude.{◌≡◌, ◌≤◌, ◌*◌, ◌+◌, leng
 ghost use Rattle.sbe_types.specs.declared.schema.Level.{Level};
 ghost use Rattle.sbe_wire.specs.Misfit.{block_shape, misfit, refusal_of, root_taken};
 ghost use Rattle.body_walk.specs.inner.Ready.{IsReadySchema};
-ghost use Rattle.tree_codec.specs.Rooms.{went};
+ghost use Rattle.tree_codec.specs.Rooms.{place_or_misfit};
 ghost use Rattle.tree_codec.specs.Sized.{sized, sized_err};
 ghost use Rattle.tree_codec.specs.Shapes.{misfit_of};
 
@@ -56,7 +56,7 @@ fn refuse(unfit: &FirstMisfit) -> EncodeErr
 /// The size of the body in bytes. If it returns `None`, `out` receives the first misfit.
 fn judge_message(layout: &Layout, msg: &Msg, limit: usize, out: &mut FirstMisfit) -> Option<usize>
     requires { IsReadySchema layout.now }
-    ensures told { misfit layout.now msg.now limit ≡ refusal_of (went result out.new) }
+    ensures told { misfit layout.now msg.now limit ≡ refusal_of (place_or_misfit result out.new) }
     ensures size { IfSome result (λ n. (level : Level) → slice_get layout.now.messages msg.now.template ≡ Some level
         → root_taken layout.now limit level msg.now.block ≡ Ok n) }
 {
@@ -87,7 +87,7 @@ fn take_root(
     requires schema { IsReadySchema layout.now }
     requires root { slice_get layout.now.messages template ≡ Some level.now }
     requires shape { block_shape level.now block.now ≡ None }
-    ensures { went result out.new ≡ root_taken layout.now limit level.now block.now }
+    ensures { place_or_misfit result out.new ≡ root_taken layout.now limit level.now block.now }
 {
     let root = layout.root(template);
     let wide = layout.header_row().width as usize;

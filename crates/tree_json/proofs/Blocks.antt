@@ -8,12 +8,12 @@ use Rattle.sbe_types.specs.declared.message.Block.{Block, out-Block}
 use Rattle.sbe_types.specs.declared.message.GroupVal.{GroupVal}
 use Rattle.sbe_types.specs.declared.message.Msg.{Msg}
 use Rattle.json.specs.Print.{quoted}
-use Rattle.flyweight_view.specs.Seen.{Seen, seen_level}
+use Rattle.flyweight_view.specs.Seen.{TypedBlock, typed_level}
 use Rattle.serde_json.specs.Data.{object}
 use Rattle.json_values.specs.Values.{listed, zipped}
 use Rattle.tree_json.specs.Lines.{field_entry, part_entry, group_entry, three_entries, block_data, block_entries, groups_entries, message_at}
 use Rattle.json_values.specs.Plain.{plain_text, entries_text}
-use Rattle.tree_json.specs.Views.{seen_data, seen_front}
+use Rattle.tree_json.specs.Views.{block_object, block_front}
 
 groups_are : {n : _} (row : Row_of-Group n) (vs : List GroupVal) → groups_entries row vs ≡ zipped group_entry (items-the_row-Group _ row) vs
 unfolding block_entries
@@ -30,12 +30,12 @@ closed p f g r =
     ∙ ap (λ s. p ++ (codes ",\"fields\":{" ++ s)) (append_assoc f (codes ",\"groups\":{" ++ g) r))
 
 -- the object of a block that is seen, and its closing bracket
-pub front_closed : (s : Seen) → seen_front s ++ codes "}" ≡ plain_text (seen_data s)
+pub front_closed : (s : TypedBlock) → block_front s ++ codes "}" ≡ plain_text (block_object s)
 front_closed s =
     closed (entries_text false (zipped part_entry s.parts (out-Block s.block).parts)) (entries_text false (zipped field_entry s.fields (out-Block s.block).fields)) _ (codes "}")
 
 -- what is seen of a block of a level is its object
-pub block_is : (level : Level) (b : Block) → seen_data (seen_level level b) ≡ block_data level b
+pub block_is : (level : Level) (b : Block) → block_object (typed_level level b) ≡ block_data level b
 unfolding block_entries levels.out-Level carrier.out
 block_is (Level' name id semantic since block_length fields n groups parts) b =
     ap (λ gs. object (listed (three_entries (zipped part_entry parts (out-Block b).parts) (zipped field_entry fields (out-Block b).fields) gs)))
@@ -43,7 +43,7 @@ block_is (Level' name id semantic since block_length fields n groups parts) b =
 
 -- the object of a message: what is in its root's, its template and its version
 pub message_is : (level : Level) (m : Msg)
-    → seen_front (seen_level level m.block) ++ (codes ",\"template\":" ++ (quoted (out-Level level).name ++ (codes ",\"version\":" ++ (decimal m.version ++ codes "}"))))
+    → block_front (typed_level level m.block) ++ (codes ",\"template\":" ++ (quoted (out-Level level).name ++ (codes ",\"version\":" ++ (decimal m.version ++ codes "}"))))
     ≡ plain_text (message_at (Some level) m)
 unfolding block_entries levels.out-Level carrier.out
 message_is (Level' name id semantic since block_length fields n groups parts) m =

@@ -13,15 +13,15 @@ use Rattle.json_rows.specs.declared.rows.TextRows.{TextRows}
 use Rattle.json_rows.specs.Tables.{scalars_in, values_of, with_texts, AreTextRows, HasPieces, TextsFit}
 use Rattle.json_rows.proofs.Growing.{fits_too, own_joined}
 use Rattle.json_rows.proofs.PieceValues.{values_in}
-use Rattle.tree_json.specs.Texts.{seen_pieces, text_before, text_behind}
+use Rattle.tree_json.specs.Texts.{block_pieces, text_before, text_behind}
 use Rattle.flyweight_view.specs.declared.by_table.TableBlock.{TableBlock}
 use Rattle.flyweight_view.specs.ByTable.{IsTableBlock}
-use Rattle.flyweight_view.specs.Seen.{Seen}
+use Rattle.flyweight_view.specs.Seen.{TypedBlock}
 use Rattle.json_values.specs.Values.{zipped}
 use Rattle.tree_json.specs.Lines.{field_entry, part_entry, group_entry}
 use Rattle.json_values.specs.Plain.{entries_text}
-use Rattle.json_fields.specs.Printed.{JoinedText}
-use Rattle.tree_json.specs.Views.{data_front, own_data, own_groups, seen_head, seen_front}
+use Rattle.json_fields.specs.Printed.{MergedText}
+use Rattle.tree_json.specs.Views.{data_front, own_data, own_groups, block_head, block_front}
 use Rattle.tree_json.proofs.PiecesText.{fields_text, between_text}
 
 -- a list of which there is a first one is not empty
@@ -34,34 +34,34 @@ own_first [] vs rest = refl
 own_first (p ∷ ps) vs rest = ap (λ t. cond t [] (data_front (p ∷ ps) vs) ++ (cond t (codes "{\"data\":{},\"fields\":{") (codes ",\"fields\":{") ++ rest)) (is_some p ps)
 
 -- the values of a table are those of the pieces
-values_are : (b : TableBlock) (s : Seen) → IsTableBlock b s → scalars_in (seen_pieces s) ≡ stands_for b.table.now
+values_are : (b : TableBlock) (s : TypedBlock) → IsTableBlock b s → scalars_in (block_pieces s) ≡ stands_for b.table.now
 values_are b s is = values_in (text_before s.parts) (text_behind s.groups) s.fields ∙ sym is.stands
 
 -- the texts of a level fit its block
-pub texts_fit : (b : TableBlock) (s : Seen) → IsTableBlock b s → (t : TextRows) → HasPieces (seen_pieces s) t → TextsFit (length b.bytes.now) t.rows.items
+pub texts_fit : (b : TableBlock) (s : TypedBlock) → IsTableBlock b s → (t : TextRows) → HasPieces (block_pieces s) t → TextsFit (length b.bytes.now) t.rows.items
 texts_fit b s is t h =
     fits_too (length b.bytes.now) (length t.bytes.items) b.table.now.rows.items t.rows.items is.table_is is.fits
     (subst (λ ss. AreTextRows (length t.bytes.items) ss t.rows.items) (values_are b s is) h.table.rows)
 
 -- the values by their texts make the fields' text
-pub table_text : (b : TableBlock) (s : Seen) (is : IsTableBlock b s) (t : TextRows) → HasPieces (seen_pieces s) t →
-    JoinedText Little is.known (with_texts (values_of t) t) b.bytes.now (text_before s.parts ++ (entries_text false (zipped field_entry s.fields (out-Block s.block).fields) ++ text_behind s.groups))
+pub table_text : (b : TableBlock) (s : TypedBlock) (is : IsTableBlock b s) (t : TextRows) → HasPieces (block_pieces s) t →
+    MergedText Little is.known (with_texts (values_of t) t) b.bytes.now (text_before s.parts ++ (entries_text false (zipped field_entry s.fields (out-Block s.block).fields) ++ text_behind s.groups))
 table_text b s is t h =
     let vs = (out-Block s.block).fields in
     let fields = entries_text false (zipped field_entry s.fields vs) in
     let text = text_before s.parts ++ (fields ++ text_behind s.groups) in
-    subst (λ j. JoinedText Little is.known j b.bytes.now text) (sym (own_joined (seen_pieces s) t h))
+    subst (λ j. MergedText Little is.known j b.bytes.now text) (sym (own_joined (block_pieces s) t h))
     (between_text Little is.known b.bytes.now (text_before s.parts) (text_behind s.groups) s.fields fields
     (fields_text Little is.known b.bytes.now is.version 0 s.fields vs false is.placed is.alive is.lay))
 
 -- the same of bytes that are the table's
-pub bytes_text : (b : TableBlock) (s : Seen) (is : IsTableBlock b s) (t : TextRows) → HasPieces (seen_pieces s) t → (bytes : List ℕ) → b.bytes.now ≡ bytes →
-    JoinedText Little is.known (with_texts (values_of t) t) bytes (text_before s.parts ++ (entries_text false (zipped field_entry s.fields (out-Block s.block).fields) ++ text_behind s.groups))
+pub bytes_text : (b : TableBlock) (s : TypedBlock) (is : IsTableBlock b s) (t : TextRows) → HasPieces (block_pieces s) t → (bytes : List ℕ) → b.bytes.now ≡ bytes →
+    MergedText Little is.known (with_texts (values_of t) t) bytes (text_before s.parts ++ (entries_text false (zipped field_entry s.fields (out-Block s.block).fields) ++ text_behind s.groups))
 bytes_text b s is t h bytes same =
     let text = text_before s.parts ++ (entries_text false (zipped field_entry s.fields (out-Block s.block).fields) ++ text_behind s.groups) in
-    subst (λ x. JoinedText Little is.known (with_texts (values_of t) t) x text) same (table_text b s is t h)
+    subst (λ x. MergedText Little is.known (with_texts (values_of t) t) x text) same (table_text b s is t h)
 
-pub head_by_table : (s : Seen) → own_data s.parts (out-Block s.block).parts ++ (text_before s.parts ++ (entries_text false (zipped field_entry s.fields (out-Block s.block).fields) ++ text_behind s.groups)) ≡ seen_head s
+pub head_by_table : (s : TypedBlock) → own_data s.parts (out-Block s.block).parts ++ (text_before s.parts ++ (entries_text false (zipped field_entry s.fields (out-Block s.block).fields) ++ text_behind s.groups)) ≡ block_head s
 head_by_table s = own_first s.parts (out-Block s.block).parts (entries_text false (zipped field_entry s.fields (out-Block s.block).fields) ++ text_behind s.groups)
 
 pub no_data : (parts : List DataField) (vs : List DataVal) → length parts ≡ 0 → [] ≡ own_data parts vs
@@ -98,7 +98,7 @@ behind_is [] vs = refl
 behind_is (g ∷ gs) vs = ap (λ t. cond t (codes ",\"groups\":{}") (codes ",\"groups\":{") ++ cond t [] (entries_text false (zipped group_entry (g ∷ gs) vs))) (is_some g gs)
 
 -- the front is the head and then the groups
-pub front_is : (s : Seen) → seen_head s ++ own_groups s.groups (out-Block s.block).groups ≡ seen_front s
+pub front_is : (s : TypedBlock) → block_head s ++ own_groups s.groups (out-Block s.block).groups ≡ block_front s
 front_is s =
     let p = entries_text false (zipped part_entry s.parts (out-Block s.block).parts) in
     let f = entries_text false (zipped field_entry s.fields (out-Block s.block).fields) in

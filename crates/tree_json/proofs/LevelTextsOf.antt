@@ -10,7 +10,7 @@ use Rattle.sbe_types.specs.declared.schema.Level.{Level, Level', out-Level, Row_
 use Rattle.sbe_types.specs.declared.message.Block.{Block, out-Block}
 use Rattle.sbe_types.specs.declared.message.GroupVal.{GroupVal, items-the_row-Block}
 use Rattle.sbe_types.specs.declared.message.GroupVal as groupval
-use Rattle.flyweight_view.specs.Seen.{Seen, seen_level, entries_in, groups_seen}
+use Rattle.flyweight_view.specs.Seen.{TypedBlock, typed_level, entries_in, typed_groups}
 use Rattle.json_rows.specs.declared.rows.TextRows.{TextRows}
 use Rattle.json_rows.specs.Tables.{HasPieces}
 use Rattle.tree_json.specs.declared.texts.LevelTexts.{LevelTexts, out-LevelTexts, roll-LevelTexts, out-roll-LevelTexts}
@@ -58,10 +58,10 @@ level_made level fields groups h k =
 
 -- ---- blocks that are seen
 
-pub block_texts : (level : Level) (b : Block) (t : LevelTexts) → AreLevelTexts level t → AreTextsOf (seen_level level b) t
+pub block_texts : (level : Level) (b : Block) (t : LevelTexts) → AreLevelTexts level t → AreTextsOf (typed_level level b) t
 block_texts level b t h = let two = level_has level t h in record { fields = two.0; groups = two.1 }
 
-blocks_texts : (level : Level) (bs : List Block) (t : LevelTexts) → AreLevelTexts level t → AreTextsOfAll (Some t) (map (seen_level level) bs)
+blocks_texts : (level : Level) (bs : List Block) (t : LevelTexts) → AreLevelTexts level t → AreTextsOfAll (Some t) (map (typed_level level) bs)
 blocks_texts level [] t h = tt
 blocks_texts level (b ∷ bs) t h = (block_texts level b t h, blocks_texts level bs t h)
 
@@ -69,27 +69,27 @@ entries_texts : (level : Level) (v : GroupVal) (t : LevelTexts) → AreLevelText
 entries_texts level groupval.Absent t h = tt
 entries_texts level (groupval.Entries' n row) t h = blocks_texts level (items-the_row-Block _ row) t h
 
-no_texts_all : (ss : List Seen) → AreTextsOfAll None ss
+no_texts_all : (ss : List TypedBlock) → AreTextsOfAll None ss
 no_texts_all [] = tt
 no_texts_all (s ∷ ss) = (tt, no_texts_all ss)
 
-no_texts_group : (o : Option (List Seen)) → AreTextsOfGroup None o
+no_texts_group : (o : Option (List TypedBlock)) → AreTextsOfGroup None o
 no_texts_group None = tt
 no_texts_group (Some ss) = no_texts_all ss
 
 -- ---- groups, one after another
 
 -- each group from number i on has its texts
-abbrev pub GroupsHave : Option LevelTexts → ℕ → List (Option (List Seen)) → Type 0
+abbrev pub GroupsHave : Option LevelTexts → ℕ → List (Option (List TypedBlock)) → Type 0
 GroupsHave o i [] = ⊤
 GroupsHave o i (x ∷ xs) = AreTextsOfGroup (texts_at o i) x × GroupsHave o (i + 1) xs
 
-no_texts_groups : (i : ℕ) (xs : List (Option (List Seen))) → GroupsHave None i xs
+no_texts_groups : (i : ℕ) (xs : List (Option (List TypedBlock))) → GroupsHave None i xs
 no_texts_groups i [] = tt
 no_texts_groups i (x ∷ xs) = (no_texts_group x, no_texts_groups (i + 1) xs)
 
 some_texts_groups : (t : LevelTexts) (k : ℕ) (gs : List Group) (ts : List LevelTexts) (vs : List GroupVal) →
-    ((j : ℕ) → slice_get (out-LevelTexts t).groups (k + j) ≡ slice_get ts j) → HaveTexts gs ts → GroupsHave (Some t) k (groups_seen gs vs)
+    ((j : ℕ) → slice_get (out-LevelTexts t).groups (k + j) ≡ slice_get ts j) → HaveTexts gs ts → GroupsHave (Some t) k (typed_groups gs vs)
 some_texts_groups t k [] ts vs at h = tt
 some_texts_groups t k (g ∷ gs) [] vs at h = absurd h
 some_texts_groups t k (g ∷ gs) (u ∷ us) [] at h = tt
@@ -99,8 +99,8 @@ some_texts_groups t k (g ∷ gs) (u ∷ us) (v ∷ vs) at h =
       some_texts_groups t (k + 1) gs us vs (λ j. ap (slice_get (out-LevelTexts t).groups) (omega arith) ∙ at (suc j)) h.1,
     )
 
-pub groups_have : (o : Option LevelTexts) (s : Seen) → AreTexts o s → GroupsHave o 0 (groups_seen s.groups (out-Block s.block).groups)
-groups_have None s h = no_texts_groups 0 (groups_seen s.groups (out-Block s.block).groups)
+pub groups_have : (o : Option LevelTexts) (s : TypedBlock) → AreTexts o s → GroupsHave o 0 (typed_groups s.groups (out-Block s.block).groups)
+groups_have None s h = no_texts_groups 0 (typed_groups s.groups (out-Block s.block).groups)
 groups_have (Some t) s h =
     some_texts_groups t 0 s.groups (out-LevelTexts t).groups (out-Block s.block).groups (λ j. ap (slice_get (out-LevelTexts t).groups) (omega arith)) h.groups
 
@@ -111,15 +111,15 @@ have_many [] (t ∷ ts) h = absurd h
 have_many (g ∷ gs) [] h = absurd h
 have_many (g ∷ gs) (t ∷ ts) h = ap suc (have_many gs ts h.1)
 
-pub group_within : (t : LevelTexts) (s : Seen) (i : ℕ) → AreTextsOf s t → i < length s.groups → i < length (out-LevelTexts t).groups
+pub group_within : (t : LevelTexts) (s : TypedBlock) (i : ℕ) → AreTextsOf s t → i < length s.groups → i < length (out-LevelTexts t).groups
 group_within t s i h low = omega (arith, low, have_many s.groups (out-LevelTexts t).groups h.groups)
 
-pub texts_within : (o : Option LevelTexts) (s : Seen) (i : ℕ) → AreTexts o s → i < length s.groups → IfSome o (λ t. i < length (out-LevelTexts t).groups)
+pub texts_within : (o : Option LevelTexts) (s : TypedBlock) (i : ℕ) → AreTexts o s → i < length s.groups → IfSome o (λ t. i < length (out-LevelTexts t).groups)
 texts_within None s i h low = tt
 texts_within (Some t) s i h low = group_within t s i h low
 
 -- the texts of a message's level are those of its root
-pub root_texts : (level : Level) (b : Block) (o : Option LevelTexts) → IfSome o (AreLevelTexts level) → AreTexts o (seen_level level b)
+pub root_texts : (level : Level) (b : Block) (o : Option LevelTexts) → IfSome o (AreLevelTexts level) → AreTexts o (typed_level level b)
 root_texts level b None h = tt
 root_texts level b (Some t) h = block_texts level b t h
 

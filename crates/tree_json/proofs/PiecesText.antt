@@ -24,10 +24,10 @@ use Rattle.json_values.specs.Plain.{plain_text, shown_text, entries_text}
 use Rattle.json_fields.proofs.MembersShown.{entry_goes}
 use Rattle.json_fields.proofs.FromBytes.{is_shown}
 use Rattle.json_rows.specs.Texts.{key_of, is_seen, hex_text, constant_text}
-use Rattle.json_rows.specs.Pieces.{Piece, literal, shown, kind_pieces, member_pieces, field_pieces, pieces_of, pieces_between, Slot, Joined, nothing_joined, with_piece, with_pieces, joined}
+use Rattle.json_rows.specs.Pieces.{Piece, literal, shown, kind_pieces, member_pieces, field_pieces, pieces_of, pieces_between, Slot, MergedPieces, no_slots, with_piece, with_pieces, merged_pieces}
 use Rattle.flat_rows.specs.Judged.{AllAlive, bytes_there}
 use Rattle.flat_rows.proofs.Inside.{kind_inside}
-use Rattle.json_fields.specs.Printed.{PiecesText, SlotsText, JoinedText}
+use Rattle.json_fields.specs.Printed.{PiecesText, SlotsText, MergedText}
 
 -- ---- constants
 
@@ -150,14 +150,14 @@ module _ (order : Order) (known : Bool) (b : List ℕ) where
         slots_more ss s rest v h.4 k,
       )
 
-  slots_text : (ps : List Piece) (j : Joined) (front text : List ℕ) → SlotsText order known j.slots b front → PiecesText order known ps b text →
-      JoinedText order known (with_pieces j ps) b ((front ++ j.last) ++ text)
+  slots_text : (ps : List Piece) (j : MergedPieces) (front text : List ℕ) → SlotsText order known j.slots b front → PiecesText order known ps b text →
+      MergedText order known (with_pieces j ps) b ((front ++ j.last) ++ text)
   slots_text [] j front text h k = (front, h, ap (λ t. (front ++ j.last) ++ t) k ∙ append-nil (front ++ j.last))
   slots_text (literal bytes ∷ ps) j front text h k =
       let rest = slots_text ps (with_piece j (literal bytes)) front k.0 h k.2 in
       let same : (front ++ (j.last ++ bytes)) ++ k.0 ≡ (front ++ j.last) ++ text =
       ap (λ l. l ++ k.0) (sym (append_assoc front j.last bytes)) ∙ append_assoc (front ++ j.last) bytes k.0 ∙ ap (λ t. (front ++ j.last) ++ t) (sym k.1) in
-      subst (JoinedText order known (with_pieces (with_piece j (literal bytes)) ps) b) same rest
+      subst (MergedText order known (with_pieces (with_piece j (literal bytes)) ps) b) same rest
   slots_text (shown kind place ∷ ps) j front text h k =
       let s : Slot = record { before = j.last; kind = kind; place = place } in
       let value = shown_text (value_data kind k.0) in
@@ -165,7 +165,7 @@ module _ (order : Order) (known : Bool) (b : List ℕ) where
       let rest = slots_text ps (with_piece j (shown kind place)) next k.1 (slots_more j.slots s front k.0 h k.2) k.4 in
       let same : (next ++ []) ++ k.1 ≡ (front ++ j.last) ++ text =
       ap (λ l. l ++ k.1) (append-nil next ∙ sym (append_assoc front j.last value)) ∙ append_assoc (front ++ j.last) value k.1 ∙ ap (λ t. (front ++ j.last) ++ t) (sym k.3) in
-      subst (JoinedText order known (with_pieces (with_piece j (shown kind place)) ps) b) same rest
+      subst (MergedText order known (with_pieces (with_piece j (shown kind place)) ps) b) same rest
 
   -- pieces, and a text after them
   ends_so : (ps : List Piece) (behind text : List ℕ) → PiecesText order known ps b text → PiecesText order known (ps ++ literal behind ∷ []) b (text ++ behind)
@@ -176,7 +176,7 @@ module _ (order : Order) (known : Bool) (b : List ℕ) where
       (h.0, h.1 ++ behind, h.2, ap (λ l. l ++ behind) h.3 ∙ append_assoc value h.1 behind, ends_so ps behind h.1 h.4)
 
   pub between_text : (before behind : List ℕ) (fs : List Field) (text : List ℕ) → PiecesText order known (pieces_of fs) b text →
-      JoinedText order known (joined (pieces_between before behind fs)) b (before ++ (text ++ behind))
+      MergedText order known (merged_pieces (pieces_between before behind fs)) b (before ++ (text ++ behind))
   between_text before behind fs text h =
       let whole : PiecesText order known (pieces_between before behind fs) b (before ++ (text ++ behind)) = (text ++ behind, refl, ends_so (pieces_of fs) behind text h) in
-      slots_text (pieces_between before behind fs) nothing_joined [] (before ++ (text ++ behind)) refl whole
+      slots_text (pieces_between before behind fs) no_slots [] (before ++ (text ++ behind)) refl whole

@@ -12,11 +12,11 @@ use Rattle.sbe_types.specs.declared.message.DataVal.{DataVal}
 use Rattle.sbe_types.specs.declared.message.DataVal.TheVariants as dataval
 use Rattle.sbe_types.specs.declared.message.GroupVal.{GroupVal, items-the_row-Block}
 use Rattle.sbe_types.specs.declared.message.GroupVal as groupval
-use Rattle.flyweight_view.specs.Seen.{Seen, seen_level, bytes_in, entries_in, groups_seen}
+use Rattle.flyweight_view.specs.Seen.{TypedBlock, typed_level, bytes_in, entries_in, typed_groups}
 use Rattle.json_values.specs.Values.{Entry, zipped}
 use Rattle.tree_json.specs.Lines.{part_entry, group_entry, group_name, items_by, block_data, block_entries, message_at}
 use Rattle.json_values.specs.Plain.{plain_text, plain_items}
-use Rattle.tree_json.specs.Views.{seen_data, bytes_entry, entries_entry}
+use Rattle.tree_json.specs.Views.{block_object, bytes_entry, entries_entry}
 use Rattle.sbe_types.specs.declared.message.Msg.{Msg}
 use Rattle.sbe_types.specs.declared.schema.WireSchema.{WireSchema}
 use Rattle.serde_json.specs.Written.{compact_text}
@@ -34,11 +34,11 @@ parts_are (p ∷ ps) [] = refl
 parts_are (p ∷ ps) (v ∷ vs) = ap₂ (λ (e : Entry) es. e ∷ es) (part_is p v) (parts_are ps vs)
 
 -- the closing bracket alone, where no entries are left
-pub none_left : (later : Bool) (es : List Seen) → length es ≡ 0 → codes "]" ≡ plain_items later (items_by seen_data es)
+pub none_left : (later : Bool) (es : List TypedBlock) → length es ≡ 0 → codes "]" ≡ plain_items later (items_by block_object es)
 none_left later [] h = refl
 none_left later (e ∷ es) h = cc
 
-items_are : (level : Level) (bs : List Block) → items_by seen_data (map (seen_level level) bs) ≡ items_by (block_data level) bs
+items_are : (level : Level) (bs : List Block) → items_by block_object (map (typed_level level) bs) ≡ items_by (block_data level) bs
 items_are level [] = refl
 items_are level (b ∷ bs) = ap₂ item (block_is level b) (items_are level bs)
 
@@ -47,7 +47,7 @@ unfolding block_entries groups.out-Group carrier.out
 group_is (Group' dim level) groupval.Absent = refl
 group_is (Group' dim level) (groupval.Entries' n row) = ap (λ items. (group_name (Group' dim level), Some (array items))) (items_are level (items-the_row-Block _ row))
 
-pub groups_are : (gs : List Group) (vs : List GroupVal) → zipped entries_entry gs (groups_seen gs vs) ≡ zipped group_entry gs vs
+pub groups_are : (gs : List Group) (vs : List GroupVal) → zipped entries_entry gs (typed_groups gs vs) ≡ zipped group_entry gs vs
 groups_are [] vs = refl
 groups_are (g ∷ gs) [] = refl
 groups_are (g ∷ gs) (v ∷ vs) = ap₂ (λ (e : Entry) es. e ∷ es) (group_is g v) (groups_are gs vs)

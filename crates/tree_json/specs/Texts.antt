@@ -9,7 +9,7 @@ use Rattle.sbe_types.specs.declared.schema.Level.{Level, Level', out-Level, Row_
 use Rattle.schema_facts.specs.InOrder.{IsKindInOrder}
 use Rattle.schema_facts.specs.Levels.{Node, nodes}
 use Rattle.schema_facts.specs.Measured.{AreNarrowFields}
-use Rattle.flyweight_view.specs.Seen.{Seen}
+use Rattle.flyweight_view.specs.Seen.{TypedBlock}
 use Rattle.json_rows.specs.Pieces.{Piece, pieces_between}
 use Rattle.json_rows.specs.Tables.{HasPieces}
 use Rattle.tree_json.specs.declared.texts.LevelTexts.{LevelTexts, out-LevelTexts}
@@ -52,12 +52,12 @@ HaveTexts (g ∷ gs) [] = ⊥
 HaveTexts (g ∷ gs) (t ∷ ts) = AreLevelTexts (out-Group g).level t × HaveTexts gs ts
 
 -- the pieces of the fields of a block that a view shows, between the same texts
-abbrev pub seen_pieces : Seen → List Piece
-seen_pieces s = pieces_between (text_before s.parts) (text_behind s.groups) s.fields
+abbrev pub block_pieces : TypedBlock → List Piece
+block_pieces s = pieces_between (text_before s.parts) (text_behind s.groups) s.fields
 
 -- the texts are those of a block that a view shows
-pub record AreTextsOf (s : Seen) (t : LevelTexts) : Type 0 where
-  pub fields : HasPieces (seen_pieces s) (out-LevelTexts t).fields
+pub record AreTextsOf (s : TypedBlock) (t : LevelTexts) : Type 0 where
+  pub fields : HasPieces (block_pieces s) (out-LevelTexts t).fields
   pub groups : HaveTexts s.groups (out-LevelTexts t).groups
 
 -- the texts of a level's group, if there are texts at all
@@ -66,17 +66,17 @@ texts_at None i = None
 texts_at (Some t) i = slice_get (out-LevelTexts t).groups i
 
 -- the same, if there are texts at all
-abbrev pub AreTexts : Option LevelTexts → Seen → Type 0
+abbrev pub AreTexts : Option LevelTexts → TypedBlock → Type 0
 AreTexts None s = ⊤
 AreTexts (Some t) s = AreTextsOf s t
 
 -- the same for each of some blocks
-abbrev pub AreTextsOfAll : Option LevelTexts → List Seen → Type 0
+abbrev pub AreTextsOfAll : Option LevelTexts → List TypedBlock → Type 0
 AreTextsOfAll o [] = ⊤
 AreTextsOfAll o (s ∷ ss) = AreTexts o s × AreTextsOfAll o ss
 
 -- the same for a group's entries, if it is there
-abbrev pub AreTextsOfGroup : Option LevelTexts → Option (List Seen) → Type 0
+abbrev pub AreTextsOfGroup : Option LevelTexts → Option (List TypedBlock) → Type 0
 AreTextsOfGroup o None = ⊤
 AreTextsOfGroup o (Some ss) = AreTextsOfAll o ss
 

@@ -8,19 +8,19 @@ use Rattle.sbe_types.specs.declared.message.Block.{out-Block}
 use Rattle.sbe_types.specs.declared.message.DataVal.{DataVal}
 use Rattle.sbe_types.specs.declared.message.GroupVal.{GroupVal}
 use Rattle.tree_json.specs.Texts.{text_behind}
-use Rattle.flyweight_view.specs.Seen.{Seen}
+use Rattle.flyweight_view.specs.Seen.{TypedBlock}
 use Rattle.json_values.specs.Values.{Entry, listed, zipped, text_data}
 use Rattle.tree_json.specs.Lines.{field_entry, part_entry, group_entry, group_name, items_by, three_entries}
 use Rattle.json_values.specs.Plain.{plain_items, entries_text}
 
 -- the object of a block
-abbrev pub seen_data : Seen → Data
-seen_data s =
+abbrev pub block_object : TypedBlock → Data
+block_object s =
     object (listed (three_entries (zipped part_entry s.parts (out-Block s.block).parts) (zipped field_entry s.fields (out-Block s.block).fields) (zipped group_entry s.groups (out-Block s.block).groups)))
 
 -- the object of a block, without the closing bracket
-abbrev pub seen_front : Seen → List ℕ
-seen_front s =
+abbrev pub block_front : TypedBlock → List ℕ
+block_front s =
     codes "{\"data\":{" ++ (entries_text false (zipped part_entry s.parts (out-Block s.block).parts)
     ++ (codes ",\"fields\":{" ++ (entries_text false (zipped field_entry s.fields (out-Block s.block).fields)
     ++ (codes ",\"groups\":{" ++ entries_text false (zipped group_entry s.groups (out-Block s.block).groups)))))
@@ -34,8 +34,8 @@ abbrev pub own_data : List DataField → List DataVal → List ℕ
 own_data parts vs = if length parts == 0 then [] else data_front parts vs
 
 -- the object of a block up to its groups, whose object is opened, and closed if there are none
-abbrev pub seen_head : Seen → List ℕ
-seen_head s =
+abbrev pub block_head : TypedBlock → List ℕ
+block_head s =
     data_front s.parts (out-Block s.block).parts ++ (codes ",\"fields\":{" ++ (entries_text false (zipped field_entry s.fields (out-Block s.block).fields) ++ text_behind s.groups))
 
 -- the groups that follow it
@@ -47,11 +47,11 @@ abbrev pub bytes_entry : DataField → Option (List ℕ) → Entry
 bytes_entry p bytes = (p.name, option_map text_data bytes)
 
 -- the entries of a group as an array
-abbrev pub entries_data : List Seen → Data
-entries_data es = array (items_by seen_data es)
+abbrev pub entries_data : List TypedBlock → Data
+entries_data es = array (items_by block_object es)
 
 -- a group and its entries
-abbrev pub entries_entry : Group → Option (List Seen) → Entry
+abbrev pub entries_entry : Group → Option (List TypedBlock) → Entry
 entries_entry g entries = (group_name g, option_map entries_data entries)
 
 -- the text of an object is printed without its closing bracket
@@ -61,7 +61,7 @@ pub record PrintsOpen (text : List ℕ) (prints : List ℕ → Type 0) : Type 0 
   pub whole : done ++ codes "}" ≡ text
 
 -- the front of a group's entries is printed, after the opening bracket; the text of those that are left completes it
-pub record PrintsFront (later : Bool) (all left : List Seen) (prints : List ℕ → Type 0) : Type 0 where
+pub record PrintsFront (later : Bool) (all left : List TypedBlock) (prints : List ℕ → Type 0) : Type 0 where
   pub done : List ℕ
   pub printed : prints done
-  pub whole : done ++ plain_items later (items_by seen_data left) ≡ plain_items false (items_by seen_data all)
+  pub whole : done ++ plain_items later (items_by block_object left) ≡ plain_items false (items_by block_object all)

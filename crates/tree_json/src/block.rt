@@ -8,13 +8,13 @@ ghost use Rattle.sbe_types.specs.declared.schema.Field.{Field};
 ghost use Rattle.json_rows.specs.Tables.{values_of, HasPieces, IsTextTable, TextsFit};
 ghost use Rattle.flyweight_view.specs.declared.by_table.TableBlock.{TableBlock};
 ghost use Rattle.flyweight_view.specs.ByTable.{IsTableBlock};
-ghost use Rattle.flyweight_view.specs.Seen.{Seen};
+ghost use Rattle.flyweight_view.specs.Seen.{TypedBlock};
 ghost use Rattle.tree_json.specs.Deep.{deepest_in};
 ghost use Rattle.json_values.specs.Values.{zipped, text_data};
 ghost use Rattle.tree_json.specs.Lines.{field_entry, group_entry, items_by};
 ghost use Rattle.json_values.specs.Plain.{plain_text, plain_items, entry_text, entries_text, later_behind};
-ghost use Rattle.tree_json.specs.Views.{data_front, own_data, seen_data, seen_head, seen_front, entries_data, PrintsFront};
-ghost use Rattle.tree_json.specs.Texts.{seen_pieces, text_behind, AreTexts, AreTextsOf, AreTextsOfAll, AreTextsOfGroup};
+ghost use Rattle.tree_json.specs.Views.{data_front, own_data, block_object, block_head, block_front, entries_data, PrintsFront};
+ghost use Rattle.tree_json.specs.Texts.{block_pieces, text_behind, AreTexts, AreTextsOf, AreTextsOfAll, AreTextsOfGroup};
 ghost use Rattle.printers.specs.Prints.{Prints};
 
 use crate::kept::Kept;
@@ -36,7 +36,7 @@ pub(crate) fn put_front<O: Sink, T: Kept + Copy>(
     block: &BlockView<'_>,
 )
     requires { AreTexts (T.texts texts) block.now }
-    ensures { Prints O.state printer.old printer.new (seen_front block.now) }
+    ensures { Prints O.state printer.old printer.new (block_front block.now) }
 {
     put_head(printer, texts, block);
     let (_, count, _) = block.counts();
@@ -52,7 +52,7 @@ pub(crate) fn put_front<O: Sink, T: Kept + Copy>(
 #[inline(always)]
 fn put_head<O: Sink, T: Kept + Copy>(printer: &mut Printer<'_, O>, texts: T, block: &BlockView<'_>)
     requires { AreTexts (T.texts texts) block.now }
-    ensures { Prints O.state printer.old printer.new (seen_head block.now) }
+    ensures { Prints O.state printer.old printer.new (block_head block.now) }
 {
     match texts.level() {
         Some(texts) => put_head_by(printer, texts, block),
@@ -64,7 +64,7 @@ fn put_head<O: Sink, T: Kept + Copy>(printer: &mut Printer<'_, O>, texts: T, blo
 #[inline(always)]
 fn put_head_by<O: Sink>(printer: &mut Printer<'_, O>, texts: &LevelTexts, block: &BlockView<'_>)
     requires { AreTextsOf block.now texts.now }
-    ensures { Prints O.state printer.old printer.new (seen_head block.now) }
+    ensures { Prints O.state printer.old printer.new (block_head block.now) }
 {
     match block.by_table() {
         Some(values) => {
@@ -78,7 +78,7 @@ fn put_head_by<O: Sink>(printer: &mut Printer<'_, O>, texts: &LevelTexts, block:
 /// The same, with each field by its kind.
 #[inline(never)]
 fn put_by_kinds<O: Sink>(printer: &mut Printer<'_, O>, block: &BlockView<'_>)
-    ensures { Prints O.state printer.old printer.new (seen_head block.now) }
+    ensures { Prints O.state printer.old printer.new (block_head block.now) }
 {
     put_data(printer, block);
     printer.put(b",\"fields\":{");
@@ -268,7 +268,7 @@ fn put_views<O: Sink, T: Kept + Copy>(
     entries: EntriesView<'_>,
 )
     requires { AreTextsOfAll (T.texts texts) entries }
-    ensures { Prints O.state printer.old printer.new (plain_items later (items_by seen_data entries.entry)) }
+    ensures { Prints O.state printer.old printer.new (plain_items later (items_by block_object entries.entry)) }
 {
     let mut later = later;
     for entry in entries {
@@ -327,8 +327,8 @@ fn put_flat_entry<O: Sink>(
 )
     requires table { IsTextTable (values_of texts.now) texts.now }
     requires fits { TextsFit (length block.now) texts.now.rows.items }
-    ensures { (b : TableBlock) (s : Seen) → b.bytes.now ≡ block.now → IsTableBlock b s → HasPieces (seen_pieces s) texts.now → length s.groups ≡ 0 → length s.parts ≡ 0
-        → Prints O.state printer.old printer.new (comma_if later ++ plain_text (seen_data s)) }
+    ensures { (b : TableBlock) (s : TypedBlock) → b.bytes.now ≡ block.now → IsTableBlock b s → HasPieces (block_pieces s) texts.now → length s.groups ≡ 0 → length s.parts ≡ 0
+        → Prints O.state printer.old printer.new (comma_if later ++ plain_text (block_object s)) }
 {
     put_comma(printer, later);
     put_rows(printer, texts, block);
@@ -344,7 +344,7 @@ fn put_entry<O: Sink, T: Kept + Copy>(
     entry: &BlockView<'_>,
 )
     requires { AreTexts (T.texts texts) entry.now }
-    ensures { Prints O.state printer.old printer.new (comma_if later ++ plain_text (seen_data entry.now)) }
+    ensures { Prints O.state printer.old printer.new (comma_if later ++ plain_text (block_object entry.now)) }
 {
     put_comma(printer, later);
     put_front(printer, texts, entry);

@@ -1,10 +1,10 @@
 ghost use Rattle.std.specs.Prelude.{◌≡◌, ◌+◌, ◌==◌, min, false, codes, OnOk};
 ghost use Rattle.sbe_types.specs.declared.tree.MemberItem as part;
-ghost use Rattle.schema_rules.specs.Judging.{Gives, first_of, behind};
+ghost use Rattle.schema_rules.specs.Judging.{Gives, first_of, at_element};
 ghost use Rattle.schema_rules.specs.Names.{is_among};
 ghost use Rattle.schema_rules.specs.Kinds.{member_name, member_offset};
-ghost use Rattle.schema_rules.specs.CompositeRules.{no_member, member_since, begins_early, member_rules, ref_rules, is_too_high, names_too_high, names_constant_enum, first_rules, last_rules, composite_rules, entered, member_judged, members_judged, composite_judged};
-ghost use Rattle.type_check.specs.Seen.{made_of, inner_judged};
+ghost use Rattle.schema_rules.specs.CompositeRules.{no_member, member_since, begins_early, member_rules, ref_rules, is_too_high, names_too_high, names_constant_enum, first_rules, last_rules, composite_rules, entered, member_check, members_check, composite_check};
+ghost use Rattle.type_check.specs.Seen.{made_of, inner_check};
 
 use crate::name_table::NameTable;
 use crate::refusals::{behind, refuse};
@@ -23,7 +23,7 @@ pub fn judge_composite(
     known: &Declarations,
     composite: &CompositeEl,
 ) -> Result<(), CheckErr>
-    ensures { Gives result (composite_judged known.now composite.now) }
+    ensures { Gives result (composite_check known.now composite.now) }
 {
     if known.is_endless(composite) {
         return refuse(alloc, CCode::Cycle);
@@ -40,7 +40,7 @@ fn judge_members(
     around: u8,
     members: &[MemberItem],
 ) -> Result<Fact, CheckErr>
-    ensures { Gives result (made_of (members_judged (record { types = known.now; around = around }) no_member members.now)) }
+    ensures { Gives result (made_of (members_check (record { types = known.now; around = around }) no_member members.now)) }
 {
     let mut names = NameTable::new(alloc);
     let mut all = NO_MEMBERS;
@@ -61,7 +61,7 @@ fn judge_named(
     all: Fact,
     member: &MemberItem,
 ) -> Result<(), CheckErr>
-    ensures judged { Gives result (behind (codes ".") (member_name member.now) (member_judged (record { types = known.now; around = around }) (record { names = names.now; all = all }) member.now)) }
+    ensures judged { Gives result (at_element (codes ".") (member_name member.now) (member_check (record { types = known.now; around = around }) (record { names = names.now; all = all }) member.now)) }
     ensures new { OnOk result (is_among names.now (member_name member.now) ≡ false) }
 {
     match judge_member(alloc, known, around, names, all, member) {
@@ -79,7 +79,7 @@ fn judge_member(
     all: Fact,
     member: &MemberItem,
 ) -> Result<(), CheckErr>
-    ensures judged { Gives result (member_judged (record { types = known.now; around = around }) (record { names = names.now; all = all }) member.now) }
+    ensures judged { Gives result (member_check (record { types = known.now; around = around }) (record { names = names.now; all = all }) member.now) }
     ensures new { OnOk result (is_among names.now (member_name member.now) ≡ false) }
 {
     judge_entered(alloc, known, around, names, all, member)?;
@@ -99,7 +99,7 @@ fn judge_inner(
     around: u8,
     composite: &CompositeEl,
 ) -> Result<(), CheckErr>
-    ensures { Gives result (inner_judged (record { types = known.now; around = around }) composite.now.children) }
+    ensures { Gives result (inner_check (record { types = known.now; around = around }) composite.now.children) }
 {
     let all = judge_members(alloc, known, deeper(around), composite.children.as_slice())?;
     judge_whole(alloc, around, all)

@@ -1,8 +1,8 @@
 ghost use Rattle.std.specs.Prelude.{◌≡◌, [], false, codes, OnOk};
 ghost use Rattle.sbe_types.specs.declared.tree.TypesItem.TheVariants as item;
-ghost use Rattle.schema_rules.specs.Judging.{Gives, behind};
+ghost use Rattle.schema_rules.specs.Judging.{Gives, at_element};
 ghost use Rattle.schema_rules.specs.Names.{name_of, is_among};
-ghost use Rattle.schema_rules.specs.CompositeRules.{item_judged, declared_judged, types_judged};
+ghost use Rattle.schema_rules.specs.CompositeRules.{item_check, declared_check, types_check};
 
 use crate::composites::judge_composite;
 use crate::name_table::NameTable;
@@ -16,7 +16,7 @@ use type_facts::{Declarations, type_name};
 
 /// Checks the declared types in their order.
 pub fn judge_types(alloc: Global, known: &Declarations) -> Result<(), CheckErr>
-    ensures { Gives result (types_judged known.now [] known.now) }
+    ensures { Gives result (types_check known.now [] known.now) }
 {
     let mut names = NameTable::new(alloc);
     for item in known.types().as_slice() {
@@ -32,7 +32,7 @@ fn judge_named(
     names: &NameTable,
     item: &TypesItem,
 ) -> Result<(), CheckErr>
-    ensures judged { Gives result (behind (codes "types/") (name_of item.now) (declared_judged known.now names.now item.now)) }
+    ensures judged { Gives result (at_element (codes "types/") (name_of item.now) (declared_check known.now names.now item.now)) }
     ensures new { OnOk result (is_among names.now (name_of item.now) ≡ false) }
 {
     match judge_declared(alloc, known, names, item) {
@@ -47,7 +47,7 @@ fn judge_declared(
     names: &NameTable,
     item: &TypesItem,
 ) -> Result<(), CheckErr>
-    ensures judged { Gives result (declared_judged known.now names.now item.now) }
+    ensures judged { Gives result (declared_check known.now names.now item.now) }
     ensures new { OnOk result (is_among names.now (name_of item.now) ≡ false) }
 {
     if names.contains(type_name(item)) {
@@ -57,7 +57,7 @@ fn judge_declared(
 }
 
 fn judge_item(alloc: Global, known: &Declarations, item: &TypesItem) -> Result<(), CheckErr>
-    ensures { Gives result (item_judged known.now item.now) }
+    ensures { Gives result (item_check known.now item.now) }
 {
     match item {
         TypesItem::Type(t) => judge_simple(alloc, known, t),
@@ -68,7 +68,7 @@ fn judge_item(alloc: Global, known: &Declarations, item: &TypesItem) -> Result<(
 }
 
 fn judge_simple(alloc: Global, known: &Declarations, t: &TypeEl) -> Result<(), CheckErr>
-    ensures { Gives result (item_judged known.now (item.Type t.now)) }
+    ensures { Gives result (item_check known.now (item.Type t.now)) }
 {
     judge_type(alloc, known.types(), false, t)?;
     judge_type_constant(alloc, t)

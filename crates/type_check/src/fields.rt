@@ -4,7 +4,7 @@ ghost use Rattle.schema_rules.specs.Judging.{Gives, first_of};
 ghost use Rattle.schema_rules.specs.Names.{is_among, type_named};
 ghost use Rattle.schema_rules.specs.Kinds.{effective};
 ghost use Rattle.schema_rules.specs.Facts.{field_fact};
-ghost use Rattle.schema_rules.specs.PartRules.{is_bad_type, has_bad_text_in, has_bad_text, presence_in, refers_elsewhere, is_bad_code, has_bad_presence, field_rules, field_head, field_judged};
+ghost use Rattle.schema_rules.specs.PartRules.{is_bad_type, has_bad_text_in, has_bad_text, presence_in, refers_elsewhere, is_bad_code, has_bad_presence, field_rules, field_head, field_check};
 
 use crate::composites::begins_early;
 use crate::heads::judge_head;
@@ -29,7 +29,7 @@ pub fn judge_field(
     all: LevelFacts,
     field: &FieldEl,
 ) -> Result<(), CheckErr>
-    ensures judged { Gives result (field_judged (record { types = known.now; level = level }) (record { names = names.now; all = all }) field.now) }
+    ensures judged { Gives result (field_check (record { types = known.now; level = level }) (record { names = names.now; all = all }) field.now) }
     ensures new { OnOk result (is_among names.now field.now.name ≡ false) }
 {
     let fact = field_fact(known, field);

@@ -1,5 +1,5 @@
 ghost use Rattle.std.specs.Prelude.{◌≡◌, ◌++◌, Err, IfOk};
-ghost use Rattle.schema_rules.specs.Judging.{Judged, Gives, refuse, behind};
+ghost use Rattle.schema_rules.specs.Judging.{CheckResult, Gives, refuse, at_element};
 
 use lists::{List, NoMem, Text};
 use schema_rules::{CCode, CheckErr};
@@ -14,7 +14,7 @@ pub fn refuse<T>(alloc: Global, code: CCode) -> Result<T, CheckErr>
 
 /// The refusal of the element with this name, with `front` and the name put before its path.
 pub fn behind(alloc: Global, front: &str, name: &[u8], err: CheckErr) -> CheckErr
-    ensures { (told : Judged (Unit {0})) → Gives {X = Unit {0}} (Err err) told → Gives {X = Unit {0}} (Err result) (behind front.now name.now told) }
+    ensures { (told : CheckResult (Unit {0})) → Gives {X = Unit {0}} (Err err) told → Gives {X = Unit {0}} (Err result) (at_element front.now name.now told) }
 {
     match err {
         CheckErr::Memory => CheckErr::Memory,

@@ -1,7 +1,7 @@
 ghost use Rattle.std.specs.Prelude.{◌≡◌, map, length, Some, IfOk};
 ghost use Rattle.std.specs.List.{list_any};
 ghost use Rattle.schema_rules.specs.Chains.{is_composite, member_has, composite_has, item_goes_on};
-ghost use Rattle.type_facts.specs.Tables.{chain_told, chain_round};
+ghost use Rattle.type_facts.specs.Tables.{table_chain, chain_round};
 
 use crate::types::Types;
 use lists::{List, NoMem};
@@ -14,7 +14,7 @@ pub type Chains = List<bool>;
 /// Whether a chain that begins at a member continues, given a table for the declared types.
 #[cycle(chains)]
 fn goes_member_on(types: &Types, table: &[bool], member: &MemberItem) -> bool
-    ensures { result ≡ member_has (chain_told types.now table.now) member.now }
+    ensures { result ≡ member_has (table_chain types.now table.now) member.now }
 {
     match member {
         MemberItem::Type(_) | MemberItem::Enum(_) | MemberItem::Set(_) => false,
@@ -25,7 +25,7 @@ fn goes_member_on(types: &Types, table: &[bool], member: &MemberItem) -> bool
 
 #[cycle(chains)]
 fn go_members_on(types: &Types, table: &[bool], members: &[MemberItem]) -> bool
-    ensures { result ≡ list_any (member_has (chain_told types.now table.now)) members.now }
+    ensures { result ≡ list_any (member_has (table_chain types.now table.now)) members.now }
 {
     for member in members {
         if goes_member_on(types, table, member) {
@@ -37,13 +37,13 @@ fn go_members_on(types: &Types, table: &[bool], members: &[MemberItem]) -> bool
 
 /// Whether a chain that begins at a composite continues.
 pub fn goes_composite_on(types: &Types, table: &[bool], composite: &CompositeEl) -> bool
-    ensures { result ≡ composite_has (chain_told types.now table.now) composite.now }
+    ensures { result ≡ composite_has (table_chain types.now table.now) composite.now }
 {
     go_members_on(types, table, composite.children.as_slice())
 }
 
 fn told(types: &Types, table: &[bool], name: &[u8]) -> bool
-    ensures { result ≡ chain_told types.now table.now name.now }
+    ensures { result ≡ table_chain types.now table.now name.now }
 {
     match types.place(name) {
         Some(i) => table.get(i).copied().unwrap_or(false),
@@ -52,7 +52,7 @@ fn told(types: &Types, table: &[bool], name: &[u8]) -> bool
 }
 
 fn goes_on(types: &Types, table: &[bool], item: &TypesItem) -> bool
-    ensures { result ≡ item_goes_on (chain_told types.now table.now) (Some item.now) }
+    ensures { result ≡ item_goes_on (table_chain types.now table.now) (Some item.now) }
 {
     match item {
         TypesItem::Composite(c) => goes_composite_on(types, table, c),
@@ -82,7 +82,7 @@ fn first_round(alloc: Global, types: &Types) -> Result<Chains, NoMem>
 
 /// The table for chains of one more name.
 fn next_round(alloc: Global, types: &Types, table: &[bool]) -> Result<Chains, NoMem>
-    ensures { IfOk result (λ next. next ≡ map (λ t. item_goes_on (chain_told types.now table.now) (Some t)) types.now) }
+    ensures { IfOk result (λ next. next ≡ map (λ t. item_goes_on (table_chain types.now table.now) (Some t)) types.now) }
 {
     let mut next = List::new(alloc);
     for item in types.as_slice() {

@@ -3,7 +3,7 @@ ghost use Rattle.schema_rules.specs.Names.{place_of, plain_named};
 ghost use Rattle.sbe_types.specs.Numbers.{prim_width};
 ghost use Rattle.schema_rules.specs.Kinds.{member_offset};
 ghost use Rattle.schema_rules.specs.Facts.{counted, no_fact, simple_fact, type_fact, enum_fact_in, enum_fact, set_fact_in, set_fact, past, no_members, with_member, member_fact, members_fact, item_fact, primitive_fact_in, fact_named};
-ghost use Rattle.type_facts.specs.Tables.{fact_told, fact_round};
+ghost use Rattle.type_facts.specs.Tables.{table_fact, fact_round};
 
 use crate::encodings::{effective, encoding_named, integral};
 use crate::types::Types;
@@ -146,7 +146,7 @@ pub fn offset_of(member: &MemberItem) -> Option<u32>
 /// The facts of a member, given a table of those of the declared types.
 #[cycle(facts)]
 pub fn member_fact(types: &Types, table: &[Fact], member: &MemberItem) -> Fact
-    ensures { result ≡ member_fact types.now (fact_told types.now table.now) member.now }
+    ensures { result ≡ member_fact types.now (table_fact types.now table.now) member.now }
 {
     match member {
         MemberItem::Type(t) => type_fact(None, t),
@@ -159,7 +159,7 @@ pub fn member_fact(types: &Types, table: &[Fact], member: &MemberItem) -> Fact
 
 #[cycle(facts)]
 fn members_fact(types: &Types, table: &[Fact], members: &[MemberItem]) -> Fact
-    ensures { result ≡ members_fact types.now (fact_told types.now table.now) no_members members.now }
+    ensures { result ≡ members_fact types.now (table_fact types.now table.now) no_members members.now }
 {
     let mut all = NO_MEMBERS;
     for member in members {
@@ -170,7 +170,7 @@ fn members_fact(types: &Types, table: &[Fact], members: &[MemberItem]) -> Fact
 
 /// The facts of the type that a name stands for, given a table of those of the declared types.
 pub fn told(types: &Types, table: &[Fact], name: &[u8]) -> Fact
-    ensures { result ≡ fact_told types.now table.now name.now }
+    ensures { result ≡ table_fact types.now table.now name.now }
 {
     match declared_fact(types, table, name) {
         Some(fact) => fact,
@@ -197,7 +197,7 @@ fn primitive_fact(types: &Types, name: &[u8]) -> Fact
 }
 
 fn item_fact(types: &Types, table: &[Fact], item: &TypesItem) -> Fact
-    ensures { result ≡ item_fact types.now (fact_told types.now table.now) item.now }
+    ensures { result ≡ item_fact types.now (table_fact types.now table.now) item.now }
 {
     match item {
         TypesItem::Type(t) => type_fact(None, t),
@@ -209,7 +209,7 @@ fn item_fact(types: &Types, table: &[Fact], item: &TypesItem) -> Fact
 
 /// The table for one more name.
 fn next_round(alloc: Global, types: &Types, table: &[Fact]) -> Result<Facts, NoMem>
-    ensures { IfOk result (λ next. next ≡ map (item_fact types.now (fact_told types.now table.now)) types.now) }
+    ensures { IfOk result (λ next. next ≡ map (item_fact types.now (table_fact types.now table.now)) types.now) }
 {
     let mut next = List::new(alloc);
     for item in types.as_slice() {

@@ -6,10 +6,10 @@ use Rattle.schema_rules.specs.Kinds.{as_declared, unresolved, item_kind, kind_or
 use Rattle.schema_rules.specs.Names.{place_of}
 
 -- the kind that a table gives for a name
-abbrev pub kind_told : List TypesItem → List Kind → List ℕ → Kind
-kind_told types table name = kind_or_plain types (option_and_then (slice_get table) (place_of name types)) name
+abbrev pub table_kind : List TypesItem → List Kind → List ℕ → Kind
+table_kind types table name = kind_or_plain types (option_and_then (slice_get table) (place_of name types)) name
 
 -- The kinds of the declared types through one more name.
 abbrev pub kind_round : ℕ → List TypesItem → List Kind
 kind_round zero types = map (λ t. unresolved) types
-kind_round (suc n) types = map (item_kind types (kind_told types (kind_round n types)) as_declared) types
+kind_round (suc n) types = map (item_kind types (table_kind types (kind_round n types)) as_declared) types

@@ -4,7 +4,7 @@ ghost use Rattle.std.specs.Option.{option_or};
 ghost use Rattle.sbe_types.specs.declared.kind.Kind.{Comp};
 ghost use Rattle.schema_rules.specs.Names.{place_of, plain_named, type_named};
 ghost use Rattle.schema_rules.specs.Kinds.{as_declared, code_of, text_value, constant_of, type_over, type_kind, enum_over, enum_in, enum_kind, set_in, set_kind, made_optional, first_optional, composite_with, member_kind, members_of, item_kind, plain_kind, with_presence, use_of, found_kind};
-ghost use Rattle.type_kinds.specs.Tables.{kind_told, kind_round};
+ghost use Rattle.type_kinds.specs.Tables.{table_kind, kind_round};
 
 use lists::{List, NoMem, Text};
 use sbe_types::{
@@ -28,7 +28,7 @@ pub fn field_kind(
     table: &Kinds,
     field: &FieldEl,
 ) -> Result<Kind, NoMem>
-    ensures { IfOk result (λ kind. kind ≡ found_kind types.now (kind_told types.now table.now) (use_of field.now) (type_named types.now field.now.type_name)) }
+    ensures { IfOk result (λ kind. kind ≡ found_kind types.now (table_kind types.now table.now) (use_of field.now) (type_named types.now field.now.type_name)) }
 {
     match types.named(field.type_name.as_slice()) {
         Some(TypesItem::Type(t)) => type_kind(alloc, types, field.presence, &field.value_ref, t),
@@ -248,7 +248,7 @@ fn member_kind(
     table: &Kinds,
     member: &MemberItem,
 ) -> Result<Kind, NoMem>
-    ensures { IfOk result (λ kind. kind ≡ member_kind types.now (kind_told types.now table.now) member.now) }
+    ensures { IfOk result (λ kind. kind ≡ member_kind types.now (table_kind types.now table.now) member.now) }
 {
     match member {
         MemberItem::Type(t) => declared_type(alloc, types, t),
@@ -266,7 +266,7 @@ fn composite_of(
     table: &Kinds,
     members: &[MemberItem],
 ) -> Result<Kind, NoMem>
-    ensures { IfOk result (λ kind. kind ≡ Comp (members_of types.now (kind_told types.now table.now) members.now)) }
+    ensures { IfOk result (λ kind. kind ≡ Comp (members_of types.now (table_kind types.now table.now) members.now)) }
 {
     Ok(Kind::Comp(members_of(alloc, types, table, members)?))
 }
@@ -279,7 +279,7 @@ pub fn members_of(
     table: &Kinds,
     members: &[MemberItem],
 ) -> Result<MemberList, NoMem>
-    ensures { IfOk result (λ made. made ≡ members_of types.now (kind_told types.now table.now) members.now) }
+    ensures { IfOk result (λ made. made ≡ members_of types.now (table_kind types.now table.now) members.now) }
 {
     let mut made = List::new(alloc);
     for member in members {
@@ -295,7 +295,7 @@ fn member_of(
     table: &Kinds,
     member: &MemberItem,
 ) -> Result<Member, NoMem>
-    ensures { IfOk result (λ made. made ≡ record { name = member_name member.now; offset = member_offset member.now; kind = member_kind types.now (kind_told types.now table.now) member.now }) }
+    ensures { IfOk result (λ made. made ≡ record { name = member_name member.now; offset = member_offset member.now; kind = member_kind types.now (table_kind types.now table.now) member.now }) }
 {
     Ok(Member {
         name: List::from_slice(alloc, member_name(member))?,
@@ -321,7 +321,7 @@ fn declared_enum(alloc: Global, types: &Types, e: &EnumEl) -> Result<Kind, NoMem
 
 /// The kind that a name stands for, given a table of those of the declared types.
 fn told(alloc: Global, types: &Types, table: &Kinds, name: &[u8]) -> Result<Kind, NoMem>
-    ensures { IfOk result (λ kind. kind ≡ kind_told types.now table.now name.now) }
+    ensures { IfOk result (λ kind. kind ≡ table_kind types.now table.now name.now) }
 {
     match declared_kind(types, table, name) {
         Some(kind) => kind.copy(alloc),
@@ -348,7 +348,7 @@ fn plain_kind(alloc: Global, types: &Types, name: &[u8]) -> Result<Kind, NoMem>
 }
 
 fn item_kind(alloc: Global, types: &Types, table: &Kinds, item: &TypesItem) -> Result<Kind, NoMem>
-    ensures { IfOk result (λ kind. kind ≡ item_kind types.now (kind_told types.now table.now) as_declared item.now) }
+    ensures { IfOk result (λ kind. kind ≡ item_kind types.now (table_kind types.now table.now) as_declared item.now) }
 {
     match item {
         TypesItem::Type(t) => declared_type(alloc, types, t),
@@ -360,7 +360,7 @@ fn item_kind(alloc: Global, types: &Types, table: &Kinds, item: &TypesItem) -> R
 
 /// The table for one more name.
 fn next_round(alloc: Global, types: &Types, table: &Kinds) -> Result<Kinds, NoMem>
-    ensures { IfOk result (λ next. next ≡ map (item_kind types.now (kind_told types.now table.now) as_declared) types.now) }
+    ensures { IfOk result (λ next. next ≡ map (item_kind types.now (table_kind types.now table.now) as_declared) types.now) }
 {
     let mut next = List::new(alloc);
     for item in types.as_slice() {

@@ -36,7 +36,7 @@ use Rattle.layout_tables.proofs.Widths.{narrow_comp, row_in}
 use Rattle.group_codec.proofs.DimRows.{row_dim, admitted_is}
 use Rattle.typed_writer.specs.Counted.{HaveRoomFor, number_of_name}
 use Rattle.typed_writer.specs.declared.counters.Counters.TheVariants.{Dimension}
-use Rattle.typed_writer.specs.Empty.{behind}
+use Rattle.typed_writer.specs.Empty.{followed_by}
 use Rattle.typed_writer.specs.Ready.{MembersStand}
 use Rattle.typed_writer.specs.States.{block_at}
 use Rattle.typed_writer.specs.Steps.{admits_entries, dimension_in, dimension_size}
@@ -181,10 +181,10 @@ dim_stands schema g dim checked at =
 
 -- its bytes and its size, by its members
 pub dim_told : (schema : WireSchema) (g many b : ℕ) (dim : List Member) (old new : List ℕ) → dim_at schema g ≡ Some dim → block_at schema g ≡ b →
-    behind old (named_bytes schema.order (number_of_name (Dimension b many)) 0 dim) ≡ Some new → behind old (dimension_in schema g many) ≡ Some new
+    followed_by old (named_bytes schema.order (number_of_name (Dimension b many)) 0 dim) ≡ Some new → followed_by old (dimension_in schema g many) ≡ Some new
 dim_told schema g many b dim old new at is h =
-    ap (λ (o : Option (List Member)). behind old (option_and_then (λ (dim : List Member). named_bytes schema.order (dimension_numbers (block_at schema g) many) 0 dim) o)) at
-    ∙ ap (λ n. behind old (named_bytes schema.order (dimension_numbers n many) 0 dim)) is ∙ h
+    ap (λ (o : Option (List Member)). followed_by old (option_and_then (λ (dim : List Member). named_bytes schema.order (dimension_numbers (block_at schema g) many) 0 dim) o)) at
+    ∙ ap (λ n. followed_by old (named_bytes schema.order (dimension_numbers n many) 0 dim)) is ∙ h
 
 pub size_is : (schema : WireSchema) (g : ℕ) (dim : List Member) → dim_at schema g ≡ Some dim → dimension_size schema g ≡ members_end 0 dim
 size_is schema g dim at = ap (λ o. option_map_or (λ (dim : List Member). members_end 0 dim) o 0) at

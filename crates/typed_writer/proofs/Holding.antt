@@ -25,7 +25,7 @@ use Rattle.typed_writer.specs.Counted.{HaveRoomFor, number_of_name}
 use Rattle.typed_writer.specs.declared.counters.Counters.TheVariants.{Header, Dimension}
 use Rattle.sbe_types.specs.Wire.{both}
 use Rattle.sbe_wire.specs.Canonical.{named_bytes, header_numbers}
-use Rattle.typed_writer.specs.Empty.{behind}
+use Rattle.typed_writer.specs.Empty.{followed_by}
 use Rattle.typed_writer.specs.Ready.{MembersStand}
 use Rattle.typed_writer.specs.Steps.{header_in}
 use Rattle.typed_writer.proofs.Lists.{behind_both}
@@ -233,15 +233,15 @@ root_within schema t low = let w = item_there schema.messages t low in root_node
 
 -- the bytes of a header, by its numbers
 pub header_told : (schema : WireSchema) (t : ℕ) (root : Level) (old new : List ℕ) → slice_get schema.messages t ≡ Some root →
-    behind old (named_bytes schema.order (number_of_name (Header (out-Level root).block_length (out-Level root).id schema.id schema.version)) 0 schema.header.members) ≡ Some new →
-    behind old (header_in schema t) ≡ Some new
+    followed_by old (named_bytes schema.order (number_of_name (Header (out-Level root).block_length (out-Level root).id schema.id schema.version)) 0 schema.header.members) ≡ Some new →
+    followed_by old (header_in schema t) ≡ Some new
 header_told schema t root old new at h =
-    ap (λ (o : Option Level). behind old (option_and_then (λ (root : Level). named_bytes schema.order (header_numbers schema root) 0 schema.header.members) o)) at ∙ h
+    ap (λ (o : Option Level). followed_by old (option_and_then (λ (root : Level). named_bytes schema.order (header_numbers schema root) 0 schema.header.members) o)) at ∙ h
 
-only : (o : Option (List ℕ)) → behind [] o ≡ o
+only : (o : Option (List ℕ)) → followed_by [] o ≡ o
 only None = refl
 only (Some bytes) = refl
 
 -- a header and a block in an empty buffer
-pub root_bytes : (a b : Option (List ℕ)) (middle new : List ℕ) → behind [] a ≡ Some middle → behind middle b ≡ Some new → both a b ≡ Some new
+pub root_bytes : (a b : Option (List ℕ)) (middle new : List ℕ) → followed_by [] a ≡ Some middle → followed_by middle b ≡ Some new → both a b ≡ Some new
 root_bytes a b middle new h k = sym (only (both a b)) ∙ behind_both [] middle new a b h k

@@ -4,7 +4,7 @@ use Rattle.std.proofs.Common.{◌≡◌, ℕ, zero, suc, ◌+◌, ◌≤◌, ◌
 use Rattle.std.proofs.Math.Seq.{take-append_seam, take-append-add}
 use Rattle.std.proofs.lemmas.List.{append-nil, length-take-le, take-append-le}
 use Rattle.sbe_types.specs.Wire.{both}
-use Rattle.typed_writer.specs.Empty.{behind}
+use Rattle.typed_writer.specs.Empty.{followed_by}
 use Rattle.typed_writer.specs.Held.{spliced}
 
 pub take_set : {X : Type 0} (xs : List X) (n i : ℕ) (x : X) → take n (slice_set xs i x) ≡ slice_set (take n xs) i x
@@ -37,19 +37,19 @@ some_is : (a b : List ℕ) → Some a ≡ Some b → a ≡ b
 some_is a b h = cc
 
 -- one piece after another
-pub behind_both : (xs ys zs : List ℕ) (a b : Option (List ℕ)) → behind xs a ≡ Some ys → behind ys b ≡ Some zs → behind xs (both a b) ≡ Some zs
+pub behind_both : (xs ys zs : List ℕ) (a b : Option (List ℕ)) → followed_by xs a ≡ Some ys → followed_by ys b ≡ Some zs → followed_by xs (both a b) ≡ Some zs
 behind_both xs ys zs None b h k = absurd (none_is ys h)
 behind_both xs ys zs (Some a) None h k = absurd (none_is zs k)
 behind_both xs ys zs (Some a) (Some b) h k =
     ap Some (sym (append_assoc xs a b)) ∙ ap (λ w. Some (w ++ b)) (some_is (xs ++ a) ys h) ∙ k
 
 -- what is left after a piece, and what is left after all
-pub behind_next : (xs ys : List ℕ) (a b : Option (List ℕ)) → behind xs a ≡ Some ys → behind xs (both a b) ≡ behind ys b
+pub behind_next : (xs ys : List ℕ) (a b : Option (List ℕ)) → followed_by xs a ≡ Some ys → followed_by xs (both a b) ≡ followed_by ys b
 behind_next xs ys None b h = absurd (none_is ys h)
 behind_next xs ys (Some a) None h = refl
 behind_next xs ys (Some a) (Some b) h = ap Some (sym (append_assoc xs a b)) ∙ ap (λ w. Some (w ++ b)) (some_is (xs ++ a) ys h)
 
-pub behind_none : (xs : List ℕ) → behind xs (Some []) ≡ Some xs
+pub behind_none : (xs : List ℕ) → followed_by xs (Some []) ≡ Some xs
 behind_none xs = ap Some (append-nil xs)
 
 -- ---- a piece in the midst

@@ -23,7 +23,7 @@ use Rattle.schema_facts.proofs.KindDeclared.{all_at}
 use Rattle.schema_facts.proofs.KindNumbers.{both_true}
 use Rattle.layout_tables.proofs.Items.{item_there}
 use Rattle.typed_writer.specs.declared.stack.Frame.{Frame}
-use Rattle.typed_writer.specs.Empty.{behind}
+use Rattle.typed_writer.specs.Empty.{followed_by}
 use Rattle.typed_writer.specs.Steps.{next_data, data_in, admits_data}
 use Rattle.typed_writer.proofs.Checked.{level_is}
 use Rattle.typed_writer.proofs.Grouping.{holds_below}
@@ -67,9 +67,9 @@ part_order schema n i part checked low at =
 -- ---- the next one
 
 pub part_told : (schema : WireSchema) (frames : List Frame) (part : DataField) (bytes old new : List ℕ) → next_data schema frames ≡ Some part →
-    behind old (part_bytes schema.order part (Bytes bytes)) ≡ Some new → behind old (data_in schema frames bytes) ≡ Some new
+    followed_by old (part_bytes schema.order part (Bytes bytes)) ≡ Some new → followed_by old (data_in schema frames bytes) ≡ Some new
 part_told schema frames part bytes old new at h =
-    ap (λ (o : Option DataField). behind old (option_and_then (λ (part : DataField). part_bytes schema.order part (Bytes bytes)) o)) at ∙ h
+    ap (λ (o : Option DataField). followed_by old (option_and_then (λ (part : DataField). part_bytes schema.order part (Bytes bytes)) o)) at ∙ h
 
 pub part_admits : (schema : WireSchema) (frames : List Frame) (part : DataField) (many : ℕ) → next_data schema frames ≡ Some part → admits part.length (pos many) ≡ true → admits_data schema frames many ≡ true
 part_admits schema frames part many at h = ap (λ (o : Option DataField). option_map_or (λ (part : DataField). admits part.length (pos many)) o false) at ∙ h

@@ -10,7 +10,7 @@ use Rattle.sbe_types.specs.Numbers.{bytes_of}
 use Rattle.sbe_types.specs.Places.{width, is_const, begin_of, end_past, members_end, fields_end}
 use Rattle.sbe_types.specs.Wire.{elements_bytes}
 use Rattle.sbe_wire.specs.Placed.{BeginsBehind}
-use Rattle.typed_writer.specs.Empty.{behind}
+use Rattle.typed_writer.specs.Empty.{followed_by}
 use Rattle.typed_writer.specs.Ready.{MembersStand, FieldsStand}
 use Rattle.typed_writer.proofs.Lists.{behind_next}
 
@@ -54,9 +54,9 @@ field_within e (x ∷ fs) zero f h is all =
 field_within e (x ∷ fs) (suc i) f h is all = field_within e fs i f (omega (arith, h)) is all
 
 -- one null more
-pub null_next : (order : Order) (leaf : LeafOf) (n i : ℕ) (old new : List ℕ) → i < n → behind old (bytes_of order leaf.prim leaf.null) ≡ Some new →
-    behind new (elements_bytes order leaf (replicate (n - (i + 1)) Null)) ≡ behind old (elements_bytes order leaf (replicate (n - i) Null))
+pub null_next : (order : Order) (leaf : LeafOf) (n i : ℕ) (old new : List ℕ) → i < n → followed_by old (bytes_of order leaf.prim leaf.null) ≡ Some new →
+    followed_by new (elements_bytes order leaf (replicate (n - (i + 1)) Null)) ≡ followed_by old (elements_bytes order leaf (replicate (n - i) Null))
 null_next order leaf n i old new low h =
     let many : n - i ≡ suc (n - (i + 1)) = omega (arith, low) in
-    sym (ap (λ k. behind old (elements_bytes order leaf (replicate k Null))) many
+    sym (ap (λ k. followed_by old (elements_bytes order leaf (replicate k Null))) many
     ∙ behind_next old new (bytes_of order leaf.prim leaf.null) (elements_bytes order leaf (replicate (n - (i + 1)) Null)) h)

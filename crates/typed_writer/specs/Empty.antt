@@ -1,6 +1,6 @@
 -- The block of a level before any of its fields is set. From SBE 1.0, Field encoding. Own profile: which fields are
 -- null at that point.
-use Rattle.std.specs.Prelude.{ℕ, ◌-◌, ◌&&◌, Bool, true, false, if◌then◌else◌, Option, Some, option_map, List, [], ◌∷◌, ◌++◌, replicate}
+use Rattle.std.specs.Prelude.{ℕ, ◌-◌, ◌&&◌, Bool, true, false, if◌then◌else◌, Option, Some, option_map, List, [], ◌∷◌, replicate}
 use Rattle.sbe_types.specs.declared.kind.Order.{Order}
 use Rattle.sbe_types.specs.declared.kind.LeafShape.{LeafShape}
 use Rattle.sbe_types.specs.declared.kind.LeafShape.TheVariants.{Number, RangedText, EncodedText, Octets, Numbers}
@@ -11,10 +11,7 @@ use Rattle.sbe_types.specs.Numbers.{prim_width, bytes_of}
 use Rattle.sbe_types.specs.Places.{width, is_const, begin_of, end_past}
 use Rattle.sbe_types.specs.Shown.{is_optional}
 use Rattle.sbe_types.specs.Wire.{both, padded, elements_bytes}
-
--- the bytes followed by more, if there are more
-abbrev pub behind : List ℕ → Option (List ℕ) → Option (List ℕ)
-behind bytes more = option_map (λ (piece : List ℕ). bytes ++ piece) more
+pub use Rattle.kind_bytes.specs.Members.{followed_by}
 
 -- the leaf is a number or an array of numbers, not a text or octets
 abbrev pub has_null_elements : LeafShape → Bool

@@ -28,7 +28,7 @@ use Rattle.typed_writer.specs.declared.states.StartErr.TheVariants as start_err
 use Rattle.typed_writer.specs.declared.states.TailErr.{TailErr}
 use Rattle.typed_writer.specs.declared.states.TailErr.TheVariants as tail_err
 use Rattle.typed_writer.specs.declared.stack.Frame.TheVariants.{Fields, Tail, Entries}
-use Rattle.typed_writer.specs.Empty.{behind, empty_block}
+use Rattle.typed_writer.specs.Empty.{followed_by, empty_block}
 use Rattle.typed_writer.specs.Held.{Held, spliced}
 use Rattle.typed_writer.specs.States.{level_of, parts_done, entries_left, block_at}
 
@@ -44,7 +44,7 @@ none_set schema n = replicate (length (fields_at schema n)) false
 
 -- an empty block is begun, of an entry of the innermost writer's group
 pub record Opens (schema : WireSchema) (old new : Held) : Type 0 where
-  pub bytes : behind old.bytes (block_in schema (level_of old.frames)) ≡ Some new.bytes
+  pub bytes : followed_by old.bytes (block_in schema (level_of old.frames)) ≡ Some new.bytes
   pub frames : new.frames ≡ Fields (level_of old.frames) ∷ Entries (level_of old.frames) (entries_left old.frames - 1) ∷ drop 1 old.frames
   pub at : new.at ≡ length old.bytes
   pub set : new.set ≡ none_set schema (level_of old.frames)
@@ -156,7 +156,7 @@ next_group schema frames = group_number schema (level_of frames) (parts_done fra
 -- the dimension of the next group was appended; its entries are still to come
 pub record Groups (schema : WireSchema) (many : ℕ) (old new : Held) : Type 0 where
   pub admitted : admits_entries schema (next_group schema old.frames) many ≡ true
-  pub bytes : behind old.bytes (dimension_in schema (next_group schema old.frames) many) ≡ Some new.bytes
+  pub bytes : followed_by old.bytes (dimension_in schema (next_group schema old.frames) many) ≡ Some new.bytes
   pub frames : new.frames ≡ Entries (next_group schema old.frames) many ∷ Tail (level_of old.frames) (parts_done old.frames + 1) ∷ drop 1 old.frames
   pub limit : new.limit ≡ old.limit
 
@@ -181,7 +181,7 @@ admits_data schema frames many = option_map_or (λ (part : DataField). admits pa
 -- the next data part was appended
 pub record Adds (schema : WireSchema) (added : List ℕ) (old new : Held) : Type 0 where
   pub admitted : admits_data schema old.frames (length added) ≡ true
-  pub bytes : behind old.bytes (data_in schema old.frames added) ≡ Some new.bytes
+  pub bytes : followed_by old.bytes (data_in schema old.frames added) ≡ Some new.bytes
   pub frames : new.frames ≡ Tail (level_of old.frames) (parts_done old.frames + 1) ∷ drop 1 old.frames
   pub limit : new.limit ≡ old.limit
 

@@ -3,7 +3,7 @@ ghost use Rattle.std.specs.Borrow.{sem};
 ghost use Rattle.std.specs.Result.{result_err};
 ghost use Rattle.sbe_types.specs.Places.{members_end};
 ghost use Rattle.schema_facts.specs.Levels.{all_nodes};
-ghost use Rattle.typed_writer.specs.Empty.{behind};
+ghost use Rattle.typed_writer.specs.Empty.{followed_by};
 ghost use Rattle.typed_writer.specs.Lending.{FieldsRest, RootRests, TailRests};
 ghost use Rattle.typed_writer.specs.States.{AppendsEntries, AppendsParts, SetsFields, block_at, entries_left, level_of, next_part, parts_done};
 ghost use Rattle.typed_writer.specs.Steps.{Begins, IsFull, Opens, StartRefused, block_in, header_in, ends, first_unset, goes_on_as, must_be_set, none_set};
@@ -146,7 +146,7 @@ impl FrameBuf {
     pub(crate) fn lay_block(&mut self, layout: &Layout, level: usize)
         requires level { level < length (all_nodes layout.now) }
         requires room { length self.old.bytes + block_at layout.now level ≤ self.old.limit }
-        ensures bytes { behind self.old.bytes (block_in layout.now level) ≡ Some self.new.bytes }
+        ensures bytes { followed_by self.old.bytes (block_in layout.now level) ≡ Some self.new.bytes }
         ensures len { length self.new.bytes ≡ length self.old.bytes + block_at layout.now level }
         ensures frames { self.new.frames ≡ self.old.frames }
         ensures at { self.new.at ≡ length self.old.bytes }
@@ -191,7 +191,7 @@ impl FrameBuf {
     fn lay_header(&mut self, layout: &Layout, template: usize)
         requires template { template < length layout.now.messages }
         requires room { length self.old.bytes + members_end 0 layout.now.header.members ≤ self.old.limit }
-        ensures bytes { behind self.old.bytes (header_in layout.now template) ≡ Some self.new.bytes }
+        ensures bytes { followed_by self.old.bytes (header_in layout.now template) ≡ Some self.new.bytes }
         ensures len { length self.new.bytes ≡ length self.old.bytes + members_end 0 layout.now.header.members }
         ensures frames { self.new.frames ≡ self.old.frames }
         ensures limit { self.new.limit ≡ self.old.limit }

@@ -4,7 +4,7 @@ ghost use Rattle.sbe_types.specs.declared.kind.Kind.{Comp};
 ghost use Rattle.sbe_types.specs.declared.limits.TheConstants.{PLACE_LIMIT};
 ghost use Rattle.sbe_wire.specs.Canonical.{named_bytes, number_bytes_in};
 ghost use Rattle.typed_writer.specs.Counted.{HasRoomFor, HaveRoomFor, number_of_name};
-ghost use Rattle.typed_writer.specs.Empty.{behind};
+ghost use Rattle.typed_writer.specs.Empty.{followed_by};
 ghost use Rattle.typed_writer.specs.Ready.{MembersStand, member_bytes};
 
 use crate::room::Room;
@@ -65,7 +65,7 @@ impl Room {
         requires room { length self.old.bytes + members_end 0 members.now ≤ self.old.limit }
         requires stand { MembersStand 0 members.now }
         requires hold { HaveRoomFor (number_of_name numbers) members.now }
-        ensures bytes { behind self.old.bytes (named_bytes order (number_of_name numbers) 0 members.now) ≡ Some self.new.bytes }
+        ensures bytes { followed_by self.old.bytes (named_bytes order (number_of_name numbers) 0 members.now) ≡ Some self.new.bytes }
         ensures len { length self.new.bytes ≡ length self.old.bytes + members_end 0 members.now }
         ensures limit { self.new.limit ≡ self.old.limit }
     {
@@ -80,7 +80,7 @@ impl Room {
         requires room { length self.old.bytes + (end_past end member.now.offset member.now.kind - end) ≤ self.old.limit }
         requires stands { MembersStand end (member.now ∷ []) }
         requires holds { HasRoomFor (number_of_name numbers) member.now }
-        ensures bytes { behind self.old.bytes (member_bytes order (number_of_name numbers) end member.now) ≡ Some self.new.bytes }
+        ensures bytes { followed_by self.old.bytes (member_bytes order (number_of_name numbers) end member.now) ≡ Some self.new.bytes }
         ensures len { length self.new.bytes + end ≡ length self.old.bytes + result }
         ensures end { result ≡ end_past end member.now.offset member.now.kind }
         ensures limit { self.new.limit ≡ self.old.limit }

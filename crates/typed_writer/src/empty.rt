@@ -6,7 +6,7 @@ ghost use Rattle.sbe_types.specs.Wire.{elements_bytes};
 ghost use Rattle.sbe_types.specs.declared.message.Elem.TheVariants.{Null};
 ghost use Rattle.schema_rules.specs.Ranges.{is_number_of};
 ghost use Rattle.schema_facts.specs.InOrder.{IsKindInOrder};
-ghost use Rattle.typed_writer.specs.Empty.{behind, empty_block, empty_bytes, empty_field, empty_fields, has_null_elements};
+ghost use Rattle.typed_writer.specs.Empty.{followed_by, empty_block, empty_bytes, empty_field, empty_fields, has_null_elements};
 ghost use Rattle.typed_writer.specs.Ready.{CanStand, FieldsStand};
 ghost use Rattle.std.specs.Prelude.{replicate};
 
@@ -20,7 +20,7 @@ impl Room {
         requires stand { FieldsStand 0 fields.now }
         requires within { fields_end 0 fields.now ≤ block_length }
         requires room { length self.old.bytes + block_length ≤ self.old.limit }
-        ensures bytes { behind self.old.bytes (empty_block order block_length fields.now) ≡ Some self.new.bytes }
+        ensures bytes { followed_by self.old.bytes (empty_block order block_length fields.now) ≡ Some self.new.bytes }
         ensures len { length self.new.bytes ≡ length self.old.bytes + block_length }
         ensures limit { self.new.limit ≡ self.old.limit }
     {
@@ -34,7 +34,7 @@ impl Room {
     fn fields(&mut self, order: Order, fields: &[Field])
         requires stand { FieldsStand 0 fields.now }
         requires room { length self.old.bytes + fields_end 0 fields.now ≤ self.old.limit }
-        ensures bytes { behind self.old.bytes (empty_fields order 0 fields.now) ≡ Some self.new.bytes }
+        ensures bytes { followed_by self.old.bytes (empty_fields order 0 fields.now) ≡ Some self.new.bytes }
         ensures len { length self.new.bytes ≡ length self.old.bytes + fields_end 0 fields.now }
         ensures limit { self.new.limit ≡ self.old.limit }
     {
@@ -49,7 +49,7 @@ impl Room {
     fn field(&mut self, order: Order, end: u32, field: &Field)
         requires stands { CanStand end field.now }
         requires room { length self.old.bytes + (end_past end field.now.offset field.now.kind - end) ≤ self.old.limit }
-        ensures bytes { behind self.old.bytes (empty_field order end field.now) ≡ Some self.new.bytes }
+        ensures bytes { followed_by self.old.bytes (empty_field order end field.now) ≡ Some self.new.bytes }
         ensures len { length self.new.bytes + end ≡ length self.old.bytes + end_past end field.now.offset field.now.kind }
         ensures limit { self.new.limit ≡ self.old.limit }
     {
@@ -66,7 +66,7 @@ impl Room {
     fn value(&mut self, order: Order, kind: &Kind)
         requires order { IsKindInOrder kind.now }
         requires room { length self.old.bytes + width kind.now ≤ self.old.limit }
-        ensures bytes { behind self.old.bytes (empty_bytes order kind.now) ≡ Some self.new.bytes }
+        ensures bytes { followed_by self.old.bytes (empty_bytes order kind.now) ≡ Some self.new.bytes }
         ensures len { length self.new.bytes ≡ length self.old.bytes + width kind.now }
         ensures limit { self.new.limit ≡ self.old.limit }
     {
@@ -85,7 +85,7 @@ impl Room {
     fn nulls(&mut self, order: Order, leaf: Leaf)
         requires null { is_number_of leaf.prim leaf.null ≡ true }
         requires room { length self.old.bytes + prim_width leaf.prim * leaf.length ≤ self.old.limit }
-        ensures bytes { behind self.old.bytes (elements_bytes order leaf (replicate leaf.length Null)) ≡ Some self.new.bytes }
+        ensures bytes { followed_by self.old.bytes (elements_bytes order leaf (replicate leaf.length Null)) ≡ Some self.new.bytes }
         ensures len { length self.new.bytes ≡ length self.old.bytes + prim_width leaf.prim * leaf.length }
         ensures limit { self.new.limit ≡ self.old.limit }
     {
@@ -98,7 +98,7 @@ impl Room {
     fn null(&mut self, order: Order, leaf: Leaf)
         requires null { is_number_of leaf.prim leaf.null ≡ true }
         requires room { length self.old.bytes + prim_width leaf.prim ≤ self.old.limit }
-        ensures bytes { behind self.old.bytes (bytes_of order leaf.prim leaf.null) ≡ Some self.new.bytes }
+        ensures bytes { followed_by self.old.bytes (bytes_of order leaf.prim leaf.null) ≡ Some self.new.bytes }
         ensures len { length self.new.bytes ≡ length self.old.bytes + prim_width leaf.prim }
         ensures limit { self.new.limit ≡ self.old.limit }
     {

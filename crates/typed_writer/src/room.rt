@@ -4,7 +4,7 @@ ghost use Rattle.schema_rules.specs.Ranges.{is_number_of};
 ghost use Rattle.sbe_types.specs.Places.{width};
 ghost use Rattle.sbe_wire.specs.Misfit.{value_misfit};
 ghost use Rattle.schema_facts.specs.InOrder.{IsKindInOrder};
-ghost use Rattle.typed_writer.specs.Empty.{behind};
+ghost use Rattle.typed_writer.specs.Empty.{followed_by};
 ghost use Rattle.typed_writer.specs.Steps.{IsWritten};
 
 use field_bytes::put_num;
@@ -128,7 +128,7 @@ impl Room {
     pub(crate) fn number(&mut self, order: Order, prim: Prim, n: i128)
         requires room { length self.old.bytes + prim_width prim ≤ self.old.limit }
         requires number { is_number_of prim n ≡ true }
-        ensures bytes { behind self.old.bytes (bytes_of order prim n) ≡ Some self.new.bytes }
+        ensures bytes { followed_by self.old.bytes (bytes_of order prim n) ≡ Some self.new.bytes }
         ensures len { length self.new.bytes ≡ length self.old.bytes + prim_width prim }
         ensures limit { self.new.limit ≡ self.old.limit }
     {

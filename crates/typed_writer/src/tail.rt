@@ -9,7 +9,7 @@ ghost use Rattle.schema_facts.specs.InOrder.{IsLeafInOrder};
 ghost use Rattle.schema_facts.specs.Measured.{IsSmall};
 ghost use Rattle.schema_facts.specs.Levels.{all_nodes, groups_at, parts_at};
 ghost use Rattle.layout_tables.specs.Parts.{dim_at};
-ghost use Rattle.typed_writer.specs.Empty.{behind};
+ghost use Rattle.typed_writer.specs.Empty.{followed_by};
 ghost use Rattle.typed_writer.specs.Lending.{EntriesRest};
 ghost use Rattle.typed_writer.specs.States.{AppendsEntries, AppendsParts, level_of, parts_done, parts_in_tail};
 ghost use Rattle.typed_writer.specs.Steps.{Adds, DataRefused, GroupRefused, Groups, PartRefused, admits_entries, dimension_in, dimension_size, next_group};
@@ -62,7 +62,7 @@ impl FrameBuf {
     fn lay_dimension(&mut self, layout: &Layout, group: usize, count: u32) -> Result<(), TailErr>
         requires { IsSome (dim_at layout.now group) }
         ensures admitted { OnOk result (admits_entries layout.now group count ≡ true) }
-        ensures bytes { OnOk result (behind self.old.bytes (dimension_in layout.now group count) ≡ Some self.new.bytes) }
+        ensures bytes { OnOk result (followed_by self.old.bytes (dimension_in layout.now group count) ≡ Some self.new.bytes) }
         ensures frames { self.new.frames ≡ self.old.frames }
         ensures limit { self.new.limit ≡ self.old.limit }
         ensures err { OnErr result (self.new ≡ self.old) }
@@ -157,7 +157,7 @@ impl FrameBuf {
     fn lay_part(&mut self, order: Order, part: &DataField, bytes: &[u8]) -> Result<(), TailErr>
         requires small { IsSmall part.now.length.prim }
         requires order { IsLeafInOrder part.now.length }
-        ensures bytes { OnOk result (behind self.old.bytes (part_bytes order part.now (Bytes bytes.now)) ≡ Some self.new.bytes) }
+        ensures bytes { OnOk result (followed_by self.old.bytes (part_bytes order part.now (Bytes bytes.now)) ≡ Some self.new.bytes) }
         ensures frames { self.new.frames ≡ self.old.frames }
         ensures limit { self.new.limit ≡ self.old.limit }
         ensures err { OnErr result (self.new ≡ self.old) }

@@ -14,7 +14,7 @@ use Rattle.fix_values.specs.declared.rule.V.{V}
 use Rattle.fix_values.specs.declared.rule.V.TheVariants.{Range, Spelling}
 use Rattle.fix_values.specs.declared.rule.Dec.{Dec}
 use Rattle.fix_values.specs.Numerals.{sign, signed, is_below_zero, is_negative, unsigned, is_numeral, is_value}
-use Rattle.fix_values.specs.Decimals.{SameFraction, dec, zeros, places, without_leading, without_trailing, kept_before, digits_at, pointed, Parts, digits_counted, whole_of, rest_of, shown_parts, parts_text, shown_text, decimal_text, before_point, behind_point, parts_of, are_digits, reduced, decimal_of, judged, fitted}
+use Rattle.fix_values.specs.Decimals.{SameFraction, dec, zeros, places, without_leading, without_trailing, kept_before, digits_at, pointed, Parts, digits_counted, whole_of, rest_of, shown_parts, parts_text, shown_text, decimal_text, before_point, behind_point, parts_of, are_digits, reduced, decimal_of, leaf_number, fitted}
 use Rattle.fix_values.proofs.NumeralLemmas.{both, together, false≢true, ok_is, sized, sign_taken, digits_first, value_append}
 use Rattle.value_laws.proofs.ReadBack.{numeral_of}
 use Rattle.value_laws.proofs.Fractions.{sign_of, below_some, fit_only, turned}
@@ -268,4 +268,4 @@ decimals_back m e text fits h =
 pub fits_back : (leaf : LeafOf) (m e : ℤ) (text : List ℕ) → FitsSigned w128 m → is_value leaf m ≡ true → decimal_text (dec m e) ≡ Ok text → (d : Dec) × (decimal_of text ≡ Ok d) × (fitted d leaf e ≡ Ok m)
 fits_back leaf m e text fits is h =
     let back = decimals_back m e text fits h in
-    (back.0, back.1, ap (judged leaf) (fit_only back.0 e m (turned back.2)) ∙ rw is)
+    (back.0, back.1, ap (leaf_number leaf) (fit_only back.0 e m (turned back.2)) ∙ rw is)

@@ -20,7 +20,7 @@ use Rattle.fix_values.specs.declared.rule.Code.{Code}
 use Rattle.fix_values.specs.declared.rule.V.TheVariants.{Spelling, Soh, UnknownCode}
 use Rattle.fix_values.specs.declared.rule.NumRule.TheVariants as rule
 use Rattle.fix_values.specs.Numerals.{is_numeral, is_negative, unsigned, integer_of, signed, sign, is_value, SpellsInteger}
-use Rattle.fix_values.specs.Decimals.{judged}
+use Rattle.fix_values.specs.Decimals.{leaf_number}
 use Rattle.fix_values.specs.Codes.{has_soh, found_text, code_text, found_number, code_number, same_text, is_apart, boolean_text, truth_text, boolean_shown, is_truth, named_number, truth_number, boolean_number, same_truth, is_same_truth}
 use Rattle.fix_values.specs.Values.{text_of, value_of, is_asked, char_text, char_value, spelled_number}
 use Rattle.fix_values.proofs.NumeralLemmas.{both, together, either, or_left, or_right, false≢true, is_not_true, ok_is, eqb_comm, no_minus, sign_taken, integer_is}
@@ -79,7 +79,7 @@ read_spelled text n h = taken_apart (is_numeral (unsigned text)) text n refl h
 pub integer_back : (leaf : LeafOf) (n : ℤ) (text : List ℕ) → FitsSigned w128 n → is_value leaf n ≡ true → text_of rule.Int n ≡ Ok text → value_of rule.Int leaf text ≡ Ok n
 integer_back leaf n text fits is h =
     let spelled : integer_of text ≡ Some n = subst (λ t. integer_of t ≡ Some n) (ok_is (signed_decimal n) text h) (spelled_back (signed_decimal n) n (shown_spelled n fits)) in
-    ap (λ r. judged leaf (spelled_number r)) spelled ∙ rw is
+    ap (λ r. leaf_number leaf (spelled_number r)) spelled ∙ rw is
 
 char_by : (b : Bool) (leaf : LeafOf) (k : ℕ) (text : List ℕ) → is_value leaf (pos k) ≡ true → eqb k 1 ≡ b → char_text k ≡ Ok text → char_value leaf text ≡ Ok (pos k)
 char_by true leaf k text is e h = let none : ◌≡◌ {A = Result (List ℕ) V} (Err Spelling) (Ok text) = rw e at h in absurd (cc none)

@@ -7,7 +7,7 @@ use Rattle.std.specs.Str.{bytes_eq}
 use Rattle.fix_values.specs.declared.rule.V.{V}
 use Rattle.fix_values.specs.declared.rule.V.TheVariants.{Spelling, Soh, Empty, UnknownCode}
 use Rattle.fix_values.specs.declared.rule.Code.{Code}
-use Rattle.fix_values.specs.Codes.{bits_of, characters, codes_in, every_other, has_bit, has_code, has_soh, is_among, is_apart, is_choice, is_code_of, is_distinct, is_named, is_set_text, joined, same_text, set_number, set_text}
+use Rattle.fix_values.specs.Codes.{bits_of, characters, codes_in, every_other, has_bit, has_code, has_soh, is_among, is_apart, is_choice, is_code_of, is_distinct, is_named, is_set_text, spaced_texts, same_text, set_number, set_text}
 use Rattle.fix_values.specs.Tables.{first_byte}
 use Rattle.fix_values.proofs.NumeralLemmas.{both, together, neither, or_left, or_right, and_true, eqb_comm, is_not_true, false≢true, ok_is}
 use Rattle.fix_values.proofs.CodeLemmas.{filter_all, is_byte}
@@ -22,18 +22,18 @@ one_byte [] h = absurd (omega (arith, h))
 one_byte (b ∷ []) h = refl
 one_byte (b ∷ c ∷ bs) h = absurd (omega (arith, h))
 
-joined_two : (x y : Code) (ys : List Code) → length x.text ≡ 1 → joined (x ∷ y ∷ ys) ≡ first_byte x ∷ 32 ∷ joined (y ∷ ys)
-joined_two x y ys h = ap (λ t. t ++ (32 ∷ joined (y ∷ ys))) (one_byte x.text h)
+joined_two : (x y : Code) (ys : List Code) → length x.text ≡ 1 → spaced_texts (x ∷ y ∷ ys) ≡ first_byte x ∷ 32 ∷ spaced_texts (y ∷ ys)
+joined_two x y ys h = ap (λ t. t ++ (32 ∷ spaced_texts (y ∷ ys))) (one_byte x.text h)
 
 -- a set's text has the codes' bytes at every other place from the first on, and spaces between
-evens : (cs : List Code) → list_all is_choice cs ≡ true → every_other true (joined cs) ≡ bytes cs
+evens : (cs : List Code) → list_all is_choice cs ≡ true → every_other true (spaced_texts cs) ≡ bytes cs
 evens [] h = refl
 evens (x ∷ []) h = ap (every_other true) (one_byte x.text (is_byte x (both (is_choice x) true h).0))
 evens (x ∷ y ∷ ys) h =
     let all = both (is_choice x) (list_all is_choice (y ∷ ys)) h in
     ap (every_other true) (joined_two x y ys (is_byte x all.0)) ∙ ap (λ t. first_byte x ∷ t) (evens (y ∷ ys) all.1)
 
-odds : (cs : List Code) → list_all is_choice cs ≡ true → list_all (λ b. b == 32) (every_other false (joined cs)) ≡ true
+odds : (cs : List Code) → list_all is_choice cs ≡ true → list_all (λ b. b == 32) (every_other false (spaced_texts cs)) ≡ true
 odds [] h = refl
 odds (x ∷ []) h = ap (λ t. list_all (λ b. b == 32) (every_other false t)) (one_byte x.text (is_byte x (both (is_choice x) true h).0))
 odds (x ∷ y ∷ ys) h =
@@ -43,11 +43,11 @@ odds (x ∷ y ∷ ys) h =
 odd_two : (n : ℕ) → (n % 2 == 1) ≡ true → (suc (suc n) % 2 == 1) ≡ true
 odd_two n h = grind (arith, nat_tests)
 
-odd_length : (x : Code) (xs : List Code) → list_all is_choice (x ∷ xs) ≡ true → (length (joined (x ∷ xs)) % 2 == 1) ≡ true
+odd_length : (x : Code) (xs : List Code) → list_all is_choice (x ∷ xs) ≡ true → (length (spaced_texts (x ∷ xs)) % 2 == 1) ≡ true
 odd_length x [] h = ap (λ n. n % 2 == 1) (is_byte x (both (is_choice x) true h).0)
 odd_length x (y ∷ ys) h =
     let all = both (is_choice x) (list_all is_choice (y ∷ ys)) h in
-    ap (λ t. length t % 2 == 1) (joined_two x y ys (is_byte x all.0)) ∙ odd_two (length (joined (y ∷ ys))) (odd_length y ys all.1)
+    ap (λ t. length t % 2 == 1) (joined_two x y ys (is_byte x all.0)) ∙ odd_two (length (spaced_texts (y ∷ ys))) (odd_length y ys all.1)
 
 pub same_bytes : (a b : List ℕ) → length a ≡ 1 → length b ≡ 1 → bytes_eq a b ≡ eqb (slice_index a 0) (slice_index b 0)
 same_bytes a b h g = ap (λ t. bytes_eq t b) (one_byte a h) ∙ (ap (bytes_eq (slice_index a 0 ∷ [])) (one_byte b g) ∙ and_true (eqb (slice_index a 0) (slice_index b 0)))
@@ -144,7 +144,7 @@ set_by true false true own text h = absurd (cc h)
 set_by true false false own text h = (refl, refl, ok_is own text h)
 set_by false b c own text h = absurd (cc h)
 
-pub odd_set : (cs : List Code) → list_all is_choice cs ≡ true → (length (joined cs) == 0) ≡ false → (length (joined cs) % 2 == 1) ≡ true
+pub odd_set : (cs : List Code) → list_all is_choice cs ≡ true → (length (spaced_texts cs) == 0) ≡ false → (length (spaced_texts cs) % 2 == 1) ≡ true
 odd_set [] h some = absurd (false≢true (sym some))
 odd_set (x ∷ xs) h some = odd_length x xs h
 
@@ -156,14 +156,14 @@ read_set false b m n h g same = absurd (false≢true h)
 pub set_back : (codes : List Code) (n : ℕ) (text : List ℕ) → list_all is_choice codes ≡ true → is_apart same_text codes ≡ true → set_text codes n ≡ Ok text → set_number codes text ≡ Ok (pos n)
 set_back codes n text choices apart h =
     let C = codes_in codes n in
-    let shown = set_by (bits_of C == n) (length (joined C) == 0) (has_soh (joined C)) (joined C) text h in
+    let shown = set_by (bits_of C == n) (length (spaced_texts C) == 0) (has_soh (spaced_texts C)) (spaced_texts C) text h in
     let all : list_all is_choice C ≡ true = filter_all (has_bit n) is_choice codes choices in
-    let cs : characters (joined C) ≡ bytes C = evens C all in
-    let distinct : is_distinct (characters (joined C)) ≡ true = ap is_distinct cs ∙ distinct_bytes (has_bit n) codes choices apart in
-    let spelled : is_set_text (joined C) ≡ true =
-    together (length (joined C) % 2 == 1) _ (odd_set C all shown.1) (together (list_all (λ b. b == 32) (every_other false (joined C))) _ (odds C all) distinct) in
-    let known : list_all (has_code codes) (characters (joined C)) ≡ true = ap (list_all (has_code codes)) cs ∙ all_coded (has_bit n) codes choices in
-    let chosen : filter (is_named (characters (joined C))) codes ≡ C =
+    let cs : characters (spaced_texts C) ≡ bytes C = evens C all in
+    let distinct : is_distinct (characters (spaced_texts C)) ≡ true = ap is_distinct cs ∙ distinct_bytes (has_bit n) codes choices apart in
+    let spelled : is_set_text (spaced_texts C) ≡ true =
+    together (length (spaced_texts C) % 2 == 1) _ (odd_set C all shown.1) (together (list_all (λ b. b == 32) (every_other false (spaced_texts C))) _ (odds C all) distinct) in
+    let known : list_all (has_code codes) (characters (spaced_texts C)) ≡ true = ap (list_all (has_code codes)) cs ∙ all_coded (has_bit n) codes choices in
+    let chosen : filter (is_named (characters (spaced_texts C))) codes ≡ C =
     ap (λ k. filter (is_named k) codes) cs ∙ filter_same (has_bit n) (is_named (bytes C)) codes (named_on (has_bit n) (bytes C) codes choices (named_alike (has_bit n) codes choices apart)) in
-    let bits : bits_of (filter (is_named (characters (joined C))) codes) ≡ n = ap bits_of chosen ∙ eqb-true (bits_of C) n shown.0 in
-    subst (λ t. set_number codes t ≡ Ok (pos n)) shown.2 (read_set (is_set_text (joined C)) (list_all (has_code codes) (characters (joined C))) _ n spelled known bits)
+    let bits : bits_of (filter (is_named (characters (spaced_texts C))) codes) ≡ n = ap bits_of chosen ∙ eqb-true (bits_of C) n shown.0 in
+    subst (λ t. set_number codes t ≡ Ok (pos n)) shown.2 (read_set (is_set_text (spaced_texts C)) (list_all (has_code codes) (characters (spaced_texts C))) _ n spelled known bits)

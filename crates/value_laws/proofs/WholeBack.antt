@@ -6,7 +6,7 @@ use Rattle.std.specs.Fmt.{signed_decimal}
 use Rattle.sbe_types.specs.declared.kind.Leaf.{Leaf as LeafOf}
 use Rattle.fix_values.specs.declared.rule.NumRule.TheVariants as rule
 use Rattle.fix_values.specs.Numerals.{is_below_zero, is_value}
-use Rattle.fix_values.specs.Decimals.{SameFraction, dec, Parts, parts_text, parts_of, without_leading, digits_counted, are_digits, reduced, decimal_of, judged}
+use Rattle.fix_values.specs.Decimals.{SameFraction, dec, Parts, parts_text, parts_of, without_leading, digits_counted, are_digits, reduced, decimal_of, leaf_number}
 use Rattle.fix_values.specs.Values.{text_of, value_of, whole_value}
 use Rattle.value_laws.proofs.ReadBack.{numeral_of}
 use Rattle.value_laws.proofs.Fractions.{fit_only, turned}
@@ -35,4 +35,4 @@ whole_back leaf n text small is h =
     ap of_parts parts ∙ of_parts_is (are_digits p.whole p.fraction) (nat_le (digits_counted p) 38) r (digits_are p.whole [] numeral.0 refl) (within (length (without_leading (decimal k)) + 0) (omega (arith, short))) in
     let same : SameFraction r (dec n (pos 0)) =
     same_reduced (is_below_zero n) n (pos 0) (k * 10 ^ 0) k 0 0 (without_leading (decimal k)) [] refl refl (omega arith) (value_leading (decimal k) ∙ numeral.1) (omega arith) (omega arith) in
-    ap (whole_value leaf) read ∙ (ap (judged leaf) (fit_only r (pos 0) n (turned same)) ∙ rw is)
+    ap (whole_value leaf) read ∙ (ap (leaf_number leaf) (fit_only r (pos 0) n (turned same)) ∙ rw is)

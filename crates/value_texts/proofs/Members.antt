@@ -13,7 +13,7 @@ use Rattle.sbe_types.specs.Shows.{Shows}
 use Rattle.sbe_types.proofs.PlaceLemmas.{each_from}
 use Rattle.flyweight_view.specs.declared.values.FieldBytes.{FieldBytes}
 use Rattle.flyweight_view.specs.ShownIn.{IsShownIn}
-use Rattle.flyweight_view.specs.Seen.{Seen, member_field, seen_members, members_of, values_in, composite_seen, field_seen}
+use Rattle.flyweight_view.specs.Seen.{TypedBlock, member_field, typed_members, members_of, values_in, typed_composite, typed_field}
 use Rattle.bridge_rules.specs.Members.{first_number, mantissa_in, members_in, month_in, month_of, second_number}
 use Rattle.bridge_rules.proofs.OptionLemmas.{some_is, none_some}
 use Rattle.bridge_terms.specs.Blocks.{nth_or}
@@ -108,7 +108,7 @@ composite_is order known (Comp' n row) v b is h = record {
 record IsSeenComposite (o : Option Field) (w : Option Value) : Type 0 where
   members : List Member
   values : List Value
-  is : field_seen o w ≡ Some (seen_members members values)
+  is : typed_field o w ≡ Some (typed_members members values)
   same : length values ≡ length members
 
 composite_there : (f : FieldBytes) (o : Option Field) (w : Option Value) → is_composite f.kind.now ≡ true → option_map (λ f. f.kind) o ≡ Some f.kind.now → IsShownIn f w → IsSeenComposite o w
@@ -119,8 +119,8 @@ composite_there f o w comp there shown =
     record {
       members = is.members;
       values = is.values;
-      is = ap (λ o. field_seen o w) field.1 ∙ ap (field_seen (Some field.0)) v.1 ∙ ap (λ k. composite_seen (members_of k) (values_in v.0)) field.2
-          ∙ ap (λ ms. composite_seen ms (values_in v.0)) is.kind ∙ ap (composite_seen (Some is.members)) is.value;
+      is = ap (λ o. typed_field o w) field.1 ∙ ap (typed_field (Some field.0)) v.1 ∙ ap (λ k. typed_composite (members_of k) (values_in v.0)) field.2
+          ∙ ap (λ ms. typed_composite ms (values_in v.0)) is.kind ∙ ap (typed_composite (Some is.members)) is.value;
       same = is.same;
     }
 
@@ -130,15 +130,15 @@ seen_by None o w comp kind shown = true_false comp refl
 seen_by (Some f) o w comp kind shown = composite_there f o w comp kind shown
 
 pub seen_there : (found : Option FieldBytes) (o : Option Field) (w : Option Value) → is_composite_field found ≡ true → IfSome found (λ f. option_map (λ p. p.kind) o ≡ Some f.kind.now)
-    → IfSome found (λ f. IsShownIn f w) → IsSome (field_seen o w)
+    → IfSome found (λ f. IsShownIn f w) → IsSome (typed_field o w)
 seen_there found o w comp kind shown = subst IsSome (sym (seen_by found o w comp kind shown).is) refl
 
 length_fields : (ms : List Member) → length (map member_field ms) ≡ length ms
 length_fields [] = refl
 length_fields (m ∷ ms) = ap suc (length_fields ms)
 
-pub same_members : (found : Option FieldBytes) (o : Option Field) (w : Option Value) (s : Seen) → is_composite_field found ≡ true
-    → IfSome found (λ f. option_map (λ p. p.kind) o ≡ Some f.kind.now) → IfSome found (λ f. IsShownIn f w) → field_seen o w ≡ Some s → HasMembers (Some s)
+pub same_members : (found : Option FieldBytes) (o : Option Field) (w : Option Value) (s : TypedBlock) → is_composite_field found ≡ true
+    → IfSome found (λ f. option_map (λ p. p.kind) o ≡ Some f.kind.now) → IfSome found (λ f. IsShownIn f w) → typed_field o w ≡ Some s → HasMembers (Some s)
 same_members found o w s comp kind shown seen =
     let own = seen_by found o w comp kind shown in
     subst (λ s. HasMembers (Some s)) (some_is (sym own.is ∙ seen)) (own.same ∙ sym (length_fields own.members))
@@ -159,9 +159,9 @@ no_members (Some f) n vs comp shown absent =
     ap members_in (nth_is value.Absent n vs v.0 v.1) ∙ no_members_shown f.order v.2 f.kind.now v.0 f.bytes.now comp v.3
 
 -- the values that are seen are those of the members
-values_are : (o : Option (List Member)) (v : Value) (s : Seen) → composite_seen o (values_in v) ≡ Some s → members_in v ≡ (out-Block s.block).fields
+values_are : (o : Option (List Member)) (v : Value) (s : TypedBlock) → typed_composite o (values_in v) ≡ Some s → members_in v ≡ (out-Block s.block).fields
 values_are None v s h = none_some h
-values_are (Some ms) (value.Comp' k row) s h = ap (λ (s : Seen). (out-Block s.block).fields) (some_is h)
+values_are (Some ms) (value.Comp' k row) s h = ap (λ (s : TypedBlock). (out-Block s.block).fields) (some_is h)
 values_are (Some ms) (value.Text t) s h = none_some h
 values_are (Some ms) (value.Num n) s h = none_some h
 values_are (Some ms) (value.Enum n) s h = none_some h
@@ -171,12 +171,12 @@ values_are (Some ms) value.Null s h = none_some h
 values_are (Some ms) value.Const s h = none_some h
 values_are (Some ms) value.Absent s h = none_some h
 
-field_values_are : (o : Option Field) (w : Option Value) (s : Seen) → field_seen o w ≡ Some s → (v : Value) × (w ≡ Some v) × (members_in v ≡ (out-Block s.block).fields)
+field_values_are : (o : Option Field) (w : Option Value) (s : TypedBlock) → typed_field o w ≡ Some s → (v : Value) × (w ≡ Some v) × (members_in v ≡ (out-Block s.block).fields)
 field_values_are None w s h = none_some h
 field_values_are (Some f) None s h = none_some h
 field_values_are (Some f) (Some v) s h = (v, refl, values_are (members_of f.kind) v s h)
 
-pub members_are : (o : Option Field) (n : ℕ) (vs : List Value) (s : Seen) → field_seen o (slice_get vs n) ≡ Some s → members_in (nth_or value.Absent n vs) ≡ members_seen (Some s)
+pub members_are : (o : Option Field) (n : ℕ) (vs : List Value) (s : TypedBlock) → typed_field o (slice_get vs n) ≡ Some s → members_in (nth_or value.Absent n vs) ≡ members_seen (Some s)
 members_are o n vs s h =
     let there = field_values_are o (slice_get vs n) s h in
     ap members_in (nth_is value.Absent n vs there.0 there.1) ∙ there.2

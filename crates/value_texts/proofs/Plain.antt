@@ -16,7 +16,7 @@ use Rattle.fix_values.specs.declared.rule.Code.{Code}
 use Rattle.fix_values.specs.declared.rule.NumRule.{NumRule}
 use Rattle.fix_values.specs.declared.rule.NumRule.TheVariants as rule
 use Rattle.fix_values.specs.Decimals.{dec, decimal_of, decimal_text}
-use Rattle.fix_values.specs.Codes.{has_soh, joined, codes_in, bits_of, set_text, boolean_text, boolean_shown, truth_text}
+use Rattle.fix_values.specs.Codes.{has_soh, spaced_texts, codes_in, bits_of, set_text, boolean_text, boolean_shown, truth_text}
 use Rattle.fix_values.specs.Values.{can_show, char_text, text_of, text_shown}
 use Rattle.fix_dates.specs.declared.calendar.Day.{Day}
 use Rattle.fix_dates.specs.declared.clock.Clock.{Clock}
@@ -96,7 +96,7 @@ set_plain : (list : List Code) (n : ℕ) (t : List ℕ) → set_text list n ≡ 
 set_plain list n t h = by_tests (bits_of (codes_in list n) == n) (length own == 0) (has_soh own) refl refl h
   where
     own : List ℕ
-    own = joined (codes_in list n)
+    own = spaced_texts (codes_in list n)
 
     some : (k : ℕ) → (k == 0) ≡ false → 0 < k
     some zero e = true_false refl e

@@ -9,7 +9,7 @@ use Rattle.fix_values.specs.declared.rule.NumRule.{NumRule}
 use Rattle.fix_values.specs.Values.{text_of}
 use Rattle.tagvalue_codec.specs.Drafts.{Draft}
 use Rattle.flyweight_view.specs.declared.values.FieldBytes.{FieldBytes}
-use Rattle.flyweight_view.specs.Seen.{Seen}
+use Rattle.flyweight_view.specs.Seen.{TypedBlock}
 use Rattle.bridge_rules.specs.Members.{mantissa_in, members_in, month_in, number_in, unit_in, and_then}
 use Rattle.bridge_rules.specs.Texts.{floating_text, moment_text, month_text, text_if_any}
 use Rattle.bridge_table.specs.declared.rule.Epoch.{Epoch}
@@ -28,14 +28,14 @@ use Rattle.value_texts.specs.Seen.{choices_in, is_word, nth_number, unit_seen, C
 use Rattle.value_texts.proofs.Members.{mantissa_is, second_is}
 
 -- the number of a field may be asked of its rule
-asked_of : (rule : NumRule) (found : Option FieldBytes) (i : ℕ) (seen : Seen) → IfSome found (λ f. option_map (λ p. p.kind) (slice_get seen.fields i) ≡ Some f.kind.now) → CanReadAny found
+asked_of : (rule : NumRule) (found : Option FieldBytes) (i : ℕ) (seen : TypedBlock) → IfSome found (λ f. option_map (λ p. p.kind) (slice_get seen.fields i) ≡ Some f.kind.now) → CanReadAny found
     → IsSeenOf found (field_of seen i) → CanAskOf (row.Number rule) i seen → CanAsk rule (number_in (field_of seen i))
 asked_of rule None i seen kind ready is asks = subst (λ v. CanAsk rule (number_in v)) (sym is) tt
 asked_of rule (Some f) i seen kind ready is asks =
     asks.number f.kind.now kind ready.order (record { order = f.order; known = is.0; bytes = f.bytes.now; shown = is.1 })
 
 -- what is read of a value is what its text is of
-pub number_row : (lists : TagLists) (d : Draft) (tag : ℕ) (r : PutResult) (rule : NumRule) (found : Option FieldBytes) (i : ℕ) (seen : Seen) (n : Option ℤ)
+pub number_row : (lists : TagLists) (d : Draft) (tag : ℕ) (r : PutResult) (rule : NumRule) (found : Option FieldBytes) (i : ℕ) (seen : TypedBlock) (n : Option ℤ)
     → number_in (field_of seen i) ≡ n → IfSome found (λ f. option_map (λ p. p.kind) (slice_get seen.fields i) ≡ Some f.kind.now) → CanReadAny found
     → IsSeenOf found (field_of seen i) → CanAskOf (row.Number rule) i seen → (CanAsk rule n → IsPut lists d tag (text_if_any n (λ n. text_of rule n)) r)
     → IsPut lists d tag (row_text (row.Number rule) (field_of seen i)) r
@@ -74,7 +74,7 @@ month_row lists d tag r v vs members put =
     (subst (λ n. IsPut lists d tag (text_if_any n (λ year. month_text (month_in vs))) r) (sym (mantissa_is v ∙ ap (nth_number 0) members)) put)
 
 -- what may be asked of a row whose rule is that of a field's kind
-pub asks_of : (row : ValueText) (rule : Rule) (i : ℕ) (seen : Seen) → Spells row rule → IsForField rule i seen.fields → CanAskOf row i seen
+pub asks_of : (row : ValueText) (rule : Rule) (i : ℕ) (seen : TypedBlock) → Spells row rule → IsForField rule i seen.fields → CanAskOf row i seen
 asks_of row rule i seen by near = record {
   number = λ k there order is.
       let same : near.field.kind ≡ k = some_is (sym (ap (option_map (λ f. f.kind)) near.there) ∙ there) in

@@ -10,7 +10,7 @@ use Rattle.fix_values.specs.declared.rule.NumRule.{NumRule}
 use Rattle.fix_values.specs.Decimals.{dec, decimal_text}
 use Rattle.fix_values.specs.Values.{is_asked, text_of, text_shown}
 use Rattle.date_answers.specs.Answers.{day_shown}
-use Rattle.flyweight_view.specs.Seen.{Seen}
+use Rattle.flyweight_view.specs.Seen.{TypedBlock}
 use Rattle.bridge_rules.specs.Rules.{Rule}
 use Rattle.bridge_rules.specs.Members.{is_const, mantissa_in, members_in, month_in, number_in, second_number, text_in, unit_in}
 use Rattle.bridge_rules.specs.Texts.{field_text, floating_text, judged_text, moment_text, month_text, text_by, text_if_any}
@@ -69,7 +69,7 @@ AsksWords row.Month = ⊤
 AsksWords (row.Const t) = ⊤
 
 -- the row may be asked for the value of a field whose kind is in order
-pub record CanAskOf (row : ValueText) (i : ℕ) (seen : Seen) : Type 0 where
+pub record CanAskOf (row : ValueText) (i : ℕ) (seen : TypedBlock) : Type 0 where
   pub number : (k : Kind) → option_map (λ f. f.kind) (slice_get seen.fields i) ≡ Some k → IsKindInOrder k → IsValueOf k (field_of seen i) → CanAskRow row (field_of seen i)
   pub words : AsksWords row
 

@@ -11,7 +11,7 @@ use Rattle.sbe_types.specs.Places.{width}
 use Rattle.sbe_types.specs.Shows.{Shows}
 use Rattle.schema_facts.specs.InOrder.{IsKindInOrder}
 use Rattle.flyweight_view.specs.declared.values.FieldBytes.{FieldBytes}
-use Rattle.flyweight_view.specs.Seen.{Seen}
+use Rattle.flyweight_view.specs.Seen.{TypedBlock}
 use Rattle.flyweight_view.specs.ShownIn.{IsShownIn}
 use Rattle.bridge_rules.specs.Members.{and_then, bits_in, not_zero, number_in}
 use Rattle.bridge_terms.specs.Blocks.{nth_or}
@@ -62,12 +62,12 @@ is_composite_field None = false
 is_composite_field (Some f) = is_composite f.kind.now
 
 -- the values of a composite's members; none if there isn't a composite
-abbrev pub members_seen : Option Seen → List Value
+abbrev pub members_seen : Option TypedBlock → List Value
 members_seen None = []
 members_seen (Some s) = (out-Block s.block).fields
 
 -- each member has a value
-abbrev pub HasMembers : Option Seen → Type 0
+abbrev pub HasMembers : Option TypedBlock → Type 0
 HasMembers None = ⊤
 HasMembers (Some s) = length (out-Block s.block).fields ≡ length s.fields
 

@@ -15,7 +15,7 @@ use Rattle.sbe_types.specs.declared.message.GroupVal.{GroupVal, items_hidden-the
 use Rattle.sbe_types.specs.declared.message.GroupVal.TheVariants as groupval
 use Rattle.sbe_wire.specs.declared.mode.Mode.{Mode}
 use Rattle.sbe_wire.specs.Versions.{is_alive, form_of}
-use Rattle.sbe_wire.specs.Lays.{Joined, JoinedBoth, DataLays, DimensionLays, BlockLays, EntryLays, TailLays, GroupsLay, GroupLays}
+use Rattle.sbe_wire.specs.Lays.{IsConcatenation, IsConcatenationOfBoth, DataLays, DimensionLays, BlockLays, EntryLays, TailLays, GroupsLay, GroupLays}
 use Rattle.sbe_wire.specs.Placed.{IsPlacedLevel, ArePlacedGroups, IsPlacedGroup}
 use Rattle.version_laws.specs.Differ.{is_old, group_since}
 use Rattle.version_laws.specs.Projected.{each_entry, projected_list, old_part, projected_block, projected_groups, projected_group}
@@ -32,7 +32,7 @@ nil_in_front b front back h e = ap (λ f. f ++ back) (sym e) ∙ sym h
 pub all_of : (P : Block → Type 0) (es : List Block) → EachEntry P (groupval.Entries es) → AllOf P es
 all_of P es h = subst (AllOf P) (items_hidden-the_row-Block-1 es) h
 
-joined_all : (A : Block → Type 0) (P Q : Block → List ℕ → Type 0) (f : Block → Block) → ((e : Block) (b : List ℕ) → A e → P e b → Q (f e) b) → (es : List Block) (b : List ℕ) → AllOf A es → Joined P es b → Joined Q (map f es) b
+joined_all : (A : Block → Type 0) (P Q : Block → List ℕ → Type 0) (f : Block → Block) → ((e : Block) (b : List ℕ) → A e → P e b → Q (f e) b) → (es : List Block) (b : List ℕ) → AllOf A es → IsConcatenation P es b → IsConcatenation Q (map f es) b
 joined_all A P Q f step [] b a h = h
 joined_all A P Q f step (e ∷ es) b a h = (h.0, h.1, h.2, step e h.0 a.0 h.3, joined_all A P Q f step es h.1 a.1 h.4)
 
@@ -88,10 +88,10 @@ module _ (order : Order) (R : Lists) (known known' : Bool) (least version versio
   part_alive f g h o = sym (ap (is_alive version) h.since ∙ alike g.since o)
 
   abbrev OldParts : List DataField → List DataVal → List ℕ → Type 0
-  OldParts = JoinedBoth (DataLays order version)
+  OldParts = IsConcatenationOfBoth (DataLays order version)
 
   abbrev NewParts : List DataField → List DataVal → List ℕ → Type 0
-  NewParts = JoinedBoth (DataLays order version')
+  NewParts = IsConcatenationOfBoth (DataLays order version')
 
   abbrev kept_parts : List DataField → List DataVal → List DataVal
   kept_parts news vs = projected_list (old_part least) news vs

@@ -20,7 +20,7 @@ use Rattle.sbe_types.specs.Numbers.{number_of, natural, prim_width}
 use Rattle.sbe_types.specs.Shown.{admits}
 use Rattle.sbe_wire.specs.declared.mode.Mode.{Mode}
 use Rattle.sbe_wire.specs.Versions.{is_alive, form_of}
-use Rattle.sbe_wire.specs.Lays.{Joined, JoinedBoth, DataLies, DataLays, DimensionLays, BlockLays, EntryLays, TailLays, GroupsLay, GroupLays}
+use Rattle.sbe_wire.specs.Lays.{IsConcatenation, IsConcatenationOfBoth, DataLies, DataLays, DimensionLays, BlockLays, EntryLays, TailLays, GroupsLay, GroupLays}
 use Rattle.sbe_wire.specs.Placed.{ArePlaced, IsPlacedLevel}
 use Rattle.version_laws.specs.Differ.{is_old, group_since}
 use Rattle.version_laws.specs.Projected.{each_entry, projected_list, lifted_list, old_field, old_part, projected_block, lifted_block, lifted_groups, lifted_group}
@@ -38,7 +38,7 @@ pub map_length : (f : Block → Block) (es : List Block) → length (map f es) �
 map_length f [] = refl
 map_length f (e ∷ es) = ap (λ n. suc n) (map_length f es)
 
-pub joined_map : (P Q : Block → List ℕ → Type 0) (f : Block → Block) → ((e : Block) (b : List ℕ) → P e b → Q (f e) b) → (es : List Block) (b : List ℕ) → Joined P es b → Joined Q (map f es) b
+pub joined_map : (P Q : Block → List ℕ → Type 0) (f : Block → Block) → ((e : Block) (b : List ℕ) → P e b → Q (f e) b) → (es : List Block) (b : List ℕ) → IsConcatenation P es b → IsConcatenation Q (map f es) b
 joined_map P Q f step [] b h = h
 joined_map P Q f step (e ∷ es) b h = (h.0, h.1, h.2, step e h.0 h.3, joined_map P Q f step es h.1 h.4)
 
@@ -103,7 +103,7 @@ module _ (order : Order) (R : Lists) (known known' : Bool) (least version versio
   part_alive f g h o = ap (is_alive version) h.since ∙ alike g.since o
 
   pub lift_parts : DeadBeyond least version' → (olds news : List DataField) → PartsStand least olds news → (vs : List DataVal) (b : List ℕ) →
-      JoinedBoth (DataLays order version) olds vs b → JoinedBoth (DataLays order version') news (lifted_list (old_part least) dataval.Absent news vs) b
+      IsConcatenationOfBoth (DataLays order version) olds vs b → IsConcatenationOfBoth (DataLays order version') news (lifted_list (old_part least) dataval.Absent news vs) b
   lift_parts dead [] [] h [] b lies = lies
   lift_parts dead [] [] h (v ∷ vs) b lies = absurd lies
   lift_parts dead (f ∷ fs) [] h vs b lies = absurd h
@@ -115,9 +115,9 @@ module _ (order : Order) (R : Lists) (known known' : Bool) (least version versio
   lift_parts dead (f ∷ fs) (g ∷ gs) h (v ∷ vs) b lies =
       by_bool _ (is_old least g.since)
       (λ o. let k = taken _ _ _ o h in
-      subst (λ t. JoinedBoth (DataLays order version') (g ∷ gs) (cond t (v ∷ lifted_list (old_part least) dataval.Absent gs vs) (dataval.Absent ∷ lifted_list (old_part least) dataval.Absent gs (v ∷ vs))) b) (sym o)
+      subst (λ t. IsConcatenationOfBoth (DataLays order version') (g ∷ gs) (cond t (v ∷ lifted_list (old_part least) dataval.Absent gs vs) (dataval.Absent ∷ lifted_list (old_part least) dataval.Absent gs (v ∷ vs))) b) (sym o)
       (lies.0, lies.1, lies.2, data_moves order version version' f g k.0.length (part_alive f g k.0 o) v lies.0 lies.3, lift_parts dead fs gs k.1 vs lies.1 lies.4))
-      (λ o. subst (λ t. JoinedBoth (DataLays order version') (g ∷ gs) (cond t (v ∷ lifted_list (old_part least) dataval.Absent gs vs) (dataval.Absent ∷ lifted_list (old_part least) dataval.Absent gs (v ∷ vs))) b) (sym o)
+      (λ o. subst (λ t. IsConcatenationOfBoth (DataLays order version') (g ∷ gs) (cond t (v ∷ lifted_list (old_part least) dataval.Absent gs vs) (dataval.Absent ∷ lifted_list (old_part least) dataval.Absent gs (v ∷ vs))) b) (sym o)
       ([], b, refl, pass_it _ _ _ (dead g.since o) (refl, refl), lift_parts dead (f ∷ fs) gs (passed _ _ _ o h) (v ∷ vs) b lies))
 
   -- an entry, and then a group, where the tail of an entry lifts

@@ -17,7 +17,7 @@ use Rattle.sbe_types.specs.Shows.{Shows}
 use Rattle.sbe_types.specs.Wire.{both, padded, FitsKind}
 use Rattle.sbe_wire.specs.declared.codes.NCode.TheVariants as code
 use Rattle.sbe_wire.specs.Versions.{floor, floor_from, own_mode}
-use Rattle.sbe_wire.specs.Lays.{JoinedBoth, FieldsLay, BlockLays, DataLies, DataLays}
+use Rattle.sbe_wire.specs.Lays.{IsConcatenationOfBoth, FieldsLay, BlockLays, DataLies, DataLays}
 use Rattle.sbe_wire.specs.Canonical.{fields_bytes, block_bytes, part_bytes, parts_bytes}
 use Rattle.sbe_wire.specs.Fits.{FieldsFit, PartFits, PartsFit}
 use Rattle.sbe_wire.specs.Misfit.{value_misfit, misfit_in, fields_misfit, take_bytes, refused, taken_in, block_taken, part_taken, parts_taken}
@@ -133,12 +133,12 @@ module _ (order : Order) (version : ℕ) where
       subst (λ v. Written (part_bytes order p v) (DataLays order version p v) (λ limit before. part_taken limit before p v)) (sym h.1) (of_data p h.0 writable h.2)
 
   pub parts_written : (i : ℕ) (ps : List DataField) (vs : List DataVal) → AreWritableParts version ps → PartsFit ps vs →
-      Written (parts_bytes order ps vs) (JoinedBoth (DataLays order version) ps vs) (λ limit before. parts_taken limit i before ps vs)
+      Written (parts_bytes order ps vs) (IsConcatenationOfBoth (DataLays order version) ps vs) (λ limit before. parts_taken limit i before ps vs)
   parts_written i [] [] writable h = nothing_written
   parts_written i [] (v ∷ vs) writable h = absurd h
   parts_written i (p ∷ ps) [] writable h = absurd h
   parts_written i (p ∷ ps) (v ∷ vs) writable h =
-      written_then (part_bytes order p v) (parts_bytes order ps vs) (DataLays order version p v) (JoinedBoth (DataLays order version) ps vs)
+      written_then (part_bytes order p v) (parts_bytes order ps vs) (DataLays order version p v) (IsConcatenationOfBoth (DataLays order version) ps vs)
       (λ limit before. taken_in (way.Part i) (part_taken limit before p v)) (λ limit before. parts_taken limit (suc i) before ps vs)
       (written_in (way.Part i) (part_bytes order p v) (DataLays order version p v) (λ limit before. part_taken limit before p v) (part_written p v writable.0 h.0))
       (parts_written (suc i) ps vs writable.1 h.1)

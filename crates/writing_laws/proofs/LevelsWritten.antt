@@ -16,7 +16,7 @@ use Rattle.sbe_types.specs.Wire.{both}
 use Rattle.sbe_wire.specs.Versions.{own_mode, form_of, BlockForm}
 use Rattle.sbe_wire.specs.declared.codes.NCode.TheVariants as code
 use Rattle.sbe_wire.specs.Named.{is_admitted}
-use Rattle.sbe_wire.specs.Lays.{Joined, JoinedBoth, BlockLays, DataLays, DimensionLays, EntryLays, GroupLies, TailLays, GroupsLay, GroupLays}
+use Rattle.sbe_wire.specs.Lays.{IsConcatenation, IsConcatenationOfBoth, BlockLays, DataLays, DimensionLays, EntryLays, GroupLies, TailLays, GroupsLay, GroupLays}
 use Rattle.sbe_wire.specs.Canonical.{named_bytes, dimension_numbers, block_bytes, parts_bytes, all_bytes, entries_in, entries_bytes, tail_bytes, groups_bytes, group_bytes}
 use Rattle.sbe_wire.specs.Fits.{EachFits, BlockFits, GroupsFit, GroupFits}
 use Rattle.sbe_wire.specs.Misfit.{Taken, ◌then◌, taken_in, take_bytes, refused, block_taken, parts_taken, each_taken, entries_taken, tail_taken, groups_taken, group_taken}
@@ -53,10 +53,10 @@ module _ (order : Order) (version : ℕ) where
 
   -- each item is written, one after another
   each_written : {X : Type 0} (out : X → Option (List ℕ)) (R : X → List ℕ → Type 0) (took : ℕ → ℕ → X → Taken) (i : ℕ) (xs : List X) →
-      EachFits (λ x. Written (out x) (R x) (λ limit before. took limit before x)) xs → Written (all_bytes out xs) (Joined R xs) (λ limit before. each_taken (took limit) i before xs)
+      EachFits (λ x. Written (out x) (R x) (λ limit before. took limit before x)) xs → Written (all_bytes out xs) (IsConcatenation R xs) (λ limit before. each_taken (took limit) i before xs)
   each_written out R took i [] h = nothing_written
   each_written out R took i (x ∷ xs) h =
-      written_then (out x) (all_bytes out xs) (R x) (Joined R xs) (λ limit before. taken_in (way.Entry i) (took limit before x)) (λ limit before. each_taken (took limit) (suc i) before xs)
+      written_then (out x) (all_bytes out xs) (R x) (IsConcatenation R xs) (λ limit before. taken_in (way.Entry i) (took limit before x)) (λ limit before. each_taken (took limit) (suc i) before xs)
       (written_in (way.Entry i) (out x) (R x) (λ limit before. took limit before x) h.0)
       (each_written out R took (suc i) xs h.1)
 
@@ -119,9 +119,9 @@ module _ (order : Order) (version : ℕ) where
           counted_as (entries_bytes order dim wide entry_bytes (Some es)) (GroupLies TailIs form dim es) (λ limit before. counted limit before es)
           (λ limit before. entries_taken limit before dim (entry_taken limit) (Some es))
           (λ limit before. ap (λ t. cond t (counted limit before es) (refused code.Count (length es))) admitted)
-          (written_as (entries_bytes order dim wide entry_bytes (Some es)) (Then (DimensionLays order dim wide (length es)) (Joined EntryIs es)) (GroupLies TailIs form dim es)
+          (written_as (entries_bytes order dim wide entry_bytes (Some es)) (Then (DimensionLays order dim wide (length es)) (IsConcatenation EntryIs es)) (GroupLies TailIs form dim es)
           (λ limit before. counted limit before es) (λ b h. (wide, h.0, h.1, h.2, h.3, h.4))
-          (written_then (named_bytes order (dimension_numbers wide (length es)) 0 dim) (all_bytes entry_bytes es) (DimensionLays order dim wide (length es)) (Joined EntryIs es)
+          (written_then (named_bytes order (dimension_numbers wide (length es)) 0 dim) (all_bytes entry_bytes es) (DimensionLays order dim wide (length es)) (IsConcatenation EntryIs es)
           (λ limit before. take_bytes limit before (members_end 0 dim)) (λ limit before. each_taken (entry_taken limit) 0 before es)
           (dimension_written dim wide (length es) writable admitted) (each_written entry_bytes EntryIs entry_taken 0 es each)))
 
@@ -153,7 +153,7 @@ module _ (order : Order) (version : ℕ) where
     pub tail_written : (level : Level) → IsPlacedLevel level → IsWritableLevel version level → (block : Block) → BlockFits order level block → TailWritten level block
     tail_written (Level' name id semantic since block_length fields n groups parts) placed writable block h =
         written_then (groups_bytes order groups (out-Block block).groups) (parts_bytes order parts (out-Block block).parts)
-        (GroupsLay (own_mode order version) groups (out-Block block).groups) (JoinedBoth (DataLays order version) parts (out-Block block).parts)
+        (GroupsLay (own_mode order version) groups (out-Block block).groups) (IsConcatenationOfBoth (DataLays order version) parts (out-Block block).parts)
         (λ limit before. groups_taken limit (length fields) before groups (out-Block block).groups)
         (λ limit before. parts_taken limit (length fields + length (out-Block block).groups) before parts (out-Block block).parts)
         (groups_written (length fields) groups placed.1 writable.2 (out-Block block).groups h.1)

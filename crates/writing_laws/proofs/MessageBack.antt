@@ -21,7 +21,7 @@ use Rattle.sbe_types.specs.declared.message.Msg.{Msg}
 use Rattle.sbe_types.specs.Places.{width, begin_of, end_past}
 use Rattle.sbe_types.specs.Shows.{Shows}
 use Rattle.sbe_wire.specs.Versions.{own_mode, form_of}
-use Rattle.sbe_wire.specs.Lays.{Joined, JoinedBoth, FieldsLay, BlockLays, DataLies, DataLays, EntryLays, GroupLies, TailLays, GroupsLay, GroupLays, Lays}
+use Rattle.sbe_wire.specs.Lays.{IsConcatenation, IsConcatenationOfBoth, FieldsLay, BlockLays, DataLies, DataLays, EntryLays, GroupLies, TailLays, GroupsLay, GroupLays, Lays}
 use Rattle.sbe_wire.specs.Fits.{FieldsFit, PartFits, PartsFit, EachFits, BlockFits, GroupsFit, GroupFits, Fits}
 use Rattle.sbe_wire.specs.Placed.{ArePlaced, IsPlacedLevel, ArePlacedGroups, IsPlacedGroup, IsPlaced}
 use Rattle.sbe_wire.proofs.Levels.{placed_fields}
@@ -50,7 +50,7 @@ module _ (order : Order) (version : ℕ) where
       let lies = alive_from ((bytes : List ℕ) × (v ≡ dataval.Bytes bytes) × DataLies order p bytes b) ((v ≡ dataval.Absent) × (b ≡ [])) version p.since writable.known h in
       (lies.0, lies.1, lies.2.admitted)
 
-  parts_back : (ps : List DataField) (vs : List DataVal) (b : List ℕ) → AreWritableParts version ps → JoinedBoth (DataLays order version) ps vs b → PartsFit ps vs
+  parts_back : (ps : List DataField) (vs : List DataVal) (b : List ℕ) → AreWritableParts version ps → IsConcatenationOfBoth (DataLays order version) ps vs b → PartsFit ps vs
   parts_back [] [] b writable h = tt
   parts_back [] (v ∷ vs) b writable h = absurd h
   parts_back (p ∷ ps) [] b writable h = absurd h
@@ -58,7 +58,7 @@ module _ (order : Order) (version : ℕ) where
 
   -- ---- entries
 
-  each_back : {X : Type 0} (R : X → List ℕ → Type 0) (P : X → Type 0) → ((x : X) (b : List ℕ) → IsBytes b → R x b → P x) → (xs : List X) (b : List ℕ) → IsBytes b → Joined R xs b → EachFits P xs
+  each_back : {X : Type 0} (R : X → List ℕ → Type 0) (P : X → Type 0) → ((x : X) (b : List ℕ) → IsBytes b → R x b → P x) → (xs : List X) (b : List ℕ) → IsBytes b → IsConcatenation R xs b → EachFits P xs
   each_back R P each [] b good h = tt
   each_back R P each (x ∷ xs) b good h =
       let whole : IsBytes (h.0 ++ h.1) = subst IsBytes h.2 good in

@@ -36,19 +36,19 @@ abbrev pub entries_read : Mode → Level → ℕ → Reader Block
 entries_read mode level k = entry_read (tail_read mode level) mode (out-Level level).fields k
 
 -- the offset after a level's block of k bytes
-abbrev pub block_told : Mode → Level → ℕ → List ℕ → ℕ → Result ℕ Fault
-block_told mode level k = skim (block_read mode (out-Level level).fields k)
+abbrev pub block_end : Mode → Level → ℕ → List ℕ → ℕ → Result ℕ Fault
+block_end mode level k = skim (block_read mode (out-Level level).fields k)
 
 -- the offset after groups, counted from i
-abbrev pub groups_told : Mode → ℕ → List Group → List ℕ → ℕ → Result ℕ Fault
-groups_told mode i [] body at = Ok at
-groups_told mode i (g ∷ gs) body at =
-    inside (way.Part i) (skim (group_read mode g) body at) >>= (λ next. groups_told mode (i + 1) gs body next)
+abbrev pub groups_end : Mode → ℕ → List Group → List ℕ → ℕ → Result ℕ Fault
+groups_end mode i [] body at = Ok at
+groups_end mode i (g ∷ gs) body at =
+    inside (way.Part i) (skim (group_read mode g) body at) >>= (λ next. groups_end mode (i + 1) gs body next)
 
 -- the offset after n steps, counted from i
-abbrev pub steps_told : (ℕ → Result ℕ Fault) → ℕ → ℕ → ℕ → Result ℕ Fault
-steps_told f i zero at = Ok at
-steps_told f i (suc n) at = inside (way.Entry i) (f at) >>= (λ next. steps_told f (i + 1) n next)
+abbrev pub steps_end : (ℕ → Result ℕ Fault) → ℕ → ℕ → ℕ → Result ℕ Fault
+steps_end f i zero at = Ok at
+steps_end f i (suc n) at = inside (way.Entry i) (f at) >>= (λ next. steps_end f (i + 1) n next)
 
 -- ---- data
 
@@ -59,19 +59,19 @@ range_answer at (Err (bad.Truncated needed)) = Err (fault_at code.Truncated at (
 range_answer at (Err (bad.Length n)) = Err (fault_at code.Length at (pos n))
 
 -- the offset after a data part, by its row
-abbrev pub data_told : Mode → PartRow → List ℕ → ℕ → Result ℕ Fault
-data_told mode row body at = if is_alive mode.version row.since then range_answer at (data_range mode.order row.length body at) else Ok at
+abbrev pub data_end : Mode → PartRow → List ℕ → ℕ → Result ℕ Fault
+data_end mode row body at = if is_alive mode.version row.since then range_answer at (data_range mode.order row.length body at) else Ok at
 
 -- the same for data parts, counted from i
-abbrev pub parts_told : Mode → ℕ → List PartRow → List ℕ → ℕ → Result ℕ Fault
-parts_told mode i [] body at = Ok at
-parts_told mode i (r ∷ rs) body at = inside (way.Part i) (data_told mode r body at) >>= (λ next. parts_told mode (i + 1) rs body next)
+abbrev pub parts_end : Mode → ℕ → List PartRow → List ℕ → ℕ → Result ℕ Fault
+parts_end mode i [] body at = Ok at
+parts_end mode i (r ∷ rs) body at = inside (way.Part i) (data_end mode r body at) >>= (λ next. parts_end mode (i + 1) rs body next)
 
 -- ---- dimensions
 
 -- the dimension that begins at an offset of the body, where the floor of its entries is `least`
-abbrev pub dim_told : Order → List Member → ℕ → List ℕ → ℕ → Result (ℕ × ℕ) Fault
-dim_told order dim least body at =
+abbrev pub dim_from : Order → List Member → ℕ → List ℕ → ℕ → Result (ℕ × ℕ) Fault
+dim_from order dim least body at =
     if nat_le (members_end 0 dim) (length body - at)
     then later at (dimension_of order dim least (take (members_end 0 dim) (drop at body)))
     else Err (fault_at code.Truncated at (pos (members_end 0 dim)))

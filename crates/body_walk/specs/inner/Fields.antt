@@ -8,20 +8,20 @@ use Rattle.sbe_wire.specs.Versions.{is_alive}
 use Rattle.layout_tables.specs.declared.rows.FieldRow.{FieldRow}
 use Rattle.sbe_wire.specs.declared.mode.Mode.{Mode}
 use Rattle.body_walk.specs.inner.Told.{Piece, piece}
-use Rattle.body_walk.specs.inner.Kinds.{part_told, IsReady}
+use Rattle.body_walk.specs.inner.Kinds.{part_check, IsReady}
 
 -- whether a block shows a value of field i, by its row; a constant, or a field that isn't alive, isn't checked
-abbrev pub field_told : Mode → Piece → ℕ → Field → FieldRow → Result Unit Fault
-field_told mode b i f r =
+abbrev pub field_check : Mode → Piece → ℕ → Field → FieldRow → Result Unit Fault
+field_check mode b i f r =
     if is_alive mode.version r.since && not r.is_constant
-    then part_told mode f.kind i (piece (b.at + r.place) (take (r.end - r.place) (drop r.place b.bytes)))
+    then part_check mode f.kind i (piece (b.at + r.place) (take (r.end - r.place) (drop r.place b.bytes)))
     else Ok tt
 
 -- the same for fields, counted from i, up to the first fault
-abbrev pub fields_told : Mode → Piece → ℕ → List Field → List FieldRow → Result Unit Fault
-fields_told mode b i [] rows = Ok tt
-fields_told mode b i (f ∷ fs) [] = Ok tt
-fields_told mode b i (f ∷ fs) (r ∷ rs) = field_told mode b i f r >>= (λ _. fields_told mode b (i + 1) fs rs)
+abbrev pub fields_check : Mode → Piece → ℕ → List Field → List FieldRow → Result Unit Fault
+fields_check mode b i [] rows = Ok tt
+fields_check mode b i (f ∷ fs) [] = Ok tt
+fields_check mode b i (f ∷ fs) (r ∷ rs) = field_check mode b i f r >>= (λ _. fields_check mode b (i + 1) fs rs)
 
 -- the row is the field's, and if the field is alive, its bytes are within a block of n bytes
 pub record IsFieldRow (version n : ℕ) (f : Field) (r : FieldRow) : Type 0 where

@@ -17,7 +17,7 @@ use Rattle.sbe_wire.specs.Faults.{Fault, fault_at}
 use Rattle.sbe_wire.specs.Reading.{◌>>=◌, inside, leaf_read, value_read}
 use Rattle.schema_facts.specs.InOrder.{IsKindInOrder}
 use Rattle.sbe_wire.specs.declared.mode.Mode.{Mode}
-use Rattle.body_walk.specs.inner.Told.{Piece, piece, settled}
+use Rattle.body_walk.specs.inner.Told.{Piece, piece, check_at}
 
 -- the result for a number, by whether it shows a value; if not, the fault with this code
 abbrev pub answered : FCode → ℕ → ℤ → Bool → Result Unit Fault
@@ -44,8 +44,8 @@ abbrev pub leaf_answer : LeafOf → ℕ → Option LeafFault → Result Unit Fau
 leaf_answer leaf at o = shape_answer leaf.shape leaf at o
 
 -- whether a leaf's bytes show a value, or the fault
-abbrev pub leaf_told : Order → LeafOf → Piece → Result Unit Fault
-leaf_told order leaf b = settled b.at (leaf_read order leaf.shape leaf b.bytes)
+abbrev pub leaf_check : Order → LeafOf → Piece → Result Unit Fault
+leaf_check order leaf b = check_at b.at (leaf_read order leaf.shape leaf b.bytes)
 
 -- the fault is one of a leaf whose bytes begin at an offset of the body
 pub record IsLeafFault (leaf : LeafOf) (at : ℕ) (f : LeafFault) : Type 0 where
@@ -56,22 +56,22 @@ pub record IsLeafFault (leaf : LeafOf) (at : ℕ) (f : LeafFault) : Type 0 where
 -- ---- kinds
 
 -- whether the bytes of a kind show a value, or the fault
-abbrev pub kind_told : Mode → Kind → Piece → Result Unit Fault
-kind_told mode kind b = settled b.at (value_read mode.order mode.known kind b.bytes)
+abbrev pub kind_check : Mode → Kind → Piece → Result Unit Fault
+kind_check mode kind b = check_at b.at (value_read mode.order mode.known kind b.bytes)
 
 -- the same for the bytes of part i of a block or composite
-abbrev pub part_told : Mode → Kind → ℕ → Piece → Result Unit Fault
-part_told mode kind i b = settled b.at (inside (way.Part i) (value_read mode.order mode.known kind b.bytes))
+abbrev pub part_check : Mode → Kind → ℕ → Piece → Result Unit Fault
+part_check mode kind i b = check_at b.at (inside (way.Part i) (value_read mode.order mode.known kind b.bytes))
 
 -- the same for member i of a composite, after members that end at e
-abbrev pub member_told : Mode → Piece → ℕ → ℕ → Member → Result Unit Fault
-member_told mode b e i m =
-    part_told mode m.kind i (piece (b.at + begin_of e m.offset) (take (width m.kind) (drop (begin_of e m.offset) b.bytes)))
+abbrev pub member_check : Mode → Piece → ℕ → ℕ → Member → Result Unit Fault
+member_check mode b e i m =
+    part_check mode m.kind i (piece (b.at + begin_of e m.offset) (take (width m.kind) (drop (begin_of e m.offset) b.bytes)))
 
 -- the same for members, counted from i, up to the first fault
-abbrev pub members_told : Mode → Piece → ℕ → ℕ → List Member → Result Unit Fault
-members_told mode b e i [] = Ok tt
-members_told mode b e i (m ∷ ms) = member_told mode b e i m >>= (λ _. members_told mode b (end_past e m.offset m.kind) (i + 1) ms)
+abbrev pub members_check : Mode → Piece → ℕ → ℕ → List Member → Result Unit Fault
+members_check mode b e i [] = Ok tt
+members_check mode b e i (m ∷ ms) = member_check mode b e i m >>= (λ _. members_check mode b (end_past e m.offset m.kind) (i + 1) ms)
 
 -- ---- what the walk requires of a kind
 

@@ -17,16 +17,16 @@ abbrev pub fault_of : Found → Fault
 fault_of found = record { code = found.code; path = found.path; offset = found.offset; detail = found.detail }
 
 -- the result of a check of bytes at an offset, without the value
-abbrev pub settled : {X : Type 0} → ℕ → Result X Fault → Result Unit Fault
-settled at (Ok x) = Ok tt
-settled at (Err f) = Err (shifted at f)
+abbrev pub check_at : {X : Type 0} → ℕ → Result X Fault → Result Unit Fault
+check_at at (Ok x) = Ok tt
+check_at at (Err f) = Err (shifted at f)
 
 -- the result that `true` or `false` and the fault slot encode
-abbrev pub judged : Bool → Found → Result Unit Fault
-judged true found = Ok tt
-judged false found = Err (fault_of found)
+abbrev pub fault_unless : Bool → Found → Result Unit Fault
+fault_unless true found = Ok tt
+fault_unless false found = Err (fault_of found)
 
 -- the result that an offset or None and the fault slot encode
-abbrev pub went : Option ℕ → Found → Result ℕ Fault
-went (Some next) found = Ok next
-went None found = Err (fault_of found)
+abbrev pub place_or_fault : Option ℕ → Found → Result ℕ Fault
+place_or_fault (Some next) found = Ok next
+place_or_fault None found = Err (fault_of found)

@@ -5,16 +5,16 @@ use Rattle.layout_tables.specs.declared.rows.LevelRow.{LevelRow}
 use Rattle.flyweight_view.specs.declared.block.BlockView.TheInside.{Inside}
 use Rattle.flyweight_view.specs.declared.by_table.TableBlock.{TableBlock}
 use Rattle.flyweight_view.specs.declared.plan.Span.{Span}
-use Rattle.flyweight_view.specs.inner.Planned.{bytes_of, seen_at, IsSeen}
-use Rattle.flyweight_view.specs.Seen.{Seen}
+use Rattle.flyweight_view.specs.inner.Planned.{bytes_of, typed_at, IsPlannedBlock}
+use Rattle.flyweight_view.specs.Seen.{TypedBlock}
 
 -- what the bytes at its offset show
-abbrev pub seen_of : Inside → Seen
-seen_of v = seen_at v.span v.plan
+abbrev pub typed_of : Inside → TypedBlock
+typed_of v = typed_at v.span v.plan
 
 -- the block is there
 abbrev pub IsShown : Inside → Type 0
-IsShown v = IsSeen v.span v.plan
+IsShown v = IsPlannedBlock v.span v.plan
 
 -- a block is that of a span, all fields of the row exist in it, and it is little-endian
 pub record IsRowBlock (s : Span) (row : LevelRow) (b : TableBlock) : Type 0 where

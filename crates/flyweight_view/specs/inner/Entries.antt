@@ -2,12 +2,12 @@
 use Rattle.std.specs.Prelude.{List}
 use Rattle.flyweight_view.specs.declared.entries.EntriesView.TheInside.{Inside}
 use Rattle.body_walk.specs.inner.Layers.{IsLayer}
-use Rattle.flyweight_view.specs.inner.Layers.{LieThere, entries_seen}
-use Rattle.flyweight_view.specs.Seen.{Seen}
+use Rattle.flyweight_view.specs.inner.Layers.{LieThere, typed_entries}
+use Rattle.flyweight_view.specs.Seen.{TypedBlock}
 
 -- the entries that are left
-abbrev pub entries_of : Inside → List Seen
-entries_of e = entries_seen e.layer e.left
+abbrev pub entries_of : Inside → List TypedBlock
+entries_of e = typed_entries e.layer e.left
 
 -- the entries are at their offset of the body
 pub record AreEntries (e : Inside) : Type 0 where

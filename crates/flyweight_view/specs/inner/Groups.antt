@@ -15,7 +15,7 @@ use Rattle.sbe_wire.specs.declared.mode.Mode.{Mode}
 use Rattle.body_walk.specs.inner.Layers.{IsLayer}
 use Rattle.flyweight_view.specs.inner.Layers.{blocks_read}
 use Rattle.flyweight_view.specs.inner.Lefts.{items_of}
-use Rattle.flyweight_view.specs.Seen.{groups_seen, Seen}
+use Rattle.flyweight_view.specs.Seen.{typed_groups, TypedBlock}
 
 -- the reader of a group
 abbrev pub groups_by : Mode → Group → Reader GroupVal
@@ -35,8 +35,8 @@ abbrev pub groups_at : Layer → GroupCursor → Result (List GroupVal × List �
 groups_at l s = each_read (groups_by l.mode) 0 (next_groups l s) (drop s.at l.body.now)
 
 -- what these groups show
-abbrev pub groups_left : Layer → GroupCursor → List (Option (List Seen))
-groups_left l s = groups_seen (next_groups l s) (items_of (groups_at l s))
+abbrev pub groups_left : Layer → GroupCursor → List (Option (List TypedBlock))
+groups_left l s = typed_groups (next_groups l s) (items_of (groups_at l s))
 
 -- the groups from the next one on are there, one after another
 pub record StandThere (l : Layer) (s : GroupCursor) : Type 0 where
@@ -45,7 +45,7 @@ pub record StandThere (l : Layer) (s : GroupCursor) : Type 0 where
   pub reads : IsOk (groups_at l s)
 
 -- the groups that are left; a composite has none
-abbrev pub left_in : Option Layer → GroupCursor → List (Option (List Seen))
+abbrev pub left_in : Option Layer → GroupCursor → List (Option (List TypedBlock))
 left_in None s = []
 left_in (Some l) s = groups_left l s
 
@@ -55,7 +55,7 @@ AreLeft None s = ⊤
 AreLeft (Some l) s = IsLayer l × StandThere l s
 
 -- the groups that a view shows
-abbrev pub groups_of_view : Inside → List (Option (List Seen))
+abbrev pub groups_of_view : Inside → List (Option (List TypedBlock))
 groups_of_view v = left_in v.layer v.cursor
 
 -- what a view of groups relies on

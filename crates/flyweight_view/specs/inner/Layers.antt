@@ -9,7 +9,7 @@ use Rattle.group_codec.specs.declared.dim.Dim.{Dim}
 use Rattle.body_walk.specs.declared.layer.Layer.{Layer}
 use Rattle.body_walk.specs.inner.Cursor.{entries_read}
 use Rattle.flyweight_view.specs.inner.Lefts.{items_of}
-use Rattle.flyweight_view.specs.Seen.{Seen, seen_level}
+use Rattle.flyweight_view.specs.Seen.{TypedBlock, typed_level}
 
 -- the reader of as many entries as the dimension counts
 abbrev pub blocks_read : Layer → Dim → Reader (List Block)
@@ -20,8 +20,8 @@ abbrev pub blocks_at : Layer → Dim → Result (List Block × List ℕ) Fault
 blocks_at l d = blocks_read l d (drop d.after l.body.now)
 
 -- what the entries show
-abbrev pub entries_seen : Layer → Dim → List Seen
-entries_seen l d = map (seen_level l.level.now) (items_of (blocks_at l d))
+abbrev pub typed_entries : Layer → Dim → List TypedBlock
+typed_entries l d = map (typed_level l.level.now) (items_of (blocks_at l d))
 
 -- the entries are there, one after another
 pub record LieThere (l : Layer) (d : Dim) : Type 0 where

@@ -19,7 +19,7 @@ use Rattle.flyweight_view.specs.declared.plan.Plan.{Plan}
 use Rattle.flyweight_view.specs.declared.plan.Plan.TheVariants as plan
 use Rattle.flyweight_view.specs.declared.plan.Span.{Span}
 use Rattle.body_walk.specs.inner.Layers.{HasLevel}
-use Rattle.flyweight_view.specs.Seen.{Seen, member_field}
+use Rattle.flyweight_view.specs.Seen.{TypedBlock, member_field}
 
 -- the fields of a block
 abbrev pub fields_of : Plan → List Field
@@ -42,8 +42,8 @@ tail_of mode (plan.Level layout number level) = tail_read mode level.now
 tail_of mode (plan.Members members) = nothing ([], [])
 
 -- the block that is read, and the bytes after it
-abbrev pub block_told : Span → Plan → Result (Block × List ℕ) Fault
-block_told s p = entry_read (tail_of s.mode p) s.mode (fields_of p) s.size (drop s.at s.body.now)
+abbrev pub planned_block : Span → Plan → Result (Block × List ℕ) Fault
+planned_block s p = entry_read (tail_of s.mode p) s.mode (fields_of p) s.size (drop s.at s.body.now)
 
 -- the block that was read; one without parts if none was
 abbrev pub block_of : Result (Block × List ℕ) Fault → Block
@@ -51,16 +51,16 @@ block_of (Ok r) = r.0
 block_of (Err f) = record { fields = []; groups = []; parts = [] }
 
 -- what a block of these parts shows
-abbrev pub seen_by : Plan → Block → Seen
-seen_by p block = record { fields = fields_of p; groups = groups_of p; parts = parts_of p; block = block }
+abbrev pub typed_by : Plan → Block → TypedBlock
+typed_by p block = record { fields = fields_of p; groups = groups_of p; parts = parts_of p; block = block }
 
 -- what is shown at an offset of the body
-abbrev pub seen_at : Span → Plan → Seen
-seen_at s p = seen_by p (block_of (block_told s p))
+abbrev pub typed_at : Span → Plan → TypedBlock
+typed_at s p = typed_by p (block_of (planned_block s p))
 
 -- the values of the fields there
 abbrev pub values_at : Span → Plan → List Value
-values_at s p = (out-Block (block_of (block_told s p))).fields
+values_at s p = (out-Block (block_of (planned_block s p))).fields
 
 -- the bytes of a block
 abbrev pub bytes_of : Span → List ℕ
@@ -77,9 +77,9 @@ IsPlan (plan.Level layout number level) size = HasLevel layout.now number level.
 IsPlan (plan.Members members) size = IsMembersPlan members.now size
 
 -- the block is at its offset of the body
-pub record IsSeen (s : Span) (p : Plan) : Type 0 where
+pub record IsPlannedBlock (s : Span) (p : Plan) : Type 0 where
   pub plan_is : IsPlan p s.size
   pub placed : ArePlaced 0 (fields_of p)
   pub reaches : floor s.mode.version (fields_of p) ≤ s.size
   pub near : s.at + s.size ≤ length s.body.now
-  pub reads : (rest : List ℕ) × (block_told s p ≡ Ok (block_of (block_told s p), rest))
+  pub reads : (rest : List ℕ) × (planned_block s p ≡ Ok (block_of (planned_block s p), rest))

@@ -1,6 +1,6 @@
 use Rattle.std.proofs.Common.{refl, subst, sym, ap, ◌∙◌, arith, length}
 use Rattle.sbe_types.specs.declared.schema.Level.{out-Level}
-use Rattle.body_walk.specs.inner.Fields.{fields_told, AreFieldRows}
+use Rattle.body_walk.specs.inner.Fields.{fields_check, AreFieldRows}
 use Rattle.body_walk.specs.inner.Told.{piece}
 use Rattle.body_walk.proofs.BlockRows.{block_fits, block_good}
 use Rattle.body_walk.proofs.blocks.judge_block.Goals as goal
@@ -27,5 +27,5 @@ pub returns-clause-told : goal.returns-clause-told
 returns-clause-told c =
     let b = piece c.args.at c.args.block.now in
     c.judge_fields.ensures.told
-    ∙ ap (λ fs. fields_told c.args.mode b 0 fs c.as_slice-rows.result.now) c.as_slice.ensures
-    ∙ ap (λ rs. fields_told c.args.mode b 0 (out-Level c.args.level.now).fields rs) c.as_slice-rows.ensures.value
+    ∙ ap (λ fs. fields_check c.args.mode b 0 fs c.as_slice-rows.result.now) c.as_slice.ensures
+    ∙ ap (λ rs. fields_check c.args.mode b 0 (out-Level c.args.level.now).fields rs) c.as_slice-rows.ensures.value

@@ -7,7 +7,7 @@ use Rattle.sbe_wire.specs.Reading.{◌>>=◌, inside}
 use Rattle.sbe_wire.specs.Versions.{floor}
 use Rattle.schema_facts.specs.Levels.{fields_in}
 use Rattle.layout_tables.proofs.GroupWalk.{GroupsFrom, groups_begin}
-use Rattle.body_walk.specs.inner.Cursor.{skim, entries_read, groups_told, steps_told}
+use Rattle.body_walk.specs.inner.Cursor.{skim, entries_read, groups_end, steps_end}
 use Rattle.body_walk.specs.inner.Told.{fault_of}
 use Rattle.body_walk.proofs.BlockRows.{block_row}
 use Rattle.body_walk.proofs.LevelsReady.{level_ready, row_parts, row_since, parts_small, parts_few, group_shallow}
@@ -75,7 +75,7 @@ walk_group-returns-in-Some-walk_dim-clause-told t c =
     let d = c.in-Some-walk_dim.dim in
     let dim = group_dim schema c.args.n row c.in-Some.dim g c.row-row.ensures c.in-Some.is c.requires.dim in
     c.walk_entries.ensures.told
-    ∙ ap (λ a. steps_told (skim (entries_read c.args.mode (out-Group g).level d.block) c.args.body.now) 0 d.count a) (c.in-Some-walk_dim.ensures.after ∙ ap (λ w. c.args.at + w) dim.width)
+    ∙ ap (λ a. steps_end (skim (entries_read c.args.mode (out-Group g).level d.block) c.args.body.now) 0 d.count a) (c.in-Some-walk_dim.ensures.after ∙ ap (λ w. c.args.at + w) dim.width)
     ∙ group_told c.args.mode g c.args.body.now c.args.at c.requires.at row.since c.floor-least.result (Ok (d.block, d.count))
     (row_since schema c.args.n row (out-Group g).level c.row-row.ensures c.requires.level) c.if-row-mode.false
     (c.floor-least.ensures ∙ ap (λ o. floor c.args.mode.version (fields_in o)) c.requires.level) (c.in-Some-walk_dim.ensures.told (out-Group g).dim dim)
@@ -104,7 +104,7 @@ walk_groups-loop-i-init t c =
       near = c.requires.at;
       same = c.as_slice-groups.ensures;
       from = subst (λ k. GroupsFrom schema c.args.n 0 k) (sym c.first_child-child.ensures) (groups_begin schema c.args.n within);
-      told = ap (λ k. groups_told c.args.mode k (out-Level c.args.level.now).groups c.args.body.now c.args.at) first;
+      told = ap (λ k. groups_end c.args.mode k (out-Level c.args.level.now).groups c.args.body.now c.args.at) first;
     }
 
 pub walk_groups-walk_group-requires : goal.walk_groups-walk_group-requires
@@ -174,7 +174,7 @@ walk_groups-returns-in-None-clause-told t c =
     let more : c.loop-i.i < length groups = omega (arith, below, ap length inv.same) in
     let is : g ≡ get_or groups c.loop-i.i g = subst (λ gs. g ≡ get_or gs c.loop-i.i g) inv.same c.index-groups-i.is in
     ap (λ f. Err (fault_of f)) c.under.ensures
-    ∙ ap (λ r. inside (way.Part (first + c.loop-i.i)) r >>= (λ a. groups_told mode (first + (c.loop-i.i + 1)) (drop (c.loop-i.i + 1) groups) body a)) c.in-None.ensures.told
+    ∙ ap (λ r. inside (way.Part (first + c.loop-i.i)) r >>= (λ a. groups_end mode (first + (c.loop-i.i + 1)) (drop (c.loop-i.i + 1) groups) body a)) c.in-None.ensures.told
     ∙ sym (groups_next mode first c.loop-i.i groups g body c.loop-i.at more is)
     ∙ inv.told
 
@@ -204,7 +204,7 @@ walk_groups-loop-i-preserved t c =
       near = c.in-Some.ensures.within;
       same = inv.same;
       from = child_next c.args.layout.now c.args.n level c.requires.level c.loop-i.child c.loop-i.i inv.from more c.row.result.now c.row.ensures;
-      told = ap (λ r. inside (way.Part (first + c.loop-i.i)) r >>= (λ a. groups_told mode (first + (c.loop-i.i + 1)) (drop (c.loop-i.i + 1) groups) body a)) c.in-Some.ensures.told
+      told = ap (λ r. inside (way.Part (first + c.loop-i.i)) r >>= (λ a. groups_end mode (first + (c.loop-i.i + 1)) (drop (c.loop-i.i + 1) groups) body a)) c.in-Some.ensures.told
           ∙ sym (groups_next mode first c.loop-i.i groups g body c.loop-i.at more is)
           ∙ inv.told;
     }

@@ -2,7 +2,7 @@ use Rattle.std.proofs.Common.{◌≡◌, ◌≤◌, ◌+◌, ◌-◌, ◌*◌, l
 use Rattle.schema_facts.specs.Levels.{all_nodes}
 use Rattle.sbe_types.specs.declared.schema.Level.{out-Level}
 use Rattle.layout_tables.proofs.GroupWalk.{GroupsFrom}
-use Rattle.body_walk.specs.inner.Cursor.{skim, entries_read, groups_told, steps_told}
+use Rattle.body_walk.specs.inner.Cursor.{skim, entries_read, groups_end, steps_end}
 use Rattle.body_walk.proofs.walk.+walk.Given as goal
 
 abbrev pub invariant-walk_groups-loop-i : goal.invariant-walk_groups-loop-i
@@ -12,7 +12,7 @@ invariant-walk_groups-loop-i l =
       near : l.at ≤ length l.body;
       same : l.groups ≡ groups;
       from : GroupsFrom l.layout l.n l.i l.child;
-      told : groups_told l.mode (l.first + l.i) (drop l.i groups) l.body l.at ≡ groups_told l.mode (length (out-Level l.level).fields) groups l.body l.fn.at;
+      told : groups_end l.mode (l.first + l.i) (drop l.i groups) l.body l.at ≡ groups_end l.mode (length (out-Level l.level).fields) groups l.body l.fn.at;
     }
 
 abbrev pub invariant-walk_entries-loop-i : goal.invariant-walk_entries-loop-i
@@ -20,7 +20,7 @@ invariant-walk_entries-loop-i l =
     let step = skim (entries_read l.mode l.level l.dim.block) l.body in
     record {
       near : l.at ≤ length l.body;
-      told : steps_told step l.i (l.dim.count - l.i) l.at ≡ steps_told step 0 l.dim.count l.dim.after;
+      told : steps_end step l.i (l.dim.count - l.i) l.at ≡ steps_end step 0 l.dim.count l.dim.after;
     }
 
 abbrev pub decreases-walk_entry : goal.decreases-walk_entry

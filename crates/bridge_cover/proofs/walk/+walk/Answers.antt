@@ -5,7 +5,7 @@ use Rattle.structure_rows.specs.Rows.{rows_of}
 use Rattle.bridge_plan.specs.Mappings.{Mapping}
 use Rattle.bridge_plan.specs.Covers.{uncovered}
 use Rattle.bridge_cover.specs.Kinds.{HasKind}
-use Rattle.bridge_cover.specs.Parts.{groups_left, ids_of, told, Sees}
+use Rattle.bridge_cover.specs.Parts.{groups_left, ids_of, outermost_first, Sees}
 use Rattle.bridge_cover.specs.Tables.{AreTables}
 use Rattle.bridge_cover.proofs.Groups.{tag_is}
 use Rattle.bridge_cover.proofs.Kinded.{field_kinds}
@@ -47,9 +47,9 @@ level_uncovered-returns t c =
     let i = c.loop-field.field-index in
     let Path : Type 0 = Option (List (List ℕ)) in
     if_told (λ (path : Path). (m : Mapping) (s : Structure) (before : List ℕ) → Sees m s before c.loop-field.here
-    → told path ≡ groups_left m s before c.groups_of-groups.result.now c.as_slice-parts.result.now)
+    → outermost_first path ≡ groups_left m s before c.groups_of-groups.result.now c.as_slice-parts.result.now)
     (λ (path : Path). (m : Mapping) (s : Structure) → AreTables m c.args.tables.now → c.args.rows.now ≡ rows_of s →
-    told path ≡ uncovered m s c.args.level.now)
+    outermost_first path ≡ uncovered m s c.args.level.now)
     (λ path left m s tables is.
     let p = c.loop-field.invariant m s tables is in
     groups_told m s c.loop-field.here fields i p (omega arith) c.args.level.now c.as_slice-fields.ensures
@@ -66,6 +66,6 @@ groups_uncovered-loop-group-preserved t c = λ m s before sees.
     group_passed m s c.loop-group.here c.args.groups.now c.args.parts.now c.loop-group.group-index
     (groups_left m s before c.args.groups.now c.args.parts.now) p
     c.group-item.result c.pass.new.self (omega arith) c.group-item.is
-    (ap told (sym c.in_default.is) ∙ c.in_ok-path.ensures m s p.earlier p.sees)
+    (ap outermost_first (sym c.in_default.is) ∙ c.in_ok-path.ensures m s p.earlier p.sees)
     (subst (λ (tag : ℕ). Sees m s (tag ∷ p.earlier) c.pass.new.self) (tag_is c.group-item.result)
     (c.in_ok-pass.ensures m s p.earlier p.sees))

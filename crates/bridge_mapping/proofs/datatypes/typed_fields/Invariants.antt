@@ -1,6 +1,6 @@
 use Rattle.std.proofs.Common.{◌≡◌, List, map, take}
 use Rattle.map_types.specs.declared.tree.CodeSetEl.{CodeSetEl}
-use Rattle.map_members.specs.Seen.{seen}
+use Rattle.map_members.specs.Seen.{lent_members}
 use Rattle.field_types.specs.FieldTypes.{datatypes_of}
 use Rattle.bridge_table.specs.declared.datatype.Datatype.{Datatype as FieldDatatype}
 use Rattle.bridge_mapping.specs.Tables.{typed, AreSets}
@@ -9,4 +9,4 @@ use Rattle.bridge_mapping.proofs.datatypes.typed_fields.Given as goal
 abbrev pub invariant-loop-field : goal.invariant-loop-field
 invariant-loop-field l =
     (sets : List CodeSetEl) (types : List FieldDatatype) → AreSets sets l.fn.names types →
-    map (typed types) l.all ≡ datatypes_of sets (seen (take l.field-index l.fields))
+    map (typed types) l.all ≡ datatypes_of sets (lent_members (take l.field-index l.fields))

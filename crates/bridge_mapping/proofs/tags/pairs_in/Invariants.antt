@@ -1,7 +1,7 @@
 use Rattle.std.proofs.Common.{◌≡◌, ◌++◌, drop, filter_map}
-use Rattle.map_members.specs.Seen.{seen}
+use Rattle.map_members.specs.Seen.{lent_members}
 use Rattle.orchestra_map.specs.DataFields.{data_pair}
 use Rattle.bridge_mapping.proofs.tags.pairs_in.Given as goal
 
 abbrev pub invariant-loop-field : goal.invariant-loop-field
-invariant-loop-field l = l.pairs ++ filter_map (data_pair l.fn.hidden) (seen (drop l.field-index l.fields)) ≡ filter_map (data_pair l.fn.hidden) (seen l.fields)
+invariant-loop-field l = l.pairs ++ filter_map (data_pair l.fn.hidden) (lent_members (drop l.field-index l.fields)) ≡ filter_map (data_pair l.fn.hidden) (lent_members l.fields)

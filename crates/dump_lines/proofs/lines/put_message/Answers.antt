@@ -1,6 +1,6 @@
 use Rattle.std.proofs.Common.{◌≡◌, ap, sym, ◌++◌, ◌∙◌, append_assoc}
 use Rattle.std.specs.Prelude.{codes}
-use Rattle.dump_lines.specs.Dumped.{before_message, behind_message, seen_line}
+use Rattle.dump_lines.specs.Dumped.{before_message, behind_message, view_line}
 use Rattle.printers.proofs.Printing.{then_prints, reprinted}
 use Rattle.dump_lines.proofs.lines.put_message.Goals as goal
 
@@ -8,5 +8,5 @@ pub returns : goal.returns
 returns g c =
     let line = c.put_open_line.ensures in
     let behind = behind_message c.args.schemas.now.also in
-    let whole : line.done ++ (codes "}" ++ behind) ≡ seen_line c.args.view.now ++ behind = sym (append_assoc line.done (codes "}") behind) ∙ ap (λ text. text ++ behind) line.whole in
+    let whole : line.done ++ (codes "}" ++ behind) ≡ view_line c.args.view.now ++ behind = sym (append_assoc line.done (codes "}") behind) ∙ ap (λ text. text ++ behind) line.whole in
     then_prints (reprinted (ap (before_message c.args.schemas.now.also) c.id.ensures) c.put_before.ensures) (reprinted whole (then_prints line.printed c.put_behind.ensures))

@@ -5,7 +5,7 @@ use Rattle.tagvalue_codec.specs.Drafts.{IsValue}
 use Rattle.bridge_terms.specs.Blocks.{values_of}
 use Rattle.bridge_terms.specs.Places.{places_of}
 use Rattle.bridge_plan.specs.Covers.{plan_of}
-use Rattle.message_walk.specs.Rows.{AreRows, FitsSeen}
+use Rattle.message_walk.specs.Rows.{AreRows, FitsBlock}
 use Rattle.message_plans.specs.Plans.{IsCover, IsMapped}
 use Rattle.value_texts.specs.Rows.{Spells}
 use Rattle.fix_messages.specs.Heads.{head_of}
@@ -55,7 +55,7 @@ returns-then-write_text c = λ m levels are there.
     let mapped : IsMapped Spells m level c.in-Mapped.rows.items = subst (IsCover Spells m level) c.in-Mapped.is (c.cover.ensures m levels level are at) in
     let p = plan_of m mapped.structure level in
     let rows = subst (AreRows Spells m.lists p) (sym c.as_slice-in-Mapped.ensures.value) mapped.rows in
-    let put = c.write_text.ensures.text m.lists p rows (subst (FitsSeen p) (sym c.root.ensures) mapped.fits) in
+    let put = c.write_text.ensures.text m.lists p rows (subst (FitsBlock p) (sym c.root.ensures) mapped.fits) in
     text_told (request_of m c.args.view.now head) c.args.out.now c.write_text.new.out p c.write_text.new.halt mapped.cover
     (subst (λ b. IsTextPut m.lists limit (out-Level level).semantic head (places_of p (values_of p block)) b c.write_text.new.out c.write_text.new.halt) c.if-write_text.true
     (subst (λ kind. IsTextPut m.lists limit kind head (places_of p (values_of p block)) c.write_text.result c.write_text.new.out c.write_text.new.halt) (c.msg_type.ensures m levels level are at)
@@ -71,7 +71,7 @@ returns-else-write_text c = λ m levels are there.
     let mapped : IsMapped Spells m level c.in-Mapped.rows.items = subst (IsCover Spells m level) c.in-Mapped.is (c.cover.ensures m levels level are at) in
     let p = plan_of m mapped.structure level in
     let rows = subst (AreRows Spells m.lists p) (sym c.as_slice-in-Mapped.ensures.value) mapped.rows in
-    let put = c.write_text.ensures.text m.lists p rows (subst (FitsSeen p) (sym c.root.ensures) mapped.fits) in
+    let put = c.write_text.ensures.text m.lists p rows (subst (FitsBlock p) (sym c.root.ensures) mapped.fits) in
     refusal_told (request_of m c.args.view.now head) c.args.out.now c.write_text.new.out p c.write_text.new.halt mapped.cover
     (subst (λ b. IsTextPut m.lists limit (out-Level level).semantic head (places_of p (values_of p block)) b c.write_text.new.out c.write_text.new.halt) c.if-write_text.false
     (subst (λ kind. IsTextPut m.lists limit kind head (places_of p (values_of p block)) c.write_text.result c.write_text.new.out c.write_text.new.halt) (c.msg_type.ensures m levels level are at)

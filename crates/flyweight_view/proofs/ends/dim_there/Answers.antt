@@ -14,7 +14,7 @@ use Rattle.layout_tables.specs.Rowed.{as_spot, DimIs}
 use Rattle.group_codec.specs.declared.dim.Dim.{Dim}
 use Rattle.sbe_types.specs.declared.schema.Group.{Group}
 use Rattle.body_walk.specs.declared.layer.Layer.{Layer}
-use Rattle.body_walk.specs.inner.Cursor.{entries_read, dim_told}
+use Rattle.body_walk.specs.inner.Cursor.{entries_read, dim_from}
 use Rattle.flyweight_view.specs.inner.Groups.{groups_by}
 use Rattle.flyweight_view.proofs.Standing.{never_a_fault, stood_room, stood_numbers, stood_reaches}
 use Rattle.flyweight_view.proofs.GroupsTold.{group_gone, group_told, group_never, lie_there}
@@ -30,9 +30,9 @@ returns-then-row-layer-clause-told c =
 
 -- what the walk has told of the dimension
 told : (l : Layer) (g : Group) (row : LevelRow) (at : ℕ) → row.since ≡ (out-Level (out-Group g).level).since → row.since ≤ l.mode.version → IsOk (groups_by l.mode g (drop at l.body.now)) →
-    (x : ℕ × ℕ) × (Ok x ≡ dim_told l.mode.order (out-Group g).dim (floor l.mode.version (out-Level (out-Group g).level).fields) l.body.now at)
+    (x : ℕ × ℕ) × (Ok x ≡ dim_from l.mode.order (out-Group g).dim (floor l.mode.version (out-Level (out-Group g).level).fields) l.body.now at)
 told l g row at since alive read =
-    never_a_fault (dim_told l.mode.order (out-Group g).dim (floor l.mode.version (out-Level (out-Group g).level).fields) l.body.now at)
+    never_a_fault (dim_from l.mode.order (out-Group g).dim (floor l.mode.version (out-Level (out-Group g).level).fields) l.body.now at)
     (λ f is. group_never l.mode g l.body.now at row.since (floor l.mode.version (out-Level (out-Group g).level).fields) f since alive refl is read)
 
 pub stood_dim-requires-clause-room : goal.stood_dim-requires-clause-room
@@ -47,7 +47,7 @@ stood_dim-requires-clause-room c =
 
 -- those are the numbers that were read
 same : (l : Layer) (g : Group) (row : DimRow) (at : ℕ) (x : ℕ × ℕ) (d : Dim) → DimIs row (out-Group g).dim →
-    Ok x ≡ dim_told l.mode.order (out-Group g).dim (floor l.mode.version (out-Level (out-Group g).level).fields) l.body.now at →
+    Ok x ≡ dim_from l.mode.order (out-Group g).dim (floor l.mode.version (out-Level (out-Group g).level).fields) l.body.now at →
     d.block ≡ number_at l.mode.order (as_spot row.block) (take row.width (drop at l.body.now)) → d.count ≡ number_at l.mode.order (as_spot row.count) (take row.width (drop at l.body.now)) →
     x ≡ (d.block, d.count)
 same l g row at x d is told blocks counts =

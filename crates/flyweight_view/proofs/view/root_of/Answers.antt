@@ -4,7 +4,7 @@ use Rattle.body_walk.specs.Heads.{head_number}
 use Rattle.body_walk.proofs.Bodies.{root_level}
 use Rattle.body_walk.proofs.LevelsReady.{level_ready}
 use Rattle.body_walk.proofs.ReadyTold.{ready_schema}
-use Rattle.flyweight_view.specs.Seen.{seen_level}
+use Rattle.flyweight_view.specs.Seen.{typed_level}
 use Rattle.flyweight_view.proofs.Roots.{BlockPlace, root_at, read_own}
 use Rattle.flyweight_view.proofs.view.root_of.Goals as goal
 
@@ -39,4 +39,4 @@ returns c =
     let size = is.block_is ∙ ap (λ n. head_number schema (codes "blockLength") (take n body)) (sym c.header_row.ensures.width) in
     let spot : BlockPlace = record { mode = w.mode; at = c.header_row.result.now.width; size = w.start.block } in
     let lies = root_at schema level body w.template w.start.version is.read spot is.mode_is c.header_row.ensures.width size in
-    c.new.ensures ∙ ap (seen_level level) (read_own _ _ lies.reads.0 lies.reads.1).1
+    c.new.ensures ∙ ap (typed_level level) (read_own _ _ lies.reads.0 lies.reads.1).1

@@ -1,7 +1,7 @@
 use Rattle.std.proofs.Common.{◌≡◌, ◌≤◌, ◌+◌, ◌-◌, false, drop, take, length, replicate, sym, ap, subst, ◌∙◌, arith, rules}
 use Rattle.sbe_types.specs.Places.{is_const, end_past, members_end}
 use Rattle.schema_facts.proofs.KindLists.{width_comp}
-use Rattle.kind_bytes.specs.Members.{behind, member_bytes, members_bytes}
+use Rattle.kind_bytes.specs.Members.{followed_by, member_bytes, members_bytes}
 use Rattle.kind_bytes.proofs.Composites.{member_ready}
 use Rattle.kind_bytes.proofs.MemberBytes.{Stand, as_many, all_fit, behind_next, behind_nothing, comp_bytes, ended, member_put, members_stand, next}
 use Rattle.kind_bytes.proofs.put.+kind.Goals as goal
@@ -65,9 +65,9 @@ put_members-loop-i-preserved t c =
       stand = subst (λ k. Stand k (drop (i + 1) ms)) (sym past) one.stand;
       ends = ap (λ k. members_end k (drop (i + 1) ms)) past ∙ one.ends ∙ sym c.put_member-end.ensures.as_many;
       fits = one.rest;
-      bytes = ap (λ k. behind (take r out) (members_bytes order k (drop (i + 1) ms) (drop (i + 1) vs))) past
+      bytes = ap (λ k. followed_by (take r out) (members_bytes order k (drop (i + 1) ms) (drop (i + 1) vs))) past
           ∙ behind_next (take e c.loop-i.out) (take r out) (member_bytes order e m v) (members_bytes order (end_past e m.offset m.kind) (drop (i + 1) ms) (drop (i + 1) vs)) c.put_member-end.ensures.bytes
-          ∙ ap (behind (take e c.loop-i.out)) (sym one.bytes) ∙ now.bytes;
+          ∙ ap (followed_by (take e c.loop-i.out)) (sym one.bytes) ∙ now.bytes;
     }
 
 pub put_members-returns : goal.put_members-returns

@@ -3,7 +3,7 @@ use Rattle.sbe_types.specs.declared.kind.Kind.{Comp}
 use Rattle.sbe_types.specs.Places.{members_end}
 use Rattle.schema_facts.specs.InOrder.{height}
 use Rattle.kind_bytes.specs.Misfits.{members_misfit}
-use Rattle.kind_bytes.specs.Members.{behind, members_bytes}
+use Rattle.kind_bytes.specs.Members.{followed_by, members_bytes}
 use Rattle.kind_bytes.proofs.MemberBytes.{Stand}
 use Rattle.kind_bytes.proofs.put.+kind.Given as goal
 
@@ -13,7 +13,7 @@ invariant-put_members-loop-i l =
       stand : Stand l.end (drop l.i l.members);
       ends : members_end l.end (drop l.i l.members) ≡ length l.out;
       fits : members_misfit l.i (drop l.i l.members) (drop l.i l.values) ≡ None;
-      bytes : behind (take l.end l.out) (members_bytes l.order l.end (drop l.i l.members) (drop l.i l.values)) ≡ members_bytes l.order 0 l.members l.values;
+      bytes : followed_by (take l.end l.out) (members_bytes l.order l.end (drop l.i l.members) (drop l.i l.values)) ≡ members_bytes l.order 0 l.members l.values;
     }
 
 abbrev pub decreases-put_kind : goal.decreases-put_kind

@@ -6,11 +6,11 @@ use Rattle.sbe_types.specs.declared.schema.Level.{out-Level}
 use Rattle.sbe_wire.specs.Versions.{floor}
 use Rattle.schema_facts.specs.Levels.{fields_in}
 use Rattle.layout_tables.proofs.GroupWalk.{GroupsFrom, groups_begin}
-use Rattle.body_walk.specs.inner.Cursor.{dim_told}
+use Rattle.body_walk.specs.inner.Cursor.{dim_from}
 use Rattle.body_walk.proofs.LevelsReady.{row_parts, row_since}
 use Rattle.body_walk.proofs.Opens.{group_dim, child_here, child_next, level_within}
 use Rattle.level_skip.specs.Passing.{entry_in}
-use Rattle.level_skip.specs.Behind.{behind, steps_behind, groups_behind, parts_behind}
+use Rattle.level_skip.specs.Behind.{offset_after, steps_behind, groups_behind, parts_behind}
 use Rattle.level_skip.proofs.Steps.{entry_short, entry_whole, entry_stopped, groups_next, group_dead, group_entered, group_refused, steps_more, flat_is, flat_level, lengths_small}
 use Rattle.level_skip.proofs.skip.+skip.Goals as goal
 
@@ -133,7 +133,7 @@ pass_group-returns-in-Some-find_dim-clause-told t c =
     (row_since schema c.args.n row (out-Group g).level c.row-row.ensures c.requires.level) c.if-row-version.false
     (c.floor-least.ensures ∙ ap (λ o. floor c.args.version (fields_in o)) c.requires.level)
     (d.block, d.count) d.after c.pass_entries.result
-    (c.in-Some-find_dim.ensures.told (out-Group g).dim dim ∙ ap (λ o. result_ok (dim_told o (out-Group g).dim c.floor-least.result c.args.bytes.now c.args.at)) c.order.ensures)
+    (c.in-Some-find_dim.ensures.told (out-Group g).dim dim ∙ ap (λ o. result_ok (dim_from o (out-Group g).dim c.floor-least.result c.args.bytes.now c.args.at)) c.order.ensures)
     (c.in-Some-find_dim.ensures.after ∙ ap (λ w. c.args.at + w) dim.width) c.pass_entries.ensures.told
 
 pub pass_group-returns-in-None-find_dim-clause-told : goal.pass_group-returns-in-None-find_dim-clause-told
@@ -145,7 +145,7 @@ pass_group-returns-in-None-find_dim-clause-told t c =
     group_refused schema.order c.args.version g c.args.bytes.now c.args.at c.requires.at row.since c.floor-least.result
     (row_since schema c.args.n row (out-Group g).level c.row-row.ensures c.requires.level) c.if-row-version.false
     (c.floor-least.ensures ∙ ap (λ o. floor c.args.version (fields_in o)) c.requires.level)
-    (c.in-None-find_dim.ensures.told (out-Group g).dim dim ∙ ap (λ o. result_ok (dim_told o (out-Group g).dim c.floor-least.result c.args.bytes.now c.args.at)) c.order.ensures)
+    (c.in-None-find_dim.ensures.told (out-Group g).dim dim ∙ ap (λ o. result_ok (dim_from o (out-Group g).dim c.floor-least.result c.args.bytes.now c.args.at)) c.order.ensures)
 
 -- ---- entries
 
@@ -158,14 +158,14 @@ pass_entries-returns-then-is_flat-clause-told t c =
 
 pub pass_entries-returns-in-None-clause-told : goal.pass_entries-returns-in-None-clause-told
 pass_entries-returns-in-None-clause-told t c =
-    let step = behind (entry_in c.args.layout.now.order c.args.version c.args.level.now c.args.dim.block) c.args.bytes.now in
+    let step = offset_after (entry_in c.args.layout.now.order c.args.version c.args.level.now c.args.dim.block) c.args.bytes.now in
     ap (option_and_then (steps_behind step (c.args.dim.count - (c.loop.counter + 1)))) c.in-None.ensures.told
     ∙ sym (steps_more step c.loop.counter c.args.dim.count c.loop.at c.loop-test.true)
     ∙ c.loop.invariant.told
 
 pub pass_entries-loop-preserved : goal.pass_entries-loop-preserved
 pass_entries-loop-preserved t c =
-    let step = behind (entry_in c.args.layout.now.order c.args.version c.args.level.now c.args.dim.block) c.args.bytes.now in
+    let step = offset_after (entry_in c.args.layout.now.order c.args.version c.args.level.now c.args.dim.block) c.args.bytes.now in
     record {
       near = c.in-Some.ensures.within;
       told = ap (option_and_then (steps_behind step (c.args.dim.count - (c.loop.counter + 1)))) c.in-Some.ensures.told

@@ -3,7 +3,7 @@ use Rattle.schema_facts.specs.Levels.{all_nodes}
 use Rattle.sbe_types.specs.declared.schema.Level.{out-Level}
 use Rattle.layout_tables.proofs.GroupWalk.{GroupsFrom}
 use Rattle.level_skip.specs.Passing.{entry_in}
-use Rattle.level_skip.specs.Behind.{behind, steps_behind, groups_behind}
+use Rattle.level_skip.specs.Behind.{offset_after, steps_behind, groups_behind}
 use Rattle.level_skip.proofs.skip.+skip.Given as goal
 
 abbrev pub invariant-pass_groups-loop-i : goal.invariant-pass_groups-loop-i
@@ -18,7 +18,7 @@ invariant-pass_groups-loop-i l =
 
 abbrev pub invariant-pass_entries-loop : goal.invariant-pass_entries-loop
 invariant-pass_entries-loop l =
-    let step = behind (entry_in l.layout.order l.version l.level l.dim.block) l.bytes in
+    let step = offset_after (entry_in l.layout.order l.version l.level l.dim.block) l.bytes in
     record {
       near : l.at ≤ length l.bytes;
       told : steps_behind step (l.dim.count - l.counter) l.at ≡ steps_behind step l.dim.count l.dim.after;

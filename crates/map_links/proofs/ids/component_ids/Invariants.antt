@@ -1,6 +1,6 @@
 use Rattle.std.proofs.Common.{◌≡◌, map, take}
-use Rattle.map_members.specs.Seen.{seen}
+use Rattle.map_members.specs.Seen.{lent_members}
 use Rattle.map_links.proofs.ids.component_ids.Given as goal
 
 abbrev pub invariant-loop-component : goal.invariant-loop-component
-invariant-loop-component l = l.ids ≡ map (λ x. x.id) (seen (take l.component-index l.components))
+invariant-loop-component l = l.ids ≡ map (λ x. x.id) (lent_members (take l.component-index l.components))

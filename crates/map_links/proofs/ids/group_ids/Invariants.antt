@@ -1,6 +1,6 @@
 use Rattle.std.proofs.Common.{◌≡◌, map, take}
-use Rattle.map_members.specs.Seen.{seen}
+use Rattle.map_members.specs.Seen.{lent_members}
 use Rattle.map_links.proofs.ids.group_ids.Given as goal
 
 abbrev pub invariant-loop-group : goal.invariant-loop-group
-invariant-loop-group l = l.ids ≡ map (λ x. x.id) (seen (take l.group-index l.groups))
+invariant-loop-group l = l.ids ≡ map (λ x. x.id) (lent_members (take l.group-index l.groups))

@@ -1,10 +1,10 @@
 use Rattle.std.proofs.Common.{◌≡◌, drop, codes}
-use Rattle.map_members.specs.Seen.{seen}
+use Rattle.map_members.specs.Seen.{lent_members}
 use Rattle.map_rules.specs.Verdicts.{list_verdict}
 use Rattle.map_rules.specs.Rules.{component_rules}
 use Rattle.map_rules.proofs.references.judge_components.Given as goal
 
 abbrev pub invariant-loop-i : goal.invariant-loop-i
 invariant-loop-i l =
-    list_verdict (codes "components") (component_rules l.fn.count l.ids l.structures) l.i (seen (drop l.i l.components))
-    ≡ list_verdict (codes "components") (component_rules l.fn.count l.ids l.structures) 0 (seen l.components)
+    list_verdict (codes "components") (component_rules l.fn.count l.ids l.structures) l.i (lent_members (drop l.i l.components))
+    ≡ list_verdict (codes "components") (component_rules l.fn.count l.ids l.structures) 0 (lent_members l.components)

@@ -1,5 +1,5 @@
 use Rattle.std.proofs.Common.{subst}
-use Rattle.map_members.specs.Seen.{seen}
+use Rattle.map_members.specs.Seen.{lent_members}
 use Rattle.map_links.specs.declared.ids.Ids.{Ids}
 use Rattle.map_links.specs.Links.{linked}
 use Rattle.map_rules.specs.Verdicts.{Answers}
@@ -26,5 +26,5 @@ judge_with_ids-requires-clause-messages c =
 pub returns : goal.returns
 returns c =
     subst
-    (λ (ids : Ids). Answers c.judge_with_ids.result (verdict_by ids c.args.tables.now (seen c.args.fields.now) (linked c.args.components.now c.args.groups.now c.args.messages.now)))
+    (λ (ids : Ids). Answers c.judge_with_ids.result (verdict_by ids c.args.tables.now (lent_members c.args.fields.now) (linked c.args.components.now c.args.groups.now c.args.messages.now)))
     c.in_ok-ids.ensures c.judge_with_ids.ensures

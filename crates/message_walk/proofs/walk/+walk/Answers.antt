@@ -4,13 +4,13 @@ use Rattle.std.specs.Fmt.{decimal}
 use Rattle.sbe_types.specs.declared.schema.Group.{out-Group}
 use Rattle.sbe_types.specs.declared.message.Block.{out-Block}
 use Rattle.sbe_types.specs.declared.message.GroupVal.TheVariants as groupval
-use Rattle.flyweight_view.specs.Seen.{seen_level}
+use Rattle.flyweight_view.specs.Seen.{typed_level}
 use Rattle.bridge_rules.specs.Texts.{text_by}
 use Rattle.bridge_terms.specs.Blocks.{values_of, value_at, entries_of, nth_or}
 use Rattle.bridge_terms.specs.Places.{to_part, places_of, place_of, entries_places, run_places, slot_places}
 use Rattle.message_walk.specs.Ways.{pushed}
 use Rattle.bridge_terms.specs.Plans.{Each}
-use Rattle.message_walk.specs.Rows.{entries_seen, entry_places, run_inside, AreRows, FitsSeen}
+use Rattle.message_walk.specs.Rows.{entries_shown, entry_places, run_inside, AreRows, FitsBlock}
 use Rattle.message_walk.specs.States.{after, outcome, IsPut}
 use Rattle.message_walk.proofs.Steps.{step_on, step_off, in_on, in_off, entry_on, entry_off, run_in, run_on}
 use Rattle.message_walk.proofs.RowLemmas.{left_slot, left_group, left_none, at_front, each_fits, first_fits}
@@ -111,7 +111,7 @@ put_rows-returns-then-not-put_group-clause-put g t c = λ lists p rows fits.
     let size_is : c.at_most-size.result ≡ size = c.at_most-size.ensures.same (subst (λ xs. size ≤ length xs) (sym c.rest_from-rest.ensures) at.within) in
     let own : c.front.result.now ≡ take size (drop 1 c.loop-left.left.now) = c.front.ensures ∙ ap (λ n. take n c.rest_from-rest.result.now) size_is ∙ ap (take size) c.rest_from-rest.ensures in
     let put = c.put_group.ensures.put lists at.inner at.unpaired (subst (AreRows g.R.PutValue.spells lists at.inner) (sym own) at.own_rows)
-    (subst (Each (FitsSeen at.inner)) (sym same) (each_fits at.inner level blocks at.own_fits)) in
+    (subst (Each (FitsBlock at.inner)) (sym same) (each_fits at.inner level blocks at.own_fits)) in
     step_off lists d e c.put_group.new.halt (run_places row.lead (entry_places at.inner) es) (places_of at.rest (values_of at.rest seen.block))
     (subst (λ b. outcome b e c.put_group.new.halt ≡ after lists d (run_places row.lead (entry_places at.inner) es)) c.if-not-put_group.true
     (put ∙ ap (λ es. after lists d (run_places row.lead (entry_places at.inner) es)) same))
@@ -138,7 +138,7 @@ put_rows-loop-left-preserved g t c = record {
       let own : c.front.result.now ≡ take size (drop 1 c.loop-left.left.now) = c.front.ensures ∙ ap (λ n. take n c.rest_from-rest.result.now) size_is ∙ ap (take size) c.rest_from-rest.ensures in
       let left : c.rest_from-left.result.now ≡ drop size (drop 1 c.loop-left.left.now) = c.rest_from-left.ensures ∙ ap (λ n. drop n c.rest_from-rest.result.now) size_is ∙ ap (drop size) c.rest_from-rest.ensures in
       let put = c.put_group.ensures.put lists at.inner at.unpaired (subst (AreRows g.R.PutValue.spells lists at.inner) (sym own) at.own_rows)
-      (subst (Each (FitsSeen at.inner)) (sym same) (each_fits at.inner level blocks at.own_fits)) in (
+      (subst (Each (FitsBlock at.inner)) (sym same) (each_fits at.inner level blocks at.own_fits)) in (
         at.rest,
         subst (AreRows g.R.PutValue.spells lists at.rest) (sym left) at.rows,
         at.fits,
@@ -211,24 +211,24 @@ put_entry-returns-in-Refused-clause-put g t c = λ lists p rows fits.
 pub put_group-returns-then-put_run-clause-put : goal.put_group-returns-then-put_run-clause-put
 put_group-returns-then-put_run-clause-put g t c = λ lists p unpaired rows fits.
     let es = c.in-Some.entries in
-    let same : entries_seen c.args.entries ≡ es = ap entries_seen c.in-Some.is in
+    let same : entries_shown c.args.entries ≡ es = ap entries_shown c.in-Some.is in
     let d = c.args.out.now in
     let e = c.put_run.new.out in
     let h = c.put_run.new.halt in
     let inner = run_inside c.args.lead.now (entry_places p) es in
     in_on lists d e h h (to_part c.args.lead.now) inner
-    (subst (λ b. outcome b e h ≡ after lists d inner) c.if-put_run.true (c.put_run.ensures.put lists p unpaired rows (subst (Each (FitsSeen p)) same fits)))
+    (subst (λ b. outcome b e h ≡ after lists d inner) c.if-put_run.true (c.put_run.ensures.put lists p unpaired rows (subst (Each (FitsBlock p)) same fits)))
     ∙ ap (after lists d) (sym (run_in c.args.lead.now (entry_places p) es)) ∙ ap (λ es. after lists d (run_places c.args.lead.now (entry_places p) es)) (sym same)
 
 pub put_group-returns-clause-put : goal.put_group-returns-clause-put
 put_group-returns-clause-put g t c = λ lists p unpaired rows fits.
     let es = c.in-Some.entries in
-    let same : entries_seen c.args.entries ≡ es = ap entries_seen c.in-Some.is in
+    let same : entries_shown c.args.entries ≡ es = ap entries_shown c.in-Some.is in
     let d = c.args.out.now in
     let e = c.put_run.new.out in
     let h = c.put_run.new.halt in
     let inner = run_inside c.args.lead.now (entry_places p) es in
     in_off lists d e h c.under.new.self (to_part c.args.lead.now) inner
-    (subst (λ b. outcome b e h ≡ after lists d inner) c.if-put_run.false (c.put_run.ensures.put lists p unpaired rows (subst (Each (FitsSeen p)) same fits)))
+    (subst (λ b. outcome b e h ≡ after lists d inner) c.if-put_run.false (c.put_run.ensures.put lists p unpaired rows (subst (Each (FitsBlock p)) same fits)))
     (c.under.ensures ∙ ap (λ n. record { cause = h.cause; way = pushed (to_part n) h.way }) c.tag.ensures)
     ∙ ap (after lists d) (sym (run_in c.args.lead.now (entry_places p) es)) ∙ ap (λ es. after lists d (run_places c.args.lead.now (entry_places p) es)) (sym same)

@@ -30,8 +30,8 @@ invariant-put_rows-loop-left g l =
       shorter : length l.left ≤ length l.rows;
       reached : IsReached l.block l.reached;
       begun : l.out.phase ≡ Open;
-      put : (lists : TagLists) (p : Plan) → AreRows g.R.PutValue.spells lists p l.rows → FitsSeen p l.block
-          → (q : Plan) × AreRows g.R.PutValue.spells lists q l.left × FitsSeen q l.block
+      put : (lists : TagLists) (p : Plan) → AreRows g.R.PutValue.spells lists p l.rows → FitsBlock p l.block
+          → (q : Plan) × AreRows g.R.PutValue.spells lists q l.left × FitsBlock q l.block
           × (after lists l.out (places_of q (values_of q l.block.block)) ≡ after lists l.initial.out (places_of p (values_of p l.block.block)));
     }
 
@@ -43,7 +43,7 @@ invariant-put_entries-loop-entry g l =
     record {
       begun : l.out.phase ≡ Open;
       numbered : l.number + length l.entry-iterator ≡ l.count;
-      put : (lists : TagLists) (p : Plan) → AreRows g.R.PutValue.spells lists p l.rows → Each (FitsSeen p) l.fn.entries
-          → Each (FitsSeen p) l.entry-iterator
+      put : (lists : TagLists) (p : Plan) → AreRows g.R.PutValue.spells lists p l.rows → Each (FitsBlock p) l.fn.entries
+          → Each (FitsBlock p) l.entry-iterator
           × (after lists l.out (entries_places (entry_places p) l.number l.entry-iterator) ≡ after lists l.initial.out (entries_places (entry_places p) 0 l.fn.entries));
     }

@@ -1,7 +1,7 @@
 use Rattle.std.proofs.Common.{◌≡◌, ◌++◌, drop}
-use Rattle.map_members.specs.Seen.{seen}
+use Rattle.map_members.specs.Seen.{lent_members}
 use Rattle.orchestra_map.specs.Headers.{header_places, header_links}
 use Rattle.orchestra_map.proofs.headers.header_links.Given as goal
 
 abbrev pub invariant-loop-i : goal.invariant-loop-i
-invariant-loop-i l = l.links ++ header_places l.i (seen (drop l.i l.components)) ≡ header_links (seen l.components)
+invariant-loop-i l = l.links ++ header_places l.i (lent_members (drop l.i l.components)) ≡ header_links (lent_members l.components)

@@ -4,7 +4,7 @@ use Rattle.bridge_rules.specs.Table.{rule_of}
 use Rattle.bridge_terms.specs.Parts.{TagLists}
 use Rattle.bridge_plan.specs.Mappings.{datatype_in, datatype_of, Mapping}
 use Rattle.bridge_mapping.specs.Tables.{HaveSameTags}
-use Rattle.bridge_table.specs.Codes.{datatype_seen}
+use Rattle.bridge_table.specs.Codes.{datatype_of_row}
 use Rattle.bridge_table.specs.Rows.{names_in, rule_with}
 use Rattle.bridge_cover.specs.Tables.{AreTables}
 use Rattle.plan_rows.specs.Found.{field_slot_by, field_slot_with, IsFound}
@@ -21,7 +21,7 @@ returns-in-Some g c =
     (λ found. (m : Mapping) → AreTables m c.args.tables.now → IsFound follows m.lists (field_slot_by m tag c.args.number kind) found)
     (λ found own m h.
     let same =
-    ruled (rule_of kind) (rule_with (names_in kind)) (datatype_seen c.datatype.result.now) (datatype_of m tag) c.in_ok-field_rule.field-0 c.in-Some.rule
+    ruled (rule_of kind) (rule_with (names_in kind)) (datatype_of_row c.datatype.result.now) (datatype_of m tag) c.in_ok-field_rule.field-0 c.in-Some.rule
     (c.datatype.ensures ∙ ap (datatype_in tag) h.datatypes) c.in_ok-field_rule.ensures c.in-Some.is in
     found_field follows m tag c.args.number (rule_with (names_in kind) c.in-Some.rule) found kind same (own m.lists (names_in kind) h.tags))
     c.ruled_field.ensures

@@ -5,8 +5,8 @@ use Rattle.tagvalue_codec.specs.Drafts.{IsValue}
 use Rattle.bridge_terms.specs.Blocks.{values_of}
 use Rattle.bridge_plan.specs.Covers.{plan_of, unmapped}
 use Rattle.bridge_plan.specs.Mappings.{Mapping}
-use Rattle.flyweight_view.specs.Seen.{Seen}
-use Rattle.message_walk.specs.Rows.{AreRows, FitsSeen}
+use Rattle.flyweight_view.specs.Seen.{TypedBlock}
+use Rattle.message_walk.specs.Rows.{AreRows, FitsBlock}
 use Rattle.message_plans.specs.Plans.{ArePlans, IsCover, IsMapped}
 use Rattle.value_texts.specs.Rows.{Spells}
 use Rattle.fix_messages.specs.Heads.{head_of}
@@ -49,7 +49,7 @@ answer_covered-requires-clause-covered g c =
     let there = ap (slice_get levels) c.template-template.ensures ∙ k.there in
     let mapped : IsMapped Spells k.mapping level c.in-Mapped.rows.items = subst (IsCover Spells k.mapping level) c.in-Mapped.is (c.cover.ensures k.mapping levels level k.planned there) in
     let p = plan_of k.mapping mapped.structure level in
-    record { lists = k.mapping.lists; plan = p; rows_are = subst (AreRows Spells k.mapping.lists p) (sym c.as_slice-in-Mapped.ensures.value) mapped.rows; fits = subst (FitsSeen p) (sym c.root.ensures) mapped.fits }
+    record { lists = k.mapping.lists; plan = p; rows_are = subst (AreRows Spells k.mapping.lists p) (sym c.as_slice-in-Mapped.ensures.value) mapped.rows; fits = subst (FitsBlock p) (sym c.root.ensures) mapped.fits }
 
 pub returns-in-NoMessage-clause-delivers : goal.returns-in-NoMessage-clause-delivers
 returns-in-NoMessage-clause-delivers g c = λ b planned is_with.
@@ -91,8 +91,8 @@ returns-in-Mapped-clause-delivers g c = λ b planned is_with.
     let rows = subst (AreRows Spells b.mapping.lists p) (sym c.as_slice-in-Mapped.ensures.value) mapped.rows in
     let base : c.message.result.now ≡ level = some_same c.message.ensures there in
     covered_replied b c.args.kept.now level c.args.view.now.message.block _ _ c.answer_covered.result p mapped.cover head limit kind c.message.result.now seen.block is_with
-    (c.msg_type.ensures b.mapping levels level planned there) base (ap (λ (s : Seen). s.block) c.root.ensures)
-    (c.answer_covered.ensures.delivers b.mapping.lists p rows (subst (FitsSeen p) (sym c.root.ensures) mapped.fits)
+    (c.msg_type.ensures b.mapping levels level planned there) base (ap (λ (s : TypedBlock). s.block) c.root.ensures)
+    (c.answer_covered.ensures.delivers b.mapping.lists p rows (subst (FitsBlock p) (sym c.root.ensures) mapped.fits)
     (near_all layout c.args.view.now.message.template level b.mapping mapped.structure c.schema-schema.ensures.order c.requires.ready.there b.mapping.lists limit kind head (values_of p seen.block)))
   where
     some_same : {x y : Level} {o : Option Level} → o ≡ Some x → o ≡ Some y → x ≡ y

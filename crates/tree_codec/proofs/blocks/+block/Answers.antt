@@ -1,7 +1,7 @@
 use Rattle.std.proofs.Common.{◌≡◌, ◌++◌, ◌∷◌, [], length, ap, sym, subst, ◌∙◌, arith}
 use Rattle.std.specs.Prelude.{map}
 use Rattle.sbe_types.specs.declared.message.Block.{out-Block}
-use Rattle.tree_codec.specs.Trees.{blocks_of, group_of, deepest, deepest_in, AllWhole, GroupsSeenWhole}
+use Rattle.tree_codec.specs.Trees.{blocks_of, group_of, deepest, deepest_in, AllWhole, AreWholeGroups}
 use Rattle.tree_codec.proofs.Depth.{AreWithin, seen_within, first_within, some_deep}
 use Rattle.tree_codec.proofs.Steps.{seen_next, seen_over}
 use Rattle.tree_codec.proofs.TreesBack.{groups_back, groups_seen_whole, first_whole, first_entry}
@@ -15,7 +15,7 @@ group_trees-loop-i-init t c =
     record {
       count = omega (arith, c.groups-groups.ensures.count);
       within = subst (AreWithin (deepest groups)) seen (seen_within (deepest groups) groups values (omega arith));
-      whole = subst GroupsSeenWhole seen (groups_seen_whole groups values c.requires.groups);
+      whole = subst AreWholeGroups seen (groups_seen_whole groups values c.requires.groups);
       gathered = ap (λ vs. vs ++ map group_of c.groups-groups.result) c.new-trees.ensures;
     }
 

@@ -1,6 +1,6 @@
 use Rattle.std.proofs.Common.{◌≡◌, ◌≤◌, ◌+◌, ◌*◌, ◌++◌, length}
 use Rattle.std.specs.Prelude.{map}
-use Rattle.tree_codec.specs.Trees.{blocks_of, group_of, deepest, deepest_in, AllWhole, GroupsSeenWhole}
+use Rattle.tree_codec.specs.Trees.{blocks_of, group_of, deepest, deepest_in, AllWhole, AreWholeGroups}
 use Rattle.tree_codec.proofs.Depth.{deepest_of, AreWithin}
 use Rattle.tree_codec.proofs.blocks.+block.Given as goal
 
@@ -9,7 +9,7 @@ invariant-group_trees-loop-i l =
     record {
       count : l.i + length l.groups ≡ length l.block.groups;
       within : AreWithin (deepest l.block.groups) l.groups;
-      whole : GroupsSeenWhole l.groups;
+      whole : AreWholeGroups l.groups;
       gathered : l.trees ++ map group_of l.groups ≡ map group_of l.initial.groups;
     }
 

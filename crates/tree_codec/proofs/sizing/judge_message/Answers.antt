@@ -1,6 +1,6 @@
 use Rattle.std.proofs.Common.{Some, ap, sym, ◌∙◌, arith}
 use Rattle.tree_codec.specs.declared.first_misfit.FirstMisfit.{FirstMisfit}
-use Rattle.tree_codec.specs.Rooms.{went}
+use Rattle.tree_codec.specs.Rooms.{place_or_misfit}
 use Rattle.tree_codec.specs.Shapes.{misfit_of}
 use Rattle.tree_codec.proofs.WholeMisfit.{unknown, of_other_version, of_other_shape, of_parts, root_few, root_shallow}
 use Rattle.tree_codec.proofs.sizing.judge_message.Goals as goal
@@ -27,5 +27,5 @@ returns-then-not-shape_block-clause-told c =
 
 pub returns-clause-told : goal.returns-clause-told
 returns-clause-told c =
-    of_parts c.args.layout.now c.args.msg.now c.args.limit c.message-level.result.now c.message-level.ensures (went c.take_root.result c.take_root.new.out)
+    of_parts c.args.layout.now c.args.msg.now c.args.limit c.message-level.result.now c.message-level.ensures (place_or_misfit c.take_root.result c.take_root.new.out)
     (omega (arith, c.if-msg-version.false, c.version.ensures)) c.if-not-shape_block.ensures.told c.take_root.ensures

@@ -3,12 +3,12 @@ use Rattle.std.specs.Prelude.{false, slice_get}
 use Rattle.std.specs.Option.{option_map}
 use Rattle.serde_json.specs.Written.{comma_if}
 use Rattle.sbe_types.specs.declared.message.Block.{out-Block}
-use Rattle.flyweight_view.specs.Seen.{Seen}
+use Rattle.flyweight_view.specs.Seen.{TypedBlock}
 use Rattle.tree_json.specs.Deep.{deepest, deepest_in}
 use Rattle.json_values.specs.Values.{zipped}
 use Rattle.tree_json.specs.Lines.{group_name, group_entry, items_by}
 use Rattle.json_values.specs.Plain.{entry_text, entries_text, plain_items}
-use Rattle.tree_json.specs.Views.{entries_entry, entries_data, seen_data}
+use Rattle.tree_json.specs.Views.{entries_entry, entries_data, block_object}
 use Rattle.printers.proofs.Printing.{then_prints, reprinted, prints_nothing}
 use Rattle.json_values.proofs.Entries.{goes_on, ends_so, item_next}
 use Rattle.tree_json.specs.Texts.{AreTexts, AreTextsOfAll, AreTextsOfGroup}
@@ -30,12 +30,12 @@ pub put_front-returns : goal.put_front-returns
 put_front-returns g t c =
     let s = c.args.block.now in
     let some = some_groups s.groups (out-Block s.block).groups (omega (arith, c.if-count-eq0.false, ap (λ r. r.1) c.counts-count.ensures)) in
-    let groups = reprinted (ap (λ (b : Seen). entries_text false (zipped group_entry b.groups (out-Block b.block).groups)) c.again.ensures) c.put_groups.ensures in
+    let groups = reprinted (ap (λ (b : TypedBlock). entries_text false (zipped group_entry b.groups (out-Block b.block).groups)) c.again.ensures) c.put_groups.ensures in
     reprinted (front_is s) (then_prints c.put_head.ensures (reprinted some groups))
 
 pub put_front-put_groups-requires : goal.put_front-put_groups-requires
 put_front-put_groups-requires g t c = λ κs lives. (
-  omega (arith, ap (λ (b : Seen). deepest b.groups) c.again.ensures, c.decreases),
+  omega (arith, ap (λ (b : TypedBlock). deepest b.groups) c.again.ensures, c.decreases),
   (lives.0, (lives.1, subst (AreTexts (g.T.Kept.texts c.args.texts)) (sym c.again.ensures) c.requires)),
 )
 
@@ -110,7 +110,7 @@ put_entries-returns g t c =
 pub put_views-loop-entry-init : goal.put_views-loop-entry-init
 put_views-loop-entry-init g t c =
     let same = c.into_iter-entry-iterator.ensures.into_iter_gives in
-    record { low = omega (arith, ap deepest_in same); texts = subst (AreTextsOfAll (g.T.Kept.texts c.args.texts)) (sym same) c.requires; written = ([], prints_nothing, ap (λ es. plain_items c.args.later (items_by seen_data es)) same) }
+    record { low = omega (arith, ap deepest_in same); texts = subst (AreTextsOfAll (g.T.Kept.texts c.args.texts)) (sym same) c.requires; written = ([], prints_nothing, ap (λ es. plain_items c.args.later (items_by block_object es)) same) }
 
 pub put_views-put_entry-requires : goal.put_views-put_entry-requires
 put_views-put_entry-requires g t c =
@@ -126,7 +126,7 @@ put_views-loop-entry-preserved g t c =
     let later = c.loop-entry.later in
     let rest = c.next.new.self in
     let steps : c.loop-entry.entry-iterator ≡ c.in-Some.entry ∷ rest = c.in-Some.ensures.steps in
-    let next = sym (ap (λ es. plain_items later (items_by seen_data es)) steps ∙ item_next later (seen_data c.in-Some.entry) (items_by seen_data rest)) in
+    let next = sym (ap (λ es. plain_items later (items_by block_object es)) steps ∙ item_next later (block_object c.in-Some.entry) (items_by block_object rest)) in
     record {
       low = omega (arith, so_far.low, ap deepest_in steps);
       texts = (subst (AreTextsOfAll (g.T.Kept.texts c.args.texts)) steps so_far.texts).1;
@@ -136,5 +136,5 @@ put_views-loop-entry-preserved g t c =
 pub put_views-returns : goal.put_views-returns
 put_views-returns g t c =
     let so_far = c.loop-entry.invariant.written in
-    let none = sym (ap (λ es. plain_items c.loop-entry.later (items_by seen_data es)) c.in-None.ensures.steps.0) in
+    let none = sym (ap (λ es. plain_items c.loop-entry.later (items_by block_object es)) c.in-None.ensures.steps.0) in
     reprinted (ends_so so_far.0 _ _ _ none so_far.2) (then_prints so_far.1 c.put.ensures)

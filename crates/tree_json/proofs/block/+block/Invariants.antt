@@ -3,7 +3,7 @@ use Rattle.tree_json.specs.Deep.{deepest, deepest_in}
 use Rattle.json_values.specs.Values.{zipped}
 use Rattle.tree_json.specs.Lines.{items_by}
 use Rattle.json_values.specs.Plain.{entries_text, plain_items}
-use Rattle.tree_json.specs.Views.{seen_data, entries_entry}
+use Rattle.tree_json.specs.Views.{block_object, entries_entry}
 use Rattle.printers.specs.Prints.{Prints}
 use Rattle.tree_json.specs.Texts.{AreTextsOfAll}
 use Rattle.tree_json.proofs.Depth.{deepest_of, AreWithin}
@@ -28,7 +28,7 @@ invariant-put_views-loop-entry g l =
       texts : AreTextsOfAll (g.T.Kept.texts l.texts) l.entry-iterator;
       written : (done : List ℕ)
           × Prints g.O.Sink.state l.initial.printer l.printer done
-          × (done ++ plain_items l.later (items_by seen_data l.entry-iterator) ≡ plain_items l.fn.later (items_by seen_data l.fn.entries));
+          × (done ++ plain_items l.later (items_by block_object l.entry-iterator) ≡ plain_items l.fn.later (items_by block_object l.fn.entries));
     }
 
 abbrev pub decreases-put_front : goal.decreases-put_front

@@ -5,7 +5,7 @@ use Rattle.sbe_types.specs.declared.schema.Level.{out-Level}
 use Rattle.tree_json.specs.Lines.{message_at}
 use Rattle.json_values.specs.Plain.{plain_text}
 use Rattle.tree_json.specs.Texts.{AreTexts}
-use Rattle.tree_json.specs.Views.{seen_front}
+use Rattle.tree_json.specs.Views.{block_front}
 use Rattle.printers.proofs.Printing.{then_prints, reprinted}
 use Rattle.tree_json.proofs.Blocks.{message_is, name_between}
 use Rattle.tree_json.proofs.LevelTextsOf.{root_texts}
@@ -20,10 +20,10 @@ returns g c =
     let level = c.args.view.now.level in
     let name = escape (out-Level level).name in
     let between = λ (text : List ℕ). codes ",\"template\":\"" ++ (text ++ codes "\",\"version\":") in
-    let front = seen_front c.root.result in
+    let front = block_front c.root.result in
     let version = decimal c.version.result in
     let named = reprinted (ap between (c.name.ensures ∙ sym c.requires.name)) c.put_between.ensures in
-    let same : seen_front c.root.result ++ (codes ",\"template\":" ++ ((codes "\"" ++ (escape (out-Level level).name ++ codes "\"")) ++ (codes ",\"version\":" ++ (decimal c.version.result ++ codes "}")))) ≡ plain_text (message_at (Some level) c.args.view.now.message) =
+    let same : block_front c.root.result ++ (codes ",\"template\":" ++ ((codes "\"" ++ (escape (out-Level level).name ++ codes "\"")) ++ (codes ",\"version\":" ++ (decimal c.version.result ++ codes "}")))) ≡ plain_text (message_at (Some level) c.args.view.now.message) =
     rw (c.root.ensures, c.version.ensures) (message_is level c.args.view.now.message) in
     record {
       done = front ++ (between name ++ version);
