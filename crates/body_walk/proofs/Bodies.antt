@@ -239,8 +239,8 @@ module _ (schema : WireSchema) (body : List ℕ) where
     there : slice_get schema.messages t ≡ Some level
     reads : message_of schema body ≡ read_by true (floor_check schema (heading t level))
 
-  behind : (t : ℕ) (level : Level) → header_template schema body ≡ Ok t → slice_get schema.messages t ≡ Some level → Behind t level
-  behind t level h at =
+  beyond : (t : ℕ) (level : Level) → header_template schema body ≡ Ok t → slice_get schema.messages t ≡ Some level → Behind t level
+  beyond t level h at =
       let fits = fitting (nat_le wide (length body)) (named_template schema head) t refl h in
       let found = named (schema_id == schema.id) (message_named 0 id schema.messages) t fits.2 in
       let place = named_at 0 id schema.messages (t, found.0) found.1 in
@@ -273,12 +273,12 @@ module _ (schema : WireSchema) (body : List ℕ) where
 
   pub refused_late : (t : ℕ) (level : Level) (f : Fault) → header_template schema body ≡ Ok t → slice_get schema.messages t ≡ Some level → message_end schema level body ≡ Err f → message_of schema body ≡ Err f
   refused_late t level f h at told =
-      let is = behind t level h at in
+      let is = beyond t level h at in
       is.reads ∙ late_if t level is (nat_lt (heading t level).block (floor (acting schema (heading t level).version) (out-Level level).fields)) f told
 
   pub body_read : (t version : ℕ) (level : Level) → header_template schema body ≡ Ok t → slice_get schema.messages t ≡ Some level → message_end schema level body ≡ Ok version → IsMessage schema body t version
   body_read t version level h at told =
-      let is = behind t level h at in
+      let is = beyond t level h at in
       let found = read_if t level is (nat_lt (heading t level).block (floor (acting schema (heading t level).version) (out-Level level).fields)) version told in
       (found.0, is.reads ∙ found.1, found.2, found.3)
 

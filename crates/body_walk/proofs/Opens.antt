@@ -162,24 +162,24 @@ module _ (mode : Mode) (g : Group) (body : List ℕ) (at : ℕ) (near : at ≤ l
   abbrev level : Level
   level = (out-Group g).level
 
-  abbrev behind : ℕ × ℕ → Result ℕ Fault
-  behind d = steps_end (skim (entries_read mode level d.0) body) 0 d.1 (at + members_end 0 (out-Group g).dim)
+  abbrev after : ℕ × ℕ → Result ℕ Fault
+  after d = steps_end (skim (entries_read mode level d.0) body) 0 d.1 (at + members_end 0 (out-Group g).dim)
 
   group_opens : skim (group_read mode g) body at
-      ≡ cond (is_alive mode.version (out-Level level).since) (dim_from mode.order (out-Group g).dim (floor mode.version (out-Level level).fields) body at >>= behind) (Ok at)
+      ≡ cond (is_alive mode.version (out-Level level).since) (dim_from mode.order (out-Group g).dim (floor mode.version (out-Level level).fields) body at >>= after) (Ok at)
   group_opens = ap (λ p. skim p body at) (open_group mode g) ∙ group_walked mode (out-Group g).dim level body at near
 
   pub group_dead : (since : ℕ) → since ≡ (out-Level level).since → mode.version < since → Ok at ≡ skim (group_read mode g) body at
   group_dead since is dead =
       let below : is_alive mode.version (out-Level level).since ≡ false = grind (arith, nat_tests) in
-      sym (group_opens ∙ ap (λ t. cond t (dim_from mode.order (out-Group g).dim (floor mode.version (out-Level level).fields) body at >>= behind) (Ok at)) below)
+      sym (group_opens ∙ ap (λ t. cond t (dim_from mode.order (out-Group g).dim (floor mode.version (out-Level level).fields) body at >>= after) (Ok at)) below)
 
   pub group_told : (since least : ℕ) (r : Result (ℕ × ℕ) Fault) → since ≡ (out-Level level).since → since ≤ mode.version → least ≡ floor mode.version (out-Level level).fields →
-      r ≡ dim_from mode.order (out-Group g).dim least body at → (r >>= behind) ≡ skim (group_read mode g) body at
+      r ≡ dim_from mode.order (out-Group g).dim least body at → (r >>= after) ≡ skim (group_read mode g) body at
   group_told since least r is alive floors told =
       let here : is_alive mode.version (out-Level level).since ≡ true = le-leb (out-Level level).since mode.version (omega arith) in
-      ap (λ t. t >>= behind) (told ∙ ap (λ k. dim_from mode.order (out-Group g).dim k body at) floors)
-      ∙ sym (group_opens ∙ ap (λ t. cond t (dim_from mode.order (out-Group g).dim (floor mode.version (out-Level level).fields) body at >>= behind) (Ok at)) here)
+      ap (λ t. t >>= after) (told ∙ ap (λ k. dim_from mode.order (out-Group g).dim k body at) floors)
+      ∙ sym (group_opens ∙ ap (λ t. cond t (dim_from mode.order (out-Group g).dim (floor mode.version (out-Level level).fields) body at >>= after) (Ok at)) here)
 
 -- ---- the groups of a level
 

@@ -221,15 +221,15 @@ module _ (mode : Mode) where
   group_walked dim level body at h =
       let least = floor mode.version (out-Level level).fields in
       let w = members_end 0 dim in
-      let behind : ℕ × ℕ → ℕ → Result ℕ Fault = λ d n. steps_end (skim (entries_read mode level d.0) body) 0 d.1 n in
+      let after : ℕ × ℕ → ℕ → Result ℕ Fault = λ d n. steps_end (skim (entries_read mode level d.0) body) 0 d.1 n in
       group_alive (is_alive mode.version (out-Level level).since) (then_read (dimension_read mode.order dim least) (group_behind mode level)) body at h
       ∙ ap (λ r. cond (is_alive mode.version (out-Level level).since) r (Ok at))
-      (skim_judged w (dimension_of mode.order dim least) (group_behind mode level) (λ d. behind d (at + w)) body at h
+      (skim_judged w (dimension_of mode.order dim least) (group_behind mode level) (λ d. after d (at + w)) body at h
       (λ d near.
       let leaves = entry_leaves mode level d.0 (tail_leaves mode level) in
       skim_made (times_read (entries_read mode level d.0) 0 d.1) groupval.Entries body (at + w) near (leaves_times (entries_read mode level d.0) 0 d.1 leaves)
       ∙ times_walked (entries_read mode level d.0) 0 d.1 body (at + w) near leaves)
-      ∙ cond_bind (nat_le w (length body - at)) (later at (dimension_of mode.order dim least (take w (drop at body)))) (fault_at code.Truncated at (pos w)) (λ d. behind d (at + w)))
+      ∙ cond_bind (nat_le w (length body - at)) (later at (dimension_of mode.order dim least (take w (drop at body)))) (fault_at code.Truncated at (pos w)) (λ d. after d (at + w)))
 
   groups_walked : (i : ℕ) {n : _} (row : Row_of-Group n) (body : List ℕ) (at : ℕ) → at ≤ length body → skim (groups_read mode i row) body at ≡ groups_end mode i (items-the_row-Group _ row) body at
   unfolding groups_read

@@ -89,7 +89,8 @@ pub(crate) fn walk_message(
     requires schema { IsReadySchema layout.now }
     requires template { template < length layout.now.messages }
     requires header { header_width layout.now ≤ length body.now }
-    ensures told { (level : Level) → slice_get layout.now.messages template ≡ Some level → place_or_fault result out.new ≡ message_from layout.now level body.now start }
+    ensures told { (level : Level) → slice_get layout.now.messages template ≡ Some level
+        → place_or_fault result out.new ≡ message_from layout.now level body.now start }
     ensures version { IfSome result (λ version. version ≡ start.version) }
     ensures low { IfNone result (length out.new.path ≤ 20) }
 {

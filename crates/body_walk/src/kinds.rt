@@ -80,17 +80,17 @@ fn judge_members(
     let mut end = 0;
     let mut i = 0u32;
     for member in members.as_slice() {
-        let behind = end_behind(end, member.offset, &member.kind);
-        if !judge_member(mode, member, i, end, behind, at, bytes, out) {
+        let after = end_behind(end, member.offset, &member.kind);
+        if !judge_member(mode, member, i, end, after, at, bytes, out) {
             return false;
         }
-        end = behind;
+        end = after;
         i += 1;
     }
     true
 }
 
-/// Checks member `i` of a composite, which follows members that end at `end` and itself ends at `behind`.
+/// Checks member `i` of a composite, which follows members that end at `end` and itself ends at `after`.
 #[cycle(kind)]
 #[tactic(auto, using(crate::proofs::AtOnce::part_looks))]
 fn judge_member(
@@ -98,13 +98,13 @@ fn judge_member(
     member: &Member,
     i: u32,
     end: u32,
-    behind: u32,
+    after: u32,
     at: usize,
     bytes: &[u8],
     out: &mut Found,
 ) -> bool
     requires ready { IsReady member.now.kind }
-    requires behind { behind ≡ end_past end member.now.offset member.now.kind }
+    requires after { after ≡ end_past end member.now.offset member.now.kind }
     requires within { is_const member.now.kind ≡ false → begin_of end member.now.offset + width member.now.kind ≤ length bytes.now }
     requires near { at + length bytes.now < 2 ^ 64 }
     ensures told { fault_unless result out.new ≡ member_check mode (piece at bytes.now) end i member.now }
@@ -114,7 +114,7 @@ fn judge_member(
         Kind::Const(_) => true,
         Kind::Leaf(_) | Kind::Enum(_, _) | Kind::Set(_, _) | Kind::Comp(_) => {
             let begin = begin_of(end, member.offset) as usize;
-            let part = &bytes[begin..behind as usize];
+            let part = &bytes[begin..after as usize];
             if shows_at_once(mode, &member.kind, part) {
                 return true;
             }

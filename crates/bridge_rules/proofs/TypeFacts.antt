@@ -229,12 +229,12 @@ number_long : (n : ℤ) → FitsSigned w128 n → unsigned_abs n < 10 ^ 38 → i
 number_long n fits short =
     let spelled = shown_spelled n fits in
     let some = both (nat_lt 0 (length spelled.digits)) _ spelled.numeral in
-    let long : 0 < length (signed_decimal n) = subst (λ t. 0 < length t) (sym spelled.spelled) (behind spelled.negative spelled.digits some.0) in
+    let long : 0 < length (signed_decimal n) = subst (λ t. 0 < length t) (sym spelled.spelled) (after spelled.negative spelled.digits some.0) in
     two_tests (length (signed_decimal n)) long (few n short)
   where
-    behind : (b : Bool) (ds : List ℕ) → nat_lt 0 (length ds) ≡ true → 0 < length (sign b ++ ds)
-    behind true ds h = omega arith
-    behind false ds h = grind (arith, nat_tests, h)
+    after : (b : Bool) (ds : List ℕ) → nat_lt 0 (length ds) ≡ true → 0 < length (sign b ++ ds)
+    after true ds h = omega arith
+    after false ds h = grind (arith, nat_tests, h)
 
     few : (n : ℤ) → unsigned_abs n < 10 ^ 38 → length (signed_decimal n) ≤ 39
     few (pos k) low = omega (arith, length-decimal-le_wide 38 k (omega arith) low (omega (arith, low)))

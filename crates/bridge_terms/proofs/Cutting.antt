@@ -24,13 +24,13 @@ cut_run owned owner (f ∷ fs) more parts has h =
     ∙ ap (in_run f) (cut_run owned owner fs more parts has.1 h)
 
 cut_parts : (owned : ℕ → ℕ → Bool) (owner : ℕ) (parts : List Part) → Behind owned owner parts → cut_after owned owner (fields_in parts) ≡ record { run = []; parts = parts }
-cut_parts owned owner [] behind = refl
-cut_parts owned owner (x ∷ xs) behind =
-    if_false (owned owner x.tag) (in_run (record { tag = x.tag; value = x.text }) (cut_after owned owner (x.run ++ fields_in xs))) (of_part (record { tag = x.tag; value = x.text }) (cut_after owned x.tag (x.run ++ fields_in xs))) behind.0
-    ∙ ap (of_part (record { tag = x.tag; value = x.text })) (cut_run owned x.tag x.run (fields_in xs) xs behind.1 (cut_parts owned x.tag xs behind.2))
+cut_parts owned owner [] after = refl
+cut_parts owned owner (x ∷ xs) after =
+    if_false (owned owner x.tag) (in_run (record { tag = x.tag; value = x.text }) (cut_after owned owner (x.run ++ fields_in xs))) (of_part (record { tag = x.tag; value = x.text }) (cut_after owned x.tag (x.run ++ fields_in xs))) after.0
+    ∙ ap (of_part (record { tag = x.tag; value = x.text })) (cut_run owned x.tag x.run (fields_in xs) xs after.1 (cut_parts owned x.tag xs after.2))
 
 pub parts_back : (owned : ℕ → ℕ → Bool) (parts : List Part) → Behind owned 0 parts → parts_of owned (fields_in parts) ≡ parts
-parts_back owned parts behind = ap (λ c. c.parts) (cut_parts owned 0 parts behind)
+parts_back owned parts after = ap (λ c. c.parts) (cut_parts owned 0 parts after)
 
 -- ---- pieces
 

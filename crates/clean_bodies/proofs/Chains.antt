@@ -18,8 +18,8 @@ whole_of X lies own body at next each = record {
 }
 
 -- what follows the first of two pieces
-pub behind : (body : List ℕ) (at : ℕ) (f r : List ℕ) → drop at body ≡ f ++ r → drop (at + length f) body ≡ r
-behind body at f r there = sym (drop-drop (length f) at body) ∙ ap (drop (length f)) there ∙ drop_at f r (length f) refl
+pub after : (body : List ℕ) (at : ℕ) (f r : List ℕ) → drop at body ≡ f ++ r → drop (at + length f) body ≡ r
+after body at f r there = sym (drop-drop (length f) at body) ∙ ap (drop (length f)) there ∙ drop_at f r (length f) refl
 
 -- two pieces, one after the other
 pub two_pieces : (body : List ℕ) (at mid next : ℕ) (front f b rest : List ℕ) (first second : Option (List ℕ))
@@ -28,7 +28,7 @@ pub two_pieces : (body : List ℕ) (at mid next : ℕ) (front f b rest : List �
 two_pieces body at mid next front f b rest first second there split one two =
     let there_f : drop at body ≡ f ++ (b ++ rest) = there ∙ ap (λ z. z ++ rest) split ∙ append_assoc f b rest in
     let here = one (b ++ rest) there_f in
-    let there_b : drop mid body ≡ b ++ rest = ap (λ n. drop n body) here.0 ∙ behind body at f (b ++ rest) there_f in
+    let there_b : drop mid body ≡ b ++ rest = ap (λ n. drop n body) here.0 ∙ after body at f (b ++ rest) there_f in
     let last = two there_b in (
       omega (arith, here.0, last.0, ap length split, length-append f b),
       ap (λ o. both o second) here.1 ∙ ap (both (Some f)) last.1 ∙ ap Some (sym split),

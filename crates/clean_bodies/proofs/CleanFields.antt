@@ -42,7 +42,7 @@ module _ (order : Order) (version : ℕ) where
       let next : ℕ = end_past e offset kind in
       let zeros : List ℕ = replicate (cond (is_const kind) 0 (begin_of e offset - e)) 0 in
       let grows : next ≤ fields_end next fs = fields_grow next fs placed.2 in
-      let behind : e ≤ next = part_grows e offset kind (is_const kind) refl placed.0 in
+      let after : e ≤ next = part_grows e offset kind (is_const kind) refl placed.0 in
       let shows : Shows order true kind v (part_in e offset kind b) =
       alive_from (Shows order true kind v (part_in e offset kind b)) (v ≡ value.Absent) version f.since writable.1 h.0 in
       let here : wire_bytes order kind v ≡ Some (part_in e offset kind b) =
@@ -54,7 +54,7 @@ module _ (order : Order) (version : ℕ) where
       ap (λ o. both (both (Some zeros) o) (fields_bytes order next fs vs)) here
       ∙ ap (λ o. both (Some (zeros ++ part_in e offset kind b)) o) there
       ∙ ap (λ z. Some (z ++ between next (fields_end next fs) b)) part
-      ∙ ap Some (between_append e next (fields_end next fs) b behind grows)
+      ∙ ap Some (between_append e next (fields_end next fs) b after grows)
 
   -- the block of a level whose fields end within it
   pub block_clean : (fs : List Field) → ArePlaced 0 fs → AreWritableFields version fs → (vs : List Value) (b : List ℕ)

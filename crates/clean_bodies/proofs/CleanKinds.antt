@@ -62,11 +62,11 @@ module _ (order : Order) (leaf : LeafOf) where
 pub part_is : (e : ℕ) (offset : _) (kind : Kind) (t : Bool) → is_const kind ≡ t → BeginsBehind e offset kind
     → (b : List ℕ) → (t ≡ false → begin_of e offset + width kind ≤ length b) → HasCleanGap e offset kind b
     → replicate (cond t 0 (begin_of e offset - e)) 0 ++ part_in e offset kind b ≡ between e (cond t e (begin_of e offset + width kind)) b
-part_is e offset kind true c behind b within gap =
+part_is e offset kind true c later b within gap =
     ap (λ n. take n (drop (begin_of e offset) b)) (const_width kind c) ∙ sym (between_none e b)
-part_is e offset kind false c behind b within gap =
+part_is e offset kind false c later b within gap =
     let begin = begin_of e offset in
-    let begins : e ≤ begin = behind c in
+    let begins : e ≤ begin = later c in
     let ends : begin + width kind ≤ length b = within refl in
     let size : width kind ≡ (begin + width kind) - begin = omega arith in
     ap (λ z. z ++ part_in e offset kind b) (gap_zeros e begin b begins (omega (arith, ends)) (gap c))
@@ -76,8 +76,8 @@ part_is e offset kind false c behind b within gap =
 -- where the part ends, at e or after
 pub part_grows : (e : ℕ) (offset : _) (kind : Kind) (t : Bool) → is_const kind ≡ t → BeginsBehind e offset kind
     → e ≤ cond t e (begin_of e offset + width kind)
-part_grows e offset kind true c behind = omega arith
-part_grows e offset kind false c behind = let begins : e ≤ begin_of e offset = behind c in omega (arith, begins)
+part_grows e offset kind true c later = omega arith
+part_grows e offset kind false c later = let begins : e ≤ begin_of e offset = later c in omega (arith, begins)
 
 pub part_within : (e limit : ℕ) (offset : _) (kind : Kind) (t : Bool)
     → cond t e (begin_of e offset + width kind) ≤ limit → t ≡ false → begin_of e offset + width kind ≤ limit
@@ -110,7 +110,7 @@ module _ (order : Order) where
         let next : ℕ = cond (is_const kind) e (begin_of e offset + width kind) in
         let zeros : List ℕ = replicate (cond (is_const kind) 0 (begin_of e offset - e)) 0 in
         let grows : next ≤ row_end next rest = row_grows rest next placed.2 in
-        let behind : e ≤ next = part_grows e offset kind (is_const kind) refl placed.0 in
+        let later : e ≤ next = part_grows e offset kind (is_const kind) refl placed.0 in
         let here : wire_bytes order kind v ≡ Some (part_in e offset kind b) =
         kind_clean kind placed.1 writable.0 v (part_in e offset kind b) (IsBytes-take _ _ (IsBytes-drop _ b good)) h.0 clean.1 in
         let there = row_clean next rest placed.2 writable.1 vs b good within h.1 clean.2 in
@@ -120,4 +120,4 @@ module _ (order : Order) where
         ap (λ o. both (both (Some zeros) o) (row_bytes order next rest (Some vs))) here
         ∙ ap (λ o. both (Some (zeros ++ part_in e offset kind b)) o) there
         ∙ ap (λ z. Some (z ++ between next (row_end next rest) b)) part
-        ∙ ap Some (between_append e next (row_end next rest) b behind grows)
+        ∙ ap Some (between_append e next (row_end next rest) b later grows)

@@ -63,7 +63,7 @@ module _ (schema : WireSchema) (level : Level) (body : List ℕ) where
       let split : body ≡ header ++ (block ++ (tail ++ rest)) =
       h.6 ∙ append_assoc (header ++ block) tail rest ∙ append_assoc header block (tail ++ rest) in
       let front : take size body ≡ header = ap (take size) split ∙ take_at header (block ++ (tail ++ rest)) size head.wide in
-      let behind : drop size body ≡ block ++ (tail ++ rest) = ap (drop size) split ∙ drop_at header (block ++ (tail ++ rest)) size head.wide in
+      let after : drop size body ≡ block ++ (tail ++ rest) = ap (drop size) split ∙ drop_at header (block ++ (tail ++ rest)) size head.wide in
       let there_says : SayNumbers order (header_numbers schema level) 0 members header =
       subst (SayNumbers order (header_numbers schema level) 0 members) front says in
       let header_good : IsBytes header = subst IsBytes front (IsBytes-take size body good) in
@@ -78,7 +78,7 @@ module _ (schema : WireSchema) (level : Level) (body : List ℕ) where
         subst (BlockLays mode (out-Level level).fields (out-Block m.block).fields) (sym front_is) block_lays,
         subst (TailLays mode level m.block) (sym back_is) tail_lays,
       ) in
-      let own_entry = whole.is m.block (block ++ tail) rest (behind ∙ sym (append_assoc block tail rest)) entry in
+      let own_entry = whole.is m.block (block ++ tail) rest (after ∙ sym (append_assoc block tail rest)) entry in
       canonical_is schema m level at
       ∙ ap (λ o. both o (entry_bytes order level m.block)) own_header
       ∙ ap (both (Some header)) own_entry

@@ -45,13 +45,13 @@ module _ (order : Order) (numbers : List ℕ → ℕ) (b : List ℕ) where
         omega (arith, ends, one)
 
     ahead : e ≤ next
-    ahead = let is = next_is in let behind = here.behind in omega (arith, is, behind)
+    ahead = let is = next_is in let after = here.after in omega (arith, is, after)
 
     bytes_are : IsBytes b → next ≤ length b
         → both (Some (replicate (begin - e) 0)) (number_bytes_in order m.kind (numbers m.name)) ≡ Some (between e next b)
     bytes_are good within =
         let is = next_is in
-        let behind : e ≤ begin = here.behind in
+        let after : e ≤ begin = here.after in
         let slice : List ℕ = take w (drop begin b) in
         let zeros : List ℕ = replicate (begin - e) 0 in
         let size : w ≡ next - begin = omega (arith, is) in
@@ -61,9 +61,9 @@ module _ (order : Order) (numbers : List ℕ → ℕ) (b : List ℕ) where
         (IsBytes-take w (drop begin b) (IsBytes-drop begin b good)) in
         ap (λ k. both (Some zeros) (number_bytes_in order k (numbers m.name))) here.number
         ∙ ap (both (Some zeros)) wire
-        ∙ ap (λ z. Some (z ++ slice)) (gap_zeros e begin b behind (omega (arith, is, within)) here.gap)
+        ∙ ap (λ z. Some (z ++ slice)) (gap_zeros e begin b after (omega (arith, is, within)) here.gap)
         ∙ ap (λ n. Some (between e begin b ++ take n (drop begin b))) size
-        ∙ ap Some (between_append e begin next b behind (omega (arith, is)))
+        ∙ ap Some (between_append e begin next b after (omega (arith, is)))
 
   -- ---- all members
 

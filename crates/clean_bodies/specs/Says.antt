@@ -14,7 +14,7 @@ pub record SaysNumber (order : Order) (n e : ℕ) (m : Member) (b : List ℕ) : 
   pub leaf : LeafOf
   pub number : m.kind ≡ Leaf leaf
   pub single : leaf.length ≡ 1
-  pub behind : e ≤ begin_of e m.offset
+  pub after : e ≤ begin_of e m.offset
   pub gap : AreZeros (between e (begin_of e m.offset) b)
   pub is : number_of order leaf.prim (take (prim_width leaf.prim) (drop (begin_of e m.offset) b)) ≡ pos n
 

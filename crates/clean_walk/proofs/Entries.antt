@@ -60,10 +60,10 @@ group_good version level gs i g same below is known =
     let all : All (IsGoodGroup version) gs = subst (All (IsGoodGroup version)) (sym same) (good_groups version level known) in
     subst (IsGoodGroup version) (sym is) (All-get_or (IsGoodGroup version) gs i g below all)
 
-pub group_walked : (place : Place) (g : Group) (count at behind next : ℕ) → IsGoodGroup place.version g
-    → IsBytes place.body → GroupSays place.order place.body g count at → behind ≡ at + members_end 0 (out-Group g).dim
-    → Times (EntryStep place (out-Group g).level) count behind next → GroupStep place g at next
-group_walked place g count at behind next good bytes says end steps =
+pub group_walked : (place : Place) (g : Group) (count at after next : ℕ) → IsGoodGroup place.version g
+    → IsBytes place.body → GroupSays place.order place.body g count at → after ≡ at + members_end 0 (out-Group g).dim
+    → Times (EntryStep place (out-Group g).level) count after next → GroupStep place g at next
+group_walked place g count at after next good bytes says end steps =
     group_step place g count at next good bytes says (subst (λ n. Times (EntryStep place (out-Group g).level) count n next) end steps)
 
 pub root_walked : (schema : WireSchema) (level : Level) (body : List ℕ) (ms : List Member) (size next : ℕ)

@@ -139,9 +139,9 @@ module _ (b : List ℕ) where
         let grows : next ≤ row_end next row = row_grows row next placed.2 in
         let sum : cond (is_const kind) (at + e) (at + p + width kind) ≡ at + next = sum_by (is_const kind) at e p (width kind) in
         let within : is_const kind ≡ false → p + width kind ≤ w = λ c. subst (λ (t : Bool). cond t e (p + width kind) ≤ w) c (omega (arith, grows, ends)) in
-        let behind : From (at + next) (tail ++ rest) = both_from (at + next) tail rest (row_from row at next placed.2) (from_less (at + next) (at + row_end next row) rest (omega (arith, grows)) from) in
+        let after : From (at + next) (tail ++ rest) = both_from (at + next) tail rest (row_from row at next placed.2) (from_less (at + next) (at + row_end next row) rest (omega (arith, grows)) from) in
         let one = part_clean kind (at + e) (at + p) (tail ++ rest) (λ c. let begins : e ≤ p = placed.0 c in omega (arith, begins)) placed.1
-        (subst (λ n. From n (tail ++ rest)) (sym sum) behind) (subst (λ l. AreCleanValues (at + e) l b) (append_assoc (kind_scalars kind (at + p)) tail rest) clean) in
+        (subst (λ n. From n (tail ++ rest)) (sym sum) after) (subst (λ l. AreCleanValues (at + e) l b) (append_assoc (kind_scalars kind (at + p)) tail rest) clean) in
         let more = members_clean row at next w rest placed.2 ends from (subst (λ n. AreCleanValues n (tail ++ rest) b) sum one.2) in
         let gap : HasCleanGap e offset kind (take w (drop at b)) =
         λ c. let begins : e ≤ p = placed.0 c in let ended = within c in subst AreZeros (sym (gap_inside at e p w begins (omega (arith, ended)))) (one.0 c) in

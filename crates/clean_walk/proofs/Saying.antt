@@ -27,13 +27,13 @@ pub number_said : (order : Order) (n e : ℕ) (m : Member) (b : List ℕ) (leaf 
     → m.kind ≡ Leaf leaf → leaf.length ≡ 1 → begin ≡ begin_of e m.offset → e ≤ begin
     → AreZeros (take (begin - e) (drop e b)) → next ≡ begin + prim_width leaf.prim
     → number_of order leaf.prim (take (next - begin) (drop begin b)) ≡ pos read → read ≡ n → SaysNumber order n e m b
-number_said order n e m b leaf begin next read number single place behind gap end is same =
+number_said order n e m b leaf begin next read number single place after gap end is same =
     let size : next - begin ≡ prim_width leaf.prim = omega (arith, end) in
     record {
       leaf = leaf;
       number = number;
       single = single;
-      behind = omega (arith, place, behind);
+      after = omega (arith, place, after);
       gap = subst (λ k. AreZeros (between e k b)) place gap;
       is =
           ap (λ k. number_of order leaf.prim (take (prim_width leaf.prim) (drop k b))) (sym place)
@@ -75,13 +75,13 @@ module _ (order : Order) (numbers : List ℕ → ℕ) (n : ℕ) (b : List ℕ) w
       let begin : ℕ = begin_of e m.offset in
       let w : ℕ = prim_width h.leaf.prim in
       let ends : end_past e m.offset m.kind ≡ begin + w = past_leaf e m h.leaf h.number h.single in
-      let behind : e ≤ begin = h.behind in
-      let gap : between e begin (take n b) ≡ between e begin b = slice_front e (begin - e) n b (omega (arith, ends, behind, within)) in
+      let after : e ≤ begin = h.after in
+      let gap : between e begin (take n b) ≡ between e begin b = slice_front e (begin - e) n b (omega (arith, ends, after, within)) in
       record {
         leaf = h.leaf;
         number = h.number;
         single = h.single;
-        behind = h.behind;
+        after = h.after;
         gap = subst AreZeros (sym gap) h.gap;
         is = ap (number_of order h.leaf.prim) (slice_front begin w n b (omega (arith, ends, within))) ∙ h.is;
       }
@@ -90,9 +90,9 @@ module _ (order : Order) (numbers : List ℕ → ℕ) (n : ℕ) (b : List ℕ) w
   grows e [] h = omega arith
   grows e (m ∷ ms) h =
       let ends : end_past e m.offset m.kind ≡ begin_of e m.offset + prim_width h.0.leaf.prim = past_leaf e m h.0.leaf h.0.number h.0.single in
-      let behind = h.0.behind in
+      let after = h.0.after in
       let rest = grows (end_past e m.offset m.kind) ms h.1 in
-      omega (arith, ends, behind, rest)
+      omega (arith, ends, after, rest)
 
   -- what members say is said by the bytes up to their end
   pub say_front : (e : ℕ) (ms : List Member) → SayNumbers order numbers e ms b → members_end e ms ≤ n

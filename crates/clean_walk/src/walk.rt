@@ -75,11 +75,11 @@ fn entry_end(layout: &Layout, n: usize, level: &Level, body: &[u8], at: usize) -
     if body.len() - at < size {
         return None;
     }
-    let behind = at + size;
-    if !is_clean_block(&row.flat, &body[at..behind]) {
+    let after = at + size;
+    if !is_clean_block(&row.flat, &body[at..after]) {
         return None;
     }
-    let next = groups_end(layout, n, level, body, behind)?;
+    let next = groups_end(layout, n, level, body, after)?;
     parts_end(layout, level.parts.as_slice(), body, next)
 }
 
@@ -116,8 +116,8 @@ fn group_end(layout: &Layout, n: usize, group: &Group, body: &[u8], at: usize) -
     ensures whole { IfSome result (GroupStep (place_in layout.now body.now) group.now at) }
     ensures within { IfSome result (λ next. next ≤ length body.now) }
 {
-    let (count, behind) = dim_end(layout.order(), group, body, at)?;
-    entries_end(layout, n, &group.level, count, body, behind)
+    let (count, after) = dim_end(layout.order(), group, body, at)?;
+    entries_end(layout, n, &group.level, count, body, after)
 }
 
 /// The end of `count` entries.

@@ -22,8 +22,8 @@ pub pair_front : (words : List (String Global)) (word value : String Global) →
 pair_front [] word value two first second = absurd (omega arith)
 pair_front (a ∷ []) word value two first second = absurd (omega arith)
 pair_front (a ∷ b ∷ more) word value two first second =
-    let behind : behind_two (a ∷ b ∷ more) ≡ more = take_rest (a ∷ b ∷ more) 2 in
-    rw (behind, first, second) refl
+    let after : behind_two (a ∷ b ∷ more) ≡ more = take_rest (a ∷ b ∷ more) 2 in
+    rw (after, first, second) refl
 
 list_any_map : {X Y : Type 0} (p : X → Bool) (h : Y → X) (ys : List Y) → list_any p (map h ys) ≡ list_any (λ y. p (h y)) ys
 list_any_map p h [] = refl
@@ -36,13 +36,13 @@ pub pair_taken : (options : List (Bor (List ℕ))) (shown : List (List ℕ)) (wo
 pair_taken options shown [] word text taken all is two first is_text is_taken is_all = absurd (omega arith)
 pair_taken options shown (a ∷ []) word text taken all is two first is_text is_taken is_all = absurd (omega arith)
 pair_taken options shown (a ∷ b ∷ more) word text taken all is two first is_text is_taken is_all =
-    let behind : behind_two (a ∷ b ∷ more) ≡ more = take_rest (a ∷ b ∷ more) 2 in
+    let after : behind_two (a ∷ b ∷ more) ≡ more = take_rest (a ∷ b ∷ more) 2 in
     let begins : text ≡ string_bytes a = is_text ∙ ap (λ w. string_bytes w) first in
     let same : list_any {X = Bor (List ℕ)} (λ option. bytes_eq option.now text) options ≡ list_any (λ option. bytes_eq option text) shown =
     sym (list_any_map (λ option. bytes_eq option text) (λ (option : Bor (List ℕ)). option.now) options) ∙ ap (λ o. list_any (λ option. bytes_eq option text) o) is in
     let front : taken ≡ list_any (λ option. bytes_eq option (string_bytes a)) shown = is_taken ∙ same ∙ ap (λ t. list_any (λ option. bytes_eq option t) shown) begins in
     ap (λ t. t && are_options shown (texts (behind_two (a ∷ b ∷ more)))) front
-    ∙ ap (λ m. list_any (λ option. bytes_eq option (string_bytes a)) shown && are_options shown (texts m)) behind ∙ is_all
+    ∙ ap (λ m. list_any (λ option. bytes_eq option (string_bytes a)) shown && are_options shown (texts m)) after ∙ is_all
 
 -- less than a pair
 pub none_left : (shown : List (List ℕ)) (words : List (String Global)) (all : Bool) → length words < 2 → are_options shown (texts words) ≡ all → (length words == 0) ≡ all
@@ -97,17 +97,17 @@ pub fits_so : (row : FormRow) (words : List (String Global)) (word : String Glob
     (named && fits_values row (texts (behind_files row.files words))) ≡ fits row (texts words)
 fits_so row [] word text named one first is_text same enough is_named = absurd (omega arith)
 fits_so row (a ∷ more) word text named one first is_text same enough is_named =
-    let behind : behind_one (a ∷ more) ≡ more = take_rest (a ∷ more) 1 in
+    let after : behind_one (a ∷ more) ≡ more = take_rest (a ∷ more) 1 in
     let begins : text ≡ string_bytes a = is_text ∙ ap (λ w. string_bytes w) first in
     let e1 : bytes_eq (string_bytes a) row.word ≡ true = ap (λ t. bytes_eq t row.word) (sym begins) ∙ not_false _ same in
-    let room : row.files ≤ length more = subst (λ m. row.files ≤ length m) behind enough in
+    let room : row.files ≤ length more = subst (λ m. row.files ≤ length m) after enough in
     let room' : row.files ≤ length (texts more) = subst (λ n. row.files ≤ n) (sym (length-map more (λ (word : String Global). string_bytes word))) room in
     let e2 : leb row.files (length (texts more)) ≡ true = le-leb _ _ room' in
     let e3 : list_all is_file_name (take row.files (texts more)) ≡ named =
     ap (λ t. list_all is_file_name t) (take-map (λ word. string_bytes word) row.files more) ∙ list_all-map is_file_name (λ word. string_bytes word) (take row.files more)
-    ∙ sym (is_named ∙ ap (λ m. list_all (λ word. is_file_name (string_bytes word)) (take row.files m)) behind) in
+    ∙ sym (is_named ∙ ap (λ m. list_all (λ word. is_file_name (string_bytes word)) (take row.files m)) after) in
     let rest : behind_files row.files (a ∷ more) ≡ drop row.files more =
-    take_rest (behind_one (a ∷ more)) row.files ∙ ap (λ m. drop row.files m) behind in
+    take_rest (behind_one (a ∷ more)) row.files ∙ ap (λ m. drop row.files m) after in
     let e4 : fits_values row (drop row.files (texts more)) ≡ fits_values row (texts (behind_files row.files (a ∷ more))) =
     ap (λ t. fits_values row t) (drop-map (λ word. string_bytes word) row.files more ∙ ap (λ m. texts m) (sym rest)) in
     sym (all_so _ _ _ _ _ _ e1 e2 e3 e4)
@@ -123,13 +123,13 @@ pub said_so : (row : FormRow) (words : List (String Global)) → 1 ≤ length wo
     said_by row (texts words) ≡ said_after row (texts (take row.files (behind_one words))) (texts (behind_files row.files words))
 said_so row [] one enough = absurd (omega arith)
 said_so row (a ∷ more) one enough =
-    let behind : behind_one (a ∷ more) ≡ more = take_rest (a ∷ more) 1 in
-    let room : row.files ≤ length more = subst (λ m. row.files ≤ length m) behind enough in
+    let after : behind_one (a ∷ more) ≡ more = take_rest (a ∷ more) 1 in
+    let room : row.files ≤ length more = subst (λ m. row.files ≤ length m) after enough in
     let room' : row.files ≤ length (texts more) = subst (λ n. row.files ≤ n) (sym (length-map more (λ (word : String Global). string_bytes word))) room in
-    let rest : behind_files row.files (a ∷ more) ≡ drop row.files more = take_rest (behind_one (a ∷ more)) row.files ∙ ap (λ m. drop row.files m) behind in
+    let rest : behind_files row.files (a ∷ more) ≡ drop row.files more = take_rest (behind_one (a ∷ more)) row.files ∙ ap (λ m. drop row.files m) after in
     let options : drop row.files (texts more) ≡ texts (behind_files row.files (a ∷ more)) = drop-map (λ word. string_bytes word) row.files more ∙ ap (λ m. texts m) (sym rest) in
     let names : take row.files (texts more) ≡ texts (take row.files (behind_one (a ∷ more))) =
-    take-map (λ word. string_bytes word) row.files more ∙ ap (λ m. texts (take row.files m)) (sym behind) in
+    take-map (λ word. string_bytes word) row.files more ∙ ap (λ m. texts (take row.files m)) (sym after) in
     ap (λ b. if b then said_after row (take row.files (texts more)) (drop row.files (texts more)) else None) (le-leb _ _ room')
     ∙ ap (λ n. said_after row n (drop row.files (texts more))) names
     ∙ ap (λ v. said_after row (texts (take row.files (behind_one (a ∷ more)))) v) options

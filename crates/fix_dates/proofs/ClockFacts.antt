@@ -82,9 +82,9 @@ fraction_together text fraction (suc places) h =
     let rest : length (drop 1 text) ≡ suc places = omega (arith, h.long, length-drop {A = ℕ}) in
     let all : length text - 1 ≡ suc places = omega (arith, h.long) in
     let piece = piece_read (suc places) (drop 1 text) fraction (omega arith) (rw all at h.fraction_read) in
-    let behind : digits (suc places) fraction ≡ drop 1 text = piece.0 ∙ take_all (suc places) (drop 1 text) (omega arith) in
+    let after : digits (suc places) fraction ≡ drop 1 text = piece.0 ∙ take_all (suc places) (drop 1 text) (omega arith) in
     let front : drop 0 text ≡ get_or text 0 0 ∷ drop 1 text = drop-cons text 0 0 (omega (arith, h.long)) in
-    front ∙ (ap (λ x. x ∷ drop 1 text) h.point ∙ ap (λ xs. 46 ∷ xs) (sym behind))
+    front ∙ (ap (λ x. x ∷ drop 1 text) h.point ∙ ap (λ xs. 46 ∷ xs) (sym after))
 
 -- what is read where a time of day is
 pub record ReadsClock (text : List ℕ) (clock : Clock) : Type 0 where

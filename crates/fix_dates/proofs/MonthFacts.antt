@@ -37,9 +37,9 @@ pub week_together : (text : List ℕ) (week : ℕ) → length text ≡ 2 → get
 week_together text week long letter e =
     let rest : length (drop 1 text) ≡ 1 = omega (arith, long, length-drop {A = ℕ}) in
     let piece = piece_read 1 (drop 1 text) week (omega arith) e in
-    let behind : digits 1 week ≡ drop 1 text = piece.0 ∙ take_all 1 (drop 1 text) (omega arith) in
+    let after : digits 1 week ≡ drop 1 text = piece.0 ∙ take_all 1 (drop 1 text) (omega arith) in
     let front : drop 0 text ≡ get_or text 0 0 ∷ drop 1 text = drop-cons text 0 0 (omega (arith, long)) in
-    front ∙ (ap (λ x. x ∷ drop 1 text) letter ∙ ap (λ xs. 119 ∷ xs) (sym behind))
+    front ∙ (ap (λ x. x ∷ drop 1 text) letter ∙ ap (λ xs. 119 ∷ xs) (sym after))
 
 -- and two that are read are the day's
 pub day_of_two : (text : List ℕ) (day : ℕ) → length text ≡ 2 → number_in (take 2 text) ≡ Some day → text ≡ digits 2 day

@@ -53,10 +53,10 @@ one_fraction zero f (suc q) g first second e = absurd (omega (arith, ap length e
 one_fraction (suc p) f zero g first second e = absurd (omega (arith, ap length e))
 one_fraction (suc p) f (suc q) g first second e =
     let places : p ≡ q = omega (arith, ap length e, length_digits (suc p) f, length_digits (suc q) g) in
-    let behind : digits (suc p) f ≡ digits (suc q) g = ap (drop 1) e in
+    let after : digits (suc p) f ≡ digits (suc q) g = ap (drop 1) e in
     let back : suc q ≡ suc p = ap suc (sym places) in
     let other : g < 10 ^ suc p = subst (λ k. g < 10 ^ k) back second in
-    (ap suc places, same_digits (suc p) f g first other (behind ∙ ap (λ k. digits k g) back))
+    (ap suc places, same_digits (suc p) f g first other (after ∙ ap (λ k. digits k g) back))
 
 -- two times of day with the same parts are one
 same_clock : (a b : Clock) → a.hour ≡ b.hour → a.minute ≡ b.minute → a.second ≡ b.second → a.fraction ≡ b.fraction → a.places ≡ b.places → a ≡ b

@@ -51,14 +51,14 @@ only_entry mode fields k b values long read =
 -- ---- the block of a composite's members
 
 module _ (s : Span) (ms : List Member) (v : Value) (from : s.at ≡ 0) (all : s.size ≡ length s.body.now) (order : IsKindInOrder (Comp ms)) (shows : Shows s.mode.order s.mode.known (Comp ms) v s.body.now) where
-  behind : PlacedList 0 ms
-  behind = placed_members ms order.within.placed
+  after : PlacedList 0 ms
+  after = placed_members ms order.within.placed
 
   placed : ArePlaced 0 (map member_field ms)
-  placed = members_placed 0 ms behind
+  placed = members_placed 0 ms after
 
   reaches : floor s.mode.version (map member_field ms) ≤ s.size
-  reaches = omega (arith, members_reach s.mode.version 0 0 ms behind (omega arith), width_comp ms, shows.0, all)
+  reaches = omega (arith, members_reach s.mode.version 0 0 ms after (omega arith), width_comp ms, shows.0, all)
 
   lie : FieldsLay s.mode 0 (map member_field ms) shows.1.0 s.body.now
   lie =

@@ -62,7 +62,7 @@ groups_past schema n k child w h =
       record {
         this = w.this;
         at = w.at;
-        stands = this.child_is.behind;
+        stands = this.child_is.after;
         number = omega (arith, more, w.number, many_of t 0 this.g);
       },
     )
@@ -125,14 +125,14 @@ module _ (order : Order) (dim : List Member) (least : ℕ) (body : List ℕ) (at
 -- ---- a group
 
 module _ (mode : Mode) where
-  abbrev behind : Level → ℕ × ℕ → Reader GroupVal
-  behind level d = then_read (times_read (entries_read mode level d.0) 0 d.1) (λ es. nothing (groupval.Entries es))
+  abbrev beyond : Level → ℕ × ℕ → Reader GroupVal
+  beyond level d = then_read (times_read (entries_read mode level d.0) 0 d.1) (λ es. nothing (groupval.Entries es))
 
   abbrev dims : List Member → Level → Reader (ℕ × ℕ)
   dims dim level = dimension_read mode.order dim (floor mode.version (out-Level level).fields)
 
   opened : (dim : List Member) (level : Level) (b : List ℕ) →
-      groups_by mode (Group' dim level) b ≡ cond (is_alive mode.version (out-Level level).since) (then_read (dims dim level) (behind level) b) (Ok (groupval.Absent, b))
+      groups_by mode (Group' dim level) b ≡ cond (is_alive mode.version (out-Level level).since) (then_read (dims dim level) (beyond level) b) (Ok (groupval.Absent, b))
   unfolding group_read
   opened dim level b = refl
 
@@ -145,7 +145,7 @@ module _ (mode : Mode) where
     level = (out-Group g).level
 
     abbrev alive_by : Bool → Result (GroupVal × List ℕ) Fault
-    alive_by t = cond t (then_read (dims (out-Group g).dim level) (behind level) (drop at body)) (Ok (groupval.Absent, drop at body))
+    alive_by t = cond t (then_read (dims (out-Group g).dim level) (beyond level) (drop at body)) (Ok (groupval.Absent, drop at body))
 
     group_opens : groups_by mode g (drop at body) ≡ alive_by (is_alive mode.version (out-Level level).since)
     group_opens = ap (λ (p : Reader GroupVal). p (drop at body)) (open_group g) ∙ opened (out-Group g).dim level (drop at body)
@@ -155,7 +155,7 @@ module _ (mode : Mode) where
         let below : is_alive mode.version (out-Level level).since ≡ false = grind (arith, nat_tests) in
         group_opens ∙ ap alive_by below
 
-    group_alive : (since : ℕ) → since ≡ (out-Level level).since → since ≤ mode.version → groups_by mode g (drop at body) ≡ and_then (drop at body) (dims (out-Group g).dim level (drop at body)) (behind level)
+    group_alive : (since : ℕ) → since ≡ (out-Level level).since → since ≤ mode.version → groups_by mode g (drop at body) ≡ and_then (drop at body) (dims (out-Group g).dim level (drop at body)) (beyond level)
     group_alive since is alive =
         let here : is_alive mode.version (out-Level level).since ≡ true = le-leb (out-Level level).since mode.version (omega arith) in
         group_opens ∙ ap alive_by here
@@ -163,16 +163,16 @@ module _ (mode : Mode) where
     -- a group that is alive has the entries that its dimension tells
     pub group_told : (since least : ℕ) (d : Dim) → since ≡ (out-Level level).since → since ≤ mode.version → least ≡ floor mode.version (out-Level level).fields →
         Ok (d.block, d.count) ≡ dim_from mode.order (out-Group g).dim least body at → d.after ≡ at + members_end 0 (out-Group g).dim → IsOk (groups_by mode g (drop at body)) →
-        groups_by mode g (drop at body) ≡ behind level (d.block, d.count) (drop d.after body)
+        groups_by mode g (drop at body) ≡ beyond level (d.block, d.count) (drop d.after body)
     group_told since least d is alive floors told after ok =
         let dim = (out-Group g).dim in
         let least_is = floor mode.version (out-Level level).fields in
         let read : dims dim level (drop at body) ≡ Ok ((d.block, d.count), drop d.after body) =
         dims_read mode.order dim least_is body at (d.block, d.count) (told ∙ ap (λ k. dim_from mode.order dim k body at) floors)
         ∙ ap (λ k. Ok ((d.block, d.count), drop k body)) (sym after) in
-        let whole : groups_by mode g (drop at body) ≡ later (length (drop at body) - length (drop d.after body)) (behind level (d.block, d.count) (drop d.after body)) =
-        group_alive since is alive ∙ ap (λ (r : Result ((ℕ × ℕ) × List ℕ) Fault). and_then (drop at body) r (behind level)) read in
-        whole ∙ later_same _ (behind level (d.block, d.count) (drop d.after body)) (subst (λ (r : Result (GroupVal × List ℕ) Fault). IsOk r) whole ok)
+        let whole : groups_by mode g (drop at body) ≡ later (length (drop at body) - length (drop d.after body)) (beyond level (d.block, d.count) (drop d.after body)) =
+        group_alive since is alive ∙ ap (λ (r : Result ((ℕ × ℕ) × List ℕ) Fault). and_then (drop at body) r (beyond level)) read in
+        whole ∙ later_same _ (beyond level (d.block, d.count) (drop d.after body)) (subst (λ (r : Result (GroupVal × List ℕ) Fault). IsOk r) whole ok)
 
     pub group_never : (since least : ℕ) (f : Fault) → since ≡ (out-Level level).since → since ≤ mode.version → least ≡ floor mode.version (out-Level level).fields →
         Err f ≡ dim_from mode.order (out-Group g).dim least body at → IsOk (groups_by mode g (drop at body)) → ⊥
@@ -180,7 +180,7 @@ module _ (mode : Mode) where
         let dim = (out-Group g).dim in
         let bad = dims_bad mode.order dim (floor mode.version (out-Level level).fields) body at f (told ∙ ap (λ k. dim_from mode.order dim k body at) floors) in
         never_ok (groups_by mode g (drop at body)) bad.0
-        (group_alive since is alive ∙ ap (λ (r : Result ((ℕ × ℕ) × List ℕ) Fault). and_then (drop at body) r (behind level)) bad.1) ok
+        (group_alive since is alive ∙ ap (λ (r : Result ((ℕ × ℕ) × List ℕ) Fault). and_then (drop at body) r (beyond level)) bad.1) ok
 
 -- ---- the entries of a group
 

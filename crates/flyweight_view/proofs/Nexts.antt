@@ -42,7 +42,7 @@ flat_is mode level h =
 
 -- the entries after the first one
 abbrev pub others_of : Dim → ℕ → Dim
-others_of d behind = record { block = d.block; count = d.count - 1; after = behind }
+others_of d later = record { block = d.block; count = d.count - 1; after = later }
 
 -- no entries
 abbrev pub none_of : Dim → Dim
@@ -81,25 +81,25 @@ module _ (l : Layer) (d : Dim) (lie : LieThere l d) where
         let ends = flat_entry l.mode l.level.now d.block l.body.now d.after (next.x, next.rest) flat lie.near next.first in
         (ap rest_of next.first ∙ ends.0, ends.1)
 
-    module _ (behind : ℕ) (told : rest_of (entry here) ≡ drop behind l.body.now) where
-      rest_is : next.rest ≡ drop behind l.body.now
+    module _ (later : ℕ) (told : rest_of (entry here) ≡ drop later l.body.now) where
+      rest_is : next.rest ≡ drop later l.body.now
       rest_is = sym (ap rest_of next.first) ∙ told
 
-      pub others_lie : behind ≤ length l.body.now → LieThere l (others_of d behind)
+      pub others_lie : later ≤ length l.body.now → LieThere l (others_of d later)
       others_lie near = record {
         reaches = λ more. lie.reaches some;
         near = near;
         reads = subst (λ b. IsOk (times_read entry 0 (d.count - 1) b)) rest_is next.others;
       }
 
-      pub others_seen : typed_entries l d ≡ typed_level l.level.now (block_of (entry here)) ∷ typed_entries l (others_of d behind)
+      pub others_seen : typed_entries l d ≡ typed_level l.level.now (block_of (entry here)) ∷ typed_entries l (others_of d later)
       others_seen =
           let see = typed_level l.level.now in
           ap (map see) next.items
           ∙ ap (λ (b : Block). see b ∷ map see (items_of (times_read entry 0 (d.count - 1) next.rest))) (sym (own_block (entry here) (next.x, next.rest) next.first).1)
           ∙ ap (λ b. see (block_of (entry here)) ∷ map see (items_of (times_read entry 0 (d.count - 1) b))) rest_is
 
-      pub others_rests : rest_of (blocks_at l d) ≡ rest_of (blocks_at l (others_of d behind))
+      pub others_rests : rest_of (blocks_at l d) ≡ rest_of (blocks_at l (others_of d later))
       others_rests = next.rests ∙ ap (λ b. rest_of (times_read entry 0 (d.count - 1) b)) rest_is
 
     -- where it is the last one

@@ -74,14 +74,14 @@ module _ (mode : Mode) (part : DataField) (body : List ℕ) (at : ℕ) where
       let bytes : drop wide (take (wide + many) front) ≡ range_bytes body range =
       drop-take wide many front ∙ ap (take many) (drop-drop wide at body) ∙ ap (λ k. take many (drop k body)) (sym begins) ∙ ap (λ k. take k (drop range.0 body)) (sym size) in
       let far : at + (wide + many) ≡ range.1 = omega (arith, ends) in
-      let behind : drop (wide + many) front ≡ drop range.1 body = drop-drop (wide + many) at body ∙ ap (λ k. drop k body) far in
+      let after : drop (wide + many) front ≡ drop range.1 body = drop-drop (wide + many) at body ∙ ap (λ k. drop k body) far in
       let judge : List ℕ → Result DataVal Fault = λ b. Ok (dataval.Bytes (drop wide b)) in (
         alive_by true here
             ∙ ap (λ t. cond t (data_bytes mode.order part many front) (Err (fault_at code.Truncated 0 (pos wide)))) first
             ∙ ap (λ t. cond t (and_check judge (cond (nat_le (wide + many) (length front)) (Ok (take (wide + many) front, drop (wide + many) front)) (Err (fault_at code.Truncated 0 (pos (wide + many)))))) (Err (fault_at code.Length 0 (pos many)))) tests.1
             ∙ ap (λ t. and_check judge (cond t (Ok (take (wide + many) front, drop (wide + many) front)) (Err (fault_at code.Truncated 0 (pos (wide + many)))))) whole
             ∙ ap (λ b. Ok (dataval.Bytes b, drop (wide + many) front)) bytes
-            ∙ ap (λ b. Ok (dataval.Bytes (range_bytes body range), b)) behind,
+            ∙ ap (λ b. Ok (dataval.Bytes (range_bytes body range), b)) after,
         record { ordered = omega (arith, begins, ends); within = omega (arith, ends, one, two, near) },
       )
 

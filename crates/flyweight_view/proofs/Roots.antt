@@ -100,22 +100,22 @@ module _ (schema : WireSchema) (body : List ℕ) (level : Level) (m : Msg) (is :
   abbrev w : ℕ
   w = header_width schema
 
-  abbrev behind : List ℕ
-  behind = drop w body
+  abbrev after : List ℕ
+  after = drop w body
 
   -- the message after its heading
-  message_behind : (h : Heading) → w ≤ length body → Says schema (take w body) h → root_read schema h behind ≡ Ok m → BlockRead (root_spot schema body m.version) level body m.block
+  message_behind : (h : Heading) → w ≤ length body → Says schema (take w body) h → root_read schema h after ≡ Ok m → BlockRead (root_spot schema body m.version) level body m.block
   message_behind h fits says reads =
-      let one = and_then_is behind (entries_read (mode_of schema h.version) h.level h.block behind) _ m reads in
+      let one = and_then_is after (entries_read (mode_of schema h.version) h.level h.block after) _ m reads in
       let made : headed h one.0.0 ≡ m = rest_ok _ _ m _ one.2 in
       let template : h.template ≡ m.template = ap (λ (x : Msg). x.template) made in
       let version : h.version ≡ m.version = ap (λ (x : Msg). x.version) made in
       let block : one.0.0 ≡ m.block = ap (λ (x : Msg). x.block) made in
       let both : Some h.level ≡ Some level = sym says.there ∙ ap (slice_get schema.messages) template ∙ is in
       let same : h.level ≡ level = cc in
-      let near : h.block ≤ length behind = entry_near (nat_le h.block (length behind)) h.block behind _ _ _ one.0 refl one.1 in
+      let near : h.block ≤ length after = entry_near (nat_le h.block (length after)) h.block after _ _ _ one.0 refl one.1 in
       let size : h.block ≡ (root_spot schema body m.version).size = says.block in
-      let long : length behind ≡ length body - w = length-drop w body in
+      let long : length after ≡ length body - w = length-drop w body in
       let reaches : floor (acting schema m.version) (out-Level level).fields ≤ h.block =
       subst (λ (l : Level). floor (acting schema m.version) (out-Level l).fields ≤ h.block) same (subst (λ v. floor (acting schema v) (out-Level h.level).fields ≤ h.block) version says.reaches) in
       record {
@@ -123,20 +123,20 @@ module _ (schema : WireSchema) (body : List ℕ) (level : Level) (m : Msg) (is :
         near = omega (arith, fits, near, long, size);
         reads = (
           one.0.1,
-          ap (λ k. entries_read (mode_of schema m.version) level k behind) (sym size)
-              ∙ ap (λ v. entries_read (mode_of schema v) level h.block behind) (sym version)
-              ∙ ap (λ (l : Level). entries_read (mode_of schema h.version) l h.block behind) (sym same)
+          ap (λ k. entries_read (mode_of schema m.version) level k after) (sym size)
+              ∙ ap (λ v. entries_read (mode_of schema v) level h.block after) (sym version)
+              ∙ ap (λ (l : Level). entries_read (mode_of schema h.version) l h.block after) (sym same)
               ∙ one.1
               ∙ ap (λ (x : Block). Ok (x, one.0.1)) block,
         );
       }
 
   fitting : (t : Bool) (h : Result Heading Fault) (f : Fault) → nat_le w (length body) ≡ t →
-      and_then body (cond t (h >>= (λ y. Ok (y, behind))) (Err f)) (root_read schema) ≡ Ok m → (w ≤ length body) × (y : Heading) × (h ≡ Ok y) × (root_read schema y behind ≡ Ok m)
+      and_then body (cond t (h >>= (λ y. Ok (y, after))) (Err f)) (root_read schema) ≡ Ok m → (w ≤ length body) × (y : Heading) × (h ≡ Ok y) × (root_read schema y after ≡ Ok m)
   fitting true h f fits is =
-      let one = and_then_is body (h >>= (λ y. Ok (y, behind))) (root_read schema) m is in
-      let two = bind_ok h (λ y. Ok (y, behind)) one.0 one.1 in
-      let made : ◌≡◌ {A = Heading × List ℕ} (two.0, behind) one.0 = ok_is two.2 in
+      let one = and_then_is body (h >>= (λ y. Ok (y, after))) (root_read schema) m is in
+      let two = bind_ok h (λ y. Ok (y, after)) one.0 one.1 in
+      let made : ◌≡◌ {A = Heading × List ℕ} (two.0, after) one.0 = ok_is two.2 in
       (leb-true w (length body) fits, two.0, two.1, subst (λ (p : Heading × List ℕ). root_read schema p.0 p.1 ≡ Ok m) (sym made) one.2)
   fitting false h f fits is = cc
 

@@ -143,9 +143,9 @@ member_here e n zero (x ∷ ms) m placed ends at h =
     let same : x ≡ m = cc in
     let fixed : is_const x.kind ≡ false = ap (λ (y : Member). is_const y.kind) same ∙ h in
     let past : end_past e x.offset x.kind ≡ begin_of e x.offset + width x.kind = ap (λ t. cond t e (begin_of e x.offset + width x.kind)) fixed in
-    let behind = ends_behind (end_past e x.offset x.kind) ms placed.2 in
+    let after = ends_behind (end_past e x.offset x.kind) ms placed.2 in
     let wide : width x.kind ≡ width m.kind = ap (λ (y : Member). width y.kind) same in
-    (begin_of e x.offset, ap (λ t. cond t None (Some (begin_of e x.offset))) fixed, omega (arith, past, behind, ends, wide))
+    (begin_of e x.offset, ap (λ t. cond t None (Some (begin_of e x.offset))) fixed, omega (arith, past, after, ends, wide))
 member_here e n (suc i) (x ∷ ms) m placed ends at h = member_here (end_past e x.offset x.kind) n i ms m placed.2 ends at h
 
 -- ---- what is told of a value

@@ -34,7 +34,7 @@ pub(crate) struct GroupCursor {
 pub(crate) struct NextGroup<'a> {
     pub(crate) inner: Layer<'a>,
     pub(crate) dim: Option<Dim>,
-    pub(crate) behind: GroupCursor,
+    pub(crate) after: GroupCursor,
 }
 
 // ---- entries
@@ -119,11 +119,11 @@ fn behind_first(layer: &Layer<'_>, left: Dim) -> Dim
     ensures seen { typed_entries layer.now left ≡ typed_level layer.now.level.now (block_of (entries_read layer.now.mode layer.now.level.now left.block (drop left.after layer.now.body.now))) ∷ typed_entries layer.now result }
     ensures rest { rest_of (blocks_at layer.now left) ≡ rest_of (blocks_at layer.now result) }
 {
-    let behind = entry_end(layer, left);
+    let after = entry_end(layer, left);
     Dim {
         block: left.block,
         count: left.count - 1,
-        after: behind,
+        after,
     }
 }
 
@@ -156,9 +156,9 @@ pub(crate) fn open_group<'a>(layer: &Layer<'a>, cursor: GroupCursor) -> NextGrou
     requires more { cursor.next < length (out-Level layer.now.level.now).groups }
     ensures inner { IsLayer result.inner }
     ensures lie { IfSome result.dim (λ d. LieThere result.inner d) }
-    ensures stand { StandThere layer.now result.behind }
-    ensures next { result.behind.next ≡ cursor.next + 1 }
-    ensures seen { groups_left layer.now cursor ≡ option_map (typed_entries result.inner) result.dim ∷ groups_left layer.now result.behind }
+    ensures stand { StandThere layer.now result.after }
+    ensures next { result.after.next ≡ cursor.next + 1 }
+    ensures seen { groups_left layer.now cursor ≡ option_map (typed_entries result.inner) result.dim ∷ groups_left layer.now result.after }
 {
     if cursor.next + 1 < layer.level.groups.len() {
         return step_group(layer, cursor);
@@ -174,9 +174,9 @@ fn last_group<'a>(layer: &Layer<'a>, cursor: GroupCursor) -> NextGroup<'a>
     requires last { cursor.next + 1 ≡ length (out-Level layer.now.level.now).groups }
     ensures inner { IsLayer result.inner }
     ensures lie { IfSome result.dim (λ d. LieThere result.inner d) }
-    ensures stand { StandThere layer.now result.behind }
-    ensures next { result.behind.next ≡ cursor.next + 1 }
-    ensures seen { groups_left layer.now cursor ≡ option_map (typed_entries result.inner) result.dim ∷ groups_left layer.now result.behind }
+    ensures stand { StandThere layer.now result.after }
+    ensures next { result.after.next ≡ cursor.next + 1 }
+    ensures seen { groups_left layer.now cursor ≡ option_map (typed_entries result.inner) result.dim ∷ groups_left layer.now result.after }
 {
     let group = layer.level.groups.at(cursor.next);
     let inner = Layer {
@@ -191,7 +191,7 @@ fn last_group<'a>(layer: &Layer<'a>, cursor: GroupCursor) -> NextGroup<'a>
     NextGroup {
         inner,
         dim,
-        behind: GroupCursor {
+        after: GroupCursor {
             next: cursor.next + 1,
             child,
             at: cursor.at,
@@ -211,7 +211,7 @@ pub(crate) fn groups_end(layer: &Layer<'_>, cursor: GroupCursor) -> usize
 {
     let mut cursor = cursor;
     for _ in 0..layer.level.groups.len() {
-        cursor = step_group(layer, cursor).behind;
+        cursor = step_group(layer, cursor).after;
     }
     cursor.at
 }
@@ -225,10 +225,10 @@ fn step_group<'a>(layer: &Layer<'a>, cursor: GroupCursor) -> NextGroup<'a>
     requires more { cursor.next < length (out-Level layer.now.level.now).groups }
     ensures inner { IsLayer result.inner }
     ensures lie { IfSome result.dim (λ d. LieThere result.inner d) }
-    ensures stand { StandThere layer.now result.behind }
-    ensures next { result.behind.next ≡ cursor.next + 1 }
-    ensures seen { groups_left layer.now cursor ≡ option_map (typed_entries result.inner) result.dim ∷ groups_left layer.now result.behind }
-    ensures rest { rest_of (groups_at layer.now cursor) ≡ rest_of (groups_at layer.now result.behind) }
+    ensures stand { StandThere layer.now result.after }
+    ensures next { result.after.next ≡ cursor.next + 1 }
+    ensures seen { groups_left layer.now cursor ≡ option_map (typed_entries result.inner) result.dim ∷ groups_left layer.now result.after }
+    ensures rest { rest_of (groups_at layer.now cursor) ≡ rest_of (groups_at layer.now result.after) }
 {
     let group = layer.level.groups.at(cursor.next);
     let inner = Layer {
@@ -244,7 +244,7 @@ fn step_group<'a>(layer: &Layer<'a>, cursor: GroupCursor) -> NextGroup<'a>
     NextGroup {
         inner,
         dim,
-        behind: GroupCursor {
+        after: GroupCursor {
             next: cursor.next + 1,
             child,
             at,

@@ -80,7 +80,7 @@ impl<'a> GroupsView<'a> {
         match self.layer {
             Some(layer) => {
                 let step = open_group(&layer, self.cursor);
-                self.cursor = step.behind;
+                self.cursor = step.after;
                 entries_over(&step.inner, step.dim)
             }
             None => unreachable!(),

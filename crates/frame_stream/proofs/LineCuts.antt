@@ -25,7 +25,7 @@ lines_none : (stream rest : List ℕ) (input : ℕ) (goes_on : Bool) (lines : Li
 lines_none stream rest input goes_on lines end front more none last = record {
   before = [];
   rest = rest;
-  pieces = record { whole = front; each = tt; longest = λ x behind piece e. let told : if_within (before_end rest) ≡ Some x = ap first_line e ∙ line_complete x behind piece in let nothing : if_within (before_end rest) ≡ None = ap if_within none in cc };
+  pieces = record { whole = front; each = tt; longest = λ x after piece e. let told : if_within (before_end rest) ≡ Some x = ap first_line e ∙ line_complete x after piece in let nothing : if_within (before_end rest) ≡ None = ap if_within none in cc };
   all = sym (ap (λ t. (last_of t rest).0) more ∙ ap (λ p. p.0) last);
   ends = sym (ap (λ t. (last_of t rest).1) more ∙ ap (λ p. p.1) last);
 }

@@ -65,10 +65,10 @@ module _ (p q n : ℕ) (one other : List ℕ) (apart : p + length one ≤ q) (wh
       alone q n other (omega (arith, whole)) ∙ ap (λ k. zeros q ++ (other ++ zeros k)) none ∙ ap (λ x. zeros q ++ x) (append-nil other) in
       let long : length (zeros q) ≡ q = length-replicate q 0 in
       let before : take p (zeros q ++ other) ≡ zeros p = take-append-le p (zeros q) other (omega (arith, long, apart)) ∙ take-replicate p q 0 (omega (arith, apart)) in
-      let behind : drop r (zeros q ++ other) ≡ zeros (q - r) ++ other = drop-append-le r (zeros q) other (omega (arith, long, apart)) ∙ ap (λ x. x ++ other) (drop-replicate r q 0) in
+      let next : drop r (zeros q ++ other) ≡ zeros (q - r) ++ other = drop-append-le r (zeros q) other (omega (arith, long, apart)) ∙ ap (λ x. x ++ other) (drop-replicate r q 0) in
       ap (laid_at p one) was
       ∙ ap (λ x. x ++ (one ++ drop r (zeros q ++ other))) before
-      ∙ ap (λ x. zeros p ++ (one ++ x)) behind
+      ∙ ap (λ x. zeros p ++ (one ++ x)) next
       ∙ sym (append_assoc (zeros p) one (zeros (q - r) ++ other))
       ∙ shape p q r one other
 

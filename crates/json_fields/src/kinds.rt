@@ -67,26 +67,26 @@ fn put_members<O: Sink>(
     let mut later = false;
     for member in members.as_slice() {
         put_key(printer, later, member.name.as_slice());
-        let behind = end_behind(end, member.offset, &member.kind);
-        let part = member_bytes(member, end, behind, bytes);
+        let after = end_behind(end, member.offset, &member.kind);
+        let part = member_bytes(member, end, after, bytes);
         put_shown(printer, order, &member.kind, part);
-        end = behind;
+        end = after;
         later = true;
     }
     printer.put(b"}");
 }
 
-/// The bytes of a composite's member, which follows members that end at `end` and itself ends at `behind`. A constant
+/// The bytes of a composite's member, which follows members that end at `end` and itself ends at `after`. A constant
 /// has none.
-fn member_bytes<'a>(member: &Member, end: u32, behind: u32, bytes: &'a [u8]) -> &'a [u8]
-    requires behind { behind ≡ end_past end member.now.offset member.now.kind }
+fn member_bytes<'a>(member: &Member, end: u32, after: u32, bytes: &'a [u8]) -> &'a [u8]
+    requires after { after ≡ end_past end member.now.offset member.now.kind }
     requires within { is_const member.now.kind ≡ false → begins_at end member.now.offset + width member.now.kind ≤ length bytes.now }
     ensures { result.now ≡ take (width member.now.kind) (drop (begins_at end member.now.offset) bytes.now) }
 {
     match &member.kind {
         Kind::Const(_) => &[],
         Kind::Leaf(_) | Kind::Enum(_, _) | Kind::Set(_, _) | Kind::Comp(_) => {
-            &bytes[begin_of(end, member.offset) as usize..behind as usize]
+            &bytes[begin_of(end, member.offset) as usize..after as usize]
         }
     }
 }

@@ -35,6 +35,6 @@ fields_in later e (f ∷ fs) =
     both_in (kind_pieces f.kind (begin_of e f.offset)) (field_pieces true next fs)
     ∙ ap₂ (λ a b. a ++ b) (kind_in f.kind (begin_of e f.offset)) (fields_in true next fs)
 
-pub values_in : (before behind : List ℕ) (fs : List Field) → scalars_in (pieces_between before behind fs) ≡ scalars_of fs
-values_in before behind fs =
-    both_in (pieces_of fs) (literal behind ∷ []) ∙ append-nil (scalars_in (pieces_of fs)) ∙ fields_in _ 0 fs
+pub values_in : (before after : List ℕ) (fs : List Field) → scalars_in (pieces_between before after fs) ≡ scalars_of fs
+values_in before after fs =
+    both_in (pieces_of fs) (literal after ∷ []) ∙ append-nil (scalars_in (pieces_of fs)) ∙ fields_in _ 0 fs

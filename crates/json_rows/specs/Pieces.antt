@@ -39,7 +39,7 @@ pieces_of fields = field_pieces false 0 fields
 
 -- the same between two texts that are the same in each message
 abbrev pub pieces_between : List ℕ → List ℕ → List Field → List Piece
-pieces_between before behind fields = literal before ∷ (pieces_of fields ++ literal behind ∷ [])
+pieces_between before after fields = literal before ∷ (pieces_of fields ++ literal after ∷ [])
 
 -- ---- with one literal before each value
 

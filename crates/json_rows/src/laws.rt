@@ -8,5 +8,5 @@ ghost use Rattle.json_rows.specs.Tables.{scalars_in};
 
 /// The pieces of fields contain the values of the block, in wire order.
 pub fn pieces_have_the_values()
-    ensures { (before behind : List ℕ) (fields : List Field) → scalars_in (pieces_between before behind fields) ≡ scalars_of fields }
+    ensures { (before after : List ℕ) (fields : List Field) → scalars_in (pieces_between before after fields) ≡ scalars_of fields }
 {}

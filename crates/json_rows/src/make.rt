@@ -24,11 +24,11 @@ pub fn text_rows_of(
     alloc: Global,
     before: &[u8],
     fields: &[Field],
-    behind: &[u8],
+    after: &[u8],
 ) -> Result<TextRows, NoMem>
     requires order { AllByRecursion (λ (f : Field). IsKindInOrder f.kind) fields.now }
     requires narrow { AreNarrowFields 0 fields.now }
-    ensures { IfOk result (HasPieces (pieces_between before.now behind.now fields.now)) }
+    ensures { IfOk result (HasPieces (pieces_between before.now after.now fields.now)) }
 {
     let mut table = TextRows {
         bytes: Vec::new(alloc),
@@ -52,7 +52,7 @@ pub fn text_rows_of(
         later = true;
     }
     add_bytes(&mut table, b"}")?;
-    add_bytes(&mut table, behind)?;
+    add_bytes(&mut table, after)?;
     Ok(table)
 }
 
@@ -95,9 +95,9 @@ fn add_members(
     let mut later = false;
     for member in members.as_slice() {
         add_key(table, later, member.name.as_slice())?;
-        let behind = end_behind(end, member.offset, &member.kind);
+        let after = end_behind(end, member.offset, &member.kind);
         add_kind(alloc, table, &member.kind, at, begin_of(end, member.offset))?;
-        end = behind;
+        end = after;
         later = true;
     }
     add_bytes(table, b"}")?;

@@ -78,15 +78,15 @@ fn put_member(order: Order, member: &Member, end: u32, v: &Value, out: &mut [u8]
         Kind::Const(_) => end,
         Kind::Leaf(_) | Kind::Enum(_, _) | Kind::Set(_, _) | Kind::Comp(_) => {
             let begin = begin_of(end, member.offset);
-            let behind = begin + width_of(&member.kind);
+            let after = begin + width_of(&member.kind);
             out[end as usize..begin as usize].fill(0);
             put_kind(
                 order,
                 &member.kind,
                 v,
-                &mut out[begin as usize..behind as usize],
+                &mut out[begin as usize..after as usize],
             );
-            behind
+            after
         }
     }
 }

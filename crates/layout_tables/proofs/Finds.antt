@@ -106,7 +106,7 @@ stands_front xs k ys zs h = (h.0, zs ++ h.1, h.2 ∙ ap (λ l. h.0 ++ l) (append
 pub record ChildAt (schema : WireSchema) (t k : ℕ) (g : Group) (rest : List Group) : Type 0 where
   pub at : slice_get (all_nodes schema) k ≡ Some (group_node t g)
   pub below : Stands (all_nodes schema) (k + 1) (flat_map (nodes_of t) (out-Level (out-Group g).level).groups)
-  pub behind : Stands (all_nodes schema) (k + length (nodes_of t g)) (flat_map (nodes_of t) rest)
+  pub after : Stands (all_nodes schema) (k + length (nodes_of t g)) (flat_map (nodes_of t) rest)
   pub many : length (nodes_of t g) ≡ suc (length (flat_map (nodes_of t) (out-Level (out-Group g).level).groups))
   pub all : length (flat_map (nodes_of t) (g ∷ rest)) ≡ length (nodes_of t g) + length (flat_map (nodes_of t) rest)
 
@@ -118,7 +118,7 @@ first_child schema t k g rest h =
     record {
       at = stands_first (all_nodes schema) k (group_node t g) (kids ++ flat_map (nodes_of t) rest) here;
       below = stands_front (all_nodes schema) (k + 1) kids (flat_map (nodes_of t) rest) (stands_split (all_nodes schema) k (group_node t g ∷ []) (kids ++ flat_map (nodes_of t) rest) here);
-      behind = stands_split (all_nodes schema) k (nodes_of t g) (flat_map (nodes_of t) rest) h;
+      after = stands_split (all_nodes schema) k (nodes_of t g) (flat_map (nodes_of t) rest) h;
       many = ap length open_g;
       all = length-append (nodes_of t g) (flat_map (nodes_of t) rest);
     }

@@ -89,7 +89,7 @@ groups_go schema n k child row w h is =
     record {
       this = w.this;
       at = w.at;
-      stands = subst (λ m. Stands (all_nodes schema) m (flat_map (nodes_of t) (drop (k + 1) groups))) (sym end) this.child_is.behind;
+      stands = subst (λ m. Stands (all_nodes schema) m (flat_map (nodes_of t) (drop (k + 1) groups))) (sym end) this.child_is.after;
       number = omega (arith, end, more, w.number, many_of t 0 this.g);
     }
 

@@ -65,9 +65,9 @@ group_at level i h =
     let b = map group_part (out-Level level).groups in
     let c = map data_part (out-Level level).parts in
     let k = length (out-Level level).fields + i in
-    let behind : slice_get (level_parts level) k ≡ slice_get (b ++ c) i = get_behind a (b ++ c) k i (omega (arith, long_map field_part (out-Level level).fields)) in
+    let after : slice_get (level_parts level) k ≡ slice_get (b ++ c) i = get_behind a (b ++ c) k i (omega (arith, long_map field_part (out-Level level).fields)) in
     let front : slice_get (b ++ c) i ≡ slice_get b i = get_front b c i (omega (arith, h, long_map group_part (out-Level level).groups)) in
-    let found : slice_get (level_parts level) k ≡ option_map group_part (slice_get (out-Level level).groups i) = behind ∙ front ∙ slice_get-map group_part (out-Level level).groups i in
+    let found : slice_get (level_parts level) k ≡ option_map group_part (slice_get (out-Level level).groups i) = after ∙ front ∙ slice_get-map group_part (out-Level level).groups i in
     slice_get-map (λ (p : NamedPart). p.name) (level_parts level) k ∙ ap (option_map (λ (p : NamedPart). p.name)) found ∙ twice (slice_get (out-Level level).groups i)
   where
     twice : (o : Option Group) → option_map (λ (p : NamedPart). p.name) (option_map group_part o) ≡ option_map (λ (g : Group). (out-Level (out-Group g).level).name) o

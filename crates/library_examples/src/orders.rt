@@ -112,7 +112,7 @@ fn write_legs(layout: &Layout, tail: &mut TailW<'_>, legs: &[i128]) -> Result<()
     ensures ready { OnOk result (AppendsParts layout.now tail.new.buf.now) }
     ensures fits { OnOk result (LegsFit layout.now legs.now) }
     ensures bytes { OnOk result (followed_by tail.old.buf.now.bytes (legs_bytes layout.now legs.now) ≡ Some tail.new.buf.now.bytes) }
-    ensures behind { OnOk result (tail.new.buf.now.frames ≡ Frame.Tail (root_of layout.now 0) 1 ∷ []) }
+    ensures after { OnOk result (tail.new.buf.now.frames ≡ Frame.Tail (root_of layout.now 0) 1 ∷ []) }
     ensures puts { OnOk result (LegsHaveRoom layout.now legs.now tail.old.buf.now → PutsLegs layout.now legs.now tail.old.buf.now tail.new.buf.now) }
     ensures refused { OnErr result (LegsHaveRoom layout.now legs.now tail.old.buf.now → ⊥) }
 {

@@ -14,8 +14,8 @@ fn before_quote(text: &[u8]) -> Option<&[u8]>
 /// The name of the template, which is between the fourth and the third quote from the end.
 fn name_in(line: &[u8]) -> Option<&[u8]> {
     let key = before_quote(line)?;
-    let behind = before_quote(key)?;
-    let name = before_quote(behind)?;
+    let after = before_quote(key)?;
+    let name = before_quote(after)?;
     let before = before_quote(name)?;
     Some(&name[before.len() + 1..])
 }

@@ -155,10 +155,10 @@ mutual
       let group_list = map group_name (out-Level level).groups in
       let data_list = names_of_parts parts in
       let own = all_apart IsName field_list (group_list ++ data_list) named.0.parts in
-      let behind = all_apart IsName group_list data_list own.1 in
+      let after = all_apart IsName group_list data_list own.1 in
       let differ = do_differ (part_names level) named.0.names_differ in
       let later = differ_back field_list (group_list ++ data_list) differ in
-      let group_names_are = subst (λ gs. AllByRecursion IsName (map group_name gs)) shown behind.0 in
+      let group_names_are = subst (λ gs. AllByRecursion IsName (map group_name gs)) shown after.0 in
       let groups_differ = subst (λ gs. DoDiffer (map group_name gs)) shown (differ_front group_list data_list later) in
       let rest = groups_good order t groups (out-Block b).groups group_names_are named.1 kinds.1 bytes.1 fits.1 in
       let F = zipped field_entry fields (out-Block b).fields in
@@ -176,7 +176,7 @@ mutual
             );
         printed = (
           ascii (codes "data") refl,
-          deeper 6 _ _ (omega arith) (object_printed 5 D (parts_printed parts (out-Block b).parts behind.1)),
+          deeper 6 _ _ (omega arith) (object_printed 5 D (parts_printed parts (out-Block b).parts after.1)),
           (
             ascii (codes "fields") refl,
             deeper 6 _ _ (omega arith) (object_printed 5 F (fields_printed order fields (out-Block b).fields own.0 kinds.0.fields bytes.0 fits.0)),

@@ -114,15 +114,15 @@ same_elsewhere bits k i clear other =
 bit_there : (front : List Named) (c : Named) (rest : List Named) → DoDiffer (names_of (front ++ c ∷ rest)) → bit_named (front ++ c ∷ rest) c.name ≡ bit_of c.number
 bit_there [] c rest h = ap (λ t. cond t (bit_of c.number) (bit_named rest c.name)) ((bytes_eq-Decides c.name c.name).1 refl)
 bit_there (x ∷ front) c rest h =
-    ap (λ t. cond t (bit_of x.number) (bit_named (front ++ c ∷ rest) c.name)) (not_same x.name c.name (behind x.name front c rest h.0)) ∙ bit_there front c rest h.1
+    ap (λ t. cond t (bit_of x.number) (bit_named (front ++ c ∷ rest) c.name)) (not_same x.name c.name (after x.name front c rest h.0)) ∙ bit_there front c rest h.1
   where
-    behind : (name : List ℕ) (front : List Named) (c : Named) (rest : List Named) → IsOther name (names_of (front ++ c ∷ rest)) → name ≢ c.name
-    behind name [] c rest h = h.0
-    behind name (x ∷ front) c rest h = behind name front c rest h.1
+    after : (name : List ℕ) (front : List Named) (c : Named) (rest : List Named) → IsOther name (names_of (front ++ c ∷ rest)) → name ≢ c.name
+    after name [] c rest h = h.0
+    after name (x ∷ front) c rest h = after name front c rest h.1
 
 -- what was read so far: the bits that no choice after it has
 abbrev AreRead : ℕ → List Named → ℕ → Type 0
-AreRead bits behind so_far = (k : ℕ) → bit_at so_far k ≡ (if is_listed behind (pos k) then 0 else bit_at bits k)
+AreRead bits after so_far = (k : ℕ) → bit_at so_far k ≡ (if is_listed after (pos k) then 0 else bit_at bits k)
 
 -- each choice is a bit of 64
 abbrev pub AreBits : List Named → Type 0

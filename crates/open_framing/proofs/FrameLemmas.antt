@@ -63,11 +63,11 @@ head_told bytes limit head h =
 parts : (n : ℕ) (bytes : List ℕ) → ((take 4 bytes ++ take 2 (drop 4 bytes)) ++ drop HEAD_BYTES (take (HEAD_BYTES + n) bytes)) ++ drop n (drop HEAD_BYTES bytes) ≡ bytes
 parts n bytes =
     let body : drop HEAD_BYTES (take (HEAD_BYTES + n) bytes) ++ drop n (drop HEAD_BYTES bytes) ≡ drop HEAD_BYTES bytes = rw (drop-take HEAD_BYTES n bytes) (take-append-drop n (drop HEAD_BYTES bytes)) in
-    let behind : take 2 (drop 4 bytes) ++ drop HEAD_BYTES bytes ≡ drop 4 bytes = rw (← drop-drop 2 4 bytes) (take-append-drop 2 (drop 4 bytes)) in
+    let after : take 2 (drop 4 bytes) ++ drop HEAD_BYTES bytes ≡ drop 4 bytes = rw (← drop-drop 2 4 bytes) (take-append-drop 2 (drop 4 bytes)) in
     append_assoc (take 4 bytes ++ take 2 (drop 4 bytes)) (drop HEAD_BYTES (take (HEAD_BYTES + n) bytes)) (drop n (drop HEAD_BYTES bytes))
     ∙ ap (λ back. (take 4 bytes ++ take 2 (drop 4 bytes)) ++ back) body
     ∙ append_assoc (take 4 bytes) (take 2 (drop 4 bytes)) (drop HEAD_BYTES bytes)
-    ∙ ap (λ back. take 4 bytes ++ back) behind
+    ∙ ap (λ back. take 4 bytes ++ back) after
     ∙ take-append-drop 4 bytes
 
 -- the item of a head is there where all its bytes are
@@ -108,8 +108,8 @@ frame_there limit bytes good long are whole item same =
     let encoding : item.encoding ≡ encoding_in bytes = ap (λ (i : Item). i.encoding) same in
     let size : length item.body + HEAD_BYTES ≡ length_in bytes = omega (arith, ap length body, length-drop HEAD_BYTES (take (length_in bytes) bytes)) in
     let four : length (take 4 bytes) ≡ 4 = length-take-le 4 bytes (omega arith) in
-    let behind : 2 ≤ length (drop 4 bytes) = omega (arith, length-drop 4 bytes) in
-    let two : length (take 2 (drop 4 bytes)) ≡ 2 = length-take-le 2 (drop 4 bytes) behind in
+    let after : 2 ≤ length (drop 4 bytes) = omega (arith, length-drop 4 bytes) in
+    let two : length (take 2 (drop 4 bytes)) ≡ 2 = length-take-le 2 (drop 4 bytes) after in
     let below : length_in bytes < 256 ^ 4 = subst (λ k. length_in bytes < 256 ^ k) four (number-lt (take 4 bytes) (IsBytes-take 4 bytes good)) in
     let fits : length item.body + HEAD_BYTES < 256 ^ 4 = rw size below in
     let first : digits_high_first 4 (length item.body + HEAD_BYTES) ≡ take 4 bytes = ap (digits_high_first 4) size ∙ digits-number 4 (take 4 bytes) four (IsBytes-take 4 bytes good) in
@@ -151,7 +151,7 @@ frame_complete limit item more is =
     ap (item_by bytes) whole ∙ item_there bytes (record { length = size; encoding = item.encoding }) item.body (omega arith) body
 
 pub frame_reads : (limit : ℕ) → FindsPieces IsBytes (IsFrame limit) frame_of (first_item limit)
-frame_reads limit = record { sound = frame_sound limit; complete = frame_complete limit; filled = λ item is. omega arith; behind = IsBytes-back }
+frame_reads limit = record { sound = frame_sound limit; complete = frame_complete limit; filled = λ item is. omega arith; after = IsBytes-back }
 
 -- the reader gives a cut
 pub cut_found : (stream : List ℕ) (limit input : ℕ) → IsBytes stream → Cut stream limit input (cut_of stream limit input).0 (cut_of stream limit input).1

@@ -57,7 +57,7 @@ line_complete line more is = ap if_within (before_end-ended line more is.plain) 
   kept = rw (le-leb (length line) longest_line is.within) refl
 
 pub line_reads : FindsPieces (λ _. ⊤) IsLine ended first_line
-line_reads = record { sound = λ bytes line good h. line_sound bytes line h; complete = line_complete; filled = λ line is. omega (arith, length-append line (line_end ∷ [])); behind = λ front back good. tt }
+line_reads = record { sound = λ bytes line good h. line_sound bytes line h; complete = line_complete; filled = λ line is. omega (arith, length-append line (line_end ∷ [])); after = λ front back good. tt }
 
 -- the reader gives the lines
 pub lines_found : (stream : List ℕ) (input : ℕ) → Lines stream input (lines_of stream input).0 (lines_of stream input).1
@@ -122,7 +122,7 @@ line_over plain stream input none long =
         each = tt;
         longest = λ line more is e.
             let within : length line ≤ longest_line = is.within in
-            let behind = end_behind plain line (take input stream) more none (sym front ∙ e ∙ append_assoc line (line_end ∷ []) more) in
+            let after = end_behind plain line (take input stream) more none (sym front ∙ e ∙ append_assoc line (line_end ∷ []) more) in
             absurd (omega arith);
       };
       all = ap (λ last. last.0) (sym over);

@@ -11,7 +11,7 @@ pub record FindsPieces {X : Type 0} (IsGood : List ℕ → Type 0) (IsPiece : X 
   pub sound : (bytes : List ℕ) (x : X) → IsGood bytes → first bytes ≡ Some x → IsPiece x × ((more : List ℕ) × (bytes ≡ bytes_of x ++ more))
   pub complete : (x : X) (more : List ℕ) → IsPiece x → first (bytes_of x ++ more) ≡ Some x
   pub filled : (x : X) → IsPiece x → 0 < length (bytes_of x)
-  pub behind : (front back : List ℕ) → IsGood (front ++ back) → IsGood back
+  pub after : (front back : List ℕ) → IsGood (front ++ back) → IsGood back
 
 -- what is found: a cut into these pieces
 abbrev Found : {X : Type 0} → (X → Type 0) → (X → List ℕ) → List ℕ → List X → Type 0
@@ -40,7 +40,7 @@ one_more {X} {G} {P} {b} {first} reads n later found bytes good size (Some x) to
     let filled : 0 < length (b x) = reads.filled x read.0 in
     let shorter : length more ≤ n = omega (arith, ap length e, length-append (b x) more) in
     let left : drop (length (b x)) bytes ≡ more = ap (drop (length (b x))) e ∙ drop-append_seam (b x) more in
-    let next : Found P b more (later more) = found more (reads.behind (b x) more (subst G e good)) shorter in
+    let next : Found P b more (later more) = found more (reads.after (b x) more (subst G e good)) shorter in
     let cut = next.1 in (
       next.0,
       record {

@@ -46,14 +46,14 @@ path_within schema template steps some = within schema.messages template some
     within (l ∷ ls) (suc t) h = let rest = within ls t h in omega (arith, rest)
 
 -- the text of one step, and then that of the steps after it
-abbrev behind : List Step → Option Stepped → Option (List ℕ)
-behind steps o = option_and_then (λ (s : Stepped). option_map (λ rest. s.text ++ rest) (path_from false s.inside steps)) o
+abbrev after : List Step → Option Stepped → Option (List ℕ)
+after steps o = option_and_then (λ (s : Stepped). option_map (λ rest. s.text ++ rest) (path_from false s.inside steps)) o
 
-left_is : (first : Bool) (inside : Inside) (steps : List Step) (i : ℕ) (step : Step) → slice_get steps i ≡ Some step → path_from first inside (drop i steps) ≡ behind (drop (i + 1) steps) (stepped first inside step)
+left_is : (first : Bool) (inside : Inside) (steps : List Step) (i : ℕ) (step : Step) → slice_get steps i ≡ Some step → path_from first inside (drop i steps) ≡ after (drop (i + 1) steps) (stepped first inside step)
 left_is first inside steps i step at = ap (path_from first inside) (drop_at steps i step at)
 
 -- a path leads somewhere at each step
-leads_on : (found : Option (List ℕ)) (so : List ℕ) (steps : List Step) (o : Option Stepped) → option_map (λ rest. so ++ rest) (behind steps o) ≡ found → IsSome found → IsSome o
+leads_on : (found : Option (List ℕ)) (so : List ℕ) (steps : List Step) (o : Option Stepped) → option_map (λ rest. so ++ rest) (after steps o) ≡ found → IsSome found → IsSome o
 leads_on found so steps None is some = absurd (none_some (List ℕ) (subst (λ (p : Option (List ℕ)). IsSome p) (sym is) some))
 leads_on found so steps (Some s) is some = search rules
 
@@ -77,7 +77,7 @@ two_texts so text None = refl
 two_texts so text (Some x) = ap Some (append_assoc so text x)
 
 module _ {O : Type 0} {state : O → Object (List ℕ)} {a b c : Printer O} where
-  goes_on : (found : Option (List ℕ)) (steps : List Step) (o : Option Stepped) (next : Inside) → PathSo found (behind steps o) (Prints state a b) → option_map (λ (s : Stepped). s.inside) o ≡ Some next →
+  goes_on : (found : Option (List ℕ)) (steps : List Step) (o : Option Stepped) (next : Inside) → PathSo found (after steps o) (Prints state a b) → option_map (λ (s : Stepped). s.inside) o ≡ Some next →
       Prints state b c (step_text o) → PathSo found (path_from false next steps) (Prints state a c)
   goes_on found steps None next h to w = cc
   goes_on found steps (Some s) next h to w =

@@ -34,13 +34,11 @@ fn level_name(level: &Level, i: usize) -> &[u8]
     if i < fields.len() {
         return fields[i].name.as_slice();
     }
-    let behind = i - fields.len();
-    if behind < groups.len() {
-        return groups[behind].level.name.as_slice();
+    let after = i - fields.len();
+    if after < groups.len() {
+        return groups[after].level.name.as_slice();
     }
-    level.parts.as_slice()[behind - groups.len()]
-        .name
-        .as_slice()
+    level.parts.as_slice()[after - groups.len()].name.as_slice()
 }
 
 /// What is inside part `i` of a level.
@@ -53,9 +51,9 @@ fn level_part(level: &Level, i: usize) -> Place<'_>
     if i < fields.len() {
         return Place::Kind(&fields[i].kind);
     }
-    let behind = i - fields.len();
-    if behind < groups.len() {
-        return Place::Group(&groups[behind].level);
+    let after = i - fields.len();
+    if after < groups.len() {
+        return Place::Group(&groups[after].level);
     }
     Place::Nothing
 }

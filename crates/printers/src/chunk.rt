@@ -108,29 +108,29 @@ impl Chunk {
         self.len = place(&mut self.room, at + run, b"\"");
     }
 
-    /// Adds the first `run` bytes of `front`, all of which is copied, and then `behind` and `last`. There is room for
+    /// Adds the first `run` bytes of `front`, all of which is copied, and then `after` and `last`. There is room for
     /// all of it.
     #[inline(always)]
-    pub(crate) fn add_front(&mut self, front: &[u8], run: usize, behind: &[u8], last: &[u8])
+    pub(crate) fn add_front(&mut self, front: &[u8], run: usize, after: &[u8], last: &[u8])
         requires run { run ≤ length front.now }
-        requires room { length self.old.bytes + (length front.now + (length behind.now + length last.now)) ≤ CHUNK_BYTES }
-        ensures { self.new ≡ record self.old { bytes = self.old.bytes ++ (take run front.now ++ (behind.now ++ last.now)) } }
+        requires room { length self.old.bytes + (length front.now + (length after.now + length last.now)) ≤ CHUNK_BYTES }
+        ensures { self.new ≡ record self.old { bytes = self.old.bytes ++ (take run front.now ++ (after.now ++ last.now)) } }
     {
         let at = self.len;
         place(&mut self.room, at, front);
-        let then = place(&mut self.room, at + run, behind);
+        let then = place(&mut self.room, at + run, after);
         self.len = place(&mut self.room, then, last);
     }
 
     /// Adds bytes between two others. There is room for all of them.
     #[inline(always)]
     #[tactic(auto, using(crate::proofs::Gathered::three_placed))]
-    pub(crate) fn add_between(&mut self, before: &[u8], bytes: &[u8], behind: &[u8])
-        requires { length self.old.bytes + (length before.now + (length bytes.now + length behind.now)) ≤ CHUNK_BYTES }
-        ensures { self.new ≡ record self.old { bytes = self.old.bytes ++ (before.now ++ (bytes.now ++ behind.now)) } }
+    pub(crate) fn add_between(&mut self, before: &[u8], bytes: &[u8], after: &[u8])
+        requires { length self.old.bytes + (length before.now + (length bytes.now + length after.now)) ≤ CHUNK_BYTES }
+        ensures { self.new ≡ record self.old { bytes = self.old.bytes ++ (before.now ++ (bytes.now ++ after.now)) } }
     {
         let at = place(&mut self.room, self.len, before);
         let then = place(&mut self.room, at, bytes);
-        self.len = place(&mut self.room, then, behind);
+        self.len = place(&mut self.room, then, after);
     }
 }

@@ -114,30 +114,30 @@ impl<'a, O: Sink> Printer<'a, O> {
         }
     }
 
-    /// Prints the first `run` bytes of `front`, which is short, and then `behind` and `last`.
+    /// Prints the first `run` bytes of `front`, which is short, and then `after` and `last`.
     #[inline(always)]
-    pub fn put_front(&mut self, front: &[u8], run: usize, behind: &[u8], last: &[u8])
+    pub fn put_front(&mut self, front: &[u8], run: usize, after: &[u8], last: &[u8])
         requires run { run ≤ length front.now }
-        requires few { length front.now + (length behind.now + length last.now) ≤ CHUNK_BYTES }
-        ensures { Prints O.state self.old self.new (take run front.now ++ (behind.now ++ last.now)) }
+        requires few { length front.now + (length after.now + length last.now) ≤ CHUNK_BYTES }
+        ensures { Prints O.state self.old self.new (take run front.now ++ (after.now ++ last.now)) }
     {
-        if self.chunk.len() + (front.len() + (behind.len() + last.len())) <= CHUNK_BYTES {
-            self.chunk.add_front(front, run, behind, last);
+        if self.chunk.len() + (front.len() + (after.len() + last.len())) <= CHUNK_BYTES {
+            self.chunk.add_front(front, run, after, last);
         } else {
-            self.put_each(&front[..run], behind, last);
+            self.put_each(&front[..run], after, last);
         }
     }
 
     /// Prints bytes between two others, which are short.
     #[inline(always)]
-    pub fn put_between(&mut self, before: &[u8], bytes: &[u8], behind: &[u8])
-        requires { length before.now + length behind.now ≤ CHUNK_BYTES }
-        ensures { Prints O.state self.old self.new (before.now ++ (bytes.now ++ behind.now)) }
+    pub fn put_between(&mut self, before: &[u8], bytes: &[u8], after: &[u8])
+        requires { length before.now + length after.now ≤ CHUNK_BYTES }
+        ensures { Prints O.state self.old self.new (before.now ++ (bytes.now ++ after.now)) }
     {
-        if self.chunk.len() + (bytes.len() + (before.len() + behind.len())) <= CHUNK_BYTES {
-            self.chunk.add_between(before, bytes, behind);
+        if self.chunk.len() + (bytes.len() + (before.len() + after.len())) <= CHUNK_BYTES {
+            self.chunk.add_between(before, bytes, after);
         } else {
-            self.put_each(before, bytes, behind);
+            self.put_each(before, bytes, after);
         }
     }
 
@@ -152,12 +152,12 @@ impl<'a, O: Sink> Printer<'a, O> {
     /// Prints bytes between others, piece by piece.
     #[cold]
     #[inline(never)]
-    fn put_each(&mut self, before: &[u8], bytes: &[u8], behind: &[u8])
-        ensures { Prints O.state self.old self.new (before.now ++ (bytes.now ++ behind.now)) }
+    fn put_each(&mut self, before: &[u8], bytes: &[u8], after: &[u8])
+        ensures { Prints O.state self.old self.new (before.now ++ (bytes.now ++ after.now)) }
     {
         self.put(before);
         self.put(bytes);
-        self.put(behind);
+        self.put(after);
     }
 
     /// Writes what is gathered, and reports whether a write has failed.

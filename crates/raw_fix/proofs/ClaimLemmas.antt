@@ -95,43 +95,43 @@ part_first most bytes more n w none =
     ap (claim_by most bytes) none ∙ rw begun (within_is most (max (length bytes) 3 + 12) Open low)
 
 -- within field 9, or after it: what follows field 8 begins as field 9 does
-part_digits : (most : ℕ) (o : Opening) (behind more back : List ℕ) → IsOpening o → text_size o ≤ most → behind ++ more ≡ field_of 57 o.digits ++ soh ∷ back → before_soh behind ≡ None →
-    claim_behind most (length (field_of 56 o.value) + 1) behind None ≡ Open
-part_digits most o behind more back is low e none =
+part_digits : (most : ℕ) (o : Opening) (after more back : List ℕ) → IsOpening o → text_size o ≤ most → after ++ more ≡ field_of 57 o.digits ++ soh ∷ back → before_soh after ≡ None →
+    claim_behind most (length (field_of 56 o.value) + 1) after None ≡ Open
+part_digits most o after more back is low e none =
     let g = field_of 57 o.digits in
     let k = length (field_of 56 o.value) + 1 in
-    let part = part_before behind more g back none e in
-    let begun : is_begun 57 behind ≡ true = begun_part 57 o.digits behind part.0 part.1 in
-    let rest = value_part 57 o.digits behind part.0 part.1 in
-    let digits : is_part (drop 2 behind) ≡ true = part_of_size o.digits (drop 2 behind) rest.0 is.size rest.1 in
-    let number : digits_value 10 (drop 2 behind) ≤ digits_value 10 o.digits = value_of_part o.digits (drop 2 behind) rest.0 rest.1 in
+    let part = part_before after more g back none e in
+    let begun : is_begun 57 after ≡ true = begun_part 57 o.digits after part.0 part.1 in
+    let rest = value_part 57 o.digits after part.0 part.1 in
+    let digits : is_part (drop 2 after) ≡ true = part_of_size o.digits (drop 2 after) rest.0 is.size rest.1 in
+    let number : digits_value 10 (drop 2 after) ≤ digits_value 10 o.digits = value_of_part o.digits (drop 2 after) rest.0 rest.1 in
     let some = (size_is o.digits is.size).0 in
-    let shorter : length behind ≤ length g = omega (arith, ap length part.1, length-append behind part.0) in
-    let within : k + max (length behind) 3 + digits_value 10 (drop 2 behind) + 8 ≤ most = omega (arith, low, opening_size o, number, some, shorter) in
-    rw (begun, digits) (within_is most (k + max (length behind) 3 + digits_value 10 (drop 2 behind) + 8) Open within)
+    let shorter : length after ≤ length g = omega (arith, ap length part.1, length-append after part.0) in
+    let within : k + max (length after) 3 + digits_value 10 (drop 2 after) + 8 ≤ most = omega (arith, low, opening_size o, number, some, shorter) in
+    rw (begun, digits) (within_is most (k + max (length after) 3 + digits_value 10 (drop 2 after) + 8) Open within)
 
-whole_digits : (most : ℕ) (o : Opening) (behind more back g : List ℕ) → IsOpening o → text_size o ≤ most → behind ++ more ≡ field_of 57 o.digits ++ soh ∷ back → before_soh behind ≡ Some g →
-    claim_behind most (length (field_of 56 o.value) + 1) behind (Some g) ≡ Whole (text_size o)
-whole_digits most o behind more back g is low e told =
+whole_digits : (most : ℕ) (o : Opening) (after more back g : List ℕ) → IsOpening o → text_size o ≤ most → after ++ more ≡ field_of 57 o.digits ++ soh ∷ back → before_soh after ≡ Some g →
+    claim_behind most (length (field_of 56 o.value) + 1) after (Some g) ≡ Whole (text_size o)
+whole_digits most o after more back g is low e told =
     let f = field_of 57 o.digits in
     let k = length (field_of 56 o.value) + 1 in
-    let stands = before_soh_told behind g told in
-    let here : before_soh (behind ++ more) ≡ Some g = ap before_soh (ap (λ y. y ++ more) stands.1.1 ∙ append_assoc g (soh ∷ stands.1.0) more) ∙ before_soh_plain g (stands.1.0 ++ more) stands.0 in
-    let there : before_soh (behind ++ more) ≡ Some f = ap before_soh e ∙ before_soh_plain f back (second_plain o is) in
+    let stands = before_soh_told after g told in
+    let here : before_soh (after ++ more) ≡ Some g = ap before_soh (ap (λ y. y ++ more) stands.1.1 ∙ append_assoc g (soh ∷ stands.1.0) more) ∙ before_soh_plain g (stands.1.0 ++ more) stands.0 in
+    let there : before_soh (after ++ more) ≡ Some f = ap before_soh e ∙ before_soh_plain f back (second_plain o is) in
     let same : g ≡ f = cc in
     let counts : k + length f + digits_value 10 o.digits + 8 ≡ text_size o = omega (arith, opening_size o) in
-    let at : claim_behind most k behind (Some f) ≡ within most (k + length f + digits_value 10 o.digits + 8) (Whole (k + length f + digits_value 10 o.digits + 8)) = rw (is.size) refl in
-    ap (λ y. claim_behind most k behind (Some y)) same ∙ at ∙ ap (λ n. within most n (Whole n)) counts ∙ within_is most (text_size o) (Whole (text_size o)) low
+    let at : claim_behind most k after (Some f) ≡ within most (k + length f + digits_value 10 o.digits + 8) (Whole (k + length f + digits_value 10 o.digits + 8)) = rw (is.size) refl in
+    ap (λ y. claim_behind most k after (Some y)) same ∙ at ∙ ap (λ n. within most n (Whole n)) counts ∙ within_is most (text_size o) (Whole (text_size o)) low
 
-part_second : (most : ℕ) (o : Opening) (bytes behind more back : List ℕ) → IsOpening o → text_size o ≤ most → bytes ≡ field_of 56 o.value ++ soh ∷ behind → behind ++ more ≡ field_of 57 o.digits ++ soh ∷ back →
-    (x : Option (List ℕ)) → before_soh behind ≡ x → OneOf most bytes
-part_second most o bytes behind more back is low all rest x told =
+part_second : (most : ℕ) (o : Opening) (bytes after more back : List ℕ) → IsOpening o → text_size o ≤ most → bytes ≡ field_of 56 o.value ++ soh ∷ after → after ++ more ≡ field_of 57 o.digits ++ soh ∷ back →
+    (x : Option (List ℕ)) → before_soh after ≡ x → OneOf most bytes
+part_second most o bytes after more back is low all rest x told =
     let k = length (field_of 56 o.value) + 1 in
-    let at : claim_of most bytes ≡ claim_behind most k behind x = ap (claim_of most) all ∙ claim_first most o.value behind is.some (first_plain o is) ∙ ap (claim_behind most k behind) told in
+    let at : claim_of most bytes ≡ claim_behind most k after x = ap (claim_of most) all ∙ claim_first most o.value after is.some (first_plain o is) ∙ ap (claim_behind most k after) told in
     by_front x told at where
-      by_front : (x : Option (List ℕ)) → before_soh behind ≡ x → claim_of most bytes ≡ claim_behind most (length (field_of 56 o.value) + 1) behind x → OneOf most bytes
-      by_front None none at = inl (at ∙ part_digits most o behind more back is low rest none)
-      by_front (Some g) some at = inr (text_size o, at ∙ whole_digits most o behind more back g is low rest some)
+      by_front : (x : Option (List ℕ)) → before_soh after ≡ x → claim_of most bytes ≡ claim_behind most (length (field_of 56 o.value) + 1) after x → OneOf most bytes
+      by_front None none at = inl (at ∙ part_digits most o after more back is low rest none)
+      by_front (Some g) some at = inr (text_size o, at ∙ whole_digits most o after more back g is low rest some)
 
 part_by : (most : ℕ) (bytes more : List ℕ) (n : ℕ) → IsWhole most (bytes ++ more) n → (x : Option (List ℕ)) → before_soh bytes ≡ x → OneOf most bytes
 part_by most bytes more n w None told = inl (part_first most bytes more n w told)
@@ -140,16 +140,16 @@ part_by most bytes more n w (Some front) told =
     let f = field_of 56 o.value in
     let g = field_of 57 o.digits in
     let stands = before_soh_told bytes front told in
-    let behind = stands.1.0 in
-    let here : before_soh (bytes ++ more) ≡ Some front = ap before_soh (ap (λ y. y ++ more) stands.1.1 ∙ append_assoc front (soh ∷ behind) more) ∙ before_soh_plain front (behind ++ more) stands.0 in
+    let after = stands.1.0 in
+    let here : before_soh (bytes ++ more) ≡ Some front = ap before_soh (ap (λ y. y ++ more) stands.1.1 ∙ append_assoc front (soh ∷ after) more) ∙ before_soh_plain front (after ++ more) stands.0 in
     let apart : bytes ++ more ≡ f ++ soh ∷ (g ++ soh ∷ w.more) = w.begins ∙ fields_apart o w.more in
     let there : before_soh (bytes ++ more) ≡ Some f = ap before_soh apart ∙ before_soh_plain f (g ++ soh ∷ w.more) (first_plain o w.opens) in
     let same : front ≡ f = cc in
-    let all : bytes ≡ f ++ soh ∷ behind = stands.1.1 ∙ ap (λ y. y ++ soh ∷ behind) same in
-    let joined : f ++ soh ∷ (behind ++ more) ≡ f ++ soh ∷ (g ++ soh ∷ w.more) = sym (append_assoc f (soh ∷ behind) more) ∙ ap (λ y. y ++ more) (sym all) ∙ apart in
-    let later : soh ∷ (behind ++ more) ≡ soh ∷ (g ++ soh ∷ w.more) = append_cancel_left f (soh ∷ (behind ++ more)) (soh ∷ (g ++ soh ∷ w.more)) joined in
-    let rest : behind ++ more ≡ g ++ soh ∷ w.more = cc in
-    part_second most o bytes behind more w.more w.opens (omega (arith, w.within, w.counts)) all rest (before_soh behind) refl
+    let all : bytes ≡ f ++ soh ∷ after = stands.1.1 ∙ ap (λ y. y ++ soh ∷ after) same in
+    let joined : f ++ soh ∷ (after ++ more) ≡ f ++ soh ∷ (g ++ soh ∷ w.more) = sym (append_assoc f (soh ∷ after) more) ∙ ap (λ y. y ++ more) (sym all) ∙ apart in
+    let later : soh ∷ (after ++ more) ≡ soh ∷ (g ++ soh ∷ w.more) = append_cancel_left f (soh ∷ (after ++ more)) (soh ∷ (g ++ soh ∷ w.more)) joined in
+    let rest : after ++ more ≡ g ++ soh ∷ w.more = cc in
+    part_second most o bytes after more w.more w.opens (omega (arith, w.within, w.counts)) all rest (before_soh after) refl
 
 pub part_claimed : (most : ℕ) (bytes more : List ℕ) (n : ℕ) → IsWhole most (bytes ++ more) n → OneOf most bytes
 part_claimed most bytes more n w = part_by most bytes more n w (before_soh bytes) refl
@@ -233,26 +233,26 @@ open_first most bytes none begun low =
     (omega (arith, low, opening_size o, size, length-drop 2 bytes))
 
 -- field 8 and a part of field 9
-open_second : (most : ℕ) (bytes value behind : List ℕ) → 0 < length value → Plain value → bytes ≡ field_of 56 value ++ soh ∷ behind → before_soh behind ≡ None → is_begun 57 behind ≡ true → is_part (drop 2 behind) ≡ true →
-    length (field_of 56 value) + 1 + max (length behind) 3 + digits_value 10 (drop 2 behind) + 8 ≤ most → Told most bytes Open
-open_second most bytes value behind some plain all none begun part low =
-    let digits = or_one 48 (drop 2 behind) in
+open_second : (most : ℕ) (bytes value after : List ℕ) → 0 < length value → Plain value → bytes ≡ field_of 56 value ++ soh ∷ after → before_soh after ≡ None → is_begun 57 after ≡ true → is_part (drop 2 after) ≡ true →
+    length (field_of 56 value) + 1 + max (length after) 3 + digits_value 10 (drop 2 after) + 8 ≤ most → Told most bytes Open
+open_second most bytes value after some plain all none begun part low =
+    let digits = or_one 48 (drop 2 after) in
     let o : Opening = record { value = value; digits = digits } in
     let f = field_of 56 value in
-    let more = finished 57 48 behind begun in
-    let size = one_size 48 (drop 2 behind) in
-    let joined : (f ++ soh ∷ behind) ++ (more.0 ++ soh ∷ []) ≡ opening_bytes o =
-    append_assoc f (soh ∷ behind) (more.0 ++ soh ∷ []) ∙ ap (λ y. f ++ soh ∷ y) (sym (append_assoc behind more.0 (soh ∷ [])) ∙ ap (λ y. y ++ soh ∷ []) more.1)
+    let more = finished 57 48 after begun in
+    let size = one_size 48 (drop 2 after) in
+    let joined : (f ++ soh ∷ after) ++ (more.0 ++ soh ∷ []) ≡ opening_bytes o =
+    append_assoc f (soh ∷ after) (more.0 ++ soh ∷ []) ∙ ap (λ y. f ++ soh ∷ y) (sym (append_assoc after more.0 (soh ∷ [])) ∙ ap (λ y. y ++ soh ∷ []) more.1)
     in
     open_by most bytes (more.0 ++ soh ∷ []) o
-    (record { some = some; plain = plain; size = one_digits (drop 2 behind) part })
+    (record { some = some; plain = plain; size = one_digits (drop 2 after) part })
     (ap (λ y. y ++ (more.0 ++ soh ∷ [])) all ∙ joined)
-    (omega (arith, low, opening_size o, size, length-drop 2 behind, one_value (drop 2 behind)))
+    (omega (arith, low, opening_size o, size, length-drop 2 after, one_value (drop 2 after)))
 
 -- both fields
-whole_second : (most : ℕ) (bytes value behind g more : List ℕ) → 0 < length value → Plain value → bytes ≡ field_of 56 value ++ soh ∷ behind → behind ≡ g ++ soh ∷ more → is_begun 57 g ≡ true → is_number (drop 2 g) ≡ true →
+whole_second : (most : ℕ) (bytes value after g more : List ℕ) → 0 < length value → Plain value → bytes ≡ field_of 56 value ++ soh ∷ after → after ≡ g ++ soh ∷ more → is_begun 57 g ≡ true → is_number (drop 2 g) ≡ true →
     (n : ℕ) → n ≡ length (field_of 56 value) + 1 + length g + digits_value 10 (drop 2 g) + 8 → n ≤ most → IsWhole most bytes n
-whole_second most bytes value behind g more some plain all rest begun size n counts low =
+whole_second most bytes value after g more some plain all rest begun size n counts low =
     let o : Opening = record { value = value; digits = drop 2 g } in
     let f = field_of 56 value in
     let long : 2 ≤ length g = omega (arith, (size_is (drop 2 g) size).0, length-drop 2 g) in
@@ -266,37 +266,37 @@ whole_second most bytes value behind g more some plain all rest begun size n cou
       within = low;
     }
 
-behind_told : (most : ℕ) (bytes value behind : List ℕ) → 0 < length value → Plain value → bytes ≡ field_of 56 value ++ soh ∷ behind → (x : Option (List ℕ)) → before_soh behind ≡ x → Told most bytes (claim_behind most (length (field_of 56 value) + 1) behind x)
-behind_told most bytes value behind some plain all None told =
+behind_told : (most : ℕ) (bytes value after : List ℕ) → 0 < length value → Plain value → bytes ≡ field_of 56 value ++ soh ∷ after → (x : Option (List ℕ)) → before_soh after ≡ x → Told most bytes (claim_behind most (length (field_of 56 value) + 1) after x)
+behind_told most bytes value after some plain all None told =
     let k = length (field_of 56 value) + 1 in
-    let n = k + max (length behind) 3 + digits_value 10 (drop 2 behind) + 8 in
-    if_told most bytes (is_begun 57 behind && is_part (drop 2 behind)) (within most n Open) (λ t.
-    let both = and_true (is_begun 57 behind) (is_part (drop 2 behind)) t in
-    within_told most n bytes Open (λ low. open_second most bytes value behind some plain all told both.0 both.1 low))
-behind_told most bytes value behind some plain all (Some g) told =
+    let n = k + max (length after) 3 + digits_value 10 (drop 2 after) + 8 in
+    if_told most bytes (is_begun 57 after && is_part (drop 2 after)) (within most n Open) (λ t.
+    let both = and_true (is_begun 57 after) (is_part (drop 2 after)) t in
+    within_told most n bytes Open (λ low. open_second most bytes value after some plain all told both.0 both.1 low))
+behind_told most bytes value after some plain all (Some g) told =
     let k = length (field_of 56 value) + 1 in
     let n = k + length g + digits_value 10 (drop 2 g) + 8 in
-    let stands = before_soh_told behind g told in
+    let stands = before_soh_told after g told in
     if_told most bytes (is_begun 57 g && is_number (drop 2 g)) (within most n (Whole n)) (λ t.
     let both = and_true (is_begun 57 g) (is_number (drop 2 g)) t in
-    within_told most n bytes (Whole n) (λ low. whole_second most bytes value behind g stands.1.0 some plain all stands.1.1 both.0 both.1 n refl low))
+    within_told most n bytes (Whole n) (λ low. whole_second most bytes value after g stands.1.0 some plain all stands.1.1 both.0 both.1 n refl low))
 
 first_told : (most : ℕ) (bytes : List ℕ) (x : Option (List ℕ)) → before_soh bytes ≡ x → Told most bytes (claim_by most bytes x)
 first_told most bytes None told =
     if_told most bytes (is_begun 56 bytes) (within most (max (length bytes) 3 + 12) Open) (λ begun.
     within_told most (max (length bytes) 3 + 12) bytes Open (λ low. open_first most bytes told begun low))
 first_told most bytes (Some f) told =
-    let behind = drop (length f + 1) bytes in
+    let after = drop (length f + 1) bytes in
     let stands = before_soh_told bytes f told in
-    if_told most bytes (is_begun 56 f && nat_lt 2 (length f)) (claim_behind most (length f + 1) behind (before_soh behind)) (λ t.
+    if_told most bytes (is_begun 56 f && nat_lt 2 (length f)) (claim_behind most (length f + 1) after (before_soh after)) (λ t.
     let both = and_true (is_begun 56 f) (nat_lt 2 (length f)) t in
     let long : 2 < length f = grind (arith, nat_tests, both.1) in
     let is : f ≡ field_of 56 (drop 2 f) = begun_is 56 f both.0 (omega (arith, long)) in
-    let left : behind ≡ stands.1.0 = ap (drop (length f + 1)) stands.1.1 ∙ behind_soh f stands.1.0 in
-    let all : bytes ≡ field_of 56 (drop 2 f) ++ soh ∷ behind = stands.1.1 ∙ ap (λ y. f ++ soh ∷ y) (sym left) ∙ ap (λ y. y ++ soh ∷ behind) is in
+    let left : after ≡ stands.1.0 = ap (drop (length f + 1)) stands.1.1 ∙ behind_soh f stands.1.0 in
+    let all : bytes ≡ field_of 56 (drop 2 f) ++ soh ∷ after = stands.1.1 ∙ ap (λ y. f ++ soh ∷ y) (sym left) ∙ ap (λ y. y ++ soh ∷ after) is in
     let some : 0 < length (drop 2 f) = omega (arith, long, length-drop 2 f) in
-    let there = behind_told most bytes (drop 2 f) behind some (plain_drop 2 f stands.0) all (before_soh behind) refl in
-    subst (λ y. Told most bytes (claim_behind most (length y + 1) behind (before_soh behind))) (sym is) there)
+    let there = behind_told most bytes (drop 2 f) after some (plain_drop 2 f stands.0) all (before_soh after) refl in
+    subst (λ y. Told most bytes (claim_behind most (length y + 1) after (before_soh after))) (sym is) there)
 
 told : (most : ℕ) (bytes : List ℕ) → Told most bytes (claim_of most bytes)
 unfolding claim_of

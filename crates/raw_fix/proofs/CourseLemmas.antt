@@ -254,10 +254,10 @@ module _ (texts : Texts) (old mid : ItemState) (a b : List ℕ) (c : Course text
         (none.0, record { rest = take (room from) all; turns = refl; ends = (goes_not, front) }, nothing ∙ sym (ap (λ x. x ++ b) held ∙ over))
 
 -- a run in which no mark stands isn't an item where the stream goes on
-run_none : (texts : Texts) (bytes behind : List ℕ) (b : ℕ) (code : PCode) → IsGarbled texts true bytes code → bytes ≡ b ∷ behind → NoMark behind → (item : Item) → IsItem texts true bytes item → ⊥
-run_none texts bytes behind b code is e none item at =
+run_none : (texts : Texts) (bytes after : List ℕ) (b : ℕ) (code : PCode) → IsGarbled texts true bytes code → bytes ≡ b ∷ after → NoMark after → (item : Item) → IsItem texts true bytes item → ⊥
+run_none texts bytes after b code is e none item at =
     let told : item_of texts true bytes ≡ Some item = item_complete texts true bytes item.bytes item.kind at in
-    let run : run_of true bytes ≡ None = ap (run_of true) e ∙ ap (λ o. with_byte b (run_by true behind o)) (mark_missed behind none) in
+    let run : run_of true bytes ≡ None = ap (run_of true) e ∙ ap (λ o. with_byte b (run_by true after o)) (mark_missed after none) in
     let nothing : item_of texts true bytes ≡ None = ap (item_by true bytes) (garbled_verdict texts true bytes code is) ∙ ap (with_bytes (Garbled code)) run in
     cc
 
@@ -275,9 +275,9 @@ unsettled_by texts input rm place gone held None None on front go stuck =
     record { rest = take rm input; turns = refl; ends = (on, λ item at. undecided_none texts held stuck item (subst (λ t. IsItem texts t held item) on (subst (λ x. IsItem texts (nat_lt rm (length input)) x item) all at))) }
 unsettled_by texts input rm place gone held None (Some run) on front go stuck =
     let begins = go.1 in
-    let behind : begins.front ++ held ≡ begins.behind = tail_same begins.byte begins.byte (begins.front ++ held) begins.behind (ap (λ x. x ++ held) (sym begins.runs) ∙ begins.begins) in
-    let none : NoMark begins.behind = subst NoMark behind (no_mark_more begins.front held (subst (λ x. NoneBefore x (length begins.front)) (sym behind) begins.none) stuck) in
-    record { rest = take rm input; turns = refl; ends = (on, λ item at. run_none texts (gone ++ held) begins.behind begins.byte run.code go.0 begins.begins none item (subst (λ t. IsItem texts t (gone ++ held) item) on (subst (λ x. IsItem texts (nat_lt rm (length input)) x item) front at))) }
+    let after : begins.front ++ held ≡ begins.after = tail_same begins.byte begins.byte (begins.front ++ held) begins.after (ap (λ x. x ++ held) (sym begins.runs) ∙ begins.begins) in
+    let none : NoMark begins.after = subst NoMark after (no_mark_more begins.front held (subst (λ x. NoneBefore x (length begins.front)) (sym after) begins.none) stuck) in
+    record { rest = take rm input; turns = refl; ends = (on, λ item at. run_none texts (gone ++ held) begins.after begins.byte run.code go.0 begins.begins none item (subst (λ t. IsItem texts t (gone ++ held) item) on (subst (λ x. IsItem texts (nat_lt rm (length input)) x item) front at))) }
 unsettled_by texts input rm place gone held (Some begun) None on front go stuck = absurd go
 unsettled_by texts input rm place gone held (Some begun) (Some run) on front go stuck = (on, subst NoMark (sym front) (no_mark_more gone held go.0 stuck))
 

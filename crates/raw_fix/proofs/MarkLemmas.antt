@@ -83,39 +83,39 @@ mark_missed bytes none = by_answer (before_mark bytes) refl where
 
 -- ---- runs
 
-run_told_by : (goes_on : Bool) (b : ℕ) (behind run : List ℕ) (o : Option (List ℕ)) → before_mark behind ≡ o → with_byte b (run_by goes_on behind o) ≡ Some run → IsRun goes_on (b ∷ behind) run
-run_told_by goes_on b behind run (Some front) told h = record { byte = b; behind = behind; front = front; begins = refl; runs = cc; ends = inl (mark_told behind front told) }
-run_told_by true b behind run None told h = cc
-run_told_by false b behind run None told h = record { byte = b; behind = behind; front = behind; begins = refl; runs = cc; ends = inr (refl, refl, mark_none behind told) }
+run_told_by : (goes_on : Bool) (b : ℕ) (after run : List ℕ) (o : Option (List ℕ)) → before_mark after ≡ o → with_byte b (run_by goes_on after o) ≡ Some run → IsRun goes_on (b ∷ after) run
+run_told_by goes_on b after run (Some front) told h = record { byte = b; after = after; front = front; begins = refl; runs = cc; ends = inl (mark_told after front told) }
+run_told_by true b after run None told h = cc
+run_told_by false b after run None told h = record { byte = b; after = after; front = after; begins = refl; runs = cc; ends = inr (refl, refl, mark_none after told) }
 
 pub run_told : (goes_on : Bool) (bytes run : List ℕ) → run_of goes_on bytes ≡ Some run → IsRun goes_on bytes run
 run_told goes_on [] run h = cc
-run_told goes_on (b ∷ behind) run h = run_told_by goes_on b behind run (before_mark behind) refl h
+run_told goes_on (b ∷ after) run h = run_told_by goes_on b after run (before_mark after) refl h
 
-run_front : (goes_on : Bool) (behind front : List ℕ) → RunsOn goes_on behind front → run_by goes_on behind (before_mark behind) ≡ Some front
-run_front goes_on behind front (inl there) = ap (run_by goes_on behind) (mark_found behind front there)
-run_front goes_on behind front (inr last) = ap (run_by goes_on behind) (mark_missed behind last.2) ∙ ap (λ t. run_by t behind None) last.0 ∙ ap Some (sym last.1)
+run_front : (goes_on : Bool) (after front : List ℕ) → RunsOn goes_on after front → run_by goes_on after (before_mark after) ≡ Some front
+run_front goes_on after front (inl there) = ap (run_by goes_on after) (mark_found after front there)
+run_front goes_on after front (inr last) = ap (run_by goes_on after) (mark_missed after last.2) ∙ ap (λ t. run_by t after None) last.0 ∙ ap Some (sym last.1)
 
 pub run_found : (goes_on : Bool) (bytes run : List ℕ) → IsRun goes_on bytes run → run_of goes_on bytes ≡ Some run
 run_found goes_on bytes run is =
-    ap (run_of goes_on) is.begins ∙ ap (with_byte is.byte) (run_front goes_on is.behind is.front is.ends) ∙ ap Some (sym is.runs)
+    ap (run_of goes_on) is.begins ∙ ap (with_byte is.byte) (run_front goes_on is.after is.front is.ends) ∙ ap Some (sym is.runs)
 
-run_splits : (goes_on : Bool) (behind front : List ℕ) → RunsOn goes_on behind front → (more : List ℕ) × (behind ≡ front ++ more)
-run_splits goes_on behind front (inl there) = (mark ++ there.more, there.whole ∙ append_assoc front mark there.more)
-run_splits goes_on behind front (inr last) = ([], sym last.1 ∙ sym (append-nil front))
+run_splits : (goes_on : Bool) (after front : List ℕ) → RunsOn goes_on after front → (more : List ℕ) × (after ≡ front ++ more)
+run_splits goes_on after front (inl there) = (mark ++ there.more, there.whole ∙ append_assoc front mark there.more)
+run_splits goes_on after front (inr last) = ([], sym last.1 ∙ sym (append-nil front))
 
 -- a run stands at the front
 pub run_stands : (goes_on : Bool) (bytes run : List ℕ) → IsRun goes_on bytes run → (more : List ℕ) × (bytes ≡ run ++ more)
 run_stands goes_on bytes run is =
-    let rest = run_splits goes_on is.behind is.front is.ends in
+    let rest = run_splits goes_on is.after is.front is.ends in
     (rest.0, is.begins ∙ ap (λ x. is.byte ∷ x) rest.1 ∙ ap (λ x. x ++ rest.0) (sym is.runs))
 
 pub run_filled : (goes_on : Bool) (bytes run : List ℕ) → IsRun goes_on bytes run → 0 < length run
 run_filled goes_on bytes run is = omega (arith, ap length is.runs)
 
 -- some bytes that don't go on are a run
-pub run_some : (b : ℕ) (behind : List ℕ) → (run : List ℕ) × (run_of false (b ∷ behind) ≡ Some run)
-run_some b behind = by_answer (before_mark behind) where
-  by_answer : (o : Option (List ℕ)) → (run : List ℕ) × (with_byte b (run_by false behind o) ≡ Some run)
-  by_answer None = (b ∷ behind, refl)
+pub run_some : (b : ℕ) (after : List ℕ) → (run : List ℕ) × (run_of false (b ∷ after) ≡ Some run)
+run_some b after = by_answer (before_mark after) where
+  by_answer : (o : Option (List ℕ)) → (run : List ℕ) × (with_byte b (run_by false after o) ≡ Some run)
+  by_answer None = (b ∷ after, refl)
   by_answer (Some front) = (b ∷ front, refl)

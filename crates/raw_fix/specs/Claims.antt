@@ -100,7 +100,7 @@ abbrev pub claim_by : ℕ → List ℕ → Option (List ℕ) → Claim
 claim_by most bytes None = if is_begun 56 bytes then within most (max (length bytes) 3 + 12) Open else Never
 claim_by most bytes (Some field) =
     if is_begun 56 field && nat_lt 2 (length field)
-    then (let behind = drop (length field + 1) bytes in claim_behind most (length field + 1) behind (before_soh behind))
+    then (let after = drop (length field + 1) bytes in claim_behind most (length field + 1) after (before_soh after))
     else Never
 
 -- what the bytes claim

@@ -49,11 +49,11 @@ RunsOn goes_on bytes front = BeforeMark bytes front ⊎ ((goes_on ≡ false) × 
 -- one byte, and then as far as bytes that aren't a text extend
 pub record IsRun (goes_on : Bool) (bytes run : List ℕ) : Type 0 where
   pub byte : ℕ
-  pub behind : List ℕ
+  pub after : List ℕ
   pub front : List ℕ
-  pub begins : bytes ≡ byte ∷ behind
+  pub begins : bytes ≡ byte ∷ after
   pub runs : run ≡ byte ∷ front
-  pub ends : RunsOn goes_on behind front
+  pub ends : RunsOn goes_on after front
 
 -- ---- the item at an offset
 
@@ -175,14 +175,14 @@ verdict_by texts goes_on bytes Never = Some (Refuses code.Prefix)
 
 -- bytes up to the next mark, or to the end
 abbrev pub run_by : Bool → List ℕ → Option (List ℕ) → Option (List ℕ)
-run_by goes_on behind (Some front) = Some front
-run_by true behind None = None
-run_by false behind None = Some behind
+run_by goes_on after (Some front) = Some front
+run_by true after None = None
+run_by false after None = Some after
 
 -- bytes from the first on that aren't a text
 abbrev pub run_of : Bool → List ℕ → Option (List ℕ)
 run_of goes_on [] = None
-run_of goes_on (b ∷ behind) = with_byte b (run_by goes_on behind (before_mark behind))
+run_of goes_on (b ∷ after) = with_byte b (run_by goes_on after (before_mark after))
 
 -- an item with these bytes
 abbrev pub with_bytes : Kind → Option (List ℕ) → Option Item

@@ -52,11 +52,11 @@ NoneBefore bytes n = (f m : List ℕ) → bytes ≡ f ++ mark ++ m → n ≤ len
 -- These first bytes are part of a run from its first byte on: no mark begins after that byte.
 pub record BeginsRun (bytes gone : List ℕ) : Type 0 where
   pub byte : ℕ
-  pub behind : List ℕ
+  pub after : List ℕ
   pub front : List ℕ
-  pub begins : bytes ≡ byte ∷ behind
+  pub begins : bytes ≡ byte ∷ after
   pub runs : gone ≡ byte ∷ front
-  pub none : NoneBefore behind (length front)
+  pub none : NoneBefore after (length front)
 
 -- these bytes are a garbled item, or the rest of the one that hasn't ended, and `run` reports it
 abbrev pub Garbles : Texts → Ahead → List ℕ → Option Run → Run → Type 0

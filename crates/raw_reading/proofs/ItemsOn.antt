@@ -35,14 +35,14 @@ turns_first {X} {At} {b} {first} reads bytes mid rest (x ∷ xs) (y ∷ ys) h k 
 run_longer : (goes_on : Bool) (bytes more run : List ℕ) → IsRun true bytes run → IsRun goes_on (bytes ++ more) run
 run_longer goes_on bytes more run is = record {
   byte = is.byte;
-  behind = is.behind ++ more;
+  after = is.after ++ more;
   front = is.front;
   begins = ap (λ b. b ++ more) is.begins;
   runs = is.runs;
   ends = on_longer is.ends;
 } where
-  on_longer : RunsOn true is.behind is.front → RunsOn goes_on (is.behind ++ more) is.front
-  on_longer (inl there) = inl (mark_longer is.behind more is.front there)
+  on_longer : RunsOn true is.after is.front → RunsOn goes_on (is.after ++ more) is.front
+  on_longer (inl there) = inl (mark_longer is.after more is.front there)
   on_longer (inr last) = let no : true ≡ false = last.0 in cc
 
 of_longer : (texts : Texts) (goes_on : Bool) (bytes more item : List ℕ) (kind : Kind) → IsItemOf texts true bytes item kind → IsItemOf texts goes_on (bytes ++ more) item kind

@@ -17,6 +17,6 @@ piece_then_rest bytes held given at n same taken =
 pub ended : (bytes held : List ℕ) (at n most room : ℕ) → held ≡ bytes → 0 < most → n ≡ min most (min room (length (take (length held - at) (drop at held)))) → n ≡ 0 → 0 < room → drop (at + n) bytes ≡ []
 ended bytes held at n most room same some count nothing wide =
     let rest : length (drop at bytes) ≡ length bytes - at = length-drop at bytes in
-    let behind : length (drop (at + n) bytes) ≡ length bytes - (at + n) = length-drop (at + n) bytes in
+    let after : length (drop (at + n) bytes) ≡ length bytes - (at + n) = length-drop (at + n) bytes in
     let exact : n ≡ min most (min room (length (drop at bytes))) = count ∙ ap (λ r. min most (min room (length r))) (from_there bytes held at same) in
     nil_from_length _ (omega arith)

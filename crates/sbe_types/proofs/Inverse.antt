@@ -70,9 +70,9 @@ has_told order k None bytes h = cc
 has_told order k (Some m) bytes h = (m, refl, cc)
 
 -- the unsigned number after a primitive's bytes
-behind : (order : Order) (p : Primitive) (n : ℤ) (bytes : List ℕ) → bytes_of order p n ≡ Some bytes →
+after : (order : Order) (p : Primitive) (n : ℤ) (bytes : List ℕ) → bytes_of order p n ≡ Some bytes →
     (m : ℕ) × (bytes ≡ digits_in order (prim_width p) m) × (m < 256 ^ prim_width p) × (signed_if (is_signed p) (256 ^ prim_width p) m ≡ n)
-behind order p n bytes h =
+after order p n bytes h =
     let told = has_told order (prim_width p) (unsigned_of (is_signed p) (256 ^ prim_width p) n) bytes h in
     let number = unsigned_is p told.0 n told.1 in
     (told.0, told.2, number.0, number.1)
@@ -80,13 +80,13 @@ behind order p n bytes h =
 pub number_of-bytes_of : (order : Order) (p : Primitive) (n : ℤ) (bytes : List ℕ) → bytes_of order p n ≡ Some bytes → number_of order p bytes ≡ n
 unfolding signed_if
 number_of-bytes_of order p n bytes h =
-    let told = behind order p n bytes h in
+    let told = after order p n bytes h in
     let sum : sum_in order bytes ≡ told.0 = ap (sum_in order) told.1 ∙ sum-digits order (prim_width p) told.0 told.2 in
     ap (signed_if (is_signed p) (256 ^ prim_width p)) sum ∙ told.3
 
 pub bytes_of-width : (order : Order) (p : Primitive) (n : ℤ) (bytes : List ℕ) → bytes_of order p n ≡ Some bytes → (length bytes ≡ prim_width p) × IsBytes bytes
 bytes_of-width order p n bytes h =
-    let told = behind order p n bytes h in
+    let told = after order p n bytes h in
     rw told.1 (length-digits_in order (prim_width p) told.0, IsBytes-digits_in order (prim_width p) told.0)
 
 pub bytes_of-number_of : (order : Order) (p : Primitive) (bytes : List ℕ) → length bytes ≡ prim_width p → IsBytes bytes → bytes_of order p (number_of order p bytes) ≡ Some bytes

@@ -238,10 +238,10 @@ row_grows (more_of-Member name offset kind rest) e h = past (is_const kind) refl
     past : (t : Bool) → is_const kind ≡ t → BeginsBehind e offset kind →
         (cond (is_const kind) e (begin_of e offset + width kind)) ≤ row_end (cond (is_const kind) e (begin_of e offset + width kind)) rest →
         e ≤ row_end (cond (is_const kind) e (begin_of e offset + width kind)) rest
-    past true c behind k = let same : cond (is_const kind) e (begin_of e offset + width kind) ≡ e = ap (λ t. cond t e (begin_of e offset + width kind)) c in omega arith
-    past false c behind k =
+    past true c beyond k = let same : cond (is_const kind) e (begin_of e offset + width kind) ≡ e = ap (λ t. cond t e (begin_of e offset + width kind)) c in omega arith
+    past false c beyond k =
         let same : cond (is_const kind) e (begin_of e offset + width kind) ≡ begin_of e offset + width kind = ap (λ t. cond t e (begin_of e offset + width kind)) c in
-        let begins : e ≤ begin_of e offset = behind c in
+        let begins : e ≤ begin_of e offset = beyond c in
         omega arith
 
 pub const_width : (kind : Kind) → is_const kind ≡ true → width kind ≡ 0

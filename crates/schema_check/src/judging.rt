@@ -6,7 +6,7 @@ use crate::messages::judge_messages;
 use sbe_types::MessageEl;
 use schema_rules::{CCode, CheckErr, LevelScope};
 use std::alloc::Global;
-use type_check::{behind, judge_types, names_fraction, refuse};
+use type_check::{at_element, judge_types, names_fraction, refuse};
 use type_facts::Declarations;
 use type_kinds::{holds, is_header, members_named};
 
@@ -43,7 +43,7 @@ fn judge_header_named(
 {
     match judge_header(alloc, known, header_type, id, version) {
         Ok(()) => Ok(()),
-        Err(e) => Err(behind(alloc, "types/", header_type, e)),
+        Err(e) => Err(at_element(alloc, "types/", header_type, e)),
     }
 }
 

@@ -10,7 +10,7 @@ use lists::List;
 use sbe_types::{MemberItem, MessageEl};
 use schema_rules::{CCode, CheckErr, LevelFacts, LevelScope};
 use std::alloc::Global;
-use type_check::{NameTable, behind, refuse};
+use type_check::{NameTable, at_element, refuse};
 use type_facts::{Declarations, Types};
 use type_kinds::holds;
 
@@ -48,7 +48,7 @@ fn judge_named(
 {
     match judge_message(alloc, known, header, level, names, ids, message) {
         Ok(()) => Ok(()),
-        Err(e) => Err(behind(alloc, "messages/", message.name.as_slice(), e)),
+        Err(e) => Err(at_element(alloc, "messages/", message.name.as_slice(), e)),
     }
 }
 

@@ -9,7 +9,9 @@ ghost use Rattle.schema_check.specs.Seen.{level_of, group_check};
 use sbe_types::{DataEl, GroupEl, MemberItem, PartItem};
 use schema_rules::{CCode, CheckErr, Fact, LevelFacts, LevelScope, PartClass, PartHead};
 use std::alloc::Global;
-use type_check::{NameTable, behind, field_fact, judge_field, judge_head, names_fraction, refuse};
+use type_check::{
+    NameTable, at_element, field_fact, judge_field, judge_head, names_fraction, refuse,
+};
 use type_facts::{Declarations, Types, past};
 use type_kinds::{holds, is_data, is_dimension, members_named};
 
@@ -58,7 +60,7 @@ fn judge_named(
 {
     match judge_part(alloc, known, level, names, all, part) {
         Ok(()) => Ok(()),
-        Err(e) => Err(behind(alloc, ".", part_name(part), e)),
+        Err(e) => Err(at_element(alloc, ".", part_name(part), e)),
     }
 }
 

@@ -39,7 +39,7 @@ pub record Fits (kind : Kind) : Type 0 where
 
 past_from : (fixed : Bool) (e b w : ℕ) → (fixed ≡ false → e ≤ b) → e ≤ (if fixed then e else b + w)
 past_from true e b w h = omega arith
-past_from false e b w h = let behind = h refl in omega arith
+past_from false e b w h = let after = h refl in omega arith
 
 pub ends_grow : (ms : List Member) (e : ℕ) → PlacedList e ms → e ≤ members_end e ms
 ends_grow [] e h = omega arith

@@ -70,14 +70,14 @@ last_counts : (a b : Member) (one other : List ℕ) → (one ≡ other → ⊥) 
 last_counts a b one other apart h k = elim (either (bytes_eq one a.name && is_counter (leaf_in a.kind)) ((bytes_eq one b.name && is_counter (leaf_in b.kind)) || false) h) [
   | inl first ↦ elim (either (bytes_eq other a.name && is_counter (leaf_in a.kind)) ((bytes_eq other b.name && is_counter (leaf_in b.kind)) || false) k) [
     | inl again ↦ absurd (apart (same_name one other a.name (all_true _ _ first).0 (all_true _ _ again).0))
-    | inr second ↦ behind (bytes_eq other b.name) second
+    | inr second ↦ after (bytes_eq other b.name) second
   ]
-  | inr second ↦ behind (bytes_eq one b.name) second
+  | inr second ↦ after (bytes_eq one b.name) second
 ]
   where
-    behind : (t : Bool) → ((t && is_counter (leaf_in b.kind)) || false) ≡ true → is_counter (leaf_in b.kind) ≡ true
-    behind true h = elim (either (is_counter (leaf_in b.kind)) false h) [ inl e ↦ e | inr e ↦ cc ]
-    behind false h = cc
+    after : (t : Bool) → ((t && is_counter (leaf_in b.kind)) || false) ≡ true → is_counter (leaf_in b.kind) ≡ true
+    after true h = elim (either (is_counter (leaf_in b.kind)) false h) [ inl e ↦ e | inr e ↦ cc ]
+    after false h = cc
 
 -- a dimension takes a byte
 pub dimension_wide : (dim : List Member) → is_dimension dim ≡ true → 1 ≤ members_end 0 dim
@@ -129,7 +129,7 @@ tail_takes base level version late before (part.Data d ∷ ps) h all =
             let one : 1 ≤ part_least version (resolved_data within d) = least_when (is_alive version (max level.since d.since_version)) _ (alive_there version level.since d.since_version late own) (prim_wide _) in
             inr (more_data (part_least version (resolved_data within d)) (groups_least version (list_groups within ps)) (parts_least version (list_data within ps)) one)
       ]
-      | inr behind ↦ inr (later_data (part_least version (resolved_data within d)) (groups_least version (list_groups within ps)) (parts_least version (list_data within ps)) behind)
+      | inr after ↦ inr (later_data (part_least version (resolved_data within d)) (groups_least version (list_groups within ps)) (parts_least version (list_data within ps)) after)
     ]
   where
     more_data : (n g p : ℕ) → 1 ≤ n → 1 ≤ g + (n + p)
@@ -154,7 +154,7 @@ tail_takes base level version late before (part.Group' name id dimension since s
             group_takes version inner.since dim made (since_is inner (head_of_group name id stated) row) (alive_there version level.since since late own) (dimension_wide dim (not_false _ members.1.1.0)) in
             inr (more_groups (group_least version g) (groups_least version (list_groups within ps)) (parts_least version (list_data within ps)) one)
       ]
-      | inr behind ↦ inr (later_groups (group_least version g) (groups_least version (list_groups within ps)) (parts_least version (list_data within ps)) behind)
+      | inr after ↦ inr (later_groups (group_least version g) (groups_least version (list_groups within ps)) (parts_least version (list_data within ps)) after)
     ]
   where
     more_groups : (n g p : ℕ) → 1 ≤ n → 1 ≤ (n + g) + p
@@ -197,7 +197,7 @@ end_stays false true r e offset w is same h some = cc
 end_stays false false r e None w is same h some = omega arith
 end_stays false false r e (Some b) w is same h some =
     let first : 1 ≤ r = counted_some e r (sym same) some in
-    let behind : r ≤ b = ltb-false b r h in
+    let after : r ≤ b = ltb-false b r h in
     omega arith
 
 floor_takes : (base : Base) (level : LevelScope) (version : ℕ) → level.since ≤ version → (before : PartsBefore) (ps : List PartItem) → EachKept (scope_of base level) before ps →

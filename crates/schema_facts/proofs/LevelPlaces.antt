@@ -78,7 +78,7 @@ fields_fit within accepted (part.Data d ∷ ps) = fields_fit within accepted ps
 
 past_from : (fixed : Bool) (e b w : ℕ) → (fixed ≡ false → e ≤ b) → e ≤ (if fixed then e else b + w)
 past_from true e b w h = omega arith
-past_from false e b w h = let behind = h refl in omega arith
+past_from false e b w h = let after = h refl in omega arith
 
 fields_grow : (fs : List Field) (e : ℕ) → ArePlaced e fs → e ≤ fields_end e fs
 fields_grow [] e h = omega arith

@@ -31,9 +31,9 @@ made_since within head row dim = ap (λ r. (out-Level r.level).since) (out-roll-
 
 one_within : (least own version : ℕ) → own ≤ version → least ≤ version → IsSinceWithin least version (max least own)
 one_within least own version h k =
-    let behind : least ≤ max least own = omega arith in
+    let after : least ≤ max least own = omega arith in
     let known : max least own ≤ version = omega arith in
-    record { behind = behind; known = known }
+    record { after = after; known = known }
 
 kept_since : (scope : Scope) (before : PartsBefore) (p : PartItem) → PartKept scope before p → (head_of scope p).since ≤ scope.level.version
 kept_since scope before p kept = own_known scope.level before.all (head_of scope p) kept.head.1.1.0
@@ -79,9 +79,9 @@ module _ (base : Base) (level : LevelScope) (same : level.version ≡ base.versi
 
   one_step : (low all own : ℕ) (rest : List ℕ) → max level.since all ≤ max level.since own → low ≡ max level.since all →
       ((next : ℕ) → next ≡ max level.since (max all (max level.since own)) → NeverFall next rest) → NeverFall low (max level.since own ∷ rest)
-  one_step low all own rest order is behind =
+  one_step low all own rest order is after =
       let first : low ≤ max level.since own = omega (arith, is, order) in
-      (first, behind (max level.since own) (sym (next_low level.since all own order)))
+      (first, after (max level.since own) (sym (next_low level.since all own order)))
 
   order_kept : (before : PartsBefore) (p : PartItem) → PartKept (scope_of base level) before p → (head_of (scope_of base level) p).is_fixed ≡ false →
       max level.since (greatest_since before.all (head_of (scope_of base level) p).class) ≤ max level.since (head_of (scope_of base level) p).since
@@ -93,10 +93,10 @@ module _ (base : Base) (level : LevelScope) (same : level.version ≡ base.versi
 
   field_step : (fixed const : Bool) (low all own : ℕ) (rest : List ℕ) → fixed ≡ const → (fixed ≡ false → max level.since all ≤ max level.since own) → low ≡ max level.since all →
       ((next : ℕ) → next ≡ max level.since (if fixed then all else max all (max level.since own)) → NeverFall next rest) → NeverFall low (if const then rest else max level.since own ∷ rest)
-  field_step true true low all own rest same order is behind = behind low is
-  field_step true false low all own rest same order is behind = cc
-  field_step false true low all own rest same order is behind = cc
-  field_step false false low all own rest same order is behind = one_step low all own rest (order refl) is behind
+  field_step true true low all own rest same order is after = after low is
+  field_step true false low all own rest same order is after = cc
+  field_step false true low all own rest same order is after = cc
+  field_step false false low all own rest same order is after = one_step low all own rest (order refl) is after
 
   fields_order : (before : PartsBefore) (ps : List PartItem) → EachKept (scope_of base level) before ps → (low : ℕ) → low ≡ max level.since before.all.fields_since →
       NeverFall low (moving_sinces (list_fields (within_of base level) ps))

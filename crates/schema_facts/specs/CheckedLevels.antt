@@ -62,7 +62,7 @@ NeverFall least (n ∷ ns) = (least ≤ n) × NeverFall n ns
 
 -- The since is at least that of its level, and at most the schema's version.
 pub record IsSinceWithin (least version since : ℕ) : Type 0 where
-  pub behind : least ≤ since
+  pub after : least ≤ since
   pub known : since ≤ version
 
 -- The sinces of a level's fields, constants aside, never fall, nor do those of its groups or its data, and neither that

@@ -140,8 +140,8 @@ pub onward_more : (told : Option (List ℕ → Option (List ℕ))) (start now : 
     LoadsJoining told now name (Ok schema) → Onward told start (with_one now schema) (i + 1) also
 onward_more told start now i also name schema h front joins contents same r more =
     let next : suc (i + 1) ≡ suc (suc i) = omega arith in
-    let behind : JudgesMore contents (with_one now schema) (suc (suc i)) (drop (i + 1) also) r = subst (λ n. JudgesMore contents (with_one now schema) n (drop (i + 1) also) r) next more in
-    h contents same r (subst (λ names. JudgesMore contents now (suc i) names r) (sym front) (Ok schema, joins contents same, behind))
+    let after : JudgesMore contents (with_one now schema) (suc (suc i)) (drop (i + 1) also) r = subst (λ n. JudgesMore contents (with_one now schema) n (drop (i + 1) also) r) next more in
+    h contents same r (subst (λ names. JudgesMore contents now (suc i) names r) (sym front) (Ok schema, joins contents same, after))
 
 pub onward_ends : (told : Option (List ℕ → Option (List ℕ))) (start now : Schemas) (i : ℕ) (also : List (List ℕ)) → Onward told start now i also → drop i also ≡ [] → LoadsMore told start also (Ok now)
 onward_ends told start now i also h none contents same = h contents same (Ok now) (subst (λ names. JudgesMore contents now (suc i) names (Ok now)) (sym none) refl)

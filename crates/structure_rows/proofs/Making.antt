@@ -177,14 +177,14 @@ module _ (graph : List Node) where
 
         pub went : (now : List PlaceRow) → now ≡ made ++ with_row row [] → Makes graph all now ((below ++ rest ∷ []) ++ inner ∷ [])
         went now is_now =
-            let behind : List PlaceRow = rows_in graph rest ++ rows_left graph below in
+            let after : List PlaceRow = rows_in graph rest ++ rows_left graph below in
             record {
               rest =
                   ap (λ (rs : List PlaceRow). now ++ rs) left_then
-                  ∙ ap (λ (rs : List PlaceRow). rs ++ (rows_in graph inner ++ behind)) is_now
-                  ∙ append_assoc made (with_row row []) (rows_in graph inner ++ behind)
-                  ∙ ap (λ (rs : List PlaceRow). made ++ rs) (sym (append_assoc (with_row row []) (rows_in graph inner) behind))
-                  ∙ ap (λ (rs : List PlaceRow). made ++ (rs ++ behind)) (sym (o.rows ∙ first_row row (rows_in graph inner)))
+                  ∙ ap (λ (rs : List PlaceRow). rs ++ (rows_in graph inner ++ after)) is_now
+                  ∙ append_assoc made (with_row row []) (rows_in graph inner ++ after)
+                  ∙ ap (λ (rs : List PlaceRow). made ++ rs) (sym (append_assoc (with_row row []) (rows_in graph inner) after))
+                  ∙ ap (λ (rs : List PlaceRow). made ++ (rs ++ after)) (sym (o.rows ∙ first_row row (rows_in graph inner)))
                   ∙ sym next_split;
               short = g.short;
               ends = ends_pushed graph (below ++ rest ∷ []) inner

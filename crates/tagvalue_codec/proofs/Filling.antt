@@ -40,10 +40,10 @@ room_is table few = omega arith
 one_longer : (table : List FixField) (f : FixField) → length (table ++ (f ∷ [])) ≡ length table + 1
 one_longer table f = length-append table (f ∷ [])
 
-walk_step : (tags : List Pair) (room : ℕ) (owed : Owed) (at : ℕ) (b : List ℕ) (g : Field) (behind : List ℕ) → is_over owed b ≡ false → step tags owed b ≡ Ok (g, behind) →
-    walk tags (suc room) owed at b ≡ with_front g (walk tags room (owed_after tags owed g) (at + length (field_bytes g)) behind)
+walk_step : (tags : List Pair) (room : ℕ) (owed : Owed) (at : ℕ) (b : List ℕ) (g : Field) (beyond : List ℕ) → is_over owed b ≡ false → step tags owed b ≡ Ok (g, beyond) →
+    walk tags (suc room) owed at b ≡ with_front g (walk tags room (owed_after tags owed g) (at + length (field_bytes g)) beyond)
 unfolding walk
-walk_step tags room owed at b g behind over is = rw (over, is) refl
+walk_step tags room owed at b g beyond over is = rw (over, is) refl
 
 walk_stop : (tags : List Pair) (room : ℕ) (owed : Owed) (at : ℕ) (b : List ℕ) (c : TCode) → is_over owed b ≡ false → step tags owed b ≡ Err c → walk tags (suc room) owed at b ≡ Err (fault_at c at)
 unfolding walk

@@ -51,10 +51,10 @@ first_long text begin size number o = omega (arith, next_place (tagged_read 8) t
 body_place : (text : List ℕ) (begin size : FixField) (number : ℕ) (o : Opened text begin size number) → size.to + 1 ≡ body_at o.first.field o.second.field
 body_place text begin size number o = omega (arith, first_long text begin size number o, next_place size_read text (begin.to + 1) size o.second)
 
-pub wrong_length : (tags : List Pair) (text : List ℕ) (begin size : FixField) (number behind : ℕ) → Opened text begin size number → behind ≡ length text - (size.to + 1) → number + 7 ≢ behind →
-    text_read tags text ≡ Err (record { code = code.LengthWrong; offset = begin.to + 1; detail = behind - 7 })
-wrong_length tags text begin size number behind o long other =
-    let left : length (drop (size.to + 1) text) ≡ behind = length-drop (size.to + 1) text ∙ sym long in
+pub wrong_length : (tags : List Pair) (text : List ℕ) (begin size : FixField) (number after : ℕ) → Opened text begin size number → after ≡ length text - (size.to + 1) → number + 7 ≢ after →
+    text_read tags text ≡ Err (record { code = code.LengthWrong; offset = begin.to + 1; detail = after - 7 })
+wrong_length tags text begin size number after o long other =
+    let left : length (drop (size.to + 1) text) ≡ after = length-drop (size.to + 1) text ∙ sym long in
     let test : (digits_value 10 o.second.field.value + 7 == length (drop (size.to + 1) text)) ≡ false =
     ne_eqb (digits_value 10 o.second.field.value + 7) (length (drop (size.to + 1) text)) (λ e. other (ap (λ k. k + 7) o.number_is ∙ e ∙ left)) in
     begun tags text begin o.first ∙ ap (after_size tags o.first.field) o.second.found
@@ -79,13 +79,13 @@ spanned : (tags : List Pair) (text : List ℕ) (begin size : FixField) (stop : �
     text_read tags text ≡ after_kind tags s.opened.first.field s.opened.second.field (drop stop text) (tagged_read 35 (drop (size.to + 1) front))
 spanned tags text begin size stop front s =
     let o = s.opened in
-    let behind = drop (size.to + 1) text in
-    let left : length behind ≡ length text - (size.to + 1) = length-drop (size.to + 1) text in
-    let test : (digits_value 10 o.second.field.value + 7 == length behind) ≡ true = eq-eqb (digits_value 10 o.second.field.value + 7) (length behind) (ap (λ k. k + 7) (sym o.number_is) ∙ s.right ∙ sym left) in
-    let amount : size.to + 1 + (length behind - 7) ≡ stop = omega (arith, s.stop_is, s.within) in
-    let inside : take (length behind - 7) behind ≡ drop (size.to + 1) front =
-    sym (drop-take (size.to + 1) (length behind - 7) text) ∙ ap (λ k. drop (size.to + 1) (take k text)) amount ∙ ap (drop (size.to + 1)) (sym s.front_is) in
-    let last : drop (length behind - 7) behind ≡ drop stop text = drop-drop (length behind - 7) (size.to + 1) text ∙ ap (λ k. drop k text) amount in
+    let after = drop (size.to + 1) text in
+    let left : length after ≡ length text - (size.to + 1) = length-drop (size.to + 1) text in
+    let test : (digits_value 10 o.second.field.value + 7 == length after) ≡ true = eq-eqb (digits_value 10 o.second.field.value + 7) (length after) (ap (λ k. k + 7) (sym o.number_is) ∙ s.right ∙ sym left) in
+    let amount : size.to + 1 + (length after - 7) ≡ stop = omega (arith, s.stop_is, s.within) in
+    let inside : take (length after - 7) after ≡ drop (size.to + 1) front =
+    sym (drop-take (size.to + 1) (length after - 7) text) ∙ ap (λ k. drop (size.to + 1) (take k text)) amount ∙ ap (drop (size.to + 1)) (sym s.front_is) in
+    let last : drop (length after - 7) after ≡ drop stop text = drop-drop (length after - 7) (size.to + 1) text ∙ ap (λ k. drop k text) amount in
     begun tags text begin o.first ∙ ap (after_size tags o.first.field) o.second.found ∙ rw (test, inside, last) refl
 
 pub no_kind : (tags : List Pair) (text : List ℕ) (begin size : FixField) (stop : ℕ) (front : List ℕ) → Split text begin size stop front → tagged_read 35 (drop (size.to + 1) front) ≡ None →

@@ -53,7 +53,7 @@ data_complete tag many f rest is =
 
 -- where nothing is found, nothing stands
 pub lacking : (P : Field → Type 0) (b : List ℕ) (p : List ℕ → Option (Field × List ℕ)) → ((f : Field) (rest : List ℕ) → P f → p (field_bytes f ++ rest) ≡ Some (f, rest)) → p b ≡ None → Lacks P b
-lacking P b p complete none f behind is e = not_none (sym none ∙ ap p e ∙ complete f behind is)
+lacking P b p complete none f after is e = not_none (sym none ∙ ap p e ∙ complete f after is)
 
 -- and where nothing stands, nothing is found
 pub missing : (P : Field → Type 0) (b : List ℕ) (o : Option (Field × List ℕ)) → ((f : Field) (rest : List ℕ) → o ≡ Some (f, rest) → P f × (b ≡ field_bytes f ++ rest)) → Lacks P b → o ≡ None
@@ -80,17 +80,17 @@ count_is value h =
 is_counted : (value : List ℕ) → IsCount value → is_count value ≡ true
 is_counted value h = together (is_number value) (nat_lt 0 (digits_value 10 value)) h.digits (lt-ltb 0 (digits_value 10 value) h.above)
 
-fits : (role : Role) (f : Field) (behind : List ℕ) → fits_role role f behind ≡ true → FitsRole role f behind
-fits Plain f behind h = tt
-fits (Length tag) f behind h =
-    let parts = both (is_count f.value) (is_tag tag (tag_read behind)) h in
-    (count_is f.value parts.0, tag_is tag behind (tag_read behind) refl parts.1)
-fits Data f behind h = absurd (false≢true h)
+fits : (role : Role) (f : Field) (after : List ℕ) → fits_role role f after ≡ true → FitsRole role f after
+fits Plain f after h = tt
+fits (Length tag) f after h =
+    let parts = both (is_count f.value) (is_tag tag (tag_read after)) h in
+    (count_is f.value parts.0, tag_is tag after (tag_read after) refl parts.1)
+fits Data f after h = absurd (false≢true h)
 
-has_fit : (role : Role) (f : Field) (behind : List ℕ) → FitsRole role f behind → fits_role role f behind ≡ true
-has_fit Plain f behind h = refl
-has_fit (Length tag) f behind h = together (is_count f.value) (is_tag tag (tag_read behind)) (is_counted f.value h.0) (tag_begins tag behind h.1)
-has_fit Data f behind h = absurd h
+has_fit : (role : Role) (f : Field) (after : List ℕ) → FitsRole role f after → fits_role role f after ≡ true
+has_fit Plain f after h = refl
+has_fit (Length tag) f after h = together (is_count f.value) (is_tag tag (tag_read after)) (is_counted f.value h.0) (tag_begins tag after h.1)
+has_fit Data f after h = absurd h
 
 -- ---- the field that stands here
 
@@ -99,14 +99,14 @@ abbrev pub StepFault : List Pair → Owed → List ℕ → TCode → Type 0
 StepFault tags Free b c = ((c ≡ code.Field) × Lacks IsOrdinary b) ⊎ ((c ≡ code.DataLength) × Misplaced tags b)
 StepFault tags (Owes tag many) b c = (c ≡ code.DataLength) × Lacks (IsOwed tag many) b
 
-fitting_ok : (tags : List Pair) (o : Option (Field × List ℕ)) (f : Field) (behind : List ℕ) → fitting tags o ≡ Ok (f, behind) → (o ≡ Some (f, behind)) × FitsRole (role_of tags f.tag) f behind
-fitting_ok tags None f behind h = absurd (ok_not_err (sym h))
-fitting_ok tags (Some r) f behind h = by_fit (fits_role (role_of tags r.0.tag) r.0 r.1) refl h where
-  by_fit : (is : Bool) → fits_role (role_of tags r.0.tag) r.0 r.1 ≡ is → ◌≡◌ {A = Result (Field × List ℕ) TCode} (cond {A = Result (Field × List ℕ) TCode} is (Ok r) (Err code.DataLength)) (Ok (f, behind)) →
-      ◌≡◌ {A = Option (Field × List ℕ)} (Some r) (Some (f, behind)) × FitsRole (role_of tags f.tag) f behind
+fitting_ok : (tags : List Pair) (o : Option (Field × List ℕ)) (f : Field) (after : List ℕ) → fitting tags o ≡ Ok (f, after) → (o ≡ Some (f, after)) × FitsRole (role_of tags f.tag) f after
+fitting_ok tags None f after h = absurd (ok_not_err (sym h))
+fitting_ok tags (Some r) f after h = by_fit (fits_role (role_of tags r.0.tag) r.0 r.1) refl h where
+  by_fit : (is : Bool) → fits_role (role_of tags r.0.tag) r.0 r.1 ≡ is → ◌≡◌ {A = Result (Field × List ℕ) TCode} (cond {A = Result (Field × List ℕ) TCode} is (Ok r) (Err code.DataLength)) (Ok (f, after)) →
+      ◌≡◌ {A = Option (Field × List ℕ)} (Some r) (Some (f, after)) × FitsRole (role_of tags f.tag) f after
   by_fit false is k = absurd (ok_not_err (sym k))
   by_fit true is k =
-      let same : ◌≡◌ {A = Field × List ℕ} r (f, behind) = ok_is k in
+      let same : ◌≡◌ {A = Field × List ℕ} r (f, after) = ok_is k in
       (ap Some same, subst (λ (x : Field × List ℕ). FitsRole (role_of tags x.0.tag) x.0 x.1) same (fits (role_of tags r.0.tag) r.0 r.1 is))
 
 fitting_err : (tags : List Pair) (o : Option (Field × List ℕ)) (c : TCode) → fitting tags o ≡ Err c →
@@ -118,19 +118,19 @@ fitting_err tags (Some r) c h = by_fit (fits_role (role_of tags r.0.tag) r.0 r.1
   by_fit true is k = absurd (ok_not_err k)
   by_fit false is k = inr (sym (err_is k), (r, refl, is))
 
-pub step_sound : (tags : List Pair) (owed : Owed) (b : List ℕ) (f : Field) (behind : List ℕ) → step tags owed b ≡ Ok (f, behind) → (b ≡ field_bytes f ++ behind) × MayStand tags owed f behind
-step_sound tags Free b f behind h =
-    let r = fitting_ok tags (ordinary_read b) f behind h in
-    let s = ordinary_sound b f behind r.0 in
+pub step_sound : (tags : List Pair) (owed : Owed) (b : List ℕ) (f : Field) (after : List ℕ) → step tags owed b ≡ Ok (f, after) → (b ≡ field_bytes f ++ after) × MayStand tags owed f after
+step_sound tags Free b f after h =
+    let r = fitting_ok tags (ordinary_read b) f after h in
+    let s = ordinary_sound b f after r.0 in
     (s.1, (s.0, r.1))
-step_sound tags (Owes tag many) b f behind h = by_data (data_read tag many b) refl h where
-  by_data : (o : Option (Field × List ℕ)) → data_read tag many b ≡ o → ok_or o code.DataLength ≡ Ok (f, behind) → (b ≡ field_bytes f ++ behind) × IsOwed tag many f
+step_sound tags (Owes tag many) b f after h = by_data (data_read tag many b) refl h where
+  by_data : (o : Option (Field × List ℕ)) → data_read tag many b ≡ o → ok_or o code.DataLength ≡ Ok (f, after) → (b ≡ field_bytes f ++ after) × IsOwed tag many f
   by_data None is k = absurd (ok_not_err (sym k))
-  by_data (Some r) is k = let s = data_sound tag many b f behind (is ∙ ap Some (ok_is k)) in (s.1, s.0)
+  by_data (Some r) is k = let s = data_sound tag many b f after (is ∙ ap Some (ok_is k)) in (s.1, s.0)
 
-pub step_complete : (tags : List Pair) (owed : Owed) (f : Field) (behind : List ℕ) → MayStand tags owed f behind → step tags owed (field_bytes f ++ behind) ≡ Ok (f, behind)
-step_complete tags Free f behind h = rw (ordinary_complete f behind h.0, has_fit (role_of tags f.tag) f behind h.1) refl
-step_complete tags (Owes tag many) f behind h = rw (data_complete tag many f behind h) refl
+pub step_complete : (tags : List Pair) (owed : Owed) (f : Field) (after : List ℕ) → MayStand tags owed f after → step tags owed (field_bytes f ++ after) ≡ Ok (f, after)
+step_complete tags Free f after h = rw (ordinary_complete f after h.0, has_fit (role_of tags f.tag) f after h.1) refl
+step_complete tags (Owes tag many) f after h = rw (data_complete tag many f after h) refl
 
 pub step_told : (tags : List Pair) (owed : Owed) (b : List ℕ) (c : TCode) → step tags owed b ≡ Err c → StepFault tags owed b c
 step_told tags Free b c h = elim (fitting_err tags (ordinary_read b) c h) [
@@ -144,10 +144,10 @@ step_told tags (Owes tag many) b c h = by_data (data_read tag many b) refl h whe
   by_data None is k = (sym (err_is k), lacking (IsOwed tag many) b (data_read tag many) (data_complete tag many) is)
   by_data (Some r) is k = absurd (ok_not_err k)
 
-unfit : (role : Role) (f : Field) (behind : List ℕ) → ¬ (FitsRole role f behind) → fits_role role f behind ≡ false
-unfit role f behind bad = by_fit (fits_role role f behind) refl where
-  by_fit : (is : Bool) → fits_role role f behind ≡ is → is ≡ false
-  by_fit true is = absurd (bad (fits role f behind is))
+unfit : (role : Role) (f : Field) (after : List ℕ) → ¬ (FitsRole role f after) → fits_role role f after ≡ false
+unfit role f after bad = by_fit (fits_role role f after) refl where
+  by_fit : (is : Bool) → fits_role role f after ≡ is → is ≡ false
+  by_fit true is = absurd (bad (fits role f after is))
   by_fit false is = refl
 
 pub step_only : (tags : List Pair) (owed : Owed) (b : List ℕ) (c : TCode) → StepFault tags owed b c → step tags owed b ≡ Err c
@@ -160,8 +160,8 @@ step_only tags (Owes tag many) b c h = rw (missing (IsOwed tag many) b (data_rea
 -- ---- the fields of a body
 
 -- a field has bytes
-some_bytes : (f : Field) (behind : List ℕ) → 0 < length (field_bytes f ++ behind)
-some_bytes f behind = omega (arith, length-append (field_bytes f) behind, length-append (tag_bytes f.tag) (f.value ++ (soh ∷ [])), length-append f.value (soh ∷ []))
+some_bytes : (f : Field) (after : List ℕ) → 0 < length (field_bytes f ++ after)
+some_bytes f after = omega (arith, length-append (field_bytes f) after, length-append (tag_bytes f.tag) (f.value ++ (soh ∷ [])), length-append f.value (soh ∷ []))
 
 -- bytes that are there aren't over
 goes_on : (owed : Owed) (b : List ℕ) → 0 < length b → is_over owed b ≡ false
@@ -201,7 +201,7 @@ abbrev pub Walked : List Pair → ℕ → Owed → List Field → List ℕ → T
 Walked tags room owed fs b = Body tags owed fs b × (length fs < room)
 
 sound_on : (tags : List Pair) (room : ℕ) (owed : Owed) (at : ℕ) (b : List ℕ) (fs : List Field) (next : Next) →
-    ((f : Field) (behind : List ℕ) (gs : List Field) → next f behind ≡ Ok gs → Walked tags room (owed_after tags owed f) gs behind) →
+    ((f : Field) (after : List ℕ) (gs : List Field) → next f after ≡ Ok gs → Walked tags room (owed_after tags owed f) gs after) →
     walk_on at (step tags owed b) next ≡ Ok fs → Walked tags (suc room) owed fs b
 sound_on tags room owed at b fs next later h =
     let r = walk_on_ok at (step tags owed b) next fs h in
@@ -210,7 +210,7 @@ sound_on tags room owed at b fs next later h =
     subst (λ (l : List Field). Walked tags (suc room) owed l b) (sym r.2.2) ((r.0.1, s.0, s.1, w.0), omega (arith, w.1))
 
 sound_by : (tags : List Pair) (room : ℕ) (owed : Owed) (at : ℕ) (b : List ℕ) (fs : List Field) (next : Next) (over : Bool) → is_over owed b ≡ over →
-    ((f : Field) (behind : List ℕ) (gs : List Field) → next f behind ≡ Ok gs → Walked tags room (owed_after tags owed f) gs behind) →
+    ((f : Field) (after : List ℕ) (gs : List Field) → next f after ≡ Ok gs → Walked tags room (owed_after tags owed f) gs after) →
     cond {A = Result (List Field) FixFault} over (Ok []) (walk_on at (step tags owed b) next) ≡ Ok fs → Walked tags (suc room) owed fs b
 sound_by tags room owed at b fs next true is later h = subst (λ (l : List Field). Walked tags (suc room) owed l b) (ok_is h) (over_is owed b is, omega arith)
 sound_by tags room owed at b fs next false is later h = sound_on tags room owed at b fs next later h
@@ -219,8 +219,8 @@ pub walk_sound : (tags : List Pair) (room : ℕ) (owed : Owed) (at : ℕ) (b : L
 unfolding walk
 walk_sound tags zero owed at b fs h = absurd (ok_not_err (sym h))
 walk_sound tags (suc room) owed at b fs h =
-    sound_by tags room owed at b fs (λ f behind. walk tags room (owed_after tags owed f) (at + length (field_bytes f)) behind) (is_over owed b) refl
-    (λ f behind gs k. walk_sound tags room (owed_after tags owed f) (at + length (field_bytes f)) behind gs k) h
+    sound_by tags room owed at b fs (λ f after. walk tags room (owed_after tags owed f) (at + length (field_bytes f)) after) (is_over owed b) refl
+    (λ f after gs k. walk_sound tags room (owed_after tags owed f) (at + length (field_bytes f)) after gs k) h
 
 pub walk_complete : (tags : List Pair) (room : ℕ) (owed : Owed) (at : ℕ) (b : List ℕ) (fs : List Field) → Body tags owed fs b → length fs < room → walk tags room owed at b ≡ Ok fs
 unfolding walk
@@ -254,10 +254,10 @@ there tags room Free (x ∷ b) c h = (refl, h.1)
 there tags room (Owes tag many) b c h = (refl, h)
 
 told_by : (tags : List Pair) (room : ℕ) (owed : Owed) (at : ℕ) (b : List ℕ) (fault : FixFault) (over : Bool) → is_over owed b ≡ over →
-    ((f : Field) (behind : List ℕ) → walk tags room (owed_after tags owed f) (at + length (field_bytes f)) behind ≡ Err fault → Told tags (place room (owed_after tags owed f) (at + length (field_bytes f))) behind fault) →
-    cond {A = Result (List Field) FixFault} over (Ok []) (walk_on at (step tags owed b) (λ f behind. walk tags room (owed_after tags owed f) (at + length (field_bytes f)) behind)) ≡ Err fault → Told tags (place (suc room) owed at) b fault
+    ((f : Field) (after : List ℕ) → walk tags room (owed_after tags owed f) (at + length (field_bytes f)) after ≡ Err fault → Told tags (place room (owed_after tags owed f) (at + length (field_bytes f))) after fault) →
+    cond {A = Result (List Field) FixFault} over (Ok []) (walk_on at (step tags owed b) (λ f after. walk tags room (owed_after tags owed f) (at + length (field_bytes f)) after)) ≡ Err fault → Told tags (place (suc room) owed at) b fault
 told_by tags room owed at b fault true is later h = absurd (ok_not_err h)
-told_by tags room owed at b fault false is later h = elim (walk_on_err at (step tags owed b) (λ f behind. walk tags room (owed_after tags owed f) (at + length (field_bytes f)) behind) fault h) [
+told_by tags room owed at b fault false is later h = elim (walk_on_err at (step tags owed b) (λ f after. walk tags room (owed_after tags owed f) (at + length (field_bytes f)) after) fault h) [
   | inl e ↦ subst (Told tags (place (suc room) owed at) b) (sym e.2) (record { good = []; is = (here tags room owed b e.0 is (step_told tags owed b e.0 e.1), refl, refl) })
   | inr e ↦
       let s = step_sound tags owed b e.0.0 e.0.1 e.1 in
@@ -269,7 +269,7 @@ pub walk_told : (tags : List Pair) (room : ℕ) (owed : Owed) (at : ℕ) (b : Li
 unfolding walk
 walk_told tags zero owed at b fault h = subst (Told tags (place zero owed at) b) (err_is h) (record { good = []; is = (refl, refl, refl) })
 walk_told tags (suc room) owed at b fault h =
-    told_by tags room owed at b fault (is_over owed b) refl (λ f behind k. walk_told tags room (owed_after tags owed f) (at + length (field_bytes f)) behind fault k) h
+    told_by tags room owed at b fault (is_over owed b) refl (λ f after k. walk_told tags room (owed_after tags owed f) (at + length (field_bytes f)) after fault k) h
 
 -- a fault without a detail, by its parts
 by_parts : (fault : FixFault) (c : TCode) (at : ℕ) → fault.code ≡ c → fault.offset ≡ at → fault.detail ≡ 0 → fault_at c at ≡ fault

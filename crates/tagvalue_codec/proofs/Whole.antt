@@ -51,11 +51,11 @@ abbrev pub Answer : Type 0
 Answer = Option (Field × List ℕ)
 
 -- the body and the last seven bytes
-split_last : (n : ℕ) (behind : List ℕ) → n + 7 ≡ length behind →
-    (behind ≡ take (length behind - 7) behind ++ drop (length behind - 7) behind) × ((length (drop (length behind - 7) behind) ≡ 7) × (n ≡ length (take (length behind - 7) behind)))
-split_last n behind right = (
-  sym (take-append-drop (length behind - 7) behind),
-  (omega (arith, length-drop (length behind - 7) behind), omega (arith, length-take-le (length behind - 7) behind (omega arith))),
+split_last : (n : ℕ) (after : List ℕ) → n + 7 ≡ length after →
+    (after ≡ take (length after - 7) after ++ drop (length after - 7) after) × ((length (drop (length after - 7) after) ≡ 7) × (n ≡ length (take (length after - 7) after)))
+split_last n after right = (
+  sym (take-append-drop (length after - 7) after),
+  (omega (arith, length-drop (length after - 7) after), omega (arith, length-take-le (length after - 7) after (omega arith))),
 )
 
 -- and back
@@ -91,28 +91,28 @@ kind_sound tags text begin size body last fields (Some r) is spans h =
     let at = body_at begin size + length (field_bytes r.0) in
     body_sound tags text begin size r.0 r.1 last fields (walk tags (suc most_between) Free at r.1) at refl (typed_of text begin size body last r.0 r.1 spans (at_sound 35 body r.0 r.1 is)) h
 
-spans_of : (text : List ℕ) (begin size : Field) (behind : List ℕ) → Opens text begin size behind → digits_value 10 size.value + 7 ≡ length behind →
-    Spans text begin size (take (length behind - 7) behind) (drop (length behind - 7) behind)
-spans_of text begin size behind opens right =
-    let s = split_last (digits_value 10 size.value) behind right in
+spans_of : (text : List ℕ) (begin size : Field) (after : List ℕ) → Opens text begin size after → digits_value 10 size.value + 7 ≡ length after →
+    Spans text begin size (take (length after - 7) after) (drop (length after - 7) after)
+spans_of text begin size after opens right =
+    let s = split_last (digits_value 10 size.value) after right in
     record { opens = subst (Opens text begin size) s.0 opens; seven = s.1.0; right = s.1.1 }
 
-length_sound : (tags : List Pair) (text : List ℕ) (begin size : Field) (behind : List ℕ) (fields : List Field) (same : Bool) → (digits_value 10 size.value + 7 == length behind) ≡ same → Opens text begin size behind →
-    cond {A = Result (List Field) FixFault} same (after_kind tags begin size (drop (length behind - 7) behind) (tagged_read 35 (take (length behind - 7) behind)))
-    (Err (record { code = code.LengthWrong; offset = length (field_bytes begin); detail = length behind - 7 })) ≡ Ok fields → FixText tags fields text
-length_sound tags text begin size behind fields false is opens h = absurd (ok_not_err (sym h))
-length_sound tags text begin size behind fields true is opens h =
-    kind_sound tags text begin size (take (length behind - 7) behind) (drop (length behind - 7) behind) fields (tagged_read 35 (take (length behind - 7) behind)) refl
-    (spans_of text begin size behind opens (eqb-true (digits_value 10 size.value + 7) (length behind) is)) h
+length_sound : (tags : List Pair) (text : List ℕ) (begin size : Field) (after : List ℕ) (fields : List Field) (same : Bool) → (digits_value 10 size.value + 7 == length after) ≡ same → Opens text begin size after →
+    cond {A = Result (List Field) FixFault} same (after_kind tags begin size (drop (length after - 7) after) (tagged_read 35 (take (length after - 7) after)))
+    (Err (record { code = code.LengthWrong; offset = length (field_bytes begin); detail = length after - 7 })) ≡ Ok fields → FixText tags fields text
+length_sound tags text begin size after fields false is opens h = absurd (ok_not_err (sym h))
+length_sound tags text begin size after fields true is opens h =
+    kind_sound tags text begin size (take (length after - 7) after) (drop (length after - 7) after) fields (tagged_read 35 (take (length after - 7) after)) refl
+    (spans_of text begin size after opens (eqb-true (digits_value 10 size.value + 7) (length after) is)) h
 
-opens_of : (text : List ℕ) (begin : Field) (behind : List ℕ) (size : Field) (rest : List ℕ) → IsAt 8 begin × (text ≡ field_bytes begin ++ behind) → IsSize size × (behind ≡ field_bytes size ++ rest) → Opens text begin size rest
-opens_of text begin behind size rest first second = record { text_is = first.1 ∙ ap (λ x. field_bytes begin ++ x) second.1; first = first.0; second = second.0 }
+opens_of : (text : List ℕ) (begin : Field) (after : List ℕ) (size : Field) (rest : List ℕ) → IsAt 8 begin × (text ≡ field_bytes begin ++ after) → IsSize size × (after ≡ field_bytes size ++ rest) → Opens text begin size rest
+opens_of text begin after size rest first second = record { text_is = first.1 ∙ ap (λ x. field_bytes begin ++ x) second.1; first = first.0; second = second.0 }
 
-size_found : (tags : List Pair) (text : List ℕ) (begin : Field) (behind : List ℕ) (fields : List Field) (o : Answer) → size_read behind ≡ o → IsAt 8 begin × (text ≡ field_bytes begin ++ behind) →
+size_found : (tags : List Pair) (text : List ℕ) (begin : Field) (after : List ℕ) (fields : List Field) (o : Answer) → size_read after ≡ o → IsAt 8 begin × (text ≡ field_bytes begin ++ after) →
     after_size tags begin o ≡ Ok fields → FixText tags fields text
-size_found tags text begin behind fields None is first h = absurd (ok_not_err (sym h))
-size_found tags text begin behind fields (Some r) is first h =
-    length_sound tags text begin r.0 r.1 fields (digits_value 10 r.0.value + 7 == length r.1) refl (opens_of text begin behind r.0 r.1 first (size_sound behind r.0 r.1 is)) h
+size_found tags text begin after fields None is first h = absurd (ok_not_err (sym h))
+size_found tags text begin after fields (Some r) is first h =
+    length_sound tags text begin r.0 r.1 fields (digits_value 10 r.0.value + 7 == length r.1) refl (opens_of text begin after r.0 r.1 first (size_sound after r.0 r.1 is)) h
 
 begin_found : (tags : List Pair) (text : List ℕ) (fields : List Field) (o : Answer) → tagged_read 8 text ≡ o → after_begin tags o ≡ Ok fields → FixText tags fields text
 begin_found tags text fields None is h = absurd (ok_not_err (sym h))
@@ -125,11 +125,11 @@ text_sound tags text fields h = begin_found tags text fields (tagged_read 8 text
 -- ---- what is a text is read
 
 -- as far as the fields 8 and 9
-pub opens_read : (tags : List Pair) (text : List ℕ) (begin size : Field) (behind : List ℕ) → Opens text begin size behind → text_read tags text ≡ after_size tags begin (Some (size, behind))
+pub opens_read : (tags : List Pair) (text : List ℕ) (begin size : Field) (after : List ℕ) → Opens text begin size after → text_read tags text ≡ after_size tags begin (Some (size, after))
 unfolding text_read
-opens_read tags text begin size behind opens =
+opens_read tags text begin size after opens =
     ap (λ t. after_begin tags (tagged_read 8 t)) opens.text_is
-    ∙ rw (at_complete 8 begin (field_bytes size ++ behind) opens.first, size_complete size behind opens.second) refl
+    ∙ rw (at_complete 8 begin (field_bytes size ++ after) opens.first, size_complete size after opens.second) refl
 
 -- as far as the body
 pub spans_read : (tags : List Pair) (text : List ℕ) (begin size : Field) (body last : List ℕ) → Spans text begin size body last → text_read tags text ≡ after_kind tags begin size last (tagged_read 35 body)
@@ -201,21 +201,21 @@ kind_told tags text begin size body last fault (Some r) is spans h =
     body_told tags text begin size r.0 r.1 last fault (walk tags (suc most_between) Free (body_at begin size + length (field_bytes r.0)) r.1) refl
     (typed_of text begin size body last r.0 r.1 spans (at_sound 35 body r.0 r.1 is)) h
 
-length_told : (tags : List Pair) (text : List ℕ) (begin size : Field) (behind : List ℕ) (fault : FixFault) (same : Bool) → (digits_value 10 size.value + 7 == length behind) ≡ same → Opens text begin size behind →
-    cond {A = Result (List Field) FixFault} same (after_kind tags begin size (drop (length behind - 7) behind) (tagged_read 35 (take (length behind - 7) behind)))
-    (Err (record { code = code.LengthWrong; offset = length (field_bytes begin); detail = length behind - 7 })) ≡ Err fault → IsFirstFault tags text fault
-length_told tags text begin size behind fault false is opens h =
-    subst (IsFirstFault tags text) (err_is h) (begin, size, behind, opens, (λ e. false≢true (sym is ∙ eq-eqb _ _ e)), refl, refl)
-length_told tags text begin size behind fault true is opens h =
-    kind_told tags text begin size (take (length behind - 7) behind) (drop (length behind - 7) behind) fault (tagged_read 35 (take (length behind - 7) behind)) refl
-    (spans_of text begin size behind opens (eqb-true (digits_value 10 size.value + 7) (length behind) is)) h
+length_told : (tags : List Pair) (text : List ℕ) (begin size : Field) (after : List ℕ) (fault : FixFault) (same : Bool) → (digits_value 10 size.value + 7 == length after) ≡ same → Opens text begin size after →
+    cond {A = Result (List Field) FixFault} same (after_kind tags begin size (drop (length after - 7) after) (tagged_read 35 (take (length after - 7) after)))
+    (Err (record { code = code.LengthWrong; offset = length (field_bytes begin); detail = length after - 7 })) ≡ Err fault → IsFirstFault tags text fault
+length_told tags text begin size after fault false is opens h =
+    subst (IsFirstFault tags text) (err_is h) (begin, size, after, opens, (λ e. false≢true (sym is ∙ eq-eqb _ _ e)), refl, refl)
+length_told tags text begin size after fault true is opens h =
+    kind_told tags text begin size (take (length after - 7) after) (drop (length after - 7) after) fault (tagged_read 35 (take (length after - 7) after)) refl
+    (spans_of text begin size after opens (eqb-true (digits_value 10 size.value + 7) (length after) is)) h
 
-size_told : (tags : List Pair) (text : List ℕ) (begin : Field) (behind : List ℕ) (fault : FixFault) (o : Answer) → size_read behind ≡ o → IsAt 8 begin × (text ≡ field_bytes begin ++ behind) →
+size_told : (tags : List Pair) (text : List ℕ) (begin : Field) (after : List ℕ) (fault : FixFault) (o : Answer) → size_read after ≡ o → IsAt 8 begin × (text ≡ field_bytes begin ++ after) →
     after_size tags begin o ≡ Err fault → IsFirstFault tags text fault
-size_told tags text begin behind fault None is first h =
-    subst (IsFirstFault tags text) (err_is h) (begin, behind, first.1, first.0, lacking IsSize behind size_read size_complete is, refl, refl)
-size_told tags text begin behind fault (Some r) is first h =
-    length_told tags text begin r.0 r.1 fault (digits_value 10 r.0.value + 7 == length r.1) refl (opens_of text begin behind r.0 r.1 first (size_sound behind r.0 r.1 is)) h
+size_told tags text begin after fault None is first h =
+    subst (IsFirstFault tags text) (err_is h) (begin, after, first.1, first.0, lacking IsSize after size_read size_complete is, refl, refl)
+size_told tags text begin after fault (Some r) is first h =
+    length_told tags text begin r.0 r.1 fault (digits_value 10 r.0.value + 7 == length r.1) refl (opens_of text begin after r.0 r.1 first (size_sound after r.0 r.1 is)) h
 
 begin_told : (tags : List Pair) (text : List ℕ) (fault : FixFault) (o : Answer) → tagged_read 8 text ≡ o → after_begin tags o ≡ Err fault → IsFirstFault tags text fault
 begin_told tags text fault None is h = subst (IsFirstFault tags text) (err_is h) (lacking (IsAt 8) text (tagged_read 8) (at_complete 8) is, refl, refl)

@@ -103,7 +103,8 @@ fn shape_parts(level: &Level, block: &Block, out: &mut FirstMisfit) -> bool
     requires few { HasFewParts level.now }
     requires groups { length (out-Level level.now).groups ≡ length (out-Block block.now).groups }
     requires parts { length (out-Level level.now).parts ≡ length (out-Block block.now).parts }
-    ensures told { misfit_unless result out.new ≡ parts_shape (length (out-Level level.now).fields + length (out-Block block.now).groups) (out-Block block.now).parts }
+    ensures told { misfit_unless result out.new
+        ≡ parts_shape (length (out-Level level.now).fields + length (out-Block block.now).groups) (out-Block block.now).parts }
     ensures low { result ≡ false → length out.new.path ≤ 1 }
 {
     let first = level.fields.len() + level.groups.len();

@@ -62,18 +62,18 @@ mutual
       let field_names = map (λ (f : Field). f.name) fields in
       let group_names = map group_name (out-Level level).groups in
       let data_names = map (λ (d : DataField). d.name) parts in
-      let behind = all_back IsName field_names (group_names ++ data_names) named.0.parts in (
+      let after = all_back IsName field_names (group_names ++ data_names) named.0.parts in (
         fields_plain fields (all_front IsName field_names (group_names ++ data_names) named.0.parts) kinds.0.fields,
-        groups_plain t groups (subst (λ gs. AllByRecursion IsName (map group_name gs)) (items_shown-the_row-Group-0 n groups) (all_front IsName group_names data_names behind)) named.1 kinds.1,
-        parts_plain parts (all_back IsName group_names data_names behind),
+        groups_plain t groups (subst (λ gs. AllByRecursion IsName (map group_name gs)) (items_shown-the_row-Group-0 n groups) (all_front IsName group_names data_names after)) named.1 kinds.1,
+        parts_plain parts (all_back IsName group_names data_names after),
       )
 
   groups_plain : (t : ℕ) {n : _} (gs : Row_of-Group n) → AllByRecursion IsName (map group_name (items-the_row-Group _ gs)) → AllByRecursion Named (nodes_below t gs) → AllByRecursion HasKinds (nodes_below t gs) → ArePlainGroups gs
   groups_plain t end_of-Group own named kinds = tt
   groups_plain t (more_of-Group g rest) own named kinds =
       let here = nodes_of t g in
-      let behind = nodes_below t rest in
-      (group_plain t g own.0 (all_front Named here behind named) (all_front HasKinds here behind kinds), groups_plain t rest own.1 (all_back Named here behind named) (all_back HasKinds here behind kinds))
+      let after = nodes_below t rest in
+      (group_plain t g own.0 (all_front Named here after named) (all_front HasKinds here after kinds), groups_plain t rest own.1 (all_back Named here after named) (all_back HasKinds here after kinds))
 
   group_plain : (t : ℕ) (g : Group) → IsName (group_name g) → AllByRecursion Named (nodes_of t g) → AllByRecursion HasKinds (nodes_of t g) → IsPlainGroup g
   group_plain t (Group' dim level) own named kinds = (names_stand (out-Level level).name own, level_plain t (Some dim) level named kinds)
@@ -82,8 +82,8 @@ messages_plain : (t : ℕ) (messages : List Level) → AllByRecursion Named (nod
 messages_plain t [] named kinds = tt
 messages_plain t (level ∷ rest) named kinds =
     let here = nodes t None level in
-    let behind = nodes_from (suc t) rest in
-    (level_plain t None level (all_front Named here behind named) (all_front HasKinds here behind kinds), messages_plain (suc t) rest (all_back Named here behind named) (all_back HasKinds here behind kinds))
+    let after = nodes_from (suc t) rest in
+    (level_plain t None level (all_front Named here after named) (all_front HasKinds here after kinds), messages_plain (suc t) rest (all_back Named here after named) (all_back HasKinds here after kinds))
 
 pub checked_is_plain : CheckedIsPlain
 checked_is_plain schema h = messages_plain 0 schema.messages h.names h.kinds.levels

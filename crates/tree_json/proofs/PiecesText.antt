@@ -107,8 +107,8 @@ module _ (order : Order) (known : Bool) (b : List ℕ) where
         ∙ ap (λ t. t ++ rest) (member_text later name kind v (row_entries more vs) there.0 there.1)
         ∙ append_assoc (key_of later name) (shown_text (value_data kind v) ++ inner) rest
         ∙ ap (λ t. key_of later name ++ t) (append_assoc (shown_text (value_data kind v)) inner rest) in
-        let behind = members_text more true at next w vs ps rest placed.2 ends h.1 k in
-        let value = kind_text kind (at + p) v (others ++ ps) (inner ++ rest) placed.1 here behind in (
+        let after = members_text more true at next w vs ps rest placed.2 ends h.1 k in
+        let value = kind_text kind (at + p) v (others ++ ps) (inner ++ rest) placed.1 here after in (
           shown_text (value_data kind v) ++ (inner ++ rest),
           text,
           subst (λ l. PiecesText order known l b (shown_text (value_data kind v) ++ (inner ++ rest))) (sym (append_assoc (kind_pieces kind (at + p)) others ps)) value,
@@ -126,10 +126,10 @@ module _ (order : Order) (known : Bool) (b : List ℕ) where
       let here : Shows order known f.kind v (bytes_there f.kind p b) =
       subst (λ t. MatchBool t (Shows order known f.kind v (take (width f.kind) (drop p b))) (v ≡ value.Absent)) alive.0 h.0 in
       let there = is_shown order known f.kind v _ here in
-      let behind = fields_text version next fs vs true placed.2 alive.1 h.1 in (
+      let after = fields_text version next fs vs true placed.2 alive.1 h.1 in (
         shown_text (value_data f.kind v) ++ inner,
         member_text later f.name f.kind v (zipped field_entry fs vs) there.0 there.1,
-        kind_text f.kind p v (field_pieces true next fs) inner placed.1 here behind,
+        kind_text f.kind p v (field_pieces true next fs) inner placed.1 here after,
       )
 
   -- ---- with one literal before each value
@@ -168,15 +168,15 @@ module _ (order : Order) (known : Bool) (b : List ℕ) where
       subst (MergedText order known (with_pieces (with_piece j (shown kind place)) ps) b) same rest
 
   -- pieces, and a text after them
-  ends_so : (ps : List Piece) (behind text : List ℕ) → PiecesText order known ps b text → PiecesText order known (ps ++ literal behind ∷ []) b (text ++ behind)
-  ends_so [] behind text h = ([], ap (λ l. l ++ behind) h ∙ sym (append-nil behind), refl)
-  ends_so (literal bytes ∷ ps) behind text h = (h.0 ++ behind, ap (λ l. l ++ behind) h.1 ∙ append_assoc bytes h.0 behind, ends_so ps behind h.0 h.2)
-  ends_so (shown kind place ∷ ps) behind text h =
+  ends_so : (ps : List Piece) (after text : List ℕ) → PiecesText order known ps b text → PiecesText order known (ps ++ literal after ∷ []) b (text ++ after)
+  ends_so [] after text h = ([], ap (λ l. l ++ after) h ∙ sym (append-nil after), refl)
+  ends_so (literal bytes ∷ ps) after text h = (h.0 ++ after, ap (λ l. l ++ after) h.1 ∙ append_assoc bytes h.0 after, ends_so ps after h.0 h.2)
+  ends_so (shown kind place ∷ ps) after text h =
       let value = shown_text (value_data kind h.0) in
-      (h.0, h.1 ++ behind, h.2, ap (λ l. l ++ behind) h.3 ∙ append_assoc value h.1 behind, ends_so ps behind h.1 h.4)
+      (h.0, h.1 ++ after, h.2, ap (λ l. l ++ after) h.3 ∙ append_assoc value h.1 after, ends_so ps after h.1 h.4)
 
-  pub between_text : (before behind : List ℕ) (fs : List Field) (text : List ℕ) → PiecesText order known (pieces_of fs) b text →
-      MergedText order known (merged_pieces (pieces_between before behind fs)) b (before ++ (text ++ behind))
-  between_text before behind fs text h =
-      let whole : PiecesText order known (pieces_between before behind fs) b (before ++ (text ++ behind)) = (text ++ behind, refl, ends_so (pieces_of fs) behind text h) in
-      slots_text (pieces_between before behind fs) no_slots [] (before ++ (text ++ behind)) refl whole
+  pub between_text : (before after : List ℕ) (fs : List Field) (text : List ℕ) → PiecesText order known (pieces_of fs) b text →
+      MergedText order known (merged_pieces (pieces_between before after fs)) b (before ++ (text ++ after))
+  between_text before after fs text h =
+      let whole : PiecesText order known (pieces_between before after fs) b (before ++ (text ++ after)) = (text ++ after, refl, ends_so (pieces_of fs) after text h) in
+      slots_text (pieces_between before after fs) no_slots [] (before ++ (text ++ after)) refl whole

@@ -7,7 +7,7 @@ ghost use Rattle.schema_rules.specs.CompositeRules.{no_member, member_since, beg
 ghost use Rattle.type_check.specs.Seen.{made_of, inner_check};
 
 use crate::name_table::NameTable;
-use crate::refusals::{behind, refuse};
+use crate::refusals::{at_element, refuse};
 use crate::type_rules::{judge_type, judge_type_constant};
 use crate::value_rules::{judge_enum, judge_set, names_fraction};
 use sbe_types::{CompositeEl, MemberItem, RefEl, TypesItem};
@@ -66,7 +66,7 @@ fn judge_named(
 {
     match judge_member(alloc, known, around, names, all, member) {
         Ok(()) => Ok(()),
-        Err(e) => Err(behind(alloc, ".", member_name(member), e)),
+        Err(e) => Err(at_element(alloc, ".", member_name(member), e)),
     }
 }
 

@@ -6,7 +6,7 @@ ghost use Rattle.schema_rules.specs.CompositeRules.{item_check, declared_check, 
 
 use crate::composites::judge_composite;
 use crate::name_table::NameTable;
-use crate::refusals::{behind, refuse};
+use crate::refusals::{at_element, refuse};
 use crate::type_rules::{judge_type, judge_type_constant};
 use crate::value_rules::{judge_enum, judge_set};
 use sbe_types::{TypeEl, TypesItem};
@@ -37,7 +37,7 @@ fn judge_named(
 {
     match judge_declared(alloc, known, names, item) {
         Ok(()) => Ok(()),
-        Err(e) => Err(behind(alloc, "types/", type_name(item), e)),
+        Err(e) => Err(at_element(alloc, "types/", type_name(item), e)),
     }
 }
 

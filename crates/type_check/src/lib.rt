@@ -14,5 +14,5 @@ pub use declared::judge_types;
 pub use fields::{field_fact, judge_field};
 pub use heads::judge_head;
 pub use name_table::NameTable;
-pub use refusals::{behind, refuse};
+pub use refusals::{at_element, refuse};
 pub use value_rules::names_fraction;

@@ -13,7 +13,7 @@ pub fn refuse<T>(alloc: Global, code: CCode) -> Result<T, CheckErr>
 }
 
 /// The refusal of the element with this name, with `front` and the name put before its path.
-pub fn behind(alloc: Global, front: &str, name: &[u8], err: CheckErr) -> CheckErr
+pub fn at_element(alloc: Global, front: &str, name: &[u8], err: CheckErr) -> CheckErr
     ensures { (told : CheckResult (Unit {0})) → Gives {X = Unit {0}} (Err err) told → Gives {X = Unit {0}} (Err result) (at_element front.now name.now told) }
 {
     match err {

@@ -109,12 +109,12 @@ root_parts_tell version (p ∷ ps) (v ∷ vs) =
     part_step (is_old version p.since) (is_absent_part v) (root_parts_pass version ps vs) (list_any (old_part version) ps) _ _ (root_parts_tell version ps vs) (no_parts_tell version ps)
 
 -- a group that old has, whose entries pass or not; or one that it lacks, which is absent or not
-group_step : (old absent entries test rest any behind : Bool) (P Q N M : Type 0) → test ≡ cond old entries absent → Tells entries P → Tells rest Q → Tells (not any) N → Tells (not behind) M →
-    Tells (cond test rest (not (old || any) && not behind)) (MatchBool old (P × Q) (MatchBool absent Q (N × M)))
-group_step true absent true test rest any behind P Q N M is p q n m = subst (λ t. Tells (cond t rest (false && not behind)) (P × Q)) (sym is) (λ h. (p.0 refl, q.0 h), λ h. q.1 h.1)
-group_step true absent false test rest any behind P Q N M is p q n m = subst (λ t. Tells (cond t rest (false && not behind)) (P × Q)) (sym is) (λ h. no _ h, λ h. p.1 h.0)
-group_step false true entries test rest any behind P Q N M is p q n m = subst (λ t. Tells (cond t rest (not any && not behind)) Q) (sym is) q
-group_step false false entries test rest any behind P Q N M is p q n m = subst (λ t. Tells (cond t rest (not any && not behind)) (N × M)) (sym is) (both (not any) (not behind) N M n m)
+group_step : (old absent entries test rest any after : Bool) (P Q N M : Type 0) → test ≡ cond old entries absent → Tells entries P → Tells rest Q → Tells (not any) N → Tells (not after) M →
+    Tells (cond test rest (not (old || any) && not after)) (MatchBool old (P × Q) (MatchBool absent Q (N × M)))
+group_step true absent true test rest any after P Q N M is p q n m = subst (λ t. Tells (cond t rest (false && not after)) (P × Q)) (sym is) (λ h. (p.0 refl, q.0 h), λ h. q.1 h.1)
+group_step true absent false test rest any after P Q N M is p q n m = subst (λ t. Tells (cond t rest (false && not after)) (P × Q)) (sym is) (λ h. no _ h, λ h. p.1 h.0)
+group_step false true entries test rest any after P Q N M is p q n m = subst (λ t. Tells (cond t rest (not any && not after)) Q) (sym is) q
+group_step false false entries test rest any after P Q N M is p q n m = subst (λ t. Tells (cond t rest (not any && not after)) (N × M)) (sym is) (both (not any) (not after) N M n m)
 
 group_test : (version : ℕ) (g : Group) (v : GroupVal) → (entries : Bool) × (group_is_plain version g v ≡ cond (is_old version (group_since g)) entries (is_absent_group v)) × Tells entries (PlainGroup version g v)
 unfolding group_is_plain

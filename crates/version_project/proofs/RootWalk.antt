@@ -56,10 +56,10 @@ module _ (version : ℕ) (ps : List DataField) (ds : List DataVal) where
       let step = groups_step (drop i gs) (drop i vs) g v (drop (i + 1) gs) (drop (i + 1) vs) (item_at gs zs i g same h at) (drop_at vs i v is) in
       sym (step ∙ ap (λ b. cond b (root_groups_pass version ps ds (drop (i + 1) gs) (drop (i + 1) vs)) (not (list_any (old_group version) (drop i gs)) && not (list_any (old_part version) ps))) (sym e ∙ t)) ∙ so_far
 
-  pub groups_stop : (gs zs : List Group) (vs : List GroupVal) (i : ℕ) (g : Group) (v : GroupVal) (r any behind : Bool) → zs ≡ gs → i < length zs → g ≡ get_or zs i g → slice_get vs i ≡ Some v → r ≡ group_is_plain version g v → r ≡ false →
-      any ≡ list_any (old_group version) (drop i gs) → behind ≡ list_any (old_part version) ps →
-      root_groups_pass version ps ds (drop i gs) (drop i vs) ≡ root_groups_pass version ps ds gs vs → (not any && not behind) ≡ root_groups_pass version ps ds gs vs
-  groups_stop gs zs vs i g v r any behind same h at is e t found more so_far =
+  pub groups_stop : (gs zs : List Group) (vs : List GroupVal) (i : ℕ) (g : Group) (v : GroupVal) (r any after : Bool) → zs ≡ gs → i < length zs → g ≡ get_or zs i g → slice_get vs i ≡ Some v → r ≡ group_is_plain version g v → r ≡ false →
+      any ≡ list_any (old_group version) (drop i gs) → after ≡ list_any (old_part version) ps →
+      root_groups_pass version ps ds (drop i gs) (drop i vs) ≡ root_groups_pass version ps ds gs vs → (not any && not after) ≡ root_groups_pass version ps ds gs vs
+  groups_stop gs zs vs i g v r any after same h at is e t found more so_far =
       let step = groups_step (drop i gs) (drop i vs) g v (drop (i + 1) gs) (drop (i + 1) vs) (item_at gs zs i g same h at) (drop_at vs i v is) in
-      ap (λ a. not a && not behind) found ∙ ap (λ b. not (list_any (old_group version) (drop i gs)) && not b) more
+      ap (λ a. not a && not after) found ∙ ap (λ b. not (list_any (old_group version) (drop i gs)) && not b) more
       ∙ sym (step ∙ ap (λ b. cond b (root_groups_pass version ps ds (drop (i + 1) gs) (drop (i + 1) vs)) (not (list_any (old_group version) (drop i gs)) && not (list_any (old_part version) ps))) (sym e ∙ t)) ∙ so_far

@@ -30,8 +30,8 @@ fn plain_root(version: u32, level: &Level, block: &Block) -> bool
             return true;
         }
         if !plain_group(version, group, block.groups.at(i)) {
-            let behind = has_old_part(version, &level.parts, 0);
-            return !has_old_group(version, &level.groups, i) && !behind;
+            let after = has_old_part(version, &level.parts, 0);
+            return !has_old_group(version, &level.groups, i) && !after;
         }
     }
     root_parts(version, &level.parts, &block.parts)

@@ -81,7 +81,7 @@ module _ (numbers : List ℕ → ℕ) where
   hold_all e (m ∷ ms) placed counted room =
       let here = counter_of m.kind counted.0 in
       let number : is_number_of here.0.prim (pos (numbers m.name)) ≡ true = sym (ap (λ k. holds_in (leaf_in k) (numbers m.name)) here.1) ∙ room.0 in (
-        record { leaf = here.0; number = here.1; single = here.2; behind = placed.0 (ap is_const here.1); room = has_number here.0.prim (pos (numbers m.name)) number },
+        record { leaf = here.0; number = here.1; single = here.2; after = placed.0 (ap is_const here.1); room = has_number here.0.prim (pos (numbers m.name)) number },
         hold_all (end_past e m.offset m.kind) ms placed.2 counted.1 room.1,
       )
 

@@ -47,7 +47,7 @@ module _ (order : Order) (numbers : List ℕ → ℕ) where
         let has = numeral order l.prim (pos (numbers m.name)) here.room in
         let zeros : List ℕ = replicate (begin - e) 0 in
         let wire = has.0 in
-        let behind : e ≤ begin = here.behind in
+        let after : e ≤ begin = here.after in
         let wide : length wire ≡ w = has.2 in
         let gap : length zeros ≡ begin - e = length-replicate {A = ℕ} (begin - e) 0 in
         let ends : next ≡ begin + w * l.length = ap (λ k. end_past e m.offset k) here.number in
@@ -59,14 +59,14 @@ module _ (order : Order) (numbers : List ℕ → ℕ) where
         ∙ ap (λ o. both (Some (zeros ++ wire)) o) there.1 in
         let reads : Reads_names e (m ∷ ms) ((zeros ++ wire) ++ there.0) =
         λ front at name spot is.
-        let place : length front + length zeros ≡ begin = omega (arith, at, gap, behind) in
+        let place : length front + length zeros ≡ begin = omega (arith, at, gap, after) in
         let number : natural (number_of order l.prim (take w (drop begin (front ++ ((zeros ++ wire) ++ there.0))))) ≡ numbers m.name =
         ap (λ b. natural (number_of order l.prim b)) (joined_part front zeros wire there.0 begin w place wide) ∙ ap natural has.3 in
         let there_at : length (front ++ (zeros ++ wire)) ≡ next = omega (arith, length-append front (zeros ++ wire), length-append zeros wire, place, wide, reached) in
         let later : spot_named next name ms ≡ Some spot → read_at spot (front ++ ((zeros ++ wire) ++ there.0)) ≡ numbers name =
         λ k. ap (read_at spot) (sym (append_assoc front (zeros ++ wire) there.0)) ∙ there.3 (front ++ (zeros ++ wire)) there_at name spot k in
         pick (bytes_eq m.name name) (front ++ ((zeros ++ wire) ++ there.0)) name spot l here.number refl number later is in
-        ((zeros ++ wire) ++ there.0, is, omega (arith, length-append (zeros ++ wire) there.0, length-append zeros wire, gap, behind, wide, reached, there.2), reads)
+        ((zeros ++ wire) ++ there.0, is, omega (arith, length-append (zeros ++ wire) there.0, length-append zeros wire, gap, after, wide, reached, there.2), reads)
       where
         pick : (t : Bool) (b : List ℕ) (name : List ℕ) (spot : Spot) (l : _) → m.kind ≡ Leaf l → bytes_eq m.name name ≡ t →
             natural (number_of order l.prim (take (prim_width l.prim) (drop begin b))) ≡ numbers m.name →

@@ -35,19 +35,19 @@ past e offset kind = cond (is_const kind) e (begin_of e offset + width kind)
 -- a part stands at its place
 pub part_there : (e : ℕ) (offset : Option ℕ) (kind : Kind) (t : Bool) → is_const kind ≡ t → BeginsBehind e offset kind → (front wire rest : List ℕ) → length front ≡ e → length wire ≡ width kind →
     take (width kind) (drop (begin_of e offset) (front ++ ((replicate (cond t 0 (begin_of e offset - e)) 0 ++ wire) ++ rest))) ≡ wire
-part_there e offset kind true c behind front wire rest at long =
+part_there e offset kind true c after front wire rest at long =
     let none : wire ≡ [] = empty_is wire (omega (arith, long, const_width kind c)) in
     ap (λ n. take n (drop (begin_of e offset) (front ++ (wire ++ rest)))) (const_width kind c) ∙ sym none
-part_there e offset kind false c behind front wire rest at long =
-    let begins : e ≤ begin_of e offset = behind c in
+part_there e offset kind false c after front wire rest at long =
+    let begins : e ≤ begin_of e offset = after c in
     joined_part front (replicate (begin_of e offset - e) 0) wire rest (begin_of e offset) (width kind) (omega (arith, at, begins, length-replicate {A = ℕ} (begin_of e offset - e) 0)) long
 
 -- with its zeros it reaches its end
 pub part_reaches : (e : ℕ) (offset : Option ℕ) (kind : Kind) (t : Bool) → is_const kind ≡ t → BeginsBehind e offset kind → (wire : List ℕ) → length wire ≡ width kind →
     e + length (replicate (cond t 0 (begin_of e offset - e)) 0 ++ wire) ≡ cond t e (begin_of e offset + width kind)
-part_reaches e offset kind true c behind wire long = omega (arith, long, const_width kind c)
-part_reaches e offset kind false c behind wire long =
-    let begins : e ≤ begin_of e offset = behind c in
+part_reaches e offset kind true c after wire long = omega (arith, long, const_width kind c)
+part_reaches e offset kind false c after wire long =
+    let begins : e ≤ begin_of e offset = after c in
     omega (arith, long, begins, length-append (replicate (begin_of e offset - e) 0) wire, length-replicate {A = ℕ} (begin_of e offset - e) 0)
 
 -- the members after members that end at e have bytes up to their end, which show them after any e bytes
@@ -61,18 +61,18 @@ no_member order e = ([], refl, omega arith, λ front at. tt)
 
 pub one_member : (order : Order) (e : ℕ) (name : List ℕ) (offset : Option ℕ) (kind : Kind) {n : _} (rest : Row_of-Member n) (v : Value) (vs : List Value) →
     BeginsBehind e offset kind → FitsKind order kind v → RowFits order (past e offset kind) rest vs → RowFits order e (more_of-Member name offset kind rest) (v ∷ vs)
-one_member order e name offset kind rest v vs behind here there =
+one_member order e name offset kind rest v vs after here there =
     let zeros = gap e offset kind in
     let wire = here.0 in
     let next = past e offset kind in
-    let first : e + length (zeros ++ wire) ≡ next = part_reaches e offset kind (is_const kind) refl behind wire here.2 in
+    let first : e + length (zeros ++ wire) ≡ next = part_reaches e offset kind (is_const kind) refl after wire here.2 in
     let is : row_bytes order e (more_of-Member name offset kind rest) (Some (v ∷ vs)) ≡ Some ((zeros ++ wire) ++ there.0) =
     ap (λ o. both (both (Some zeros) o) (row_bytes order next rest (Some vs))) here.1 ∙ ap (λ o. both (Some (zeros ++ wire)) o) there.1 in (
       (zeros ++ wire) ++ there.0,
       is,
       omega (arith, length-append (zeros ++ wire) there.0, first, there.2),
       λ front at. (
-        subst (Shows order true kind v) (sym (part_there e offset kind (is_const kind) refl behind front wire there.0 at here.2)) here.3,
+        subst (Shows order true kind v) (sym (part_there e offset kind (is_const kind) refl after front wire there.0 at here.2)) here.3,
         subst (MembersShow order true next rest vs) (append_assoc front (zeros ++ wire) there.0) (there.3 (front ++ (zeros ++ wire)) (omega (arith, length-append front (zeros ++ wire), at, first))),
       ),
     )

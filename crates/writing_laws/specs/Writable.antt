@@ -64,7 +64,7 @@ pub record IsRoomFor (e n : ℕ) (m : Member) : Type 0 where
   pub leaf : LeafOf
   pub number : m.kind ≡ Leaf leaf
   pub single : leaf.length ≡ 1
-  pub behind : e ≤ begin_of e m.offset
+  pub after : e ≤ begin_of e m.offset
   pub room : HasNumber leaf.prim (pos n)
 
 -- members after members that end at e, each of which can hold the number of its name

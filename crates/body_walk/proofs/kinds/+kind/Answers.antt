@@ -40,7 +40,7 @@ judge_member-returns-then-shows_at_once-clause-told t c =
     let e = c.args.end in
     let moves : is_const m.kind ≡ false = search rules in
     let past : end_past e m.offset m.kind ≡ begin_of e m.offset + width m.kind = ap (λ t. cond t e (begin_of e m.offset + width m.kind)) moves in
-    let wide : c.args.behind - begin_of e m.offset ≡ width m.kind = omega (arith, c.requires.behind, past) in
+    let wide : c.args.after - begin_of e m.offset ≡ width m.kind = omega (arith, c.requires.after, past) in
     let begins : c.begin_of-begin.result ≡ begin_of e m.offset = c.begin_of-begin.ensures in
     sym (part_looks c.args.mode m.kind c.args.i (c.args.at + begin_of e m.offset) (take (width m.kind) (drop (begin_of e m.offset) c.args.bytes.now))
     (subst (λ n. kind_check c.args.mode m.kind (piece (c.args.at + begin_of e m.offset) (take n (drop (begin_of e m.offset) c.args.bytes.now))) ≡ Ok tt) wide

@@ -101,8 +101,8 @@ groups_end-returns-clause-whole t c =
 pub group_end-returns-clause-whole : goal.group_end-returns-clause-whole
 group_end-returns-clause-whole t c =
     let place = place_in c.args.layout.now c.args.body.now in
-    if_more (Times (EntryStep place (out-Group c.args.group.now).level) c.in_ok-count.count c.in_ok-count.behind) (GroupStep place c.args.group.now c.args.at)
-    (λ (n : ℕ) steps. group_walked place c.args.group.now c.in_ok-count.count c.args.at c.in_ok-count.behind n c.requires.good c.requires.bytes
+    if_more (Times (EntryStep place (out-Group c.args.group.now).level) c.in_ok-count.count c.in_ok-count.after) (GroupStep place c.args.group.now c.args.at)
+    (λ (n : ℕ) steps. group_walked place c.args.group.now c.in_ok-count.count c.args.at c.in_ok-count.after n c.requires.good c.requires.bytes
     (subst (λ o. GroupSays o c.args.body.now c.args.group.now c.in_ok-count.count c.args.at) c.order.ensures c.in_ok-count.ensures.says) c.in_ok-count.ensures.end steps)
     c.entries_end.result c.entries_end.ensures.whole
 

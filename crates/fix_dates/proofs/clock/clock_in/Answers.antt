@@ -19,8 +19,8 @@ returns-in_err-second-clause-none c = rw c.from_residual-in_err-second.ensures (
 
 pub returns-in_err-fraction-clause-none : goal.returns-in_err-fraction-clause-none
 returns-in_err-fraction-clause-none c = rw c.from_residual-in_err-fraction.ensures (λ clock fits e.
-    let behind = (clock_apart c.args.text.now clock fits e).rest in
-    c.in_err-fraction.ensures.none clock.fraction clock.places fits.few fits.fraction_fits (take_rest c.args.text.now 8 ∙ behind))
+    let after = (clock_apart c.args.text.now clock fits e).rest in
+    c.in_err-fraction.ensures.none clock.fraction clock.places fits.few fits.fraction_fits (take_rest c.args.text.now 8 ∙ after))
 
 pub returns-clause-some : goal.returns-clause-some
 returns-clause-some c =

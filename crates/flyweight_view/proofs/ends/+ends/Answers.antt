@@ -39,13 +39,13 @@ entries_end-returns-clause-within t c = c.loop.invariant.lie.near
 -- ---- the first entry
 
 pub behind_first-returns-clause-lie : goal.behind_first-returns-clause-lie
-behind_first-returns-clause-lie t c = others_lie c.args.layer.now c.args.left c.requires.lie c.requires.some c.entry_end-behind.result c.entry_end-behind.ensures.rest c.entry_end-behind.ensures.within
+behind_first-returns-clause-lie t c = others_lie c.args.layer.now c.args.left c.requires.lie c.requires.some c.entry_end-after.result c.entry_end-after.ensures.rest c.entry_end-after.ensures.within
 
 pub behind_first-returns-clause-seen : goal.behind_first-returns-clause-seen
-behind_first-returns-clause-seen t c = others_seen c.args.layer.now c.args.left c.requires.lie c.requires.some c.entry_end-behind.result c.entry_end-behind.ensures.rest
+behind_first-returns-clause-seen t c = others_seen c.args.layer.now c.args.left c.requires.lie c.requires.some c.entry_end-after.result c.entry_end-after.ensures.rest
 
 pub behind_first-returns-clause-rest : goal.behind_first-returns-clause-rest
-behind_first-returns-clause-rest t c = others_rests c.args.layer.now c.args.left c.requires.lie c.requires.some c.entry_end-behind.result c.entry_end-behind.ensures.rest
+behind_first-returns-clause-rest t c = others_rests c.args.layer.now c.args.left c.requires.lie c.requires.some c.entry_end-after.result c.entry_end-after.ensures.rest
 
 pub entry_end-first_child-requires : goal.entry_end-first_child-requires
 entry_end-first_child-requires t c = level_within c.args.layer.now.layout.now c.args.layer.now.number c.args.layer.now.level.now c.requires.layer.level_is

@@ -21,13 +21,13 @@ loop-left-preserved g c =
     let so_far = c.loop-left.invariant in
     let some : 0 < left = c.loop-left-test.true in
     let wide : c.width-wide.result ≡ prim_width leaf.prim = c.width-wide.ensures.value in
-    let behind : take (length rest - c.width-wide.result) (drop c.width-wide.result rest) ≡ drop (prim_width leaf.prim) rest =
+    let after : take (length rest - c.width-wide.result) (drop c.width-wide.result rest) ≡ drop (prim_width leaf.prim) rest =
     take_rest rest c.width-wide.result ∙ ap (λ w. drop w rest) wide in
     let fits : FitsSigned w128 c.get_num-number.result = search rules in
     let number = to_z-of_z w128 c.get_num-number.result fits ∙ c.get_num-number.ensures ∙ ap (λ w. number_of c.args.order leaf.prim (take w rest)) wide in
-    let next = elements_next c.args.order leaf c.loop-left.later left rest _ (to_z w128 (of_z w128 c.get_num-number.result)) some number behind in
+    let next = elements_next c.args.order leaf c.loop-left.later left rest _ (to_z w128 (of_z w128 c.get_num-number.result)) some number after in
     record {
-      long = ap length behind ∙ length-drop (prim_width leaf.prim) rest ∙ ap (λ n. n - prim_width leaf.prim) so_far.long ∙ less_wide (prim_width leaf.prim) left some;
+      long = ap length after ∙ length-drop (prim_width leaf.prim) rest ∙ ap (λ n. n - prim_width leaf.prim) so_far.long ∙ less_wide (prim_width leaf.prim) left some;
       written = (_, then_prints so_far.written.1 c.put_next.ensures, goes_on so_far.written.0 _ _ _ _ next so_far.written.2);
     }
 

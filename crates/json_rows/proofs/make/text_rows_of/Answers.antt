@@ -38,4 +38,4 @@ returns c =
     let done : drop c.loop-field.field-index all ≡ [] = drop_all c.loop-field.field-index all (omega arith) in
     let fields = goes_over (literal (codes "}")) _ _ (ap (field_pieces c.loop-field.later c.loop-field.end) done) c.loop-field.invariant.goes c.in_ok-add_bytes-2.ensures in
     let grows = grows_then c.in_ok-add_bytes.ensures (grows_then fields c.in_ok-add_bytes-3.ensures) in
-    from_nothing _ _ (pieces_between c.args.before.now c.args.behind.now all) c.new.ensures.items c.new-2.ensures.items grows refl
+    from_nothing _ _ (pieces_between c.args.before.now c.args.after.now all) c.new.ensures.items c.new-2.ensures.items grows refl

@@ -10,5 +10,5 @@ returns c =
     let last = length bytes - 8 in
     let passed : last ≤ prefix_len is_plain_byte (take last bytes) = omega (arith, front_passes is_plain_byte bytes last c.requires.looked) in
     let same : 0 + last ≡ last = omega arith in
-    let behind = run_behind is_plain_byte bytes 0 last (omega arith) passed in
-    omega (arith, behind, ap (λ k. prefix_len is_plain_byte (drop k bytes)) same, c.lane_run.ensures, ap (prefix_len is_plain_byte) (take_all 8 (drop last bytes) (omega (arith, length-drop last bytes))))
+    let after = run_behind is_plain_byte bytes 0 last (omega arith) passed in
+    omega (arith, after, ap (λ k. prefix_len is_plain_byte (drop k bytes)) same, c.lane_run.ensures, ap (prefix_len is_plain_byte) (take_all 8 (drop last bytes) (omega (arith, length-drop last bytes))))

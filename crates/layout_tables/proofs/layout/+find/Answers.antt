@@ -45,5 +45,5 @@ loop-group-preserved t c =
       later = omega (arith, end, c.loop-group.invariant.later);
       low = omega arith;
       high = omega (arith, end, left, c.loop-group.invariant.high);
-      stands = subst (λ k. Stands (all_nodes schema) k (flat_map (nodes_of c.args.template) (drop (i + 1) c.args.groups.now))) (sym end) here.behind;
+      stands = subst (λ k. Stands (all_nodes schema) k (flat_map (nodes_of c.args.template) (drop (i + 1) c.args.groups.now))) (sym end) here.after;
     }

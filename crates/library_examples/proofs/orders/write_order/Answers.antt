@@ -36,7 +36,7 @@ returns-in-Ok-data-clause-body c =
     let layout : c.write_legs.new.tail.layout.now ≡ schema = search rules in
     let adds = subst (λ s. Adds s note mid last) layout c.in-Ok-data.ensures.ok in
     order_written schema (ready_schema schema c.schema-schema.ensures.order) is number c.args.order.now.legs.now note (Tail (level_of filled.frames) 0) c.args.buffer.now begun filled c.in-Ok-done.tail.buf.now mid last
-    c.in-Ok.ensures.ok c.in-Ok.ensures.ready now sets c.in-Ok-done.ensures.ok c.in_ok-write_legs-in-Ok-done.ensures.bytes c.in_ok-write_legs-in-Ok-done.ensures.behind adds
+    c.in-Ok.ensures.ok c.in-Ok.ensures.ready now sets c.in-Ok-done.ensures.ok c.in_ok-write_legs-in-Ok-done.ensures.bytes c.in_ok-write_legs-in-Ok-done.ensures.after adds
     ∙ search rules
 
 pub returns-in-Ok-data-clause-fits : goal.returns-in-Ok-data-clause-fits
@@ -55,7 +55,7 @@ returns-in-Ok-data-clause-fits c =
     let none : misfit_at schema (root_of schema 0) 0 (value.Num number) ≡ None = subst (λ n. misfit_at schema n 0 (value.Num number) ≡ None) (ap level_of c.in-Ok.ensures.ok.frames) own in
     let layout : c.write_legs.new.tail.layout.now ≡ schema = search rules in
     let adds = subst (λ s. Adds s note mid last) layout c.in-Ok-data.ensures.ok in
-    order_fits schema (ready_schema schema c.schema-schema.ensures.order) is number c.args.order.now.legs.now note mid.frames none c.in_ok-write_legs-in-Ok-done.ensures.fits c.in_ok-write_legs-in-Ok-done.ensures.behind adds.admitted
+    order_fits schema (ready_schema schema c.schema-schema.ensures.order) is number c.args.order.now.legs.now note mid.frames none c.in_ok-write_legs-in-Ok-done.ensures.fits c.in_ok-write_legs-in-Ok-done.ensures.after adds.admitted
 
 pub returns-in-Err-clause-refused : goal.returns-in-Err-clause-refused
 returns-in-Err-clause-refused c =
@@ -143,4 +143,4 @@ returns-in-Err-data-clause-refused c =
     let refused = subst (λ s. DataRefused s (length note) mid c.in-Err-data.e) layout c.in-Err-data.ensures.refused in
     λ order fits.
     note_never_refused schema ready order number legs note old fits begun c.in-Ok.ensures.ok filled c.in-Ok.ensures.ready now sets tailed c.in-Ok-done.ensures.ok mid
-    c.in_ok-write_legs-in-Ok-done.ensures.puts c.in_ok-write_legs-in-Ok-done.ensures.behind c.in-Err-data.e refused
+    c.in_ok-write_legs-in-Ok-done.ensures.puts c.in_ok-write_legs-in-Ok-done.ensures.after c.in-Err-data.e refused

@@ -31,9 +31,9 @@ loop-at-preserved c =
     let wide : c.width-wide.result ≡ prim_width leaf.prim = c.width-wide.ensures.value in
     let told_at = sym (ap (λ t. fault_unless t c.judge_element.new.out) yes_it_is) ∙ c.judge_element.ensures
     ∙ ap (λ w. let number = number_of order leaf.prim (take w rest) in unshown at number (shown_element leaf number)) wide in
-    let behind : take (length rest - c.width-wide.result) (drop c.width-wide.result rest) ≡ drop (prim_width leaf.prim) rest =
+    let after : take (length rest - c.width-wide.result) (drop c.width-wide.result rest) ≡ drop (prim_width leaf.prim) rest =
     take_rest rest c.width-wide.result ∙ ap (λ w. drop w rest) wide in
     record {
-      long = ap length behind ∙ length-drop (prim_width leaf.prim) rest ∙ ap (λ n. n - prim_width leaf.prim) c.loop-at.invariant.long ∙ left (prim_width leaf.prim) leaf.length at lt;
-      rest = ap (elements_bad order leaf (at + 1) (leaf.length - (at + 1))) behind ∙ elements_more order leaf at leaf.length rest lt told_at ∙ c.loop-at.invariant.rest;
+      long = ap length after ∙ length-drop (prim_width leaf.prim) rest ∙ ap (λ n. n - prim_width leaf.prim) c.loop-at.invariant.long ∙ left (prim_width leaf.prim) leaf.length at lt;
+      rest = ap (elements_bad order leaf (at + 1) (leaf.length - (at + 1))) after ∙ elements_more order leaf at leaf.length rest lt told_at ∙ c.loop-at.invariant.rest;
     }

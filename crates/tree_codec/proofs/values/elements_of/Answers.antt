@@ -13,13 +13,13 @@ loop-left-preserved c =
     let so_far = c.loop-left.invariant in
     let some : 0 < left = c.loop-left-test.true in
     let wide : c.width-wide.result ≡ prim_width leaf.prim = c.width-wide.ensures.value in
-    let behind : take (length rest - c.width-wide.result) (drop c.width-wide.result rest) ≡ drop (prim_width leaf.prim) rest =
+    let after : take (length rest - c.width-wide.result) (drop c.width-wide.result rest) ≡ drop (prim_width leaf.prim) rest =
     take_rest rest c.width-wide.result ∙ ap (λ w. drop w rest) wide in
     let read = number_of c.args.order leaf.prim (take c.width-wide.result rest) in
     let number = ap (λ w. number_of c.args.order leaf.prim (take w rest)) wide in
-    let next = elements_next c.args.order leaf left rest _ c.loop-left.elements (elements_from c.args.order leaf leaf.length c.args.bytes.now) read some number behind so_far.gathered in
+    let next = elements_next c.args.order leaf left rest _ c.loop-left.elements (elements_from c.args.order leaf leaf.length c.args.bytes.now) read some number after so_far.gathered in
     let pushed = c.in_ok-push.ensures.ok ∙ ap (λ e. c.loop-left.elements ++ e ∷ []) c.element_value.ensures in
     record {
-      long = ap length behind ∙ length-drop (prim_width leaf.prim) rest ∙ ap (λ n. n - prim_width leaf.prim) so_far.long ∙ less_wide (prim_width leaf.prim) left some;
+      long = ap length after ∙ length-drop (prim_width leaf.prim) rest ∙ ap (λ n. n - prim_width leaf.prim) so_far.long ∙ less_wide (prim_width leaf.prim) left some;
       gathered = ap (λ es. es ++ elements_from c.args.order leaf (left - 1) (take (length rest - c.width-wide.result) (drop c.width-wide.result rest))) pushed ∙ next;
     }

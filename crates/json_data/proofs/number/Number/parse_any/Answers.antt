@@ -8,9 +8,9 @@ unfolding number_of
 returns-then-has_minus c =
     let text = c.args.bytes.now in
     let signed : (get_or text 0 0 == 45) ≡ true = sym c.if-has_minus.ensures.value in
-    let behind : c.scan.result ≡ scan (drop 1 text) = c.scan.ensures.parts ∙ ap scan (take_all _ (drop 1 text) (omega (arith, length-drop 1 text))) in
+    let after : c.scan.result ≡ scan (drop 1 text) = c.scan.ensures.parts ∙ ap scan (take_all _ (drop 1 text) (omega (arith, length-drop 1 text))) in
     let whole : number_from true (scan (drop 1 text)) ≡ number_of text = rw signed in
-    c.below.ensures ∙ ap (number_from true) behind ∙ whole
+    c.below.ensures ∙ ap (number_from true) after ∙ whole
 
 pub returns-else-has_minus : goal.returns-else-has_minus
 unfolding number_of

@@ -16,13 +16,13 @@ root-first-requires c = template_within c.args.self.now c.args.n c.row.result.no
 
 pub overflow_add-first : goal.overflow_add-first
 overflow_add-first c =
-    let behind = behind_root c.args.self.now c.args.n c.root-first.result c.row.result.now c.message-root.result.now c.requires c.row.ensures c.message-root.ensures c.root-first.ensures in
-    omega (arith, behind)
+    let after = behind_root c.args.self.now c.args.n c.root-first.result c.row.result.now c.message-root.result.now c.requires c.row.ensures c.message-root.ensures c.root-first.ensures in
+    omega (arith, after)
 
 pub group_in-requires : goal.group_in-requires
 group_in-requires c =
-    let behind = behind_root c.args.self.now c.args.n c.root-first.result c.row.result.now c.message-root.result.now c.requires c.row.ensures c.message-root.ensures c.root-first.ensures in
-    let below = below_root c.args.self.now c.args.n c.root-first.result c.row.result.now c.message-root.result.now c.row.ensures c.message-root.ensures c.root-first.ensures behind in
+    let after = behind_root c.args.self.now c.args.n c.root-first.result c.row.result.now c.message-root.result.now c.requires c.row.ensures c.message-root.ensures c.root-first.ensures in
+    let below = below_root c.args.self.now c.args.n c.root-first.result c.row.result.now c.message-root.result.now c.row.ensures c.message-root.ensures c.root-first.ensures after in
     record {
       stands = subst (λ gs. Stands (all_nodes c.args.self.now) (c.root-first.result + 1) (flat_map (nodes_of c.row.result.now.template) gs)) (sym c.as_slice.ensures) below.stands;
       low = below.low;
