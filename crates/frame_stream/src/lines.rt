@@ -105,7 +105,7 @@ impl LineStream {
     {
         self.line = 0;
         if let Some(ended) = self.ended {
-            return told(ended);
+            return answer_at_end(ended);
         }
         match self.bytes.next_end(input, self.front) {
             Ok(i) => {
@@ -154,7 +154,7 @@ impl LineStream {
 }
 
 /// The answer at and after an end.
-fn told(ended: LineEnded) -> Result<LineTaken, LineErr>
+fn answer_at_end(ended: LineEnded) -> Result<LineTaken, LineErr>
     ensures { result ≡ line_end_answer ended }
 {
     match ended {

@@ -97,7 +97,7 @@ impl FrameStream {
         ensures cause { TakeCause (I.state input.old).faults (I.state input.new).faults result }
     {
         if let Some(ended) = self.ended {
-            return told(ended);
+            return answer_at_end(ended);
         }
         match self.bytes.next_frame(input, self.whole) {
             Ok(head) => {
@@ -111,7 +111,7 @@ impl FrameStream {
             Err(Stop::Ended(ended)) => {
                 self.whole = false;
                 self.ended = Some(ended);
-                told(ended)
+                answer_at_end(ended)
             }
         }
     }
@@ -147,7 +147,7 @@ impl FrameStream {
 }
 
 /// The answer at and after an end.
-fn told(ended: Ended) -> Result<Taken, StreamErr>
+fn answer_at_end(ended: Ended) -> Result<Taken, StreamErr>
     ensures { result ≡ end_answer ended }
 {
     match ended {

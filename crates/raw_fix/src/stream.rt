@@ -83,7 +83,7 @@ impl RawStream {
     {
         drop_fields(tags, table);
         if let Some(ended) = self.ended {
-            return told(ended);
+            return answer_at_end(ended);
         }
         self.items.let_go(self.text);
         self.text = 0;
@@ -126,7 +126,7 @@ impl RawStream {
 }
 
 /// The answer at and after an end.
-fn told(ended: RawEnded) -> Result<RawTaken, RawErr>
+fn answer_at_end(ended: RawEnded) -> Result<RawTaken, RawErr>
     ensures { result ≡ end_answer ended }
 {
     match ended {

@@ -30,7 +30,7 @@ pub const ONE_FIELD: Extent = Extent {
 
 impl Extent {
     /// The extent of one structure after another.
-    pub fn joined(self, other: Extent) -> Extent
+    pub fn then(self, other: Extent) -> Extent
         ensures { result ≡ extent_of_both self other }
     {
         Extent {

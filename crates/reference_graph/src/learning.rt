@@ -93,7 +93,7 @@ pub fn links_extent(extents: &[Option<Extent>], links: &[Link]) -> Option<Extent
     for link in links {
         match looked_up(extents, *link) {
             None => return None,
-            Some(extent) => all = all.joined(extent),
+            Some(extent) => all = all.then(extent),
         }
     }
     Some(all)

@@ -15,7 +15,7 @@ use test_tables::{Calls, Row, judge_tables};
 struct AllCalls;
 
 impl Calls for AllCalls {
-    fn told(&self, rt: &HostRuntime, row: &Row) -> Result<String> {
+    fn answer(&self, rt: &HostRuntime, row: &Row) -> Result<String> {
         let alloc = rt.alloc();
         match row.call() {
             "list" => kept::list_told(alloc, row),

@@ -15,7 +15,7 @@ const KINDS: &str = "kinds.json";
 struct Coverage;
 
 impl Calls for Coverage {
-    fn told(&self, rt: &HostRuntime, row: &Row) -> Result<String> {
+    fn answer(&self, rt: &HostRuntime, row: &Row) -> Result<String> {
         let alloc = rt.alloc();
         match row.call() {
             "coverage" => {

@@ -15,7 +15,7 @@ const ORDERS: &str = "orders.json";
 struct AllCalls;
 
 impl Calls for AllCalls {
-    fn told(&self, rt: &HostRuntime, row: &Row) -> Result<String> {
+    fn answer(&self, rt: &HostRuntime, row: &Row) -> Result<String> {
         let alloc = rt.alloc();
         match row.call() {
             "mapping" => answers::read_told(alloc, row.bytes(alloc, 0)?.as_slice()),

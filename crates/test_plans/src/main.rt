@@ -10,7 +10,7 @@ use test_tables::{Calls, Row, judge_tables};
 struct AllCalls;
 
 impl Calls for AllCalls {
-    fn told(&self, rt: &HostRuntime, row: &Row) -> Result<String> {
+    fn answer(&self, rt: &HostRuntime, row: &Row) -> Result<String> {
         match row.call() {
             "cover" => covers::covers_told(rt, row),
             _ => bail!("there is no such call"),

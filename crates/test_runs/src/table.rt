@@ -144,14 +144,14 @@ fn run_row<F: Files + Drop>(
         let outcome = run_once(alloc, row, &given, piece)?;
         let found = differences(alloc, &wanted, &outcome)?;
         if !found.is_empty() {
-            return Ok(told(alloc, piece, found.as_slice())?);
+            return Ok(text_of_all(alloc, piece, found.as_slice())?);
         }
     }
     Ok(String::new(alloc))
 }
 
 /// The text of what differs.
-fn told(alloc: Global, piece: usize, found: &[Difference]) -> Result<String, AllocError> {
+fn text_of_all(alloc: Global, piece: usize, found: &[Difference]) -> Result<String, AllocError> {
     let mut text = format!(in alloc; "read by {piece}")?;
     for difference in found {
         write!(text, "; {difference}")?;

@@ -54,7 +54,7 @@ types
 };
 
 /// A text in pieces, as one.
-fn joined(alloc: Global, pieces: [&'static str; 3]) -> Result<String, Fail> {
+fn concat(alloc: Global, pieces: [&'static str; 3]) -> Result<String, Fail> {
     let mut text = String::new(alloc);
     for piece in pieces {
         text.push_str(piece)?;
@@ -64,8 +64,8 @@ fn joined(alloc: Global, pieces: [&'static str; 3]) -> Result<String, Fail> {
 
 /// Requires that the file of a row is read, and has the contents that the row states.
 fn expect_outline(rt: &impl Abort, alloc: Global, row: &Row) -> Result<(), Fail> {
-    let file = joined(alloc, row.file)?;
-    let outline = joined(alloc, row.outline)?;
+    let file = concat(alloc, row.file)?;
+    let outline = concat(alloc, row.outline)?;
     let mut found = String::new(alloc);
     match read_schema(alloc, file.as_bytes()) {
         Err(_) => panic!(rt; "refused: {file}"),

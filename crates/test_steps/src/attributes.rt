@@ -9,7 +9,7 @@ use std::alloc::Global;
 use test_tables::Row;
 
 /// The answer to a row, or `None` if it names another call.
-pub fn told(alloc: Global, row: &Row) -> Result<Option<String>> {
+pub fn answer(alloc: Global, row: &Row) -> Result<Option<String>> {
     if row.call() != "attribute" {
         return Ok(None);
     }

@@ -12,7 +12,7 @@ use std::alloc::Global;
 use test_tables::{Row, spelled};
 
 /// The answer to a row, or `None` if it names another call.
-pub fn told(alloc: Global, row: &Row) -> Result<Option<String>> {
+pub fn answer(alloc: Global, row: &Row) -> Result<Option<String>> {
     let mut space = JsonSpace::new(alloc);
     let space = &mut space;
     let text = match row.call() {

@@ -15,13 +15,13 @@ use test_tables::{Calls, Row, judge_tables};
 struct AllCalls;
 
 impl Calls for AllCalls {
-    fn told(&self, rt: &HostRuntime, row: &Row) -> Result<String> {
+    fn answer(&self, rt: &HostRuntime, row: &Row) -> Result<String> {
         let alloc = rt.alloc();
-        if let Some(told) = elements::told(alloc, row)? {
-            return Ok(told);
+        if let Some(answer) = elements::answer(alloc, row)? {
+            return Ok(answer);
         }
-        if let Some(told) = attributes::told(alloc, row)? {
-            return Ok(told);
+        if let Some(answer) = attributes::answer(alloc, row)? {
+            return Ok(answer);
         }
         match row.call() {
             "read_words" => words::command_told(alloc, row),

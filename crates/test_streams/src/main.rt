@@ -13,7 +13,7 @@ use test_tables::{Calls, Row, judge_tables};
 struct AllCalls;
 
 impl Calls for AllCalls {
-    fn told(&self, rt: &HostRuntime, row: &Row) -> Result<String> {
+    fn answer(&self, rt: &HostRuntime, row: &Row) -> Result<String> {
         match row.call() {
             "frames" => frames::in_pieces(rt.alloc(), row),
             "retried" => frames::retried(rt.alloc(), row),

@@ -11,7 +11,7 @@ pub(crate) fn text_of(alloc: Global, value: &Value) -> Result<String> {
         return Ok(String::from_str(alloc, text)?);
     }
     if let Some(items) = value.as_array() {
-        return joined(alloc, items.as_slice());
+        return concat_items(alloc, items.as_slice());
     }
     match value.get("repeat").and_then(Value::as_u64) {
         Some(many) => repeated(alloc, many, value),
@@ -30,7 +30,7 @@ fn plain_text(alloc: Global, value: &Value) -> Result<String> {
     }
 }
 
-fn joined(alloc: Global, items: &[Value]) -> Result<String> {
+fn concat_items(alloc: Global, items: &[Value]) -> Result<String> {
     let mut text = String::new(alloc);
     for item in items {
         text.push_str(plain_text(alloc, item)?.as_str())?;

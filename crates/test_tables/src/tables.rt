@@ -7,7 +7,7 @@ use std::fs;
 /// The calls that rows name.
 pub trait Calls {
     /// The answer to a row's call. Fails if the row names no call, or gives it something unsuitable.
-    fn told(&self, rt: &HostRuntime, row: &Row) -> Result<String>;
+    fn answer(&self, rt: &HostRuntime, row: &Row) -> Result<String>;
 }
 
 /// Runs the tables that the standard input names, one per line, and prints a line for each row: its name and `same`, or
@@ -41,13 +41,13 @@ fn judge_line<C: Calls>(rt: &HostRuntime, calls: &C, table: &str, line: &str) ->
 
 fn judge_row<C: Calls>(rt: &HostRuntime, calls: &C, table: &str, row: &Row) -> Result<()> {
     let name = row.name();
-    match calls.told(rt, row) {
-        Ok(told) => {
-            if told.as_str() == row.wanted() {
+    match calls.answer(rt, row) {
+        Ok(answer) => {
+            if answer.as_str() == row.wanted() {
                 println!(rt; "{table} {name} same")?;
             } else {
                 let wanted = row.wanted();
-                println!(rt; "{table} {name} differs: wanted {wanted}, told {told}")?;
+                println!(rt; "{table} {name} differs: wanted {wanted}, told {answer}")?;
             }
         }
         Err(e) => println!(rt; "{table} {name} fails: {e}")?,

@@ -18,7 +18,7 @@ use value_texts::ValueText;
 struct AllCalls;
 
 impl Calls for AllCalls {
-    fn told(&self, rt: &HostRuntime, row: &Row) -> Result<String> {
+    fn answer(&self, rt: &HostRuntime, row: &Row) -> Result<String> {
         if row.call() != "field" {
             bail!("there is no such call");
         }

@@ -21,7 +21,7 @@ use test_tables::{Calls, Row, judge_tables};
 struct AllCalls;
 
 impl Calls for AllCalls {
-    fn told(&self, rt: &HostRuntime, row: &Row) -> Result<String> {
+    fn answer(&self, rt: &HostRuntime, row: &Row) -> Result<String> {
         let checked = checked_of(rt, row.text(0)?)?;
         told_of(rt, &checked, row)
     }

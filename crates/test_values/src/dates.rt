@@ -11,7 +11,7 @@ use std::alloc::Global;
 use test_tables::Row;
 
 /// The answer to a row, or `None` if it names another call.
-pub fn told(alloc: Global, row: &Row) -> Result<Option<String>> {
+pub fn answer(alloc: Global, row: &Row) -> Result<Option<String>> {
     let text = match row.call() {
         "show_day" => day_shown(alloc, row)?,
         "read_day" => number_read(alloc, read_day(row.bytes(alloc, 0)?.as_slice()))?,

@@ -6,7 +6,7 @@ use std::alloc::Global;
 use test_tables::{Row, spelled};
 
 /// The answer to a row, or `None` if it names another call.
-pub fn told(alloc: Global, row: &Row) -> Result<Option<String>> {
+pub fn answer(alloc: Global, row: &Row) -> Result<Option<String>> {
     let text = match row.call() {
         "read_head" => head_read(alloc, row)?,
         "put_head" => head_put(alloc, row)?,

@@ -16,22 +16,22 @@ use test_tables::{Calls, Row, judge_tables};
 struct AllCalls;
 
 impl Calls for AllCalls {
-    fn told(&self, rt: &HostRuntime, row: &Row) -> Result<String> {
+    fn answer(&self, rt: &HostRuntime, row: &Row) -> Result<String> {
         let alloc = rt.alloc();
-        if let Some(told) = dates::told(alloc, row)? {
-            return Ok(told);
+        if let Some(answer) = dates::answer(alloc, row)? {
+            return Ok(answer);
         }
-        if let Some(told) = rules::told(alloc, row)? {
-            return Ok(told);
+        if let Some(answer) = rules::answer(alloc, row)? {
+            return Ok(answer);
         }
-        if let Some(told) = texts::told(alloc, row)? {
-            return Ok(told);
+        if let Some(answer) = texts::answer(alloc, row)? {
+            return Ok(answer);
         }
-        if let Some(told) = widths::told(alloc, row)? {
-            return Ok(told);
+        if let Some(answer) = widths::answer(alloc, row)? {
+            return Ok(answer);
         }
-        match heads::told(alloc, row)? {
-            Some(told) => Ok(told),
+        match heads::answer(alloc, row)? {
+            Some(answer) => Ok(answer),
             None => bail!("there is no such call"),
         }
     }

@@ -15,7 +15,7 @@ use std::alloc::Global;
 use test_tables::Row;
 
 /// The answer to a row, or `None` if it names another call.
-pub fn told(alloc: Global, row: &Row) -> Result<Option<String>> {
+pub fn answer(alloc: Global, row: &Row) -> Result<Option<String>> {
     let text = match row.call() {
         "uses" => uses(alloc, &rule_of(alloc, row)?)?,
         "show_num" => num_shown(alloc, &rule_of(alloc, row)?, row.number(1)?)?,

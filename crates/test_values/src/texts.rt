@@ -15,7 +15,7 @@ use test_tables::{Row, spelled};
 const ROOM: usize = 8192;
 
 /// The answer to a row, or `None` if it names another call.
-pub fn told(alloc: Global, row: &Row) -> Result<Option<String>> {
+pub fn answer(alloc: Global, row: &Row) -> Result<Option<String>> {
     let text = match row.call() {
         "digits" => all_digits(alloc, row.text(0)?)?,
         "put_text"

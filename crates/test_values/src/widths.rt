@@ -16,7 +16,7 @@ use std::alloc::Global;
 use test_tables::{Row, spelled, value_of};
 
 /// The answer to a row, or `None` if it names another call.
-pub fn told(alloc: Global, row: &Row) -> Result<Option<String>> {
+pub fn answer(alloc: Global, row: &Row) -> Result<Option<String>> {
     let text = match row.call() {
         "get_num" => num_got(alloc, row)?,
         "put_num" => num_put(alloc, row)?,
@@ -112,7 +112,7 @@ fn fault_text(alloc: Global, fault: &ValueFault) -> Result<String> {
     }
 }
 
-fn judged(alloc: Global, kind: &Kind, v: &Value) -> Result<String>
+fn value_fits(alloc: Global, kind: &Kind, v: &Value) -> Result<String>
     requires { is_single kind.now ≡ true }
 {
     let mut fault = ValueFault {
@@ -130,15 +130,15 @@ fn judged(alloc: Global, kind: &Kind, v: &Value) -> Result<String>
 fn kind_judged(alloc: Global, row: &Row) -> Result<String> {
     let value = value_of(alloc, row.text(2)?)?;
     match row.text(0)? {
-        "leaf" => judged(alloc, &Kind::Leaf(leaf_of(alloc, row.text(1)?)?), &value),
+        "leaf" => value_fits(alloc, &Kind::Leaf(leaf_of(alloc, row.text(1)?)?), &value),
         "enum" => {
             let leaf = leaf_of(alloc, row.text(1)?)?;
             let names = names_of(alloc, row.text(3)?)?;
-            judged(alloc, &Kind::Enum(leaf, names), &value)
+            value_fits(alloc, &Kind::Enum(leaf, names), &value)
         }
         "set" => {
             let names = names_of(alloc, row.text(3)?)?;
-            judged(alloc, &Kind::Set(prim_of(row.text(1)?)?, names), &value)
+            value_fits(alloc, &Kind::Set(prim_of(row.text(1)?)?, names), &value)
         }
         _ => bail!("no kind"),
     }

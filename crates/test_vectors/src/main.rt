@@ -10,7 +10,7 @@ use test_tables::{Calls, Row, judge_tables};
 struct AllCalls;
 
 impl Calls for AllCalls {
-    fn told(&self, rt: &HostRuntime, row: &Row) -> Result<String> {
+    fn answer(&self, rt: &HostRuntime, row: &Row) -> Result<String> {
         match row.call() {
             "generate" => drawn::message_told(rt, row),
             "alter" => drawn::altered_told(rt.alloc(), row),

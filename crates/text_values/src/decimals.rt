@@ -66,7 +66,7 @@ fn fitted_far(number: &Dec, leaf: &Leaf, exponent: i128) -> Result<i128, V>
         exponent: _own,
     } = *number;
     if mantissa == 0 {
-        return judged(leaf, 0);
+        return leaf_number(leaf, 0);
     }
     if exponent > 0 {
         return Err(V::Inexact);
@@ -75,7 +75,7 @@ fn fitted_far(number: &Dec, leaf: &Leaf, exponent: i128) -> Result<i128, V>
 }
 
 /// The number, if it is one of the leaf's.
-pub(crate) fn judged(leaf: &Leaf, n: i128) -> Result<i128, V>
+pub(crate) fn leaf_number(leaf: &Leaf, n: i128) -> Result<i128, V>
     ensures { result ≡ leaf_number leaf.now (Ok n) }
 {
     if is_value(leaf, n) {

@@ -18,7 +18,7 @@ fn goes_member_on(types: &Types, table: &[bool], member: &MemberItem) -> bool
 {
     match member {
         MemberItem::Type(_) | MemberItem::Enum(_) | MemberItem::Set(_) => false,
-        MemberItem::Ref(r) => told(types, table, r.type_name.as_slice()),
+        MemberItem::Ref(r) => chain_in(types, table, r.type_name.as_slice()),
         MemberItem::Composite(c) => go_members_on(types, table, c.children.as_slice()),
     }
 }
@@ -42,7 +42,7 @@ pub fn goes_composite_on(types: &Types, table: &[bool], composite: &CompositeEl)
     go_members_on(types, table, composite.children.as_slice())
 }
 
-fn told(types: &Types, table: &[bool], name: &[u8]) -> bool
+fn chain_in(types: &Types, table: &[bool], name: &[u8]) -> bool
     ensures { result ≡ table_chain types.now table.now name.now }
 {
     match types.place(name) {

@@ -3,7 +3,7 @@ ghost use Rattle.schema_rules.specs.Chains.{is_endless};
 ghost use Rattle.schema_rules.specs.Facts.{fact_named, fact_of};
 
 use crate::chains::{Chains, find_chains, goes_composite_on};
-use crate::facts::{Facts, find_facts, member_fact, told};
+use crate::facts::{Facts, fact_in, find_facts, member_fact};
 use crate::types::Types;
 use lists::NoMem;
 use sbe_types::{CompositeEl, MemberItem, TypesItem};
@@ -61,7 +61,7 @@ impl Declarations {
     pub fn fact_named(&self, name: &[u8]) -> Fact
         ensures { result ≡ fact_named self.now name.now }
     {
-        told(&self.types, self.facts.as_slice(), name)
+        fact_in(&self.types, self.facts.as_slice(), name)
     }
 
     /// The facts of a member of a composite.

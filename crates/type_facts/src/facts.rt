@@ -152,7 +152,7 @@ pub fn member_fact(types: &Types, table: &[Fact], member: &MemberItem) -> Fact
         MemberItem::Type(t) => type_fact(None, t),
         MemberItem::Enum(e) => enum_fact(types, None, e),
         MemberItem::Set(s) => set_fact(types, s),
-        MemberItem::Ref(r) => told(types, table, r.type_name.as_slice()),
+        MemberItem::Ref(r) => fact_in(types, table, r.type_name.as_slice()),
         MemberItem::Composite(c) => members_fact(types, table, c.children.as_slice()),
     }
 }
@@ -169,7 +169,7 @@ fn members_fact(types: &Types, table: &[Fact], members: &[MemberItem]) -> Fact
 }
 
 /// The facts of the type that a name stands for, given a table of those of the declared types.
-pub fn told(types: &Types, table: &[Fact], name: &[u8]) -> Fact
+pub fn fact_in(types: &Types, table: &[Fact], name: &[u8]) -> Fact
     ensures { result ≡ table_fact types.now table.now name.now }
 {
     match declared_fact(types, table, name) {

@@ -254,7 +254,7 @@ fn member_kind(
         MemberItem::Type(t) => declared_type(alloc, types, t),
         MemberItem::Enum(e) => declared_enum(alloc, types, e),
         MemberItem::Set(s) => set_kind(alloc, types, s),
-        MemberItem::Ref(r) => told(alloc, types, table, r.type_name.as_slice()),
+        MemberItem::Ref(r) => kind_in(alloc, types, table, r.type_name.as_slice()),
         MemberItem::Composite(c) => composite_of(alloc, types, table, c.children.as_slice()),
     }
 }
@@ -320,7 +320,7 @@ fn declared_enum(alloc: Global, types: &Types, e: &EnumEl) -> Result<Kind, NoMem
 }
 
 /// The kind that a name stands for, given a table of those of the declared types.
-fn told(alloc: Global, types: &Types, table: &Kinds, name: &[u8]) -> Result<Kind, NoMem>
+fn kind_in(alloc: Global, types: &Types, table: &Kinds, name: &[u8]) -> Result<Kind, NoMem>
     ensures { IfOk result (λ kind. kind ≡ table_kind types.now table.now name.now) }
 {
     match declared_kind(types, table, name) {

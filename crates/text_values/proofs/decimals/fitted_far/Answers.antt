@@ -8,7 +8,7 @@ pub returns-then-mantissa-eq0 : goal.returns-then-mantissa-eq0
 returns-then-mantissa-eq0 c =
     let fits : FitsSigned w128 c.args.number.now.mantissa = search rules in
     let zero : c.args.number.now.mantissa ≡ pos 0 = sym (to_z-of_z w128 c.args.number.now.mantissa fits) ∙ ap (to_z w128) c.if-mantissa-eq0.true in
-    c.judged.ensures ∙ sym (zero_fitted c.args.number.now c.args.leaf.now c.args.exponent zero)
+    c.leaf_number.ensures ∙ sym (zero_fitted c.args.number.now c.args.leaf.now c.args.exponent zero)
 
 pub returns-then-exponent-gt0 : goal.returns-then-exponent-gt0
 returns-then-exponent-gt0 c =
