@@ -9,7 +9,7 @@ ghost use Rattle.bridge_table.specs.Rows.{epoch_of, unit_of};
 ghost use Rattle.text_values.specs.Read.{answer_of_read};
 ghost use Rattle.text_values.specs.Instants.{count_of, counted_of, IsInstant};
 
-use crate::decimals::{is_value, judged};
+use crate::decimals::{is_value, leaf_number};
 use crate::given::not_read;
 use crate::value::{Misread, ReadValue};
 use bridge_table::{Epoch, Unit};
@@ -32,7 +32,7 @@ pub(crate) fn judged_day(leaf: &Leaf, text: &[u8]) -> Result<i128, V>
     ensures { result ≡ leaf_number leaf.now (day_read text.now) }
 {
     match day_number(text) {
-        Ok(n) => judged(leaf, n),
+        Ok(n) => leaf_number(leaf, n),
         Err(why) => Err(why),
     }
 }
