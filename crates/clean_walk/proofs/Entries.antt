@@ -26,8 +26,8 @@ use Rattle.clean_bodies.proofs.CleanGroups.{entry_whole}
 use Rattle.clean_bodies.proofs.CleanLevels.{tail_whole, group_step, good_groups, good_parts}
 use Rattle.clean_bodies.proofs.CleanMessages.{message_clean}
 use Rattle.clean_walk.specs.declared.heads.Numbers.TheVariants.{Header}
-use Rattle.clean_walk.specs.Heads.{GroupSays, number_of_name}
-use Rattle.clean_walk.specs.Places.{place_in}
+use Rattle.clean_walk.specs.inner.Heads.{GroupSays, number_of_name}
+use Rattle.clean_walk.specs.inner.Places.{place_in}
 use Rattle.clean_walk.proofs.Saying.{say_front}
 
 -- what is known of a number that was told, where more follows

@@ -10,7 +10,7 @@ use Rattle.sbe_wire.proofs.Values.{row_grows}
 use Rattle.flat_rows.specs.Scalars.{Scalar, kind_scalars, member_scalars, field_scalars, scalars_of}
 use Rattle.flat_rows.proofs.Inside.{kind_inside}
 use Rattle.clean_bodies.specs.Clean.{AreZeros, between, HasCleanGap, IsCleanKind, AreCleanMembers, AreCleanFields, IsCleanBlock}
-use Rattle.clean_walk.specs.Values.{AreCleanValues}
+use Rattle.clean_walk.specs.inner.Values.{AreCleanValues}
 
 -- ---- zeros
 

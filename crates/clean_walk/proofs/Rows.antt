@@ -18,7 +18,7 @@ use Rattle.layout_tables.proofs.GroupWalk.{GroupsFrom}
 use Rattle.body_walk.proofs.LevelsReady.{same_node}
 use Rattle.body_walk.proofs.Opens.{Child, child_here}
 use Rattle.clean_bodies.specs.Clean.{AreZeros, between, IsCleanKind, IsCleanBlock}
-use Rattle.clean_walk.specs.Values.{AreCleanValues, IsCleanRow}
+use Rattle.clean_walk.specs.inner.Values.{AreCleanValues, IsCleanRow}
 use Rattle.clean_walk.proofs.Gaps.{block_clean}
 
 -- ---- one row

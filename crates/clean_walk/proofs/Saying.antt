@@ -12,7 +12,7 @@ use Rattle.sbe_types.specs.Places.{begin_of, end_past, members_end}
 use Rattle.sbe_wire.specs.Canonical.{dimension_numbers}
 use Rattle.clean_bodies.specs.Clean.{AreZeros, between}
 use Rattle.clean_bodies.specs.Says.{SaysNumber, SayNumbers}
-use Rattle.clean_walk.specs.Heads.{GroupSays}
+use Rattle.clean_walk.specs.inner.Heads.{GroupSays}
 
 -- a member that was read as a number
 pub past_leaf : (e : ℕ) (m : Member) (leaf : LeafOf) → m.kind ≡ Leaf leaf → leaf.length ≡ 1

@@ -1,3 +1,1 @@
-pub mod Heads
-pub mod Places
-pub mod Values
+pub mod inner

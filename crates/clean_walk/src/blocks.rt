@@ -2,7 +2,7 @@
 ghost use Rattle.std.specs.Prelude.{◌≡◌, ◌≤◌, true, length, IfSome};
 ghost use Rattle.flat_rows.specs.Tables.{stands_for, IsRow, IsTable};
 ghost use Rattle.clean_bodies.specs.Clean.{IsCleanKind, IsCleanLeaf};
-ghost use Rattle.clean_walk.specs.Values.{AreCleanValues, IsCleanRow};
+ghost use Rattle.clean_walk.specs.inner.Values.{AreCleanValues, IsCleanRow};
 
 use crate::zeros::{is_clean_text, is_zero};
 use flat_rows::{FlatRow, FlatRows};

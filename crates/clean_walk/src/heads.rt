@@ -2,7 +2,7 @@
 ghost use Rattle.std.specs.Prelude.{◌≡◌, ◌≤◌, length, IfSome};
 ghost use Rattle.sbe_types.specs.Places.{end_past, members_end};
 ghost use Rattle.clean_bodies.specs.Says.{SaysNumber, SayNumbers};
-ghost use Rattle.clean_walk.specs.Heads.{number_of_name};
+ghost use Rattle.clean_walk.specs.inner.Heads.{number_of_name};
 
 use crate::names::is_same;
 use crate::places::{begin_of, natural_at};

@@ -11,8 +11,8 @@ ghost use Rattle.clean_bodies.specs.Bodies.{IsCanonicalOf, IsCanonicalRoot};
 ghost use Rattle.clean_bodies.specs.Good.{IsGoodGroup, IsGoodLevel};
 ghost use Rattle.clean_bodies.specs.Steps.{EntryStep, GroupStep, PartStep};
 ghost use Rattle.clean_bodies.specs.Whole.{Chain, Times};
-ghost use Rattle.clean_walk.specs.Heads.{GroupSays};
-ghost use Rattle.clean_walk.specs.Places.{place_in};
+ghost use Rattle.clean_walk.specs.inner.Heads.{GroupSays};
+ghost use Rattle.clean_walk.specs.inner.Places.{place_in};
 
 use crate::blocks::is_clean_block;
 use crate::heads::{Numbers, count_in, end_said};

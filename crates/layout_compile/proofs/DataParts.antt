@@ -8,7 +8,7 @@ use Rattle.schema_facts.specs.Levels.{Node, all_nodes}
 use Rattle.layout_tables.specs.declared.rows.LevelRow.{LevelRow}
 use Rattle.layout_tables.specs.declared.rows.PartPlace.{PartPlace}
 use Rattle.layout_tables.specs.Rowed.{part_row}
-use Rattle.layout_compile.specs.Grown.{RowsAre, Grown}
+use Rattle.layout_compile.specs.inner.Grown.{RowsAre, Grown}
 use Rattle.layout_tables.specs.Parts.{part_counts, firsts_from, places_in, places_from}
 use Rattle.layout_tables.proofs.Items.{long_map, map_more}
 

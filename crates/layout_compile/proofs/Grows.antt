@@ -18,7 +18,7 @@ use Rattle.schema_facts.specs.Measured.{AreMeasured, AreNarrowFields, IsNarrow, 
 use Rattle.schema_facts.specs.CheckedLevels.{HasKinds}
 use Rattle.schema_facts.specs.IsChecked.{IsChecked}
 use Rattle.layout_tables.specs.Rowed.{RowIs, FieldIs, FieldsAre, DimOf, AreRows, rows_floor, roots_from}
-use Rattle.layout_compile.specs.Grown.{RowsAre, Grown, Pushed, IsOrdered, AreOrdered}
+use Rattle.layout_compile.specs.inner.Grown.{RowsAre, Grown, Pushed, IsOrdered, AreOrdered}
 use Rattle.layout_tables.proofs.Nodes.{nodes_open, open_group, flat_more}
 use Rattle.layout_tables.proofs.Told.{floor_rows}
 

@@ -3,7 +3,7 @@ ghost use Rattle.std.specs.Prelude.{◌≡◌, IfOk};
 ghost use Rattle.sbe_types.specs.declared.schema.Level.{out-Level};
 ghost use Rattle.schema_facts.specs.Measured.{AreNarrowFields};
 ghost use Rattle.layout_tables.specs.Flats.{IsFlat};
-ghost use Rattle.layout_compile.specs.Grown.{AreInOrder};
+ghost use Rattle.layout_compile.specs.inner.Grown.{AreInOrder};
 
 use flat_rows::{FlatRows, flat_rows_of};
 use sbe_types::{Level, NoMem};

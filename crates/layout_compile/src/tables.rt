@@ -9,7 +9,7 @@ ghost use Rattle.sbe_types.specs.Places.{is_const};
 ghost use Rattle.schema_facts.specs.IsChecked.{IsChecked};
 ghost use Rattle.schema_facts.specs.Measured.{AreNarrowFields, IsNarrow, EndsWithin, HasCounter, IsDimension, IsHeader};
 ghost use Rattle.layout_tables.specs.Rowed.{as_spot, DimIs, FieldIs, FieldsAre, HeaderIs, IsTwoBytes, SpotIs, newest_of, part_row, roots_from};
-ghost use Rattle.layout_compile.specs.Grown.{Grown, LevelIs, Pushed, AreInOrder, AreOrdered};
+ghost use Rattle.layout_compile.specs.inner.Grown.{Grown, LevelIs, Pushed, AreInOrder, AreOrdered};
 ghost use Rattle.layout_tables.specs.Tables.{AreTables};
 
 use crate::flats::level_flat;

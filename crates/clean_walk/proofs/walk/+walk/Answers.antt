@@ -7,8 +7,8 @@ use Rattle.body_walk.proofs.Opens.{child_next, level_within}
 use Rattle.clean_bodies.specs.Steps.{EntryStep, GroupStep, PartStep}
 use Rattle.clean_bodies.specs.Whole.{Chain, Times}
 use Rattle.clean_bodies.proofs.Chains.{chain_done, chain_more, times_more}
-use Rattle.clean_walk.specs.Heads.{GroupSays}
-use Rattle.clean_walk.specs.Places.{place_in}
+use Rattle.clean_walk.specs.inner.Heads.{GroupSays}
+use Rattle.clean_walk.specs.inner.Places.{place_in}
 use Rattle.clean_walk.proofs.Entries.{if_more, parts_good, group_good, entry_walked, group_walked}
 use Rattle.clean_walk.proofs.Rows.{table_there, block_size, block_there, child_of}
 use Rattle.clean_walk.proofs.walk.+walk.Goals as goal

@@ -5,7 +5,7 @@ use Rattle.schema_facts.specs.Levels.{all_nodes}
 use Rattle.layout_tables.proofs.GroupWalk.{GroupsFrom}
 use Rattle.clean_bodies.specs.Steps.{EntryStep, GroupStep}
 use Rattle.clean_bodies.proofs.Chains.{Leads, LeadsTimes}
-use Rattle.clean_walk.specs.Places.{place_in}
+use Rattle.clean_walk.specs.inner.Places.{place_in}
 use Rattle.clean_walk.proofs.walk.+walk.Given as goal
 
 abbrev pub invariant-groups_end-loop-group : goal.invariant-groups_end-loop-group

@@ -1,6 +1,6 @@
 use Rattle.std.proofs.Common.{◌+◌, ◌-◌, take, drop, sym, ap, ◌∙◌}
 use Rattle.sbe_types.specs.Numbers.{number_of}
-use Rattle.clean_walk.specs.Places.{place_in}
+use Rattle.clean_walk.specs.inner.Places.{place_in}
 use Rattle.clean_walk.proofs.Parts.{part_ends}
 use Rattle.clean_walk.proofs.walk.part_end.Goals as goal
 

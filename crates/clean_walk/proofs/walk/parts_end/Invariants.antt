@@ -2,7 +2,7 @@ use Rattle.std.proofs.Common.{◌≤◌, length}
 use Rattle.sbe_types.specs.declared.schema.DataField.{DataField}
 use Rattle.clean_bodies.specs.Steps.{PartStep}
 use Rattle.clean_bodies.proofs.Chains.{Leads}
-use Rattle.clean_walk.specs.Places.{place_in}
+use Rattle.clean_walk.specs.inner.Places.{place_in}
 use Rattle.clean_walk.proofs.walk.parts_end.Given as goal
 
 abbrev pub invariant-loop-part : goal.invariant-loop-part

@@ -1,7 +1,7 @@
 use Rattle.std.proofs.Common.{ap, sym, subst, ◌∙◌}
 use Rattle.schema_facts.specs.Measured.{AreNarrowFields}
 use Rattle.flat_rows.specs.Scalars.{scalars_of}
-use Rattle.layout_compile.specs.Grown.{AreInOrder}
+use Rattle.layout_compile.specs.inner.Grown.{AreInOrder}
 use Rattle.layout_compile.proofs.flats.level_flat.Goals as goal
 
 pub flat_rows_of-requires-clause-order : goal.flat_rows_of-requires-clause-order

@@ -2,7 +2,7 @@ use Rattle.std.proofs.Common.{◌≡◌, length, ap, arith, subst, sym}
 use Rattle.std.specs.Prelude.{flat_map}
 use Rattle.sbe_types.specs.declared.schema.Level.{out-Level}
 use Rattle.schema_facts.specs.Levels.{nodes_of}
-use Rattle.layout_compile.specs.Grown.{Grown, LevelIs, AreOrdered}
+use Rattle.layout_compile.specs.inner.Grown.{Grown, LevelIs, AreOrdered}
 use Rattle.layout_compile.proofs.Grows.{below_more, group_measured, long_level, fewer}
 use Rattle.layout_compile.proofs.tables.+push.Goals as goal
 

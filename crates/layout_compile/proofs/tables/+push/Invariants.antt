@@ -1,7 +1,7 @@
 use Rattle.std.proofs.Common.{◌+◌, ◌*◌, length, take, drop, None}
 use Rattle.std.specs.Prelude.{flat_map}
 use Rattle.schema_facts.specs.Levels.{nodes, nodes_of}
-use Rattle.layout_compile.specs.Grown.{Grown, AreOrdered}
+use Rattle.layout_compile.specs.inner.Grown.{Grown, AreOrdered}
 use Rattle.layout_compile.proofs.tables.+push.Given as goal
 
 abbrev pub decreases-push_level : goal.decreases-push_level

@@ -1,6 +1,6 @@
 use Rattle.std.proofs.Common.{◌≡◌, length, take, drop}
 use Rattle.schema_facts.specs.Levels.{nodes_from}
-use Rattle.layout_compile.specs.Grown.{Grown, AreOrdered}
+use Rattle.layout_compile.specs.inner.Grown.{Grown, AreOrdered}
 use Rattle.layout_tables.specs.Rowed.{roots_from}
 use Rattle.layout_compile.proofs.tables.push_roots.Given as goal
 

@@ -5,7 +5,7 @@ use Rattle.schema_facts.specs.Levels.{nodes_from, all_nodes}
 use Rattle.layout_tables.specs.Parts.{part_counts, firsts_from, places_from}
 use Rattle.layout_compile.proofs.DataParts.{counts_of, grown_counts}
 use Rattle.layout_tables.specs.Rowed.{roots_from}
-use Rattle.layout_compile.specs.Grown.{Grown, AreOrdered}
+use Rattle.layout_compile.specs.inner.Grown.{Grown, AreOrdered}
 use Rattle.layout_tables.specs.Tables.{AreIds}
 use Rattle.layout_compile.proofs.Grows.{are_rows, levels_ordered}
 use Rattle.layout_compile.proofs.tables.tables_of.Goals as goal

@@ -1,0 +1,4 @@
+-- Definitions that only inner clauses cite.
+pub mod Heads
+pub mod Places
+pub mod Values

@@ -1,0 +1,2 @@
+-- Definitions that only inner clauses cite.
+pub mod Grown
