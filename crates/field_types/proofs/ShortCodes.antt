@@ -1,19 +1,19 @@
 -- The codes of a mapping that was read have 1 to 64 bytes, and so the datatypes of its fields keep what the rules ask.
-use Rattle.std.proofs.Common.{◌≡◌, ℕ, ◌+◌, Bool, true, false, cond, List, [], ◌∷◌, ◌++◌, Option, Some, None, Ok, arith, refl, codes}
-use Rattle.std.specs.Prelude.{⊤, ◌&&◌, map, flat_map, nat_le, nat_lt, length, decimal, option_to_list, is_some, if◌then◌else◌}
+use Rattle.std.proofs.Common.{◌≡◌, ℕ, Bool, true, false, cond, List, [], ◌∷◌, Some, None, Ok, arith, refl, codes}
+use Rattle.std.specs.Prelude.{◌&&◌, map, flat_map, nat_le, nat_lt, length, is_some, if◌then◌else◌}
 use Rattle.std.specs.List.{list_all, AllByRecursion}
 use Rattle.std.specs.Str.{bytes_eq}
 use Rattle.std.proofs.lemmas.Bool.Decides.{nat_tests}
-use Rattle.serde_json.specs.Data.{Data, Items, no_items, item}
-use Rattle.json_elements.specs.Reading.{Reading, refusal, ◌>>=◌, refuse, inside, at_child}
+use Rattle.serde_json.specs.Data.{Data}
+use Rattle.json_elements.specs.Reading.{Reading, refusal, ◌>>=◌, refuse, inside}
 use Rattle.json_elements.specs.Forms.{text as a_text}
 use Rattle.json_elements.specs.Attributes.{needed}
 use Rattle.json_elements.specs.Elements.{content, named}
 use Rattle.json_elements.specs.Files.{value_of}
-use Rattle.json_elements.specs.KnownChildren.{Reads, known_children, no_child}
+use Rattle.json_elements.specs.KnownChildren.{known_children, no_child}
 use Rattle.json_elements.specs.declared.refusal.Cause.TheVariants.{Shape, BadAttribute}
-use Rattle.sbe_schema.proofs.InForm.{Yields, ok_yields, err_yields, then_yields, inside_yields, needed_yields}
-use Rattle.sbe_schema.proofs.TypesInForm.{named_yields}
+use Rattle.json_elements.proofs.Yields.{Yields, ok_yields, err_yields, then_yields, inside_yields, needed_yields, named_yields, IfRead, all_append, children_yield}
+use Rattle.map_elements.proofs.KnownMembers.{members_yield, known_yields}
 use Rattle.bridge_rules.proofs.BoolLemmas.{and_so}
 use Rattle.map_types.specs.declared.tree.CodeEl.{CodeEl}
 use Rattle.map_types.specs.declared.tree.CodeSetEl.{CodeSetEl}
@@ -27,7 +27,7 @@ use Rattle.map_elements.specs.declared.element_name.ElementName.TheVariants as e
 use Rattle.map_elements.specs.declared.form.TheConstants.{TEXT_LIMIT}
 use Rattle.map_elements.specs.Names.{element_of, short_in, a_code_value}
 use Rattle.map_elements.specs.Fields.{datatype_child, code_from, code_item, code_child, code_set_from, code_set_item, code_set_child, field_child}
-use Rattle.map_elements.specs.References.{members, known}
+use Rattle.map_elements.specs.References.{members}
 use Rattle.map_elements.specs.Groups.{component_child, group_list_child}
 use Rattle.map_elements.specs.Messages.{message_child}
 use Rattle.map_elements.specs.Repositories.{repository_item, repository_child, repository_from, root, repository_of}
@@ -82,40 +82,6 @@ field_mapped sets f h = set_there sets (is_some f.length_id) f.type_name f.type_
 pub fields_mapped : (sets : List CodeSetEl) (fields : List FieldEl) → AreShort sets → AllByRecursion (λ (d : ℕ × Datatype). IsMapped d.1) (datatypes_of sets fields)
 fields_mapped sets [] h = tt
 fields_mapped sets (f ∷ fs) h = (field_mapped sets f h, fields_mapped sets fs h)
-
--- ---- what is read
-
--- it holds of what was read, if something was
-abbrev IfRead : {A : Type 0} → (A → Type 0) → Option A → Type 0
-IfRead P None = ⊤
-IfRead P (Some x) = P x
-
-all_append : {A : Type 0} (P : A → Type 0) (xs ys : List A) → AllByRecursion P xs → AllByRecursion P ys → AllByRecursion P (xs ++ ys)
-all_append P [] ys a b = b
-all_append P (x ∷ xs) ys a b = (a.0, all_append P xs ys a.1 b)
-
-one_read : {A : Type 0} (P : A → Type 0) (o : Option A) → IfRead P o → AllByRecursion P (option_to_list o)
-one_read P None h = tt
-one_read P (Some x) h = (h, tt)
-
--- each child that is read is so, where each reading of one is
-children_yield : {A : Type 0} (P : A → Type 0) (by : Reads A) → ((before : List A) (name : List ℕ) (d : Data) → Yields (IfRead P) (by before name d)) → (before : List A) → AllByRecursion P before → (i : ℕ) (ds : Items) →
-    Yields (AllByRecursion P) (known_children by before i ds)
-children_yield P by each before all i no_items = ok_yields (AllByRecursion P) before all
-children_yield P by each before all i (item d ds) =
-    then_yields (AllByRecursion P) (at_child i (named (by before) d)) (λ found. known_children by (before ++ option_to_list found) (i + 1) ds) (λ found at.
-    children_yield P by each (before ++ option_to_list found)
-    (all_append P before (option_to_list found) all
-    (one_read P found
-    (inside_yields (IfRead P) (codes "content") (inside (decimal i) (named (by before) d))
-    (inside_yields (IfRead P) (decimal i) (named (by before) d) (named_yields (IfRead P) (by before) d (each before))) found at)))
-    (i + 1) ds)
-
-members_yield : {A : Type 0} (P : A → Type 0) (by : Reads A) → ((before : List A) (name : List ℕ) (d : Data) → Yields (IfRead P) (by before name d)) → (d : Data) → Yields (AllByRecursion P) (members by d)
-members_yield P by each d = then_yields (AllByRecursion P) (content d) (known_children by [] 0) (λ children _. children_yield P by each [] tt 0 children)
-
-known_yields : {A : Type 0} (P : A → Type 0) (name : List ℕ) (read : Reading A) → Yields P read → Yields (IfRead P) (known name read)
-known_yields P name read h = then_yields (IfRead P) (inside name read) (λ x. Ok (Some x)) (λ x at. ok_yields (IfRead P) (Some x) (inside_yields P name read h x at))
 
 -- ---- codes
 

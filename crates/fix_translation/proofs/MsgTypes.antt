@@ -1,20 +1,20 @@
 -- The MsgTypes of a mapping that was read may be values of fields.
-use Rattle.std.proofs.Common.{◌≡◌, ◌≢◌, ℕ, ◌+◌, Bool, true, false, List, [], ◌∷◌, ◌++◌, Option, Some, None, Ok, arith, refl, sym, ap, subst, codes, ◌∙◌}
-use Rattle.std.specs.Prelude.{⊤, ◌&&◌, ◌||◌, map, flat_map, nat_le, nat_eq, length, decimal, option_to_list, if◌then◌else◌}
+use Rattle.std.proofs.Common.{◌≡◌, ◌≢◌, ℕ, Bool, true, false, List, [], ◌∷◌, Option, Some, None, Ok, arith, refl, sym, ap, subst, codes, ◌∙◌}
+use Rattle.std.specs.Prelude.{◌&&◌, ◌||◌, map, flat_map, nat_le, nat_eq, length, if◌then◌else◌}
 use Rattle.std.specs.List.{list_any, AllByRecursion}
 use Rattle.std.specs.Str.{bytes_eq}
 use Rattle.std.proofs.lemmas.Bool.{leb-true}
 use Rattle.std.proofs.lemmas.Slice.Eq.{bytes_eq-Decides}
-use Rattle.serde_json.specs.Data.{Data, Items, no_items, item}
-use Rattle.json_elements.specs.Reading.{Reading, refusal, ◌>>=◌, refuse, inside, at_child}
+use Rattle.serde_json.specs.Data.{Data}
+use Rattle.json_elements.specs.Reading.{Reading, refusal, ◌>>=◌, refuse, inside}
 use Rattle.json_elements.specs.Forms.{text as a_text}
 use Rattle.json_elements.specs.Attributes.{needed}
 use Rattle.json_elements.specs.Elements.{content, named}
 use Rattle.json_elements.specs.Files.{value_of}
-use Rattle.json_elements.specs.KnownChildren.{Reads, known_children}
+use Rattle.json_elements.specs.KnownChildren.{known_children}
 use Rattle.json_elements.specs.declared.refusal.Cause.TheVariants.{Shape, BadAttribute}
-use Rattle.sbe_schema.proofs.InForm.{Yields, ok_yields, err_yields, then_yields, inside_yields, needed_yields}
-use Rattle.sbe_schema.proofs.TypesInForm.{named_yields}
+use Rattle.json_elements.proofs.Yields.{Yields, ok_yields, err_yields, then_yields, inside_yields, needed_yields, named_yields, IfRead, all_append}
+use Rattle.map_elements.proofs.KnownMembers.{members_yield, known_yields}
 use Rattle.tagvalue_codec.specs.Drafts.{IsValue}
 use Rattle.tagvalue_codec.specs.Fields.{soh}
 use Rattle.map_types.specs.declared.tree.MessageEl.{MessageEl}
@@ -27,7 +27,7 @@ use Rattle.map_elements.specs.declared.element_name.ElementName.TheVariants as e
 use Rattle.map_elements.specs.declared.form.TheConstants.{TEXT_LIMIT}
 use Rattle.map_elements.specs.Names.{element_of, short_in, plain_in, a_msg_type}
 use Rattle.map_elements.specs.Fields.{datatype_child, code_set_child, field_child}
-use Rattle.map_elements.specs.References.{members, known}
+use Rattle.map_elements.specs.References.{members}
 use Rattle.map_elements.specs.Groups.{component_child, group_list_child}
 use Rattle.map_elements.specs.Messages.{structure_child, message_from, message_item, message_child}
 use Rattle.map_elements.specs.Repositories.{repository_item, repository_child, repository_from, root, repository_of}
@@ -63,39 +63,6 @@ plain_kept text false h = short_kept text (no_soh text h) (nat_le 1 (length text
 
 kind_yields : (d : Data) → Yields IsValue (a_msg_type d)
 kind_yields d = then_yields IsValue (a_text d) plain_in (λ text _. plain_kept text (list_any (nat_eq 1) text) refl)
-
--- ---- what is read
-
--- it holds of what was read, if something was
-abbrev IfRead : {A : Type 0} → (A → Type 0) → Option A → Type 0
-IfRead P None = ⊤
-IfRead P (Some x) = P x
-
-all_append : {A : Type 0} (P : A → Type 0) (xs ys : List A) → AllByRecursion P xs → AllByRecursion P ys → AllByRecursion P (xs ++ ys)
-all_append P [] ys a b = b
-all_append P (x ∷ xs) ys a b = (a.0, all_append P xs ys a.1 b)
-
-one_read : {A : Type 0} (P : A → Type 0) (o : Option A) → IfRead P o → AllByRecursion P (option_to_list o)
-one_read P None h = tt
-one_read P (Some x) h = (h, tt)
-
-children_yield : {A : Type 0} (P : A → Type 0) (by : Reads A) → ((before : List A) (name : List ℕ) (d : Data) → Yields (IfRead P) (by before name d)) → (before : List A) → AllByRecursion P before → (i : ℕ) (ds : Items) →
-    Yields (AllByRecursion P) (known_children by before i ds)
-children_yield P by each before all i no_items = ok_yields (AllByRecursion P) before all
-children_yield P by each before all i (item d ds) =
-    then_yields (AllByRecursion P) (at_child i (named (by before) d)) (λ found. known_children by (before ++ option_to_list found) (i + 1) ds) (λ found at.
-    children_yield P by each (before ++ option_to_list found)
-    (all_append P before (option_to_list found) all
-    (one_read P found
-    (inside_yields (IfRead P) (codes "content") (inside (decimal i) (named (by before) d))
-    (inside_yields (IfRead P) (decimal i) (named (by before) d) (named_yields (IfRead P) (by before) d (each before))) found at)))
-    (i + 1) ds)
-
-members_yield : {A : Type 0} (P : A → Type 0) (by : Reads A) → ((before : List A) (name : List ℕ) (d : Data) → Yields (IfRead P) (by before name d)) → (d : Data) → Yields (AllByRecursion P) (members by d)
-members_yield P by each d = then_yields (AllByRecursion P) (content d) (known_children by [] 0) (λ children _. children_yield P by each [] tt 0 children)
-
-known_yields : {A : Type 0} (P : A → Type 0) (name : List ℕ) (read : Reading A) → Yields P read → Yields (IfRead P) (known name read)
-known_yields P name read h = then_yields (IfRead P) (inside name read) (λ x. Ok (Some x)) (λ x at. ok_yields (IfRead P) (Some x) (inside_yields P name read h x at))
 
 -- ---- messages
 

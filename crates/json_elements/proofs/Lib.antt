@@ -4,3 +4,4 @@ pub mod Lone
 pub mod Trees
 pub mod Values
 pub mod Wholes
+pub mod Yields

@@ -27,8 +27,9 @@ use Rattle.sbe_schema.specs.Forms.{a_name, a_value_ref, a_presence, a_place, a_b
 use Rattle.sbe_schema.specs.Types.{type_from, enum_from, set_from, composite_from, by_member}
 use Rattle.sbe_schema.specs.Messages.{field_from, data_from, group_from, part_child, by_part, part_of, message_from}
 use Rattle.sbe_schema.specs.Schemas.{types_child, declared, types_from, schema_child, outer_part, declares, outer_parts, message_count, schema_from, root, schema_of}
-use Rattle.sbe_schema.proofs.InForm.{Yields, ok_yields, err_yields, then_yields, inside_yields, needed_yields, each_yields, each_count, at_most_yields, name_yields, within_yields}
-use Rattle.sbe_schema.proofs.TypesInForm.{Keeps, branches_yields, branches_count, tree_yields, members_keep, named_yields, made_yields, type_yields, enum_yields, set_yields, composite_yields, IsInnerInForm}
+use Rattle.json_elements.proofs.Yields.{Yields, ok_yields, err_yields, then_yields, inside_yields, needed_yields, each_yields, each_count, at_most_yields, named_yields}
+use Rattle.sbe_schema.proofs.InForm.{name_yields, within_yields}
+use Rattle.sbe_schema.proofs.TypesInForm.{Keeps, branches_yields, branches_count, tree_yields, members_keep, made_yields, type_yields, enum_yields, set_yields, composite_yields, IsInnerInForm}
 
 -- ---- parts
 

@@ -1,6 +1,6 @@
 -- What the types that are read are like.
 use Rattle.std.proofs.Common.{◌≡◌, ℕ, suc, ◌+◌, ◌≤◌, List, [], ◌∷◌, length, refl, ap, sym, subst, ◌∙◌, arith}
-use Rattle.std.specs.Prelude.{Ok, Err, Option, Some, None, codes, decimal}
+use Rattle.std.specs.Prelude.{Ok, Err, None, codes, decimal}
 use Rattle.std.specs.List.{AllByRecursion}
 use Rattle.std.specs.Ordering.{nat_cmp, match_ordering}
 use Rattle.std.specs.Cmp.Lexicographic.{slice_cmp}
@@ -11,7 +11,7 @@ use Rattle.json_elements.specs.declared.refusal.Cause.TheVariants.{Shape}
 use Rattle.json_elements.specs.Reading.{Reading, refusal, ◌>>=◌, inside, at_child}
 use Rattle.json_elements.specs.Forms.{whole, text, text_or_number}
 use Rattle.json_elements.specs.Attributes.{needed, with_default, optional}
-use Rattle.json_elements.specs.Elements.{items_count, at_most, each, content, no_children, named, named_in, lone, local_name, tree, branches, branches_among, branches_listed, branches_from}
+use Rattle.json_elements.specs.Elements.{items_count, at_most, each, content, no_children, local_name, tree, branches, branches_among, branches_listed, branches_from}
 use Rattle.json_elements.proofs.Trees.{By, branches_each}
 use Rattle.sbe_types.specs.declared.limits.TheConstants.{LENGTH_LIMIT, MEMBER_LIMIT, VALUE_LIMIT}
 use Rattle.sbe_types.specs.declared.tree.ValidValueEl.{ValidValueEl}
@@ -27,7 +27,8 @@ use Rattle.sbe_schema.specs.declared.types.Standing.{Standing}
 use Rattle.sbe_schema.specs.declared.types.Standing.TheVariants.{Declared, Member}
 use Rattle.sbe_schema.specs.Forms.{a_name, a_value_ref, a_primitive, a_presence, a_length, element_of}
 use Rattle.sbe_schema.specs.Types.{offset_from, since_from, type_from, ref_from, valid_value_from, enum_child, valid_value, enum_from, choice_from, set_child, choice, set_from, composite_from, composite_child, by_member}
-use Rattle.sbe_schema.proofs.InForm.{Yields, ok_yields, err_yields, then_yields, inside_yields, needed_yields, default_yields, each_yields, each_count, at_most_yields, name_yields, length_yields, within_yields}
+use Rattle.json_elements.proofs.Yields.{Yields, ok_yields, err_yields, then_yields, inside_yields, needed_yields, default_yields, each_yields, each_count, at_most_yields, named_yields}
+use Rattle.sbe_schema.proofs.InForm.{name_yields, length_yields, within_yields}
 
 offset_yields : (standing : Standing) (d : Data) → Yields IsWithin (offset_from standing d)
 offset_yields Declared d = ok_yields IsWithin None tt
@@ -87,13 +88,6 @@ valid_value_from_yields d =
 enum_child_yields : (name : ElementName) (d : Data) → Yields HasName (enum_child name d)
 enum_child_yields element.ValidValue d = inside_yields HasName (codes "validValue") (valid_value_from d) (valid_value_from_yields d)
 enum_child_yields _ d = err_yields HasName (refusal Shape [])
-
-named_found : {A : Type 0} (P : A → Type 0) (by : List ℕ → Data → Reading A) (o : Option (List ℕ × Data)) → ((name : List ℕ) (d : Data) → Yields P (by name d)) → Yields P (named_in by o)
-named_found P by None h = err_yields P (refusal Shape [])
-named_found P by (Some p) h = h p.0 p.1
-
-pub named_yields : {A : Type 0} (P : A → Type 0) (by : List ℕ → Data → Reading A) (d : Data) → ((name : List ℕ) (inner : Data) → Yields P (by name inner)) → Yields P (named by d)
-named_yields P by d h = named_found P by (lone d) h
 
 value_yields : (d : Data) → Yields HasName (valid_value d)
 value_yields d = named_yields HasName (λ name. enum_child (element_of name)) d (λ name inner. enum_child_yields (element_of name) inner)
