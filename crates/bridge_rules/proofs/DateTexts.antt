@@ -44,32 +44,32 @@ use Rattle.bridge_rules.proofs.ReadBack.{back_shown, none_shown}
 
 -- ---- texts without SOH
 
-plain_places : (places n : ℕ) → has_soh (digits places n) ≡ false
+pub plain_places : (places n : ℕ) → has_soh (digits places n) ≡ false
 unfolding digits
 plain_places zero n = refl
 plain_places (suc places) n =
     let digit : (48 + n % 10 == 1) ≡ false = grind (arith, nat_tests) in
     plain_append (digits places (n / 10)) ((48 + n % 10) ∷ []) (plain_places places (n / 10)) (none_of (48 + n % 10 == 1) false digit refl)
 
-plain_day : (day : Day) → has_soh (day_text day) ≡ false
+pub plain_day : (day : Day) → has_soh (day_text day) ≡ false
 plain_day day = plain_append (digits 4 day.year) _ (plain_places 4 day.year) (plain_append (digits 2 day.month) (digits 2 day.day) (plain_places 2 day.month) (plain_places 2 day.day))
 
 plain_fraction : (places f : ℕ) → has_soh (fraction_text places f) ≡ false
 plain_fraction zero f = refl
 plain_fraction (suc places) f = plain_places (suc places) f
 
-plain_clock : (clock : Clock) → has_soh (clock_text clock) ≡ false
+pub plain_clock : (clock : Clock) → has_soh (clock_text clock) ≡ false
 plain_clock clock =
     plain_append (digits 2 clock.hour) _ (plain_places 2 clock.hour)
     (plain_append (digits 2 clock.minute) _ (plain_places 2 clock.minute)
     (plain_append (digits 2 clock.second) (fraction_text clock.places clock.fraction) (plain_places 2 clock.second) (plain_fraction clock.places clock.fraction)))
 
-plain_part : (p : Part) → has_soh (part_text p) ≡ false
+pub plain_part : (p : Part) → has_soh (part_text p) ≡ false
 plain_part part.Whole = refl
 plain_part (part.Day day) = plain_places 2 day
 plain_part (part.Week week) = plain_places 1 week
 
-some_digits : (places n : ℕ) → 0 < places → 0 < length (digits places n)
+pub some_digits : (places n : ℕ) → 0 < places → 0 < length (digits places n)
 some_digits places n h = omega (arith, h, length_digits places n)
 
 -- a text with this text in front, or alone, may be a field's

@@ -1,8 +1,8 @@
 -- Digits to the base 16, and bytes that stand for themselves.
-use Rattle.std.proofs.Common.{◌≡◌, ℕ, zero, suc, ◌<◌, ◌/◌, ◌%◌, ◌==◌, ◌&&◌, ◌||◌, not, Bool, true, false, List, [], ◌∷◌, ◌++◌, length, nat_lt, slice_index, refl, sym, ap, ap₂, ◌∙◌, subst, arith, append_assoc, inl, inr}
+use Rattle.std.proofs.Common.{◌≡◌, ℕ, suc, ◌<◌, ◌/◌, ◌%◌, ◌==◌, ◌&&◌, ◌||◌, not, Bool, true, false, List, [], ◌∷◌, ◌++◌, length, nat_lt, slice_index, refl, sym, ap, ap₂, ◌∙◌, subst, arith, append_assoc}
 use Rattle.std.specs.Prelude.{codes}
 use Rattle.std.specs.List.{list_all}
-use Rattle.std.proofs.lemmas.Bool.{and_parts, cases_lt}
+use Rattle.std.proofs.lemmas.Bool.{and_parts}
 use Rattle.std.proofs.lemmas.Bool.Decides.{nat_tests}
 use Rattle.hex.specs.Hex.{encode_with, encode_lower, lower_digits}
 use Rattle.json.specs.Print.{escape, escape_byte}
@@ -12,6 +12,7 @@ use Rattle.sbe_types.specs.declared.kind.Named.{Named}
 use Rattle.sbe_types.specs.declared.kind.Primitive.{Primitive}
 use Rattle.schema_facts.specs.InOrder.{IsConstantInOrder}
 use Rattle.sbe_types.specs.InForm.{IsName, is_letter, is_name_byte}
+use Rattle.json_values.proofs.Plainly.{below_at}
 use Rattle.json_rows.specs.Texts.{hex_text, is_seen}
 
 -- ---- names
@@ -36,22 +37,6 @@ pub code_seen : (c : ConstValue) (prim : Primitive) (named : Named) → c ≡ co
 code_seen c prim named is h = name_seen named.name (subst IsConstantInOrder is h).name
 
 -- ---- digits
-
--- a test of the first n places
-abbrev all_below : (ℕ → Bool) → ℕ → Bool
-all_below p zero = true
-all_below p (suc n) = p n && all_below p n
-
-below_at : (p : ℕ → Bool) (n k : ℕ) → all_below p n ≡ true → k < n → p k ≡ true
-below_at p zero k h lt = absurd (omega arith)
-below_at p (suc n) k h lt =
-    let parts = and_parts (p n) (all_below p n) h in
-    elim (cases_lt k n) [
-      | inl below ↦ below_at p n k parts.1 below
-      | inr top ↦
-          let e : k ≡ n = omega arith in
-          rw e parts.0
-    ]
 
 -- a byte that stands for itself in a string
 abbrev is_itself : ℕ → Bool

@@ -61,11 +61,11 @@ shows_hex bytes h w = reprinted (hex_by bytes h) w
 -- ---- digits to the base 16
 
 -- a test of the first n places
-abbrev all_below : (ℕ → Bool) → ℕ → Bool
+abbrev pub all_below : (ℕ → Bool) → ℕ → Bool
 all_below p zero = true
 all_below p (suc n) = p n && all_below p n
 
-below_at : (p : ℕ → Bool) (n k : ℕ) → all_below p n ≡ true → k < n → p k ≡ true
+pub below_at : (p : ℕ → Bool) (n k : ℕ) → all_below p n ≡ true → k < n → p k ≡ true
 below_at p zero k h lt = absurd (omega arith)
 below_at p (suc n) k h lt =
     let parts = and_parts (p n) (all_below p n) h in

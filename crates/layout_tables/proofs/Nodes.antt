@@ -6,10 +6,11 @@ use denote.Hole.Carrier as carrier
 use Rattle.sbe_types.specs.declared.schema.Level as levels
 use Rattle.sbe_types.specs.declared.schema.Group as groups_of
 use Rattle.sbe_types.specs.declared.kind.Member.{Member}
-use Rattle.sbe_types.specs.declared.schema.Group.{Group, Group', out-Group}
-use Rattle.sbe_types.specs.declared.schema.Level.{Level, Level', out-Level, Row_of-Group, end_of-Group, more_of-Group, items-the_row-Group, items_shown-the_row-Group-0}
+use Rattle.sbe_types.specs.declared.schema.Group.{Group, Group'}
+use Rattle.sbe_types.specs.declared.schema.Level.{Level, Level', out-Level, Row_of-Group, end_of-Group, more_of-Group}
 use Rattle.sbe_types.specs.declared.schema.WireSchema.{WireSchema}
 use Rattle.schema_facts.specs.Levels.{Node, nodes, nodes_below, nodes_of, nodes_from, all_nodes, Stands, node}
+pub use Rattle.schema_facts.proofs.LevelWalk.{nodes_open, open_group}
 use Rattle.layout_tables.proofs.Items.{in_two}
 
 pub stands_more : (a b : List Node) (k : ℕ) (ys : List Node) → Stands a k ys → Stands (a ++ b) k ys
@@ -71,16 +72,6 @@ in_roots t (root ∷ roots) k node h =
 
 -- ---- a level's groups as a list
 
-below_is : (t : ℕ) {n : _} (row : Row_of-Group n) → nodes_below t row ≡ flat_map (nodes_of t) (items-the_row-Group _ row)
-unfolding nodes_below
-below_is t end_of-Group = refl
-below_is t (more_of-Group g rest) = ap (λ l. nodes_of t g ++ l) (below_is t rest)
-
-pub nodes_open : (t : ℕ) (dim : Option (List Member)) (level : Level) → nodes t dim level ≡ node t dim level ∷ flat_map (nodes_of t) (out-Level level).groups
-unfolding nodes levels.out-Level carrier.out
-nodes_open t dim (Level' name id semantic since block_length fields n groups parts) =
-    ap (λ l. node t dim (Level' name id semantic since block_length fields n groups parts) ∷ l) (below_is t groups ∙ ap (flat_map (nodes_of t)) (sym (items_shown-the_row-Group-0 n groups)))
-
 -- the levels of a level's groups stand after it
 pub children : (schema : WireSchema) (n : ℕ) (this : Node) → slice_get (all_nodes schema) n ≡ Some this → Stands (all_nodes schema) (n + 1) (flat_map (nodes_of this.template) (out-Level this.level).groups)
 children schema n this at =
@@ -94,10 +85,6 @@ unfolding nodes_of
 child schema k t (Group' dim level) gs h =
     let opened = subst (λ ys. Stands (all_nodes schema) k (ys ++ flat_map (nodes_of t) gs)) (nodes_open t (Some dim) level) h in
     (dim, level, refl, stands_first (all_nodes schema) k (node t (Some dim) level) _ opened, stands_split (all_nodes schema) k (nodes t (Some dim) level) (flat_map (nodes_of t) gs) h)
-
-pub open_group : (t : ℕ) (g : Group) → nodes_of t g ≡ nodes t (Some (out-Group g).dim) (out-Group g).level
-unfolding nodes_of groups_of.out-Group carrier.out
-open_group t (Group' dim level) = refl
 
 pub flat_more : (t : ℕ) (gs : List Group) (i : ℕ) (g : Group) → i < length gs → g ≡ get_or gs i g → flat_map (nodes_of t) (take (i + 1) gs) ≡ flat_map (nodes_of t) (take i gs) ++ nodes_of t g
 flat_more t [] i g h is = absurd (omega arith)

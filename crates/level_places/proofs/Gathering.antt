@@ -104,7 +104,7 @@ same_bool true false f g = sym (f refl)
 same_bool false true f g = g refl
 same_bool false false f g = refl
 
-nat_turned : (a b : ℕ) → nat_eq a b ≡ nat_eq b a
+pub nat_turned : (a b : ℕ) → nat_eq a b ≡ nat_eq b a
 nat_turned a b =
     same_bool (nat_eq a b) (nat_eq b a) (λ h. ap (nat_eq b) (eqb-true a b h) ∙ eq-eqb b b refl) (λ h. ap (nat_eq a) (eqb-true b a h) ∙ eq-eqb a a refl)
 

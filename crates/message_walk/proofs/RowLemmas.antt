@@ -83,19 +83,19 @@ pub record AtGroup {R : Type 0} (spells : R → Rule → Type 0) (lists : TagLis
       (places_of rest (values_of rest seen.block))
   pub begun : begins p (values_of p seen.block) ≡ false
 
-own_front : {X : Type 0} (xs ys : List X) → take (length xs) (xs ++ ys) ≡ xs
+pub own_front : {X : Type 0} (xs ys : List X) → take (length xs) (xs ++ ys) ≡ xs
 own_front [] ys = refl
 own_front (x ∷ xs) ys = ap (λ zs. x ∷ zs) (own_front xs ys)
 
-own_rest : {X : Type 0} (xs ys : List X) → drop (length xs) (xs ++ ys) ≡ ys
+pub own_rest : {X : Type 0} (xs ys : List X) → drop (length xs) (xs ++ ys) ≡ ys
 own_rest [] ys = refl
 own_rest (x ∷ xs) ys = own_rest xs ys
 
-own_size : {X : Type 0} (xs ys : List X) → length xs ≤ length (xs ++ ys)
+pub own_size : {X : Type 0} (xs ys : List X) → length xs ≤ length (xs ++ ys)
 own_size [] ys = omega arith
 own_size (x ∷ xs) ys = let more = own_size xs ys in omega (arith, more)
 
-slot_sizeless : {R : Type 0} (spells : R → Rule → Type 0) (lead : Option ℕ) (s : Slot) (n : ℕ) (w : Part R) → IsSlotAt spells lead s n w → size_of w ≡ None
+pub slot_sizeless : {R : Type 0} (spells : R → Rule → Type 0) (lead : Option ℕ) (s : Slot) (n : ℕ) (w : Part R) → IsSlotAt spells lead s n w → size_of w ≡ None
 slot_sizeless spells lead s n (part.Field by) is = refl
 slot_sizeless spells lead s n (part.Data own) is = refl
 slot_sizeless spells lead s n (part.Group size) is = absurd is

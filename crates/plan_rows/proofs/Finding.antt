@@ -1,7 +1,6 @@
 -- What a level has of a tag, by the first place of the tag among the ids of its parts.
 use Rattle.std.proofs.Common.{◌≡◌, ℕ, ◌+◌, ◌-◌, ◌≤◌, ◌<◌, zero, suc, Bool, true, false, arith, List, [], ◌∷◌, map, length, Option, Some, None, refl, sym, ap, ◌∙◌, subst}
 use Rattle.std.specs.Prelude.{slice_get, nat_eq, ◌==◌, if◌then◌else◌}
-use Rattle.std.proofs.lemmas.Bool.{eqb-true, eq-eqb}
 use Rattle.std.proofs.lemmas.Option.{same_Some}
 use Rattle.std.specs.List.{All}
 use Rattle.std.proofs.lemmas.List.Elements.{All-head, All-tail}
@@ -18,6 +17,7 @@ use Rattle.bridge_plan.specs.Covers.{field_slot, data_slot, group_of, group_tag,
 use Rattle.bridge_plan.proofs.PlanParts.{groups_same}
 use Rattle.bridge_cover.specs.Kinds.{GroupHasKinds, HasKindsInOrder}
 use Rattle.bridge_cover.proofs.Kinded.{group_kinds, inner_kinds}
+use Rattle.level_places.proofs.Gathering.{nat_turned}
 use Rattle.plan_rows.specs.Found.{group_id, field_slot_by, data_slot_by}
 
 -- ---- the first of a tag
@@ -26,16 +26,6 @@ use Rattle.plan_rows.specs.Found.{group_id, field_slot_by, data_slot_by}
 abbrev first_with : {X Y : Type 0} → (X → ℕ) → ℕ → (ℕ → X → Option Y) → ℕ → List X → Option Y
 first_with id tag make k [] = None
 first_with id tag make k (x ∷ xs) = if id x == tag then make k x else first_with id tag make (suc k) xs
-
-same_bool : (p q : Bool) → (p ≡ true → q ≡ true) → (q ≡ true → p ≡ true) → p ≡ q
-same_bool true true f g = refl
-same_bool true false f g = sym (f refl)
-same_bool false true f g = g refl
-same_bool false false f g = refl
-
-nat_turned : (a b : ℕ) → nat_eq a b ≡ nat_eq b a
-nat_turned a b =
-    same_bool (nat_eq a b) (nat_eq b a) (λ h. ap (nat_eq b) (eqb-true a b h) ∙ eq-eqb b b refl) (λ h. ap (nat_eq a) (eqb-true b a h) ∙ eq-eqb a a refl)
 
 next_number : (k : ℕ) → suc k ≡ k + 1
 next_number k = omega arith

@@ -36,7 +36,7 @@ header_reads n = so_many_or header_fault n
 
 -- ---- the message of an id
 
-named_id : (i id : ℕ) (levels : List Level) (m : ℕ × Level) → message_named i id levels ≡ Some m → (out-Level m.1).id ≡ id
+pub named_id : (i id : ℕ) (levels : List Level) (m : ℕ × Level) → message_named i id levels ≡ Some m → (out-Level m.1).id ≡ id
 named_id i id [] m h = cc
 named_id i id (l ∷ ls) m h = pick ((out-Level l).id == id) refl h (λ k. named_id (suc i) id ls m k)
   where

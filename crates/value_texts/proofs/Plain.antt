@@ -1,10 +1,9 @@
 -- The texts of values have some bytes and no SOH.
-use Rattle.std.proofs.Common.{◌≡◌, ◌<◌, ℕ, zero, suc, ◌+◌, ◌/◌, ◌%◌, Bool, true, false, cond, List, [], ◌∷◌, ◌++◌, length, Option, Some, None, Result, Ok, Err, refl, sym, ap, subst, arith, ℤ, pos, FitsSigned}
+use Rattle.std.proofs.Common.{◌≡◌, ◌<◌, ℕ, zero, suc, ◌+◌, Bool, true, false, cond, List, [], ◌∷◌, ◌++◌, length, Option, Some, None, Result, Ok, Err, refl, sym, ap, subst, arith, ℤ, pos, FitsSigned}
 use Rattle.std.specs.Prelude.{◌||◌, ◌==◌}
 use Rattle.std.specs.Int.{w128}
 use Rattle.std.specs.Fmt.{signed_decimal}
 use Rattle.std.specs.Ordering.{int_eq}
-use Rattle.std.proofs.lemmas.Bool.Decides.{nat_tests}
 use Rattle.sbe_types.specs.declared.kind.Leaf.{Leaf as LeafOf}
 use Rattle.sbe_types.specs.declared.kind.Named.{Named}
 use Rattle.sbe_types.specs.declared.kind.Primitive.TheVariants.{I64}
@@ -18,16 +17,12 @@ use Rattle.fix_values.specs.declared.rule.NumRule.TheVariants as rule
 use Rattle.fix_values.specs.Decimals.{dec, decimal_of, decimal_text}
 use Rattle.fix_values.specs.Codes.{has_soh, spaced_texts, codes_in, bits_of, set_text, boolean_text, boolean_shown, truth_text}
 use Rattle.fix_values.specs.Values.{can_show, char_text, text_of, text_shown}
-use Rattle.fix_dates.specs.declared.calendar.Day.{Day}
-use Rattle.fix_dates.specs.declared.clock.Clock.{Clock}
 use Rattle.fix_dates.specs.declared.month.MonthYear.{MonthYear}
-use Rattle.fix_dates.specs.declared.month.Part.{Part}
 use Rattle.fix_dates.specs.declared.month.Part.TheVariants as part
 use Rattle.fix_dates.specs.Digits.{digits}
 use Rattle.fix_dates.specs.Days.{day_text}
 use Rattle.fix_dates.specs.Clocks.{clock_text, fraction_text}
 use Rattle.fix_dates.specs.Months.{part_text}
-use Rattle.fix_dates.proofs.DigitFacts.{length_digits}
 use Rattle.date_answers.specs.Answers.{day_shown}
 use Rattle.date_answers.proofs.Shown.{day_spelled, month_spelled, time_spelled, stamp_spelled}
 use Rattle.tagvalue_codec.specs.Drafts.{IsValue}
@@ -43,6 +38,7 @@ use Rattle.bridge_rules.proofs.PlainRules.{err_ok}
 use Rattle.bridge_rules.proofs.ReadBack.{if_back_is}
 use Rattle.bridge_rules.proofs.ShownTexts.{plain_append, long_front, integer_given, decimal_given, code_plain}
 use Rattle.message_walk.proofs.Values.{plain_value}
+use Rattle.bridge_rules.proofs.DateTexts.{plain_places, plain_day, plain_clock, plain_part, some_digits}
 
 -- some bytes, none of them SOH
 pub record IsPlain (t : List ℕ) : Type 0 where
@@ -128,34 +124,6 @@ floating_plain mantissa exponent (Some e) m fits t h =
     decimal_plain m e fits t (if_back_is (λ t. decimal_in_types mantissa exponent (decimal_of t)) (decimal_text (dec m e)) t h)
 
 -- ---- days, moments and months
-
-plain_places : (places n : ℕ) → has_soh (digits places n) ≡ false
-unfolding digits
-plain_places zero n = refl
-plain_places (suc places) n =
-    let digit : (48 + n % 10 == 1) ≡ false = grind (arith, nat_tests) in
-    plain_append (digits places (n / 10)) ((48 + n % 10) ∷ []) (plain_places places (n / 10)) (none_of (48 + n % 10 == 1) false digit refl)
-
-plain_day : (day : Day) → has_soh (day_text day) ≡ false
-plain_day day = plain_append (digits 4 day.year) _ (plain_places 4 day.year) (plain_append (digits 2 day.month) (digits 2 day.day) (plain_places 2 day.month) (plain_places 2 day.day))
-
-plain_fraction : (places f : ℕ) → has_soh (fraction_text places f) ≡ false
-plain_fraction zero f = refl
-plain_fraction (suc places) f = plain_places (suc places) f
-
-plain_clock : (clock : Clock) → has_soh (clock_text clock) ≡ false
-plain_clock clock =
-    plain_append (digits 2 clock.hour) _ (plain_places 2 clock.hour)
-    (plain_append (digits 2 clock.minute) _ (plain_places 2 clock.minute)
-    (plain_append (digits 2 clock.second) (fraction_text clock.places clock.fraction) (plain_places 2 clock.second) (plain_fraction clock.places clock.fraction)))
-
-plain_part : (p : Part) → has_soh (part_text p) ≡ false
-plain_part part.Whole = refl
-plain_part (part.Day day) = plain_places 2 day
-plain_part (part.Week week) = plain_places 1 week
-
-some_digits : (places n : ℕ) → 0 < places → 0 < length (digits places n)
-some_digits places n h = omega (arith, h, length_digits places n)
 
 -- a text with this text in front
 plain_front : (t s more : List ℕ) → t ≡ s ++ more → 0 < length s → has_soh (s ++ more) ≡ false → IsPlain t

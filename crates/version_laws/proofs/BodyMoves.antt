@@ -1,6 +1,6 @@
 -- Bodies of schemas that stand to each other.
-use Rattle.std.proofs.Common.{◌≡◌, ◌⊎◌, inl, inr, ℕ, suc, ◌<◌, ◌≤◌, Bool, true, false, cond, List, [], ◌∷◌, ◌++◌, length, Option, Some, None, refl, sym, ap, ◌∙◌, subst, arith, append_assoc}
-use Rattle.std.specs.Prelude.{IsTrue, not, ◌||◌, ◌==◌, min, nat_le, nat_lt, codes, slice_get}
+use Rattle.std.proofs.Common.{◌≡◌, ◌⊎◌, inl, inr, ℕ, ◌<◌, ◌≤◌, Bool, true, false, List, ◌++◌, length, Option, Some, None, refl, sym, ap, ◌∙◌, subst, arith, append_assoc}
+use Rattle.std.specs.Prelude.{IsTrue, not, ◌||◌, min, nat_le, nat_lt, codes, slice_get}
 use Rattle.std.proofs.lemmas.Bool.Decides.{nat_tests}
 use Rattle.sbe_types.specs.declared.schema.Level.{Level, out-Level}
 use Rattle.sbe_types.specs.declared.schema.WireSchema.{WireSchema}
@@ -12,7 +12,7 @@ use Rattle.sbe_wire.specs.Versions.{acting, is_known, mode_of}
 use Rattle.sbe_wire.specs.Lays.{HeaderLays, BlockLays, TailLays, Lays}
 use Rattle.sbe_wire.specs.Faults.{message_named}
 use Rattle.sbe_wire.specs.Placed.{IsPlaced, IsPlacedLevel}
-use Rattle.sbe_wire.proofs.Messages.{named_is}
+use Rattle.sbe_wire.proofs.Messages.{named_is, named_id}
 use Rattle.version_laws.specs.Projected.{projected, lifted, projected_block, lifted_block, with_block, projected_from, lifted_from}
 use Rattle.version_laws.specs.Plain.{Plain}
 use Rattle.version_laws.proofs.Stands.{Lists, Listed, LevelStands, SchemaStands}
@@ -25,14 +25,6 @@ use Rattle.version_laws.proofs.Tests.{listed_too, same_listed}
 
 some_is : {A : Type 0} {x y : A} → ◌≡◌ {A = Option A} (Some x) (Some y) → x ≡ y
 some_is h = cc
-
-named_id : (i id : ℕ) (levels : List Level) (m : ℕ × Level) → message_named i id levels ≡ Some m → (out-Level m.1).id ≡ id
-named_id i id [] m h = cc
-named_id i id (l ∷ ls) m h = pick ((out-Level l).id == id) refl h (λ k. named_id (suc i) id ls m k)
-  where
-    pick : (t : Bool) → ((out-Level l).id == id) ≡ t → cond t (Some (i, l)) (message_named (suc i) id ls) ≡ Some m → (message_named (suc i) id ls ≡ Some m → (out-Level m.1).id ≡ id) → (out-Level m.1).id ≡ id
-    pick true e k more = ap (λ p. (out-Level p.1).id) (sym (some_is k)) ∙ grind (arith, nat_tests)
-    pick false e k more = more k
 
 -- ---- versions
 

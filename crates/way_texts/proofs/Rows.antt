@@ -6,12 +6,12 @@ use Rattle.sbe_types.specs.declared.schema.Level.{Level, out-Level}
 use Rattle.bridge_rules.specs.Rules.{Rule}
 use Rattle.bridge_terms.specs.Parts.{TagLists}
 use Rattle.bridge_terms.specs.Places.{Way}
-use Rattle.bridge_terms.specs.Plans.{Plan, Slot, Repeat, done, single, group}
+use Rattle.bridge_terms.specs.Plans.{Plan, Repeat, done, single, group}
 use Rattle.bridge_terms.specs.MessageFields.{length_in}
 use Rattle.message_walk.specs.declared.plan.PlanRow.{PlanRow}
-use Rattle.message_walk.specs.declared.plan.Part.{Part}
 use Rattle.message_walk.specs.declared.plan.Part.TheVariants as part
 use Rattle.message_walk.specs.Rows.{AreRows, IsSlotAt, size_of}
+use Rattle.message_walk.proofs.RowLemmas.{own_front, own_rest, own_size, slot_sizeless}
 use Rattle.way_texts.specs.WayTexts.{data_name, field_name, first_text, group_text, inside_text, part_text, place_name, FromPart}
 
 cons_is : {A : Type 0} {x y : A} {xs ys : List A} → ◌≡◌ {A = List A} (x ∷ xs) (y ∷ ys) → (x ≡ y) × (xs ≡ ys)
@@ -25,23 +25,6 @@ some_is h = cc
 
 none_some : {A : Type 0} {x : A} {o : Option A} → o ≡ None → o ≡ Some x → ⊥
 none_some none some = cc
-
-own_front : {X : Type 0} (xs ys : List X) → take (length xs) (xs ++ ys) ≡ xs
-own_front [] ys = refl
-own_front (x ∷ xs) ys = ap (λ zs. x ∷ zs) (own_front xs ys)
-
-own_rest : {X : Type 0} (xs ys : List X) → drop (length xs) (xs ++ ys) ≡ ys
-own_rest [] ys = refl
-own_rest (x ∷ xs) ys = own_rest xs ys
-
-own_size : {X : Type 0} (xs ys : List X) → length xs ≤ length (xs ++ ys)
-own_size [] ys = omega arith
-own_size (x ∷ xs) ys = let more = own_size xs ys in omega (arith, more)
-
-slot_sizeless : {R : Type 0} (spells : R → Rule → Type 0) (lead : Option ℕ) (s : Slot) (n : ℕ) (w : Part R) → IsSlotAt spells lead s n w → size_of w ≡ None
-slot_sizeless spells lead s n (part.Field by) is = refl
-slot_sizeless spells lead s n (part.Data own) is = refl
-slot_sizeless spells lead s n (part.Group size) is = absurd is
 
 module _ {R : Type 0} (spells : R → Rule → Type 0) (lists : TagLists) where
   -- a plan whose first row is a group's with so many rows of its entries
