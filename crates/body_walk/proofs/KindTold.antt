@@ -2,12 +2,11 @@
 use Rattle.std.proofs.Common.{◌≡◌, ◌+◌, ℕ, suc, Bool, true, false, cond, List, ◌∷◌, take, drop, Some, None, Result, Ok, Err, ℤ, refl, ap, ◌∙◌, arith}
 use Rattle.std.specs.Prelude.{◌||◌, not}
 use Rattle.std.specs.Option.{ok_or}
-use mathlib.Core.Former.{Count}
 use Rattle.sbe_types.specs.declared.kind.Leaf.{Leaf as LeafOf}
 use Rattle.sbe_types.specs.declared.kind.Named.{Named}
 use Rattle.sbe_types.specs.declared.kind.Primitive.{Primitive}
 use Rattle.sbe_types.specs.declared.kind.ConstValue.{ConstValue}
-use Rattle.sbe_types.specs.declared.kind.Kind.{Kind, Leaf, Enum, Set, Const, Comp, Comp', Row_of-Member, end_of-Member, more_of-Member, items-the_row-Member, items_hidden-the_row-Member-0}
+use Rattle.sbe_types.specs.declared.kind.Kind.{Kind, Leaf, Enum, Set, Const, Comp, Row_of-Member, end_of-Member, more_of-Member, items-the_row-Member, items_hidden-the_row-Member-0}
 use Rattle.sbe_types.specs.declared.kind.Member.{Member}
 use Rattle.sbe_types.specs.declared.message.Value.{Value}
 use Rattle.sbe_types.specs.declared.message.Value.TheVariants as value
@@ -20,6 +19,7 @@ use Rattle.sbe_wire.specs.declared.codes.FCode.TheVariants as code
 use Rattle.sbe_wire.specs.Faults.{Fault, fault_at}
 use Rattle.sbe_wire.specs.Reading.{◌>>=◌, later, inside, value_read, row_read}
 use Rattle.sbe_wire.specs.declared.mode.Mode.{Mode}
+use Rattle.sbe_types.proofs.KindRows.{row_in}
 use Rattle.body_walk.specs.inner.Told.{Piece, check_at}
 use Rattle.body_walk.specs.inner.Kinds.{answered, kind_check, leaf_check, members_check, part_check}
 
@@ -86,11 +86,6 @@ module _ (mode : Mode) (b : Piece) where
       settled_two b.at (later begin here) (λ v. row_read mode.order mode.known next (suc i) rest b.bytes) (members_check mode b next (i + 1) (items-the_row-Member _ rest))
       (λ v. row_told _ rest next (suc i) ∙ ap (λ k. members_check mode b next k (items-the_row-Member _ rest)) step)
       ∙ ap (λ r. r >>= (λ _. members_check mode b next (i + 1) (items-the_row-Member _ rest))) (settled_later b.at begin here)
-
--- the row of a composite
-abbrev row_in : Kind → (n : Count) × Row_of-Member n
-row_in (Comp' _ row) = (_, row)
-row_in _ = (_, end_of-Member)
 
 pub comp_is : (mode : Mode) (ms : List Member) (b : Piece) → kind_check mode (Comp ms) b ≡ members_check mode b 0 0 ms
 unfolding value_read

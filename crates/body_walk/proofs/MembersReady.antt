@@ -2,8 +2,7 @@
 use Rattle.std.proofs.Common.{◌≡◌, ◌≤◌, ◌<◌, ◌+◌, ℕ, Bool, true, false, cond, List, [], ◌∷◌, length, refl, ap, subst, arith}
 use Rattle.std.specs.Prelude.{⊤}
 use Rattle.std.specs.List.{AllByRecursion}
-use mathlib.Core.Former.{Count}
-use Rattle.sbe_types.specs.declared.kind.Kind.{Kind, Comp, Comp', Row_of-Member, end_of-Member, more_of-Member, items-the_row-Member, items_hidden-the_row-Member-0}
+use Rattle.sbe_types.specs.declared.kind.Kind.{Comp, Row_of-Member, end_of-Member, more_of-Member, items-the_row-Member, items_hidden-the_row-Member-0}
 use Rattle.sbe_types.specs.declared.kind.Member.{Member}
 use Rattle.sbe_types.specs.declared.limits.TheConstants.{MEMBER_LIMIT}
 use Rattle.sbe_types.specs.Places.{width, is_const, begin_of, end_past, members_end}
@@ -12,6 +11,7 @@ use Rattle.schema_facts.specs.InOrder.{height, IsKindInOrder}
 use Rattle.schema_facts.specs.Measured.{EndsWithin}
 use Rattle.schema_facts.proofs.KindLists.{list_height, height_comp, width_comp, PlacedList, placed_members, NarrowList, narrow_members}
 use Rattle.schema_facts.proofs.KindMembers.{members_kinds}
+use Rattle.sbe_types.proofs.KindRows.{row_in}
 use Rattle.body_walk.specs.inner.Kinds.{HasFewMembers, HaveFewMembers, IsReady}
 
 -- the member of a composite of n bytes and some height, after members that end at e
@@ -31,10 +31,6 @@ AreReady n high e (m ∷ ms) = MemberReady n high e m × AreReady n high (end_pa
 few_row : (n : _) (row : Row_of-Member n) → HaveFewMembers row → AllByRecursion (λ (m : Member). HasFewMembers m.kind) (items-the_row-Member n row)
 few_row n end_of-Member h = tt
 few_row n (more_of-Member name offset kind rest) h = (h.0, few_row _ rest h.1)
-
-abbrev pub row_in : Kind → (n : Count) × Row_of-Member n
-row_in (Comp' _ row) = (_, row)
-row_in _ = (_, end_of-Member)
 
 few_members : (ms : List Member) → HasFewMembers (Comp ms) → (length ms ≤ MEMBER_LIMIT) × AllByRecursion (λ (m : Member). HasFewMembers m.kind) ms
 few_members ms h =

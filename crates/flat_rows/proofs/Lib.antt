@@ -8,4 +8,3 @@ pub mod RowsJudged
 pub mod ValidBytes
 pub mod ValuesFit
 pub mod ValuesShow
-pub mod Widths

@@ -1,9 +1,9 @@
 -- The values of a composite, over the list of its members.
 use Rattle.std.proofs.Common.{◌≡◌, ◌+◌, ℕ, List, [], ◌∷◌, ◌++◌, refl, ap, ◌∙◌}
-use mathlib.Core.Former.{Count}
-use Rattle.sbe_types.specs.declared.kind.Kind.{Kind, Comp, Comp', Row_of-Member, end_of-Member, more_of-Member, items-the_row-Member, items_hidden-the_row-Member-0}
+use Rattle.sbe_types.specs.declared.kind.Kind.{Comp, Row_of-Member, end_of-Member, more_of-Member, items-the_row-Member, items_hidden-the_row-Member-0}
 use Rattle.sbe_types.specs.declared.kind.Member.{Member}
 use Rattle.sbe_types.specs.Places.{begin_of, end_past}
+use Rattle.sbe_types.proofs.KindRows.{row_in}
 use Rattle.flat_rows.specs.Scalars.{Scalar, kind_scalars, member_scalars}
 
 -- the values of members after members that end at e
@@ -15,10 +15,6 @@ row_scalars : (n : _) (row : Row_of-Member n) (at e : ℕ) → member_scalars at
 row_scalars n end_of-Member at e = refl
 row_scalars n (more_of-Member name offset kind rest) at e =
     ap (λ ss. kind_scalars kind (at + begin_of e offset) ++ ss) (row_scalars _ rest at (end_past e offset kind))
-
-abbrev row_in : Kind → (n : Count) × Row_of-Member n
-row_in (Comp' _ row) = (_, row)
-row_in _ = (_, end_of-Member)
 
 pub composite_scalars : (ms : List Member) (at : ℕ) → kind_scalars (Comp ms) at ≡ listed_scalars at 0 ms
 composite_scalars ms at =

@@ -20,6 +20,7 @@ use Rattle.sbe_wire.specs.Versions.{floor}
 use Rattle.sbe_wire.proofs.Blocks.{fields_judges}
 use Rattle.schema_facts.specs.InOrder.{IsKindInOrder}
 use Rattle.schema_facts.proofs.KindLists.{PlacedList, placed_members, width_comp}
+use Rattle.sbe_types.proofs.KindRows.{row_in}
 use Rattle.flyweight_view.specs.declared.plan.Plan.{Plan}
 use Rattle.flyweight_view.specs.declared.plan.Plan.TheVariants as plan
 use Rattle.flyweight_view.specs.declared.plan.Slot.{Slot}
@@ -27,7 +28,6 @@ use Rattle.flyweight_view.specs.declared.plan.Span.{Span}
 use Rattle.flyweight_view.specs.inner.Planned.{fields_of, block_of, typed_by, typed_at, values_at, IsPlannedBlock, IsMembersPlan}
 use Rattle.flyweight_view.specs.Seen.{member_field, typed_members, members_of, values_in, typed_composite, typed_field}
 use Rattle.flyweight_view.specs.inner.Slots.{SlotIs}
-use Rattle.body_walk.proofs.MembersReady.{row_in}
 use Rattle.flyweight_view.proofs.MembersTold.{members_lie, members_placed, members_reach}
 use Rattle.flyweight_view.proofs.SlotsTold.{ValueOf, none_there}
 

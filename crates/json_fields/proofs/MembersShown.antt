@@ -1,10 +1,9 @@
 -- The members of a composite, written one after another.
 use Rattle.std.proofs.Common.{◌≡◌, ℕ, Bool, true, false, List, [], ◌∷◌, ◌++◌, take, drop, Option, Some, refl, sym, ap, ap₂, ◌∙◌, subst, append_assoc}
 use Rattle.std.specs.Prelude.{⊤, codes}
-use mathlib.Core.Former.{Count}
 use Rattle.serde_json.specs.Data.{Data}
 use Rattle.serde_json.specs.Written.{comma_if}
-use Rattle.sbe_types.specs.declared.kind.Kind.{Kind, Comp, Comp', Row_of-Member, end_of-Member, more_of-Member, items-the_row-Member, items_hidden-the_row-Member-0}
+use Rattle.sbe_types.specs.declared.kind.Kind.{Comp, Row_of-Member, end_of-Member, more_of-Member, items-the_row-Member, items_hidden-the_row-Member-0}
 use Rattle.sbe_types.specs.declared.kind.Member.{Member}
 use Rattle.sbe_types.specs.declared.kind.Order.{Order}
 use Rattle.sbe_types.specs.declared.message.Value.{Value}
@@ -13,6 +12,7 @@ use Rattle.sbe_types.specs.Places.{width, begin_of, end_past}
 use Rattle.sbe_types.specs.Shows.{Shows, MembersShow}
 use Rattle.json_values.specs.Values.{Entry, zipped, value_data, member_entry}
 use Rattle.json_values.specs.Plain.{key_text, plain_text, shown_text, entry_text, entries_text, later_behind}
+use Rattle.sbe_types.proofs.KindRows.{row_in}
 use Rattle.json_fields.specs.Shown.{PrintsShown}
 use Rattle.sbe_base.specs.Objects.{Object}
 use Rattle.printers.specs.Prints.{Prints}
@@ -35,10 +35,6 @@ row_shows order known e n end_of-Member [] b h = tt
 row_shows order known e n end_of-Member (v ∷ vs) b h = absurd h
 row_shows order known e n (more_of-Member name offset kind rest) [] b h = absurd h
 row_shows order known e n (more_of-Member name offset kind rest) (v ∷ vs) b h = (h.0, row_shows order known (end_past e offset kind) _ rest vs b h.1)
-
-abbrev row_in : Kind → (n : Count) × Row_of-Member n
-row_in (Comp' _ row) = (_, row)
-row_in _ = (_, end_of-Member)
 
 -- the values of a composite's members
 members_in : (order : Order) (known : Bool) (ms : List Member) (v : Value) (b : List ℕ) → Shows order known (Comp ms) v b → (vs : List Value) × (v ≡ value.Comp vs) × ListShows order known 0 ms vs b

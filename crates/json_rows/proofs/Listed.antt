@@ -1,10 +1,10 @@
 -- The pieces of a composite, over the list of its members.
 use Rattle.std.proofs.Common.{◌≡◌, ◌+◌, ℕ, Bool, true, false, List, [], ◌∷◌, ◌++◌, refl, ap, ◌∙◌}
 use Rattle.std.specs.Prelude.{codes}
-use mathlib.Core.Former.{Count}
-use Rattle.sbe_types.specs.declared.kind.Kind.{Kind, Comp, Comp', Row_of-Member, end_of-Member, more_of-Member, items-the_row-Member, items_hidden-the_row-Member-0}
+use Rattle.sbe_types.specs.declared.kind.Kind.{Comp, Row_of-Member, end_of-Member, more_of-Member, items-the_row-Member, items_hidden-the_row-Member-0}
 use Rattle.sbe_types.specs.declared.kind.Member.{Member}
 use Rattle.sbe_types.specs.Places.{begin_of, end_past}
+use Rattle.sbe_types.proofs.KindRows.{row_in}
 use Rattle.json_rows.specs.Texts.{key_of}
 use Rattle.json_rows.specs.Pieces.{Piece, literal, kind_pieces, member_pieces}
 
@@ -17,10 +17,6 @@ row_pieces : (n : _) (row : Row_of-Member n) (later : Bool) (at e : ℕ) → mem
 row_pieces n end_of-Member later at e = refl
 row_pieces n (more_of-Member name offset kind rest) later at e =
     ap (λ ps. literal (key_of later name) ∷ (kind_pieces kind (at + begin_of e offset) ++ ps)) (row_pieces _ rest true at (end_past e offset kind))
-
-abbrev row_in : Kind → (n : Count) × Row_of-Member n
-row_in (Comp' _ row) = (_, row)
-row_in _ = (_, end_of-Member)
 
 pub composite_pieces : (ms : List Member) (at : ℕ) → kind_pieces (Comp ms) at ≡ literal (codes "{") ∷ listed_pieces false at 0 ms
 composite_pieces ms at =

@@ -2,9 +2,8 @@
 use Rattle.std.proofs.Common.{◌≡◌, ◌<◌, ◌≤◌, ◌+◌, ℕ, zero, suc, true, false, cond, List, [], ◌∷◌, length, drop, Option, Some, None, refl, sym, ap, ap₂, ◌∙◌, subst, arith}
 use Rattle.std.specs.Prelude.{slice_get}
 use Rattle.std.specs.List.{AllByRecursion}
-use mathlib.Core.Former.{Count}
 use Rattle.std.proofs.lemmas.List.{drop_all}
-use Rattle.sbe_types.specs.declared.kind.Kind.{Kind, Comp, Comp', Row_of-Member, end_of-Member, more_of-Member, items-the_row-Member, items_hidden-the_row-Member-0}
+use Rattle.sbe_types.specs.declared.kind.Kind.{Comp, Row_of-Member, end_of-Member, more_of-Member, items-the_row-Member, items_hidden-the_row-Member-0}
 use Rattle.sbe_types.specs.declared.kind.Member.{Member}
 use Rattle.sbe_types.specs.declared.message.Value.{Value, items_hidden-the_row-Value-0}
 use Rattle.sbe_types.specs.declared.message.Value.TheVariants as value
@@ -16,13 +15,9 @@ use Rattle.sbe_wire.specs.Misfit.{Misfit, or_else, misfit_in, other_kind, same_l
 use Rattle.schema_facts.specs.InOrder.{height, IsKindInOrder}
 use Rattle.schema_facts.proofs.KindLists.{list_height, height_comp, made_members}
 use Rattle.schema_facts.proofs.KindMembers.{members_kinds}
+use Rattle.sbe_types.proofs.KindRows.{row_in}
 use Rattle.kind_bytes.specs.declared.error.ValueMisfit.{ValueMisfit}
 use Rattle.kind_bytes.specs.Misfits.{members_misfit, unfit_of}
-
--- the row of a composite
-abbrev pub row_in : Kind → (n : Count) × Row_of-Member n
-row_in (Comp' _ row) = (_, row)
-row_in _ = (_, end_of-Member)
 
 some_is : {A : Type 0} {x y : A} → ◌≡◌ {A = Option A} (Some x) (Some y) → x ≡ y
 some_is h = cc

@@ -21,9 +21,10 @@ use Rattle.schema_facts.specs.InOrder.{IsKindInOrder}
 use Rattle.schema_facts.specs.Measured.{EndsWithin}
 use Rattle.schema_facts.proofs.KindLists.{PlacedList, placed_members, NarrowList, narrow_members}
 use Rattle.schema_facts.proofs.KindMembers.{members_kinds}
+use Rattle.sbe_types.proofs.KindRows.{row_in}
 use Rattle.kind_bytes.specs.Misfits.{members_misfit, field_misfit}
 use Rattle.kind_bytes.specs.Members.{followed_by, member_bytes, members_bytes}
-use Rattle.kind_bytes.proofs.Composites.{row_in, values_are, comp_none, comp_same, comp_other, drop_at, member_next}
+use Rattle.kind_bytes.proofs.Composites.{values_are, comp_none, comp_same, comp_other, drop_at, member_next}
 
 some_none : {A : Type 0} {x : A} → ◌≡◌ {A = Option A} (Some x) None → ⊥
 some_none h = cc

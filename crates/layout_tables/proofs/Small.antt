@@ -13,12 +13,12 @@ use Rattle.sbe_wire.specs.Versions.{floor, floor_from, is_alive}
 use Rattle.schema_facts.specs.Levels.{Node, all_nodes, fields_at, fields_in}
 use Rattle.schema_facts.specs.Measured.{IsNarrow, IsNarrowRow, AreNarrowFields, IsMeasured, IsMeasuredLevel, AreMeasured, HasDimension, largest}
 use Rattle.schema_facts.proofs.KindDeclared.{all_at}
+use Rattle.sbe_types.proofs.KindRows.{row_in, width_comp}
 use Rattle.layout_tables.specs.declared.rows.DimRow.{DimRow}
 use Rattle.layout_tables.specs.declared.rows.LevelRow.{LevelRow}
 use Rattle.layout_tables.specs.Rowed.{RowFor, DimOf}
 use Rattle.layout_tables.specs.Least.{dim_width, row_least}
 use Rattle.layout_tables.proofs.Items.{item_there}
-use Rattle.layout_tables.proofs.Widths.{width_comp, row_in}
 
 end_within : (fixed : Bool) (e n : ℕ) → e ≤ largest → (fixed ≡ false → n ≤ largest) → cond fixed e n ≤ largest
 end_within true e n small ends = small

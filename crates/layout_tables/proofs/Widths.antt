@@ -4,9 +4,9 @@ use Rattle.std.specs.Prelude.{slice_get}
 use Rattle.std.specs.Option.{IsSome}
 use Rattle.sbe_types.specs.declared.kind.Member.{Member}
 use Rattle.sbe_types.specs.Places.{members_end, member_place, begin_of, end_past, is_const}
-pub use Rattle.flat_rows.proofs.Widths.{AreNarrow, row_in, width_comp, narrow_comp, narrow_next}
+use Rattle.schema_facts.proofs.KindLists.{NarrowList}
 
-pub narrow_take : (e : ℕ) (ms : List Member) (i : ℕ) → AreNarrow e ms → AreNarrow e (take i ms)
+pub narrow_take : (e : ℕ) (ms : List Member) (i : ℕ) → NarrowList e ms → NarrowList e (take i ms)
 narrow_take e ms zero h = tt
 narrow_take e [] (suc i) h = tt
 narrow_take e (m ∷ ms) (suc i) h = (h.0, h.1, narrow_take (end_past e m.offset m.kind) ms i h.2)

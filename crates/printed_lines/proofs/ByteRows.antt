@@ -9,7 +9,7 @@ use Rattle.sbe_types.specs.declared.schema.Group as groups
 use Rattle.sbe_types.specs.declared.schema.Level as levels
 use Rattle.sbe_types.specs.declared.schema.Group.{Group, Group', out-Group}
 use Rattle.sbe_types.specs.declared.schema.Level.{Level, Level', out-Level, Row_of-Group, end_of-Group, more_of-Group, items-the_row-Group, items_shown-the_row-Group-0}
-use Rattle.layout_tables.proofs.Widths.{row_in}
+use Rattle.sbe_types.proofs.KindRows.{row_in}
 use Rattle.printed_lines.specs.ByteConstants.{HasByteConstants, HaveByteConstants, IsByteMember, IsByteField, IsByteLevel, AreByteGroups, IsByteGroup}
 
 members_have : (n : _) (row : Row_of-Member n) → AllByRecursion IsByteMember (items-the_row-Member _ row) → HaveByteConstants row

@@ -1,17 +1,17 @@
 -- The empty values of kinds.
-use Rattle.std.proofs.Common.{◌≡◌, ◌≤◌, ◌+◌, ℕ, zero, suc, Bool, true, false, List, [], ◌∷◌, ◌++◌, length, drop, replicate, Option, Some, None, Result, Ok, Err, refl, sym, ap, ◌∙◌, append_assoc, append-nil, arith}
+use Rattle.std.proofs.Common.{◌≡◌, ◌+◌, List, [], ◌∷◌, ◌++◌, Option, Some, None, Result, Ok, Err, refl, sym, ap, ◌∙◌, append_assoc, append-nil}
 use Rattle.std.specs.Prelude.{IfOk}
 use Rattle.lists.specs.declared.list.NoMem.{NoMem}
 use Rattle.sbe_types.specs.declared.kind.Leaf.{Leaf as LeafOf}
 use Rattle.sbe_types.specs.declared.kind.Named.{Named}
 use Rattle.sbe_types.specs.declared.kind.Primitive.{Primitive}
 use Rattle.sbe_types.specs.declared.kind.ConstValue.{ConstValue}
-use Rattle.sbe_types.specs.declared.kind.Kind.{Kind, Leaf, Enum, Set, Const, Comp, Comp', Row_of-Member, end_of-Member, items_hidden-the_row-Member-0}
-use mathlib.Core.Former.{Count}
+use Rattle.sbe_types.specs.declared.kind.Kind.{Kind, Leaf, Enum, Set, Const, Comp, items_hidden-the_row-Member-0}
 use Rattle.sbe_types.specs.declared.kind.Member.{Member}
 use Rattle.sbe_types.specs.declared.message.Value.{Value}
 use Rattle.sbe_types.specs.declared.message.Value.TheVariants as value
 use Rattle.regrade_laws.specs.Fill.{fill, if_optional, null_of, with_value, composite_of}
+use Rattle.sbe_types.proofs.KindRows.{row_in}
 use Rattle.regrade.specs.Each.{fill_each}
 use Rattle.regrade.proofs.Rows.{members_each}
 
@@ -54,11 +54,6 @@ set_fills p names = refl
 const_fills : (c : ConstValue) → fill (Const c) ≡ Some value.Const
 unfolding fill
 const_fills c = refl
-
--- the row of a composite
-abbrev row_in : Kind → (n : Count) × Row_of-Member n
-row_in (Comp' _ row) = (_, row)
-row_in _ = (_, end_of-Member)
 
 comp_fills : (ms : List Member) → fill (Comp ms) ≡ composite_of (fill_each ms)
 unfolding fill

@@ -5,3 +5,4 @@ pub mod TextLemmas
 pub mod BadLemmas
 pub mod ListSame
 pub mod Trails
+pub mod KindRows

@@ -4,29 +4,18 @@ use Rattle.std.proofs.Common.{◌≡◌, ℕ, suc, ◌+◌, ◌≤◌, max, List
 use Rattle.std.specs.Prelude.{◌≢◌, ⊤, AllPairs}
 use Rattle.std.specs.List.{AllByRecursion}
 use Rattle.std.proofs.lemmas.List.{length-map}
-use mathlib.Core.Former.{Count}
 use Rattle.sbe_types.specs.InForm.{IsName}
-use Rattle.sbe_types.specs.Places.{width, end_past, row_end, members_end}
+use Rattle.sbe_types.specs.Places.{width, end_past}
 use Rattle.sbe_types.specs.declared.kind.Kind.{Kind, Leaf, Enum, Set, Const, Comp, Comp', Row_of-Member, end_of-Member, more_of-Member, items-the_row-Member, items_hidden-the_row-Member-0}
 use Rattle.sbe_types.specs.declared.kind.Member.{Member}
 use Rattle.sbe_types.specs.declared.limits.TheConstants.{MEMBER_LIMIT}
 use Rattle.sbe_wire.specs.Placed.{BeginsBehind, IsPlacedKind, IsPlacedRow}
+use Rattle.sbe_types.proofs.KindRows.{row_in}
+pub use Rattle.sbe_types.proofs.KindRows.{width_comp}
 use Rattle.schema_facts.specs.Measured.{EndsWithin, IsNarrow, IsNarrowRow}
 use Rattle.schema_facts.specs.InOrder.{leaves, leaves_in, height, height_of, names_in, IsKindFrom, AreKindsFrom}
 
--- the row of a composite
-abbrev row_in : Kind → (n : Count) × Row_of-Member n
-row_in (Comp' _ row) = (_, row)
-row_in _ = (_, end_of-Member)
-
 -- ---- width, leaves and height
-
-end_row : (n : _) (row : Row_of-Member n) (e : ℕ) → row_end e row ≡ members_end e (items-the_row-Member n row)
-end_row n end_of-Member e = refl
-end_row n (more_of-Member name offset kind rest) e = end_row _ rest _
-
-pub width_comp : (ms : List Member) → width (Comp ms) ≡ members_end 0 ms
-width_comp ms = let row = row_in (Comp ms) in end_row row.0 row.1 0 ∙ ap (members_end 0) (items_hidden-the_row-Member-0 ms)
 
 -- the leaves of members
 abbrev pub list_leaves : List Member → ℕ

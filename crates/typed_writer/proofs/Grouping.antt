@@ -26,14 +26,14 @@ use Rattle.schema_facts.specs.Levels.{Node, all_nodes}
 use Rattle.schema_facts.specs.Measured.{IsSmall}
 use Rattle.schema_facts.proofs.KindCounters.{small_primitive}
 use Rattle.schema_facts.proofs.KindDeclared.{all_at}
-use Rattle.schema_facts.proofs.KindLists.{placed_members}
+use Rattle.schema_facts.proofs.KindLists.{placed_members, narrow_members}
 use Rattle.schema_facts.proofs.KindNumbers.{both_true}
 use Rattle.layout_tables.specs.declared.rows.DimRow.{DimRow}
 use Rattle.layout_tables.specs.declared.rows.LevelRow.{LevelRow}
 use Rattle.layout_tables.specs.Parts.{dim_at}
 use Rattle.layout_tables.specs.Rowed.{RowFor}
-use Rattle.layout_tables.proofs.Widths.{narrow_comp, row_in}
 use Rattle.group_codec.proofs.DimRows.{row_dim, admitted_is}
+use Rattle.sbe_types.proofs.KindRows.{row_in}
 use Rattle.typed_writer.specs.Counted.{HaveRoomFor, number_of_name}
 use Rattle.typed_writer.specs.declared.counters.Counters.TheVariants.{Dimension}
 use Rattle.typed_writer.specs.Empty.{followed_by}
@@ -177,7 +177,7 @@ dim_stands schema g dim checked at =
     let w = node_of (slice_get (all_nodes schema) g) dim at in
     let kinds : HasKinds w.0 = all_at HasKinds (all_nodes schema) g w.0 checked.kinds.levels w.1 in
     let order : DimInOrder (Some dim) = subst HasDimensionKind w.2 kinds.dim in
-    members_stand 0 dim (placed_members dim order.within.placed) (narrow_comp dim order.within.narrow)
+    members_stand 0 dim (placed_members dim order.within.placed) (narrow_members dim order.within.narrow)
 
 -- its bytes and its size, by its members
 pub dim_told : (schema : WireSchema) (g many b : ℕ) (dim : List Member) (old new : List ℕ) → dim_at schema g ≡ Some dim → block_at schema g ≡ b →

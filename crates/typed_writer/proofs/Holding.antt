@@ -15,12 +15,11 @@ use Rattle.schema_facts.specs.CheckedLevels.{HasBlock, counting}
 use Rattle.schema_facts.specs.IsChecked.{IsChecked}
 use Rattle.schema_facts.specs.Levels.{Node, node, nodes, nodes_from, all_nodes, root_of}
 use Rattle.schema_facts.proofs.KindDeclared.{all_at}
-use Rattle.schema_facts.proofs.KindLists.{PlacedList, placed_members}
+use Rattle.schema_facts.proofs.KindLists.{PlacedList, placed_members, NarrowList, narrow_members}
 use Rattle.schema_facts.proofs.KindNumbers.{both_true}
 use Rattle.schema_facts.proofs.LevelForms.{all_of_message, holds_below}
 use Rattle.layout_tables.proofs.Items.{item_there}
 use Rattle.layout_tables.proofs.Nodes.{nodes_open}
-use Rattle.layout_tables.proofs.Widths.{AreNarrow, narrow_comp}
 use Rattle.typed_writer.specs.Counted.{HaveRoomFor, number_of_name}
 use Rattle.typed_writer.specs.declared.counters.Counters.TheVariants.{Header, Dimension}
 use Rattle.sbe_types.specs.Wire.{both}
@@ -204,14 +203,14 @@ header_holds schema t root checked at =
     (header_good counts b i schema.id schema.version ms four one.0 one.1 other.0 other.1)
     (header_good has_room b i schema.id schema.version ms four block.held id checked.numbers.id checked.numbers.version)
 
-pub members_stand : (e : ℕ) (ms : List Member) → PlacedList e ms → AreNarrow e ms → MembersStand e ms
+pub members_stand : (e : ℕ) (ms : List Member) → PlacedList e ms → NarrowList e ms → MembersStand e ms
 members_stand e [] h k = tt
 members_stand e (m ∷ ms) h k = (h.0, k.1, members_stand (end_past e m.offset m.kind) ms h.2 k.2)
 
 pub header_stands : (schema : WireSchema) → IsChecked schema → MembersStand 0 schema.header.members
 header_stands schema checked =
     let ms = schema.header.members in
-    members_stand 0 ms (placed_members ms checked.kinds.header.within.placed) (narrow_comp ms checked.kinds.header.within.narrow)
+    members_stand 0 ms (placed_members ms checked.kinds.header.within.placed) (narrow_members ms checked.kinds.header.within.narrow)
 
 -- ---- the root
 

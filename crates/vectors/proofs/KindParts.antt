@@ -2,12 +2,11 @@
 use Rattle.std.proofs.Common.{◌≡◌, min, ℤ, pos, ◌+ℤ◌, true, false, cond, ◌<◌, ◌≤◌, ◌+◌, ℕ, List, ◌∷◌, length, drop, get_or, refl, sym, ap, ◌∙◌, subst}
 use Rattle.std.specs.Prelude.{slice_get}
 use Rattle.std.proofs.lemmas.List.{drop_all}
-use mathlib.Core.Former.{Count}
 use Rattle.rand_pcg.specs.Lcg.{Lcg}
 use Rattle.sbe_types.specs.declared.kind.Primitive.{Primitive}
 use Rattle.sbe_types.specs.declared.kind.LeafShape.{LeafShape}
 use Rattle.sbe_types.specs.declared.kind.Leaf.{Leaf as LeafOf}
-use Rattle.sbe_types.specs.declared.kind.Kind.{Kind, Leaf, Enum, Set, Const, Comp, Comp', Row_of-Member, end_of-Member, more_of-Member, items-the_row-Member, items_hidden-the_row-Member-0}
+use Rattle.sbe_types.specs.declared.kind.Kind.{Kind, Leaf, Enum, Set, Const, Comp, Row_of-Member, end_of-Member, more_of-Member, items-the_row-Member, items_hidden-the_row-Member-0}
 use Rattle.sbe_types.specs.declared.kind.ConstValue.{ConstValue}
 use Rattle.sbe_types.specs.declared.kind.Member.{Member}
 use Rattle.sbe_types.specs.declared.kind.Named.{Named}
@@ -15,6 +14,7 @@ use Rattle.sbe_types.specs.declared.message.Elem.{Elem}
 use Rattle.sbe_types.specs.declared.message.Value.{Value}
 use Rattle.sbe_types.specs.declared.message.Value.TheVariants as value
 use Rattle.sbe_types.specs.Shows.{is_ranged, text_value}
+use Rattle.sbe_types.proofs.KindRows.{row_in}
 use Rattle.vectors.specs.declared.numbers.TheConstants.{FIRST_LETTER, LETTERS, WORD_LIMIT}
 use Rattle.vectors.specs.Drawing.{◌>>=◌, always, below, each, times}
 use Rattle.vectors.specs.Values.{size_of, number_in, number_value, number_drawn, element_value, element_drawn, least_byte, byte_of, byte_count, text_byte_drawn, text_length_drawn, text_drawn, there_drawn, leaf_drawn, listed_value, choice_drawn, enum_drawn, with_bit, bits_drawn, value_drawn, row_drawn, member_drawn}
@@ -79,10 +79,6 @@ unfolding bits_drawn
 bits_end choices items i bits words whole same after so_far = sym so_far ∙ ap (λ l. bits_drawn bits l words) (drop_all i choices (subst (λ zs. length zs ≤ i) same after))
 
 -- ---- composites
-
-abbrev row_in : Kind → (n : Count) × Row_of-Member n
-row_in (Comp' _ row) = (_, row)
-row_in _ = (_, end_of-Member)
 
 row_each : (n : _) (row : Row_of-Member n) (words : Lcg) → row_drawn row words ≡ each member_drawn (items-the_row-Member n row) words
 unfolding value_drawn each

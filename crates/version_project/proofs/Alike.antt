@@ -2,11 +2,11 @@
 use Rattle.std.proofs.Common.{◌≡◌, ◌≢◌, ◌≤◌, ◌+◌, ℕ, suc, Bool, true, false, List, [], ◌∷◌, length, drop, Some, refl, sym, ap, ◌∙◌}
 use Rattle.std.specs.Prelude.{◌&&◌, slice_get}
 use Rattle.std.proofs.lemmas.List.{drop_all}
-use mathlib.Core.Former.{Count}
-use Rattle.sbe_types.specs.declared.kind.Kind.{Kind, Comp, Comp', Row_of-Member, end_of-Member, more_of-Member, items-the_row-Member, items_hidden-the_row-Member-0}
+use Rattle.sbe_types.specs.declared.kind.Kind.{Comp, Row_of-Member, end_of-Member, more_of-Member, items-the_row-Member, items_hidden-the_row-Member-0}
 use Rattle.sbe_types.specs.declared.kind.Member.{Member}
 use Rattle.sbe_types.specs.declared.kind.Named.{Named}
 use Rattle.version_laws.specs.Same.{same_named, same_names, same_kind, same_row, same_members}
+use Rattle.sbe_types.proofs.KindRows.{row_in}
 use Rattle.version_project.specs.Pairwise.{all_alike, is_member}
 use Rattle.version_project.proofs.Items.{drop_at}
 
@@ -57,10 +57,6 @@ rows_alike more n end_of-Member k (more_of-Member name offset kind rest) = refl
 rows_alike more n (more_of-Member name offset kind rest) k end_of-Member = refl
 rows_alike more n (more_of-Member name offset kind rest) k (more_of-Member name' offset' kind' rest') =
     ap (λ t. is_member more (record { name = name; offset = offset; kind = kind }) (record { name = name'; offset = offset'; kind = kind' }) && t) (rows_alike more _ rest _ rest')
-
-abbrev pub row_in : Kind → (n : Count) × Row_of-Member n
-row_in (Comp' _ row) = (_, row)
-row_in _ = (_, end_of-Member)
 
 pub composites_alike : (more : Bool) (old new : List Member) → same_kind more (Comp old) (Comp new) ≡ all_alike (is_member more) old new
 composites_alike more old new =

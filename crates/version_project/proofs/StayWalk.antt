@@ -7,8 +7,8 @@ use Rattle.sbe_types.specs.declared.kind.Member.{Member}
 use Rattle.sbe_types.specs.Places.{end_past}
 use Rattle.version_laws.specs.Same.{same_places, same_row_places, same_header}
 use Rattle.version_laws.specs.Differ.{Ends}
+use Rattle.sbe_types.proofs.KindRows.{row_in}
 use Rattle.version_project.specs.Pairwise.{ends_at, all_stay, member_stays, is_header_member}
-use Rattle.version_project.proofs.Alike.{row_in}
 use Rattle.version_project.proofs.Items.{drop_at}
 
 abbrev Test : Type 0

@@ -1,5 +1,5 @@
 use Rattle.std.proofs.Common.{◌∙◌}
-use Rattle.layout_tables.proofs.Widths.{width_comp}
+use Rattle.sbe_types.proofs.KindRows.{width_comp}
 use Rattle.layout_compile.proofs.tables.dim_row.Goals as goal
 
 pub returns : goal.returns

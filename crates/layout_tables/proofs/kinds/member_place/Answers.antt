@@ -2,7 +2,8 @@ use Rattle.std.proofs.Common.{sym, ap, ◌∙◌, arith, length, take, refl}
 use Rattle.std.specs.Prelude.{Some}
 use Rattle.std.proofs.lemmas.List.{length-take-le}
 use Rattle.sbe_types.specs.Places.{begin_of}
-use Rattle.layout_tables.proofs.Widths.{narrow_comp, narrow_take, place_is, place_within, members_done}
+use Rattle.schema_facts.proofs.KindLists.{narrow_members}
+use Rattle.layout_tables.proofs.Widths.{narrow_take, place_is, place_within, members_done}
 use Rattle.layout_tables.proofs.kinds.member_place.Goals as goal
 
 pub slice_bounds-member-items-end : goal.slice_bounds-member-items-end
@@ -13,7 +14,7 @@ slice_bounds-member-items-end c =
 pub loop-member-init : goal.loop-member-init
 loop-member-init c = record {
   ends = refl;
-  narrow = narrow_take 0 c.args.members.now c.args.i (narrow_comp _ c.requires.narrow);
+  narrow = narrow_take 0 c.args.members.now c.args.i (narrow_members _ c.requires.narrow);
 }
 
 pub at-requires : goal.at-requires
