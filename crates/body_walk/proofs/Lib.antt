@@ -1,4 +1,3 @@
-pub mod Bits
 pub mod LeafTold
 pub mod KindTold
 pub mod MembersReady

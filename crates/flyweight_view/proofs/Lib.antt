@@ -11,3 +11,4 @@ pub mod GroupSteps
 pub mod TailsSeen
 pub mod TablesSeen
 pub mod Standing
+pub mod Depth

@@ -1,4 +1,5 @@
 pub mod Seen
 pub mod ShownIn
 pub mod ByTable
+pub mod Deep
 pub mod inner

@@ -5,4 +5,3 @@ pub mod Fronts
 pub mod Valid
 pub mod CodeTexts
 pub mod RowsText
-pub mod SetNumber

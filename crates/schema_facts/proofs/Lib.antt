@@ -30,3 +30,4 @@ pub mod WholeMessages
 pub mod WholeChecked
 pub mod KindMembers
 pub mod KindWorked
+pub mod SetNumber

@@ -1,7 +1,6 @@
 pub mod FromBytes
 pub mod MembersShown
 pub mod Steps
-pub mod Depth
 pub mod WholeLays
 pub mod TreesBack
 pub mod FieldShown

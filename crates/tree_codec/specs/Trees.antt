@@ -1,13 +1,12 @@
 -- The tree of what a view shows, and which blocks have as many values as their level has parts.
-use Rattle.std.specs.Prelude.{◌≡◌, ℕ, suc, max, Option, Some, None, List, [], ◌∷◌, length, map, ⊤}
+use Rattle.std.specs.Prelude.{◌≡◌, ℕ, Option, Some, None, List, [], ◌∷◌, length, map, ⊤}
 use Rattle.sbe_types.specs.declared.message.Block.{Block, out-Block}
 use Rattle.sbe_types.specs.declared.message.DataVal.{DataVal}
 use Rattle.sbe_types.specs.declared.message.DataVal.TheVariants as dataval
 use Rattle.sbe_types.specs.declared.message.GroupVal.{GroupVal, items-the_row-Block}
 use Rattle.sbe_types.specs.declared.message.GroupVal as groupval
-use Rattle.sbe_types.specs.declared.schema.Group.{Group, Group', out-Group}
+use Rattle.sbe_types.specs.declared.schema.Group.{Group, Group'}
 use Rattle.sbe_types.specs.declared.schema.Level.{Level, Level', Row_of-Group, end_of-Group, more_of-Group}
-use Rattle.schema_facts.specs.CheckedLevels.{groups_deep}
 use Rattle.flyweight_view.specs.Seen.{TypedBlock}
 
 -- ---- trees
@@ -81,15 +80,3 @@ IsWholeGroup (Some es) = AllWhole es
 abbrev pub AreWholeGroups : List (Option (List TypedBlock)) → Type 0
 AreWholeGroups [] = ⊤
 AreWholeGroups (o ∷ os) = IsWholeGroup o × AreWholeGroups os
-
--- ---- depth
-
--- the greatest depth of groups, each counted with those inside it
-abbrev pub deepest : List Group → ℕ
-deepest [] = 0
-deepest (g ∷ gs) = max (suc (groups_deep (out-Group g).level)) (deepest gs)
-
--- the greatest depth of the groups of blocks
-abbrev pub deepest_in : List TypedBlock → ℕ
-deepest_in [] = 0
-deepest_in (s ∷ ss) = max (deepest s.groups) (deepest_in ss)

@@ -2,7 +2,6 @@ pub mod Computing
 pub mod Keys
 pub mod Blocks
 pub mod Checked
-pub mod Depth
 pub mod Views
 pub mod ViewSteps
 pub mod PiecesText

@@ -1,6 +1,5 @@
 pub mod Lines
 pub mod Names
 pub mod Rows
-pub mod Deep
 pub mod Views
 pub mod Texts

@@ -9,7 +9,7 @@ ghost use Rattle.json_rows.specs.Tables.{values_of, HasPieces, IsTextTable, Text
 ghost use Rattle.flyweight_view.specs.declared.by_table.TableBlock.{TableBlock};
 ghost use Rattle.flyweight_view.specs.ByTable.{IsTableBlock};
 ghost use Rattle.flyweight_view.specs.Seen.{TypedBlock};
-ghost use Rattle.tree_json.specs.Deep.{deepest_in};
+ghost use Rattle.flyweight_view.specs.Deep.{deepest_in};
 ghost use Rattle.json_values.specs.Values.{zipped, text_data};
 ghost use Rattle.tree_json.specs.Lines.{field_entry, group_entry, items_by};
 ghost use Rattle.json_values.specs.Plain.{plain_text, plain_items, entry_text, entries_text, later_behind};

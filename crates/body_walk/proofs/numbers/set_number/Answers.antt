@@ -1,6 +1,6 @@
 use Rattle.std.proofs.Common.{arith}
 use Rattle.std.proofs.lemmas.Int.{ints, to_z-of_z}
-use Rattle.body_walk.proofs.Bits.{set_fits}
+use Rattle.schema_facts.proofs.SetNumber.{set_fits}
 use Rattle.body_walk.proofs.numbers.set_number.Goals as goal
 
 pub overflow_cast-result : goal.overflow_cast-result

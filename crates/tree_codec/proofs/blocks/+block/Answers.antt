@@ -1,8 +1,9 @@
 use Rattle.std.proofs.Common.{◌≡◌, ◌++◌, ◌∷◌, [], length, ap, sym, subst, ◌∙◌, arith}
 use Rattle.std.specs.Prelude.{map}
 use Rattle.sbe_types.specs.declared.message.Block.{out-Block}
-use Rattle.tree_codec.specs.Trees.{blocks_of, group_of, deepest, deepest_in, AllWhole, AreWholeGroups}
-use Rattle.tree_codec.proofs.Depth.{AreWithin, seen_within, first_within, some_deep}
+use Rattle.flyweight_view.specs.Deep.{deepest, deepest_in}
+use Rattle.tree_codec.specs.Trees.{blocks_of, group_of, AllWhole, AreWholeGroups}
+use Rattle.flyweight_view.proofs.Depth.{AreWithin, seen_within, first_within, some_deep}
 use Rattle.tree_codec.proofs.Steps.{seen_next, seen_over}
 use Rattle.tree_codec.proofs.TreesBack.{groups_back, groups_seen_whole, first_whole, first_entry}
 use Rattle.tree_codec.proofs.blocks.+block.Goals as goal

@@ -1,7 +1,8 @@
 use Rattle.std.proofs.Common.{◌≡◌, ◌≤◌, ◌+◌, ◌*◌, ◌++◌, length}
 use Rattle.std.specs.Prelude.{map}
-use Rattle.tree_codec.specs.Trees.{blocks_of, group_of, deepest, deepest_in, AllWhole, AreWholeGroups}
-use Rattle.tree_codec.proofs.Depth.{deepest_of, AreWithin}
+use Rattle.flyweight_view.specs.Deep.{deepest, deepest_in}
+use Rattle.tree_codec.specs.Trees.{blocks_of, group_of, AllWhole, AreWholeGroups}
+use Rattle.flyweight_view.proofs.Depth.{deepest_of, AreWithin}
 use Rattle.tree_codec.proofs.blocks.+block.Given as goal
 
 abbrev pub invariant-group_trees-loop-i : goal.invariant-group_trees-loop-i

@@ -4,7 +4,7 @@ use Rattle.std.specs.Option.{option_map}
 use Rattle.serde_json.specs.Written.{comma_if}
 use Rattle.sbe_types.specs.declared.message.Block.{out-Block}
 use Rattle.flyweight_view.specs.Seen.{TypedBlock}
-use Rattle.tree_json.specs.Deep.{deepest, deepest_in}
+use Rattle.flyweight_view.specs.Deep.{deepest, deepest_in}
 use Rattle.json_values.specs.Values.{zipped}
 use Rattle.tree_json.specs.Lines.{group_name, group_entry, items_by}
 use Rattle.json_values.specs.Plain.{entry_text, entries_text, plain_items}
@@ -13,7 +13,7 @@ use Rattle.printers.proofs.Printing.{then_prints, reprinted, prints_nothing}
 use Rattle.json_values.proofs.Entries.{goes_on, ends_so, item_next}
 use Rattle.tree_json.specs.Texts.{AreTexts, AreTextsOfAll, AreTextsOfGroup}
 use Rattle.tree_json.proofs.LevelTextsOf.{GroupsHave, groups_have, texts_within}
-use Rattle.tree_json.proofs.Depth.{AreWithin, seen_within, first_within, some_deep}
+use Rattle.flyweight_view.proofs.Depth.{AreWithin, seen_within, first_within, some_deep}
 use Rattle.tree_json.proofs.Blocks.{front_closed}
 use Rattle.tree_json.proofs.HeadText.{front_is, no_groups, some_groups}
 use Rattle.tree_json.proofs.Views.{groups_are, none_left}

@@ -1,12 +1,12 @@
 use Rattle.std.proofs.Common.{◌≡◌, ◌≤◌, ◌+◌, ◌*◌, ℕ, List, ◌++◌, length, drop, false}
-use Rattle.tree_json.specs.Deep.{deepest, deepest_in}
+use Rattle.flyweight_view.specs.Deep.{deepest, deepest_in}
 use Rattle.json_values.specs.Values.{zipped}
 use Rattle.tree_json.specs.Lines.{items_by}
 use Rattle.json_values.specs.Plain.{entries_text, plain_items}
 use Rattle.tree_json.specs.Views.{block_object, entries_entry}
 use Rattle.printers.specs.Prints.{Prints}
 use Rattle.tree_json.specs.Texts.{AreTextsOfAll}
-use Rattle.tree_json.proofs.Depth.{deepest_of, AreWithin}
+use Rattle.flyweight_view.proofs.Depth.{deepest_of, AreWithin}
 use Rattle.tree_json.proofs.LevelTextsOf.{GroupsHave}
 use Rattle.tree_json.proofs.block.+block.Given as goal
 

@@ -1,5 +1,5 @@
 use Rattle.std.proofs.Common.{[], Some, refl, ap, sym, ◌∙◌, subst, arith}
-use Rattle.tree_json.specs.Deep.{deepest_in}
+use Rattle.flyweight_view.specs.Deep.{deepest_in}
 use Rattle.json_rows.proofs.Growing.{own_table}
 use Rattle.tree_json.specs.Texts.{block_pieces, AreTextsOfAll}
 use Rattle.tree_json.proofs.HeadText.{texts_fit}

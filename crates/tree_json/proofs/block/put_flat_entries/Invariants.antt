@@ -1,5 +1,5 @@
 use Rattle.std.proofs.Common.{◌≤◌, length}
-use Rattle.tree_json.specs.Deep.{deepest_in}
+use Rattle.flyweight_view.specs.Deep.{deepest_in}
 use Rattle.tree_json.specs.Views.{PrintsFront}
 use Rattle.std.specs.Prelude.{Some}
 use Rattle.printers.specs.Prints.{Prints}

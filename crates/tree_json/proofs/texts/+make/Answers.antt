@@ -10,8 +10,8 @@ use Rattle.json_rows.specs.Tables.{HasPieces}
 use Rattle.tree_json.specs.Texts.{text_before, text_behind, AreGroupsPrintable, HaveTexts, IsPrintable}
 use Rattle.flat_rows.proofs.RowsJudged.{first_of}
 use Rattle.layout_tables.proofs.Items.{take_one, all_taken}
-use Rattle.tree_json.specs.Deep.{deepest}
-use Rattle.tree_json.proofs.Depth.{item_deep, level_is}
+use Rattle.flyweight_view.specs.Deep.{deepest}
+use Rattle.flyweight_view.proofs.Depth.{item_deep, level_is}
 use Rattle.tree_json.proofs.LevelTextsOf.{groups_more, level_made}
 use Rattle.tree_json.proofs.Printable.{level_parts}
 use Rattle.tree_json.proofs.texts.+make.Goals as goal

@@ -1,6 +1,6 @@
 use Rattle.std.proofs.Common.{◌+◌, ◌*◌, take, drop}
 use Rattle.schema_facts.specs.CheckedLevels.{groups_deep}
-use Rattle.tree_json.specs.Deep.{deepest}
+use Rattle.flyweight_view.specs.Deep.{deepest}
 use Rattle.tree_json.specs.Texts.{AreGroupsPrintable, HaveTexts}
 use Rattle.tree_json.proofs.texts.+make.Given as goal
 

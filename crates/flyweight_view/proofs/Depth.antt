@@ -1,5 +1,5 @@
 -- How deep the groups of a view lie.
-use Rattle.std.proofs.Common.{◌≡◌, ◌≤◌, ◌<◌, ◌+◌, ℕ, zero, suc, max, List, [], ◌∷◌, length, get_or, Option, Some, None, refl, ap, ◌∙◌, subst, arith}
+use Rattle.std.proofs.Common.{◌≡◌, ◌≤◌, ◌<◌, ℕ, zero, suc, max, List, [], ◌∷◌, length, get_or, Option, Some, None, refl, ap, ◌∙◌, subst, arith}
 use Rattle.std.specs.Prelude.{⊤, map}
 use denote.Hole.Carrier as carrier
 use Rattle.sbe_types.specs.declared.schema.Group as groups
@@ -11,7 +11,7 @@ use Rattle.sbe_types.specs.declared.message.GroupVal.{GroupVal, items-the_row-Bl
 use Rattle.sbe_types.specs.declared.message.GroupVal as groupval
 use Rattle.schema_facts.specs.CheckedLevels.{groups_deep, row_deep}
 use Rattle.flyweight_view.specs.Seen.{TypedBlock, typed_level, entries_in, typed_groups}
-use Rattle.tree_json.specs.Deep.{deepest, deepest_in}
+use Rattle.flyweight_view.specs.Deep.{deepest, deepest_in}
 
 row_is : (n : _) (row : Row_of-Group n) → deepest (items-the_row-Group n row) ≡ row_deep row
 unfolding groups_deep groups.out-Group carrier.out
