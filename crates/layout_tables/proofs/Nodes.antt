@@ -2,9 +2,7 @@
 use Rattle.std.proofs.Common.{◌≡◌, ◌<◌, inl, inr, ℕ, zero, suc, ◌+◌, List, [], ◌∷◌, ◌++◌, length, take, get_or, Option, Some, None, refl, sym, ap, ◌∙◌, subst, arith, append_assoc, length-append}
 use Rattle.std.specs.Prelude.{slice_get, flat_map}
 use Rattle.std.proofs.lemmas.List.{append-nil}
-use denote.Hole.Carrier as carrier
 use Rattle.sbe_types.specs.declared.schema.Level as levels
-use Rattle.sbe_types.specs.declared.schema.Group as groups_of
 use Rattle.sbe_types.specs.declared.kind.Member.{Member}
 use Rattle.sbe_types.specs.declared.schema.Group.{Group, Group'}
 use Rattle.sbe_types.specs.declared.schema.Level.{Level, Level', out-Level, Row_of-Group, end_of-Group, more_of-Group}

@@ -31,3 +31,4 @@ pub mod WholeChecked
 pub mod KindMembers
 pub mod KindWorked
 pub mod SetNumber
+pub mod LevelNodes

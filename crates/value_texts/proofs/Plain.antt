@@ -18,7 +18,6 @@ use Rattle.fix_values.specs.Decimals.{dec, decimal_of, decimal_text}
 use Rattle.fix_values.specs.Codes.{has_soh, spaced_texts, codes_in, bits_of, set_text, boolean_text, boolean_shown, truth_text}
 use Rattle.fix_values.specs.Values.{can_show, char_text, text_of, text_shown}
 use Rattle.fix_dates.specs.declared.month.MonthYear.{MonthYear}
-use Rattle.fix_dates.specs.declared.month.Part.TheVariants as part
 use Rattle.fix_dates.specs.Digits.{digits}
 use Rattle.fix_dates.specs.Days.{day_text}
 use Rattle.fix_dates.specs.Clocks.{clock_text, fraction_text}
