@@ -13,7 +13,7 @@ use Rattle.sbe_types.specs.declared.message.Block.{Block}
 use Rattle.sbe_types.specs.declared.message.GroupVal.{GroupVal, items_hidden-the_row-Block-1}
 use Rattle.sbe_types.specs.declared.message.GroupVal.TheVariants as groupval
 use Rattle.sbe_types.specs.declared.schema.Group.{Group, Group', out-Group}
-use Rattle.sbe_types.specs.declared.schema.Level.{Level, Level', out-Level, Row_of-Group, end_of-Group, more_of-Group}
+use Rattle.sbe_types.specs.declared.schema.Level.{Level, out-Level}
 use Rattle.sbe_types.specs.declared.schema.WireSchema.{WireSchema}
 use Rattle.sbe_types.specs.Places.{members_end}
 use Rattle.sbe_wire.specs.declared.codes.FCode.TheVariants as code
@@ -21,10 +21,10 @@ use Rattle.sbe_wire.specs.Faults.{Fault, fault_at}
 use Rattle.sbe_wire.specs.Reading.{Reader, ◌>>=◌, later, and_then, and_check, then_read, nothing, times_read, dimension_of, dimension_read, group_read}
 use Rattle.sbe_wire.specs.Versions.{is_alive, floor}
 use Rattle.sbe_wire.proofs.Combine.{ok_is}
-use Rattle.schema_facts.specs.Levels.{nodes, nodes_below, nodes_of, all_nodes, groups_at}
+use Rattle.schema_facts.specs.Levels.{nodes_of, all_nodes, groups_at}
 use Rattle.layout_tables.specs.Parts.{group_number}
 use Rattle.layout_tables.proofs.Nodes.{flat_more}
-use Rattle.layout_tables.proofs.GroupWalk.{GroupsFrom, groups_begin, group_is, here}
+use Rattle.layout_tables.proofs.GroupWalk.{GroupsFrom, groups_begin, group_is, here, many_of}
 use Rattle.group_codec.specs.declared.dim.Dim.{Dim}
 use Rattle.body_walk.specs.declared.layer.Layer.{Layer}
 use Rattle.sbe_wire.specs.declared.mode.Mode.{Mode}
@@ -36,20 +36,6 @@ use Rattle.flyweight_view.specs.Seen.{typed_level, entries_in}
 use Rattle.flyweight_view.proofs.Lefts.{never_ok, step_ok, later_same, made_there}
 
 -- ---- the number of a group's level
-
-mutual
-  unfolding nodes nodes_below nodes_of
-
-  many_nodes : (t u : ℕ) (dim : Option (List Member)) (level : Level) → length (nodes t dim level) ≡ length (nodes u dim level)
-  many_nodes t u dim (Level' name id semantic since block_length fields n groups parts) = ap suc (many_below t u groups)
-
-  many_below : (t u : ℕ) {n : _} (row : Row_of-Group n) → length (nodes_below t row) ≡ length (nodes_below u row)
-  many_below t u end_of-Group = refl
-  many_below t u (more_of-Group g rest) =
-      omega (arith, length-append (nodes_of t g) (nodes_below t rest), length-append (nodes_of u g) (nodes_below u rest), many_of t u g, many_below t u rest)
-
-  many_of : (t u : ℕ) (g : Group) → length (nodes_of t g) ≡ length (nodes_of u g)
-  many_of t u (Group' dim level) = many_nodes t u (Some dim) level
 
 groups_past : (schema : WireSchema) (n k child : ℕ) → GroupsFrom schema n k child → k < length (groups_at schema n) → (next : ℕ) × GroupsFrom schema n (k + 1) next
 groups_past schema n k child w h =

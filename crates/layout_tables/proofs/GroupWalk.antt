@@ -28,7 +28,7 @@ mutual
   many_below t u (more_of-Group g rest) =
       omega (arith, length-append (nodes_of t g) (nodes_below t rest), length-append (nodes_of u g) (nodes_below u rest), many_of t u g, many_below t u rest)
 
-  many_of : (t u : ℕ) (g : Group) → length (nodes_of t g) ≡ length (nodes_of u g)
+  pub many_of : (t u : ℕ) (g : Group) → length (nodes_of t g) ≡ length (nodes_of u g)
   many_of t u (Group' dim level) = many_nodes t u (Some dim) level
 
 -- how far a walk over a level's groups has come: the next one's level is number child

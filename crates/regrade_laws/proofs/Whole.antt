@@ -1,7 +1,7 @@
 -- Up and back down is the same message.
-use Rattle.std.proofs.Common.{◌≡◌, ℕ, suc, ◌<◌, Bool, true, false, List, [], ◌∷◌, Option, Some, None, Result, Ok, Err, refl, sym, ap, ◌∙◌, arith}
-use Rattle.std.specs.Prelude.{nat_le, nat_lt, ◌==◌, slice_get, if◌then◌else◌}
-use Rattle.std.proofs.lemmas.Bool.{le-leb, eqb-true}
+use Rattle.std.proofs.Common.{◌≡◌, ℕ, ◌<◌, true, false, List, Some, None, Result, Ok, Err, refl, sym, ap, ◌∙◌, arith}
+use Rattle.std.specs.Prelude.{nat_le, nat_lt, slice_get, if◌then◌else◌}
+use Rattle.std.proofs.lemmas.Bool.{le-leb}
 use Rattle.std.proofs.lemmas.Bool.Decides.{nat_tests}
 use Rattle.sbe_types.specs.declared.path.Step.{Step}
 use Rattle.sbe_types.specs.declared.schema.Level.{Level, out-Level}
@@ -12,6 +12,7 @@ use Rattle.sbe_wire.specs.Faults.{message_named}
 use Rattle.sbe_wire.specs.Fits.{Fits}
 use Rattle.sbe_wire.specs.Placed.{IsPlaced}
 use Rattle.sbe_wire.proofs.Messages.{named_is}
+pub use Rattle.sbe_wire.proofs.Messages.{named_id}
 use Rattle.version_laws.specs.Differ.{differ}
 use Rattle.version_laws.specs.Projected.{projected, projected_from, lifted, lifted_from, with_block, projected_block, lifted_block}
 use Rattle.version_laws.proofs.Stands.{Listed}
@@ -20,15 +21,6 @@ use Rattle.regrade_laws.specs.Filled.{filled_block}
 use Rattle.regrade_laws.specs.Regraded.{in_version, filled_by, filled_in, moved, regraded}
 use Rattle.regrade_laws.proofs.Back.{back_block}
 use Rattle.regrade_laws.proofs.Fitting.{there_block, block_has}
-
-named_by : (i id : ℕ) (l : Level) (m : ℕ × Level) (t : Bool) (later : Option (ℕ × Level)) → ((out-Level l).id == id) ≡ t → (later ≡ Some m → (out-Level m.1).id ≡ id) → (if t then Some (i, l) else later) ≡ Some m → (out-Level m.1).id ≡ id
-named_by i id l m true later is more h = let same : (i, l) ≡ m = cc in ap (λ (p : ℕ × Level). (out-Level p.1).id) (sym same) ∙ eqb-true (out-Level l).id id is
-named_by i id l m false later is more h = more h
-
--- the message of that id has that id
-pub named_id : (i id : ℕ) (levels : List Level) (m : ℕ × Level) → message_named i id levels ≡ Some m → (out-Level m.1).id ≡ id
-named_id i id [] m h = cc
-named_id i id (l ∷ ls) m h = named_by i id l m ((out-Level l).id == id) (message_named (suc i) id ls) refl (named_id (suc i) id ls m) h
 
 version_ok : (version : ℕ) (m n : Msg) (b : Result Block (List Step)) → in_version version m b ≡ Ok n → (c : Block) × (b ≡ Ok c) × (n ≡ record { template = m.template; version = version; block = c })
 version_ok version m n (Err path) h = cc

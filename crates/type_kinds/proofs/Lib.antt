@@ -2,5 +2,4 @@ pub mod Rows
 pub mod TableLemmas
 pub mod Known
 pub mod LeafLemmas
-pub mod ListSame
 pub mod WidthLemmas

@@ -1,5 +1,5 @@
 use Rattle.std.proofs.Common.{refl, arith}
-use Rattle.type_kinds.proofs.ListSame.{more_same, whole_same}
+use Rattle.sbe_types.proofs.ListSame.{more_same, whole_same}
 use Rattle.type_kinds.proofs.same_kinds.+same_kinds.Goals as goal
 
 pub are_equal-loop-i-preserved : goal.are_equal-loop-i-preserved

@@ -1,5 +1,5 @@
 use Rattle.std.proofs.Common.{refl, arith}
-use Rattle.type_kinds.proofs.ListSame.{more_same, whole_same}
+use Rattle.sbe_types.proofs.ListSame.{more_same, whole_same}
 use Rattle.type_kinds.proofs.same_kinds.are_same_names.Goals as goal
 
 pub loop-i-preserved : goal.loop-i-preserved
