@@ -23,7 +23,7 @@ use Rattle.body_walk.specs.declared.header.Start.{Start}
 use Rattle.sbe_wire.specs.declared.mode.Mode.{Mode}
 use Rattle.body_walk.specs.inner.Cursor.{placed, entries_read}
 use Rattle.body_walk.specs.Heads.{head_number, head_place, found_template, named_template, header_template}
-use Rattle.body_walk.specs.inner.Starts.{rest_check, root_end, message_end}
+use Rattle.body_walk.specs.inner.Starts.{rest_end, root_end, message_end}
 use Rattle.body_walk.proofs.Cursor.{EndOf}
 use Rattle.body_walk.proofs.Walks.{entry_leaves, tail_leaves}
 
@@ -58,7 +58,7 @@ module _ (schema : WireSchema) (body : List ℕ) (h : Heading) (fits : header_wi
   after r = later (length body - length (drop w body)) (and_then (drop w body) r (λ block rest. rest_check mode.known (headed h block) rest))
 
   abbrev told : Result (Block × List ℕ) Fault → Result ℕ Fault
-  told r = placed (length body) w r >>= (λ next. rest_check mode.known h.version body next)
+  told r = placed (length body) w r >>= (λ next. rest_end mode.known h.version body next)
 
   header_is : length body - length (drop w body) ≡ w
   header_is = omega (arith, length-drop w body)

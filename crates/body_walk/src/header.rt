@@ -7,7 +7,7 @@ ghost use Rattle.schema_facts.specs.Levels.{level_at};
 ghost use Rattle.layout_tables.specs.Heads.{header_width};
 ghost use Rattle.body_walk.specs.Heads.{start_in, header_template};
 ghost use Rattle.body_walk.specs.inner.Ready.{IsReadySchema};
-ghost use Rattle.body_walk.specs.inner.Starts.{message_from, rest_check, start_check, start_went};
+ghost use Rattle.body_walk.specs.inner.Starts.{message_from, rest_end, start_check, start_went};
 ghost use Rattle.body_walk.specs.inner.Told.{place_or_fault};
 
 use crate::found::Found;
@@ -151,7 +151,7 @@ fn judge_start(
 /// Checks what is left after the last part of a message of this version.
 fn judge_rest(known: bool, version: u32, body: &[u8], next: usize, out: &mut Found) -> Option<u32>
     requires { next ≤ length body.now }
-    ensures told { place_or_fault result out.new ≡ rest_check known version body.now next }
+    ensures told { place_or_fault result out.new ≡ rest_end known version body.now next }
     ensures version { IfSome result (λ v. v ≡ version) }
     ensures low { IfNone result (length out.new.path ≡ 0) }
 {

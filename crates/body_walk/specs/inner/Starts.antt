@@ -21,15 +21,15 @@ start_check schema level start =
     else Ok start
 
 -- the version, or the fault if bytes follow the last part
-abbrev pub rest_check : Bool → ℕ → List ℕ → ℕ → Result ℕ Fault
-rest_check known version body next =
+abbrev pub rest_end : Bool → ℕ → List ℕ → ℕ → Result ℕ Fault
+rest_end known version body next =
     if known && nat_lt next (length body) then Err (fault_at code.Trailing next (pos (length body - next))) else Ok version
 
 -- the version after the root's block, groups and data, or the first fault
 abbrev pub root_end : WireSchema → Level → List ℕ → Start → Result ℕ Fault
 root_end schema level body start =
     let mode = mode_of schema start.version in
-    skim (entries_read mode level start.block) body (header_width schema) >>= (λ next. rest_check mode.known start.version body next)
+    skim (entries_read mode level start.block) body (header_width schema) >>= (λ next. rest_end mode.known start.version body next)
 
 -- the version of a message of this level after a header with these numbers, or its first fault
 abbrev pub message_from : WireSchema → Level → List ℕ → Start → Result ℕ Fault
