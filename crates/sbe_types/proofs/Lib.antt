@@ -6,3 +6,4 @@ pub mod BadLemmas
 pub mod ListSame
 pub mod Trails
 pub mod KindRows
+pub mod ShownMembers
