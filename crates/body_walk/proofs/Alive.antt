@@ -4,7 +4,7 @@ use Rattle.std.proofs.lemmas.Bool.Decides.{nat_tests}
 use Rattle.sbe_types.specs.declared.schema.Field.{Field}
 use Rattle.sbe_wire.specs.Versions.{is_alive}
 use Rattle.layout_tables.specs.Rowed.{newest_from, newest_of}
-use Rattle.flat_rows.specs.Judged.{AllAlive}
+use Rattle.flat_rows.specs.BlockChecks.{AllAlive}
 
 alive_at : (version since : ℕ) → since ≤ version → is_alive version since ≡ true
 alive_at version since h = grind (arith, nat_tests)

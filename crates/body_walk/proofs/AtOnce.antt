@@ -22,7 +22,7 @@ use Rattle.sbe_wire.specs.declared.codes.FCode.TheVariants as code
 use Rattle.sbe_wire.specs.Faults.{Fault}
 use Rattle.sbe_wire.specs.Reading.{inside, value_read}
 use Rattle.sbe_wire.specs.declared.mode.Mode.{Mode}
-use Rattle.body_walk.specs.inner.Told.{piece, check_at}
+use Rattle.body_walk.specs.inner.Outcomes.{piece, check_at}
 use Rattle.body_walk.specs.inner.Kinds.{answered, leaf_answer, leaf_check, kind_check, part_check}
 use Rattle.body_walk.proofs.KindTold.{leaf_is, enum_is}
 use Rattle.body_walk.proofs.LeafTold.{leaf_shown}

@@ -8,7 +8,7 @@ use Rattle.sbe_wire.specs.Placed.{ArePlaced}
 use Rattle.sbe_wire.specs.Versions.{floor}
 use Rattle.sbe_wire.proofs.Blocks.{fields_judges}
 use Rattle.schema_facts.specs.Levels.{level_at}
-use Rattle.flat_rows.specs.Judged.{AllAlive, ScalarsShow}
+use Rattle.flat_rows.specs.BlockChecks.{AllAlive, ScalarsShow}
 use Rattle.flat_rows.specs.Scalars.{scalars_of}
 use Rattle.flat_rows.specs.Tables.{RowsFit}
 use Rattle.flat_rows.proofs.ValuesFit.{table_fits}
@@ -22,7 +22,7 @@ use Rattle.body_walk.specs.inner.Blocks.{IsBlockRow, ShowsEach}
 use Rattle.body_walk.specs.inner.Cursor.{skim, entries_read}
 use Rattle.body_walk.specs.inner.Fields.{fields_check}
 use Rattle.body_walk.specs.inner.Ready.{IsReadySchema}
-use Rattle.body_walk.specs.inner.Told.{piece, check_at}
+use Rattle.body_walk.specs.inner.Outcomes.{piece, check_at}
 use Rattle.body_walk.proofs.Alive.{all_alive}
 use Rattle.body_walk.proofs.FieldsTold.{fields_are, rows_ready}
 use Rattle.body_walk.proofs.LevelsReady.{level_ready, same_node}

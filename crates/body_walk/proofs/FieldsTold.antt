@@ -17,7 +17,7 @@ use Rattle.layout_tables.specs.declared.rows.FieldRow.{FieldRow}
 use Rattle.layout_tables.specs.Rowed.{FieldIs, FieldsAre}
 use Rattle.layout_tables.proofs.Items.{drop_is}
 use Rattle.sbe_wire.specs.declared.mode.Mode.{Mode}
-use Rattle.body_walk.specs.inner.Told.{Piece, piece, check_at}
+use Rattle.body_walk.specs.inner.Outcomes.{Piece, piece, check_at}
 use Rattle.body_walk.specs.inner.Kinds.{part_check, IsReady}
 use Rattle.body_walk.specs.inner.Fields.{field_check, fields_check, IsFieldRow, AreFieldRows}
 use Rattle.body_walk.proofs.KindTold.{settled_later, settled_two}

@@ -20,7 +20,7 @@ use Rattle.sbe_wire.specs.Faults.{Fault, fault_at}
 use Rattle.sbe_wire.specs.Reading.{◌>>=◌, later, inside, value_read, row_read}
 use Rattle.sbe_wire.specs.declared.mode.Mode.{Mode}
 use Rattle.sbe_types.proofs.KindRows.{row_in}
-use Rattle.body_walk.specs.inner.Told.{Piece, check_at}
+use Rattle.body_walk.specs.inner.Outcomes.{Piece, check_at}
 use Rattle.body_walk.specs.inner.Kinds.{answered, kind_check, leaf_check, members_check, part_check}
 
 -- ---- single numbers

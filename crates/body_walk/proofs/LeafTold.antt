@@ -27,7 +27,7 @@ use Rattle.sbe_wire.specs.declared.codes.FCode.TheVariants as code
 use Rattle.sbe_wire.specs.Faults.{Fault, fault_at}
 use Rattle.sbe_wire.specs.Reading.{◌>>=◌, later, inside, leaf_read, text_ended, elements_read}
 use Rattle.schema_facts.specs.InOrder.{IsLeafInOrder, IsShapeOf}
-use Rattle.body_walk.specs.inner.Told.{check_at, piece}
+use Rattle.body_walk.specs.inner.Outcomes.{check_at, piece}
 use Rattle.body_walk.specs.inner.Kinds.{shape_answer, leaf_answer, leaf_check, IsLeafFault}
 
 -- ---- numbers

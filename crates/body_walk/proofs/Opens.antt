@@ -30,7 +30,7 @@ use Rattle.sbe_wire.specs.declared.mode.Mode.{Mode}
 use Rattle.body_walk.specs.inner.Cursor.{skim, entries_read, groups_end, steps_end, parts_end, data_end, dim_from, block_end}
 use Rattle.body_walk.specs.inner.Blocks.{IsBlockAt}
 use Rattle.body_walk.specs.inner.Fields.{fields_check}
-use Rattle.body_walk.specs.inner.Told.{piece, check_at}
+use Rattle.body_walk.specs.inner.Outcomes.{piece, check_at}
 use Rattle.body_walk.proofs.FieldsTold.{fields_are}
 use Rattle.body_walk.proofs.LevelsReady.{row_parts}
 use Rattle.body_walk.proofs.Walks.{block_walked, entry_walked, group_walked, tail_walked}

@@ -27,7 +27,7 @@ use Rattle.layout_tables.specs.Rowed.{part_row}
 use Rattle.var_data.specs.declared.data.DataErr.TheVariants as bad
 use Rattle.var_data.specs.Ranges.{data_range, range_behind}
 use Rattle.sbe_wire.specs.declared.mode.Mode.{Mode}
-use Rattle.body_walk.specs.inner.Told.{check_at}
+use Rattle.body_walk.specs.inner.Outcomes.{check_at}
 use Rattle.body_walk.specs.inner.Cursor.{placed, skim, steps_end, groups_end, parts_end, data_end, range_answer, dim_from, block_end, entries_read}
 use Rattle.sbe_wire.proofs.Combine.{later_ok}
 use Rattle.body_walk.proofs.Cursor.{fst_is, Leaves, at_if, at_err, at_all, leaves_then, leaves_nothing, leaves_in, leaves_judged, leaves_bytes, leaves_times, leaves_each, skim_then, skim_made, skim_nothing, placed_inside, times_walked, skim_judged}

@@ -1,5 +1,5 @@
 -- Definitions that only inner clauses cite.
-pub mod Told
+pub mod Outcomes
 pub mod Kinds
 pub mod Fields
 pub mod Cursor

@@ -5,7 +5,7 @@ ghost use Rattle.flat_rows.specs.Tables.{IsTable, RowsFit};
 ghost use Rattle.body_walk.specs.inner.Blocks.{IsBlockAt, IsBlockRow, ShowsEach};
 ghost use Rattle.body_walk.specs.inner.Cursor.{block_end};
 ghost use Rattle.body_walk.specs.inner.Fields.{fields_check};
-ghost use Rattle.body_walk.specs.inner.Told.{fault_unless, piece, place_or_fault};
+ghost use Rattle.body_walk.specs.inner.Outcomes.{fault_unless, piece, place_or_fault};
 
 use crate::fields::judge_fields;
 use crate::found::Found;

@@ -4,7 +4,7 @@ ghost use Rattle.std.specs.List.{AllByRecursion};
 ghost use Rattle.sbe_types.specs.declared.limits.TheConstants.{PART_LIMIT};
 ghost use Rattle.schema_facts.specs.Measured.{IsSmall};
 ghost use Rattle.body_walk.specs.inner.Cursor.{data_end, parts_end};
-ghost use Rattle.body_walk.specs.inner.Told.{place_or_fault};
+ghost use Rattle.body_walk.specs.inner.Outcomes.{place_or_fault};
 
 use crate::found::Found;
 use layout_tables::PartRow;

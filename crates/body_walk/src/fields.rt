@@ -1,7 +1,7 @@
 // The fields of a block.
 ghost use Rattle.std.specs.Prelude.{◌≡◌, ◌≤◌, ◌<◌, ◌+◌, ◌^◌, false, length};
 ghost use Rattle.sbe_types.specs.declared.limits.TheConstants.{PART_LIMIT};
-ghost use Rattle.body_walk.specs.inner.Told.{fault_unless, piece};
+ghost use Rattle.body_walk.specs.inner.Outcomes.{fault_unless, piece};
 ghost use Rattle.body_walk.specs.inner.Fields.{field_check, fields_check, AreFieldRows, IsFieldRow};
 
 use crate::found::Found;

@@ -7,7 +7,7 @@ ghost use Rattle.layout_tables.specs.Rowed.{RowFor};
 ghost use Rattle.body_walk.specs.inner.Blocks.{ShowsEach};
 ghost use Rattle.body_walk.specs.inner.Cursor.{skim, entries_read, steps_end};
 ghost use Rattle.body_walk.specs.inner.Layers.{IsLayer};
-ghost use Rattle.body_walk.specs.inner.Told.{place_or_fault};
+ghost use Rattle.body_walk.specs.inner.Outcomes.{place_or_fault};
 
 use crate::blocks::{shows_block, walk_block};
 use crate::found::Found;

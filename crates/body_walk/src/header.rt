@@ -8,7 +8,7 @@ ghost use Rattle.layout_tables.specs.Heads.{header_width};
 ghost use Rattle.body_walk.specs.Heads.{start_in, header_template};
 ghost use Rattle.body_walk.specs.inner.Ready.{IsReadySchema};
 ghost use Rattle.body_walk.specs.inner.Starts.{message_from, rest_end, start_check, start_went};
-ghost use Rattle.body_walk.specs.inner.Told.{place_or_fault};
+ghost use Rattle.body_walk.specs.inner.Outcomes.{place_or_fault};
 
 use crate::found::Found;
 use crate::head_numbers::numbers_in;

@@ -7,7 +7,7 @@ ghost use Rattle.sbe_types.specs.Shown.{is_null, is_listed, has_listed_bits};
 ghost use Rattle.sbe_wire.specs.declared.codes.FCode.TheVariants.{EnumUnknown, SetUnknown};
 ghost use Rattle.schema_rules.specs.TypeRules.{is_set_primitive};
 ghost use Rattle.schema_facts.specs.InOrder.{height, IsLeafInOrder};
-ghost use Rattle.body_walk.specs.inner.Told.{fault_of, fault_unless, piece};
+ghost use Rattle.body_walk.specs.inner.Outcomes.{fault_of, fault_unless, piece};
 ghost use Rattle.body_walk.specs.inner.Kinds.{answered, kind_check, leaf_answer, leaf_check, member_check, members_check, part_check, IsReady, IsLeafFault};
 
 use crate::found::Found;

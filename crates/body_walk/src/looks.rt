@@ -9,7 +9,7 @@ ghost use Rattle.sbe_types.specs.Places.{width};
 ghost use Rattle.sbe_types.specs.Shown.{admits, is_null, is_listed};
 ghost use Rattle.schema_rules.specs.Ranges.{is_number_of};
 ghost use Rattle.schema_facts.specs.InOrder.{IsLeafInOrder};
-ghost use Rattle.body_walk.specs.inner.Told.{piece};
+ghost use Rattle.body_walk.specs.inner.Outcomes.{piece};
 ghost use Rattle.body_walk.specs.inner.Kinds.{kind_check, IsReady};
 
 use crate::numbers::shows_enum;

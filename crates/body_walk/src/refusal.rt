@@ -29,7 +29,7 @@ pub struct LastRefusal {
 }
 
 impl Model for LastRefusal {
-    ghost use Rattle.body_walk.specs.inner.Told.{fault_of};
+    ghost use Rattle.body_walk.specs.inner.Outcomes.{fault_of};
     ghost use Rattle.body_walk.specs.Refusals.{Misread};
 
     ghost Value = { Misread };

@@ -11,7 +11,7 @@ ghost use Rattle.schema_facts.specs.Levels.{level_at};
 ghost use Rattle.layout_tables.specs.Parts.{dim_at};
 ghost use Rattle.body_walk.specs.inner.Cursor.{skim, entries_read, groups_end, steps_end};
 ghost use Rattle.body_walk.specs.inner.Ready.{IsReadySchema};
-ghost use Rattle.body_walk.specs.inner.Told.{place_or_fault};
+ghost use Rattle.body_walk.specs.inner.Outcomes.{place_or_fault};
 
 use crate::blocks::walk_block;
 use crate::data::walk_parts;

@@ -1,6 +1,6 @@
 ghost use Rattle.std.specs.Prelude.{◌≡◌, List, map, is_some, slice_get, IfOk};
 ghost use Rattle.map_types.specs.declared.tree.CodeSetEl.{CodeSetEl};
-ghost use Rattle.map_members.specs.Seen.{lent_members};
+ghost use Rattle.map_members.specs.Lent.{lent_members};
 ghost use Rattle.map_rules.specs.Datatypes.{is_int_type, is_decimal_type};
 ghost use Rattle.field_types.specs.FieldTypes.{datatypes_of, data_type, field_type, is_day_type, is_plain_text, set_type, standard_type};
 ghost use Rattle.bridge_plan.specs.Mappings.{datatype_in};

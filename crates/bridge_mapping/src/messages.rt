@@ -1,6 +1,6 @@
 ghost use Rattle.std.specs.Prelude.{◌≡◌, ◌+◌, ◌-◌, ◌≤◌, ◌<◌, ◌^◌, ℕ, length, map, option_map, IfOk};
 ghost use Rattle.map_types.specs.Trees.{members_of};
-ghost use Rattle.map_members.specs.Seen.{lent_members};
+ghost use Rattle.map_members.specs.Lent.{lent_members};
 ghost use Rattle.map_links.specs.Links.{linked};
 ghost use Rattle.orchestra_map.specs.Headers.{IsKept};
 ghost use Rattle.orchestra_map.specs.Structures.{message_structures};

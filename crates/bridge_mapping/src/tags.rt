@@ -1,7 +1,7 @@
 ghost use Rattle.std.specs.Prelude.{◌≡◌, map, filter_map, IfOk};
 ghost use Rattle.std.specs.List.{list_any};
 ghost use Rattle.map_types.specs.Trees.{members_of};
-ghost use Rattle.map_members.specs.Seen.{lent_members};
+ghost use Rattle.map_members.specs.Lent.{lent_members};
 ghost use Rattle.orchestra_map.specs.DataFields.{data_pair, hides_data, pairs_of};
 ghost use Rattle.orchestra_map.specs.Headers.{IsKept};
 ghost use Rattle.bridge_terms.specs.Plans.{is_in};

@@ -6,7 +6,7 @@ use Rattle.sbe_wire.specs.Misfit.{Misfit, misfit}
 use Rattle.line_values.specs.Refusals.{Refusal}
 use Rattle.line_reading.specs.Lines.{tree_of}
 use Rattle.schema_facts.specs.IsChecked.{IsChecked}
-use Rattle.schema_files.specs.Judged.{file_schema}
+use Rattle.schema_files.specs.FileChecks.{file_schema}
 use Rattle.command_files.specs.Files.{in_role}
 use Rattle.schema_files.specs.declared.files.FileRole.TheVariants as role
 use Rattle.schema_files.specs.declared.files.RefusedFile.{RefusedFile}

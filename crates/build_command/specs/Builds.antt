@@ -2,7 +2,7 @@
 use Rattle.std.specs.Prelude.{◌≡◌, ℕ, List, Option, Result, Ok, Err}
 use Rattle.sbe_types.specs.declared.schema.WireSchema.{WireSchema}
 use Rattle.replies.specs.Reply.{Reply}
-use Rattle.schema_files.specs.Judged.{file_schema, IsWithin}
+use Rattle.schema_files.specs.FileChecks.{file_schema, IsWithin}
 use Rattle.command_files.specs.Files.{in_role}
 use Rattle.command_files.specs.Files.{FilesOf}
 use Rattle.schema_facts.specs.IsChecked.{IsChecked}

@@ -2,7 +2,7 @@
 use Rattle.std.specs.Prelude.{◌≡◌, ℕ, List, [], ⊤}
 use Rattle.sbe_types.specs.declared.schema.WireSchema.{WireSchema}
 use Rattle.schema_lines.specs.Lines.{message_lines}
-use Rattle.schema_files.specs.Judged.{IsWithin}
+use Rattle.schema_files.specs.FileChecks.{IsWithin}
 use Rattle.command_files.specs.Files.{JudgesFile}
 use Rattle.command_files.specs.Files.{FilesOf}
 use Rattle.schema_files.specs.declared.files.FileRole.TheVariants as role

@@ -4,7 +4,7 @@ use Rattle.std.specs.Prelude.{◌==◌, not}
 use Rattle.std.specs.List.{list_all, prefix_len}
 use Rattle.std.proofs.lemmas.Bool.{and_parts}
 use Rattle.std.proofs.lemmas.Bool.Decides.{Decides-eqb}
-use Rattle.field_values.specs.Told.{before_zero}
+use Rattle.field_values.specs.Reports.{before_zero}
 use Rattle.clean_bodies.specs.Clean.{AreZeros, IsCleanText}
 
 pub zeros_are : (bytes : List ℕ) → list_all (λ b. b == 0) bytes ≡ true → AreZeros bytes

@@ -2,7 +2,7 @@
 use Rattle.std.proofs.Common.{◌≡◌, ℕ, List, Option, Result, Ok, Err, refl, sym, ap, ◌∙◌}
 use Rattle.sbe_types.specs.declared.schema.WireSchema.{WireSchema}
 use Rattle.schema_facts.specs.IsChecked.{IsChecked}
-use Rattle.schema_files.specs.Judged.{file_schema}
+use Rattle.schema_files.specs.FileChecks.{file_schema}
 use Rattle.schema_files.specs.Files.{LoadsChecked, stop_of}
 use Rattle.command_files.specs.Files.{FilesOf, LoadsFiles, in_role, JudgesFile}
 use Rattle.schema_files.specs.declared.files.FileRefusal.{FileRefusal}

@@ -1,7 +1,7 @@
 -- The files of a command: what they contain or why they are refused, and what loading them gives.
 use Rattle.std.specs.Prelude.{◌≡◌, ℕ, List, Option, Some, Result, Ok, Err, IfOk, ⊤}
 use Rattle.sbe_types.specs.declared.schema.WireSchema.{WireSchema}
-use Rattle.schema_files.specs.Judged.{file_schema, refused_as}
+use Rattle.schema_files.specs.FileChecks.{file_schema, refused_as}
 use Rattle.schema_files.specs.declared.files.FileRefusal.{FileRefusal}
 use Rattle.schema_files.specs.declared.files.FileRole.{FileRole}
 use Rattle.schema_files.specs.declared.files.RefusedFile.{RefusedFile}

@@ -1,7 +1,7 @@
 -- Both files of a comparison are loaded.
 use Rattle.std.proofs.Common.{ℕ, List, Option, Ok, Err, sym, ap, ◌∙◌}
 use Rattle.sbe_types.specs.declared.schema.WireSchema.{WireSchema}
-use Rattle.schema_files.specs.Judged.{file_schema}
+use Rattle.schema_files.specs.FileChecks.{file_schema}
 use Rattle.schema_files.specs.Files.{LoadsChecked, stop_of}
 use Rattle.command_files.specs.Files.{LoadsFiles}
 use Rattle.schema_files.specs.declared.files.FileRole.TheVariants as role

@@ -3,7 +3,7 @@ use Rattle.std.specs.Prelude.{◌≡◌, ℕ, Option, Result, Ok, Err, List, [],
 use Rattle.sbe_types.specs.declared.schema.WireSchema.{WireSchema}
 use Rattle.version_laws.specs.Answer.{compat}
 use Rattle.replies.specs.Reply.{Reply}
-use Rattle.schema_files.specs.Judged.{file_schema, refused_as, IsOfTwo}
+use Rattle.schema_files.specs.FileChecks.{file_schema, refused_as, IsOfTwo}
 use Rattle.command_files.specs.Files.{FilesOf}
 use Rattle.schema_files.specs.declared.files.FileRefusal.{FileRefusal}
 use Rattle.schema_files.specs.declared.files.FileRole.TheVariants as role

@@ -4,7 +4,7 @@ use Rattle.sbe_types.specs.declared.schema.WireSchema.{WireSchema}
 use Rattle.map_types.specs.declared.tree.Repository.{Repository}
 use Rattle.orchestra_map.specs.Headers.{IsKept}
 use Rattle.map_files.specs.Maps.{file_map, LoadsMap}
-use Rattle.schema_files.specs.Judged.{file_schema}
+use Rattle.schema_files.specs.FileChecks.{file_schema}
 use Rattle.schema_files.specs.Files.{LoadsChecked, stop_of}
 use Rattle.command_files.specs.Files.{LoadsFiles}
 use Rattle.schema_files.specs.declared.files.FileRole.TheVariants as role

@@ -13,7 +13,7 @@ use Rattle.bridge_plan.specs.Covers.{Cover, cover_of, covered_by, no_message, un
 use Rattle.bridge_mapping.specs.Mapped.{mapping_of}
 use Rattle.replies.specs.Reply.{Reply}
 use Rattle.replies.specs.declared.verdict.Verdict.TheVariants.{Answered}
-use Rattle.schema_files.specs.Judged.{file_schema, refused_as}
+use Rattle.schema_files.specs.FileChecks.{file_schema, refused_as}
 use Rattle.schema_files.specs.declared.files.FileRefusal.{FileRefusal}
 use Rattle.schema_files.specs.declared.files.FileRole.{FileRole}
 use Rattle.schema_files.specs.declared.files.FileRole.TheVariants as role

@@ -6,7 +6,7 @@ use Rattle.sbe_base.specs.declared.status.Status.TheVariants as status
 use Rattle.open_framing.specs.Frames.{Item}
 use Rattle.dump_lines.specs.declared.schemas.Schemas.{Schemas}
 use Rattle.dump_lines.specs.Dumped.{IsDumped, AreInOrder}
-use Rattle.schema_files.specs.Judged.{IsWithin, JudgesSchemas}
+use Rattle.schema_files.specs.FileChecks.{IsWithin, JudgesSchemas}
 use Rattle.command_files.specs.Files.{FilesOf}
 use Rattle.replies.specs.Reply.{Reply}
 use Rattle.command_steps.specs.declared.kept.Kept.{Kept}

@@ -22,7 +22,7 @@ use Rattle.refused_items.specs.Refused.{refused_line, of_encoding}
 use Rattle.dump_lines.specs.Refused.{of_fault, of_fault_in, message_meant, IsWay}
 use Rattle.dump_lines.specs.Dumped.{encoding_of, view_line, before_message, behind_message, message_line, PrintsAnswer, IsDumped, other_encoding, a_message, a_fault, Answer, refusal, answer_by, body_answer, dumped, AreInOrder, IsAnswered, IsAnsweredOnce}
 use Rattle.dump_lines.specs.declared.schemas.Schemas.{Schemas}
-use Rattle.flyweight_view.specs.Seen.{TypedMessage}
+use Rattle.flyweight_view.specs.TypedBlocks.{TypedMessage}
 use Rattle.body_walk.specs.Refusals.{Misread}
 use Rattle.dump_lines.proofs.Ways.{faults_have_ways}
 

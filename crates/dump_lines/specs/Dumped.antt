@@ -15,7 +15,7 @@ use Rattle.open_framing.specs.Frames.{Item}
 use Rattle.open_framing.specs.declared.head.TheConstants.{SBE_LITTLE, SBE_BIG}
 use Rattle.schema_facts.specs.IsChecked.{IsChecked}
 use Rattle.serde_json.specs.Written.{compact_text}
-use Rattle.flyweight_view.specs.Seen.{TypedMessage}
+use Rattle.flyweight_view.specs.TypedBlocks.{TypedMessage}
 use Rattle.tree_json.specs.Lines.{line_of, message_at}
 use Rattle.dump_lines.specs.Chosen.{schema_for}
 use Rattle.refused_items.specs.Refused.{refused_line, of_encoding}

@@ -25,7 +25,7 @@ use Rattle.sbe_types.proofs.TextLemmas.{Stops, fronts}
 use Rattle.schema_rules.specs.TypeRules.{is_set_primitive}
 use Rattle.schema_facts.specs.InOrder.{IsKindInOrder, IsShapeOf}
 use Rattle.field_values.specs.declared.state.FieldState.TheVariants as state
-use Rattle.field_values.specs.Told.{state_of, number_in, text_in, elements_in, element_of, number_state, text_state, before_zero, seen_element, prim_in, leaf_in}
+use Rattle.field_values.specs.Reports.{state_of, number_in, text_in, elements_in, element_of, number_state, text_state, before_zero, seen_element, prim_in, leaf_in}
 
 some_is : {A : Type 0} {x y : A} → ◌≡◌ {A = Option A} (Some x) (Some y) → x ≡ y
 some_is h = cc

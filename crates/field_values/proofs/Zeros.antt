@@ -3,7 +3,7 @@ use Rattle.std.proofs.Common.{◌≡◌, ◌≤◌, ◌<◌, ℕ, zero, suc, Boo
 use Rattle.std.specs.Prelude.{slice_index, not, ◌==◌}
 use Rattle.std.proofs.lemmas.List.Sums.{take_while-cons}
 use Rattle.memchr.specs.Find.{IsFirstByte, is_byte}
-use Rattle.field_values.specs.Told.{before_zero}
+use Rattle.field_values.specs.Reports.{before_zero}
 
 abbrev is_no_zero : ℕ → Bool
 is_no_zero b = not (b == 0)

@@ -3,7 +3,7 @@ ghost use Rattle.std.specs.Option.{IsSome};
 ghost use Rattle.sbe_types.specs.declared.message.Value.{Value};
 ghost use Rattle.sbe_types.specs.Numbers.{number_of, prim_width};
 ghost use Rattle.sbe_types.specs.Shows.{Shows};
-ghost use Rattle.field_values.specs.Told.{element_of, elements_in, leaf_in, HasElement, seen_element};
+ghost use Rattle.field_values.specs.Reports.{element_of, elements_in, leaf_in, HasElement, seen_element};
 
 use sbe_types::{Kind, Leaf, Order, get_num};
 

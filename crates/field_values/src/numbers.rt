@@ -3,7 +3,7 @@ ghost use Rattle.std.specs.Option.{IsSome};
 ghost use Rattle.sbe_types.specs.declared.message.Value.{Value};
 ghost use Rattle.sbe_types.specs.Shows.{Shows};
 ghost use Rattle.schema_facts.specs.InOrder.{IsKindInOrder};
-ghost use Rattle.field_values.specs.Told.{number_in, prim_in, HasNumber};
+ghost use Rattle.field_values.specs.Reports.{number_in, prim_in, HasNumber};
 
 use sbe_types::{Kind, Order, Prim, get_num};
 

@@ -5,7 +5,7 @@ ghost use Rattle.sbe_types.specs.Numbers.{number_of, prim_width};
 ghost use Rattle.sbe_types.specs.Places.{width};
 ghost use Rattle.sbe_types.specs.Shows.{Shows, ShowsLeaf, is_empty};
 ghost use Rattle.schema_facts.specs.InOrder.{IsKindInOrder, IsLeafInOrder};
-ghost use Rattle.field_values.specs.Told.{before_zero, number_state, state_of, text_state};
+ghost use Rattle.field_values.specs.Reports.{before_zero, number_state, state_of, text_state};
 
 use sbe_types::{Kind, Leaf, LeafShape, Order, Presence, get_num};
 

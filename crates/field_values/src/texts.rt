@@ -4,7 +4,7 @@ ghost use Rattle.sbe_types.specs.declared.kind.Kind.{Kind};
 ghost use Rattle.sbe_types.specs.declared.kind.Order.{Order};
 ghost use Rattle.sbe_types.specs.declared.message.Value.{Value};
 ghost use Rattle.sbe_types.specs.Shows.{Shows};
-ghost use Rattle.field_values.specs.Told.{before_zero, text_in};
+ghost use Rattle.field_values.specs.Reports.{before_zero, text_in};
 
 use memchr::memchr;
 

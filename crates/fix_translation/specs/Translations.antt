@@ -9,7 +9,7 @@ use Rattle.bridge_terms.specs.Places.{Unsent, place_fields, places_of}
 use Rattle.bridge_terms.specs.Plans.{Plan}
 use Rattle.bridge_plan.specs.Covers.{Cover, covered_by, no_message, unmapped, cover_of}
 use Rattle.bridge_plan.specs.Mappings.{Mapping, structure_for}
-use Rattle.flyweight_view.specs.Seen.{TypedMessage}
+use Rattle.flyweight_view.specs.TypedBlocks.{TypedMessage}
 use Rattle.message_walk.specs.Halts.{halt_of}
 use Rattle.message_plans.specs.declared.plan.Plan.{Plan as Plans}
 use Rattle.message_plans.specs.Plans.{ArePlans}

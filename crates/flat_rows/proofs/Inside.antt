@@ -8,7 +8,7 @@ use Rattle.sbe_types.specs.Places.{width, is_const, begin_of, end_past, fields_e
 use Rattle.sbe_wire.specs.Placed.{BeginsBehind, ArePlaced}
 use Rattle.sbe_wire.specs.Versions.{is_alive, floor_from}
 use Rattle.sbe_wire.proofs.Values.{const_width}
-use Rattle.flat_rows.specs.Judged.{AllAlive}
+use Rattle.flat_rows.specs.BlockChecks.{AllAlive}
 
 part_inside : (at p n w : ℕ) (b : List ℕ) → p + n ≤ w → take n (drop p (take w (drop at b))) ≡ take n (drop (at + p) b)
 part_inside at p n w b h =

@@ -19,7 +19,7 @@ use Rattle.sbe_types.specs.Shown.{admits, is_null, is_octets, is_optional, is_li
 use Rattle.sbe_types.specs.Shows.{ShowsLeaf, ShowsText, EndsText, is_ranged, is_text_byte, text_value}
 use Rattle.sbe_types.proofs.BadLemmas.{bad_or_shown}
 use Rattle.flat_rows.specs.declared.rows.Quick.{Quick}
-use Rattle.flat_rows.specs.Judged.{ShowsSome}
+use Rattle.flat_rows.specs.BlockChecks.{ShowsSome}
 use Rattle.flat_rows.specs.Quick.{KeepsNumber, KeepsText, IsQuickNumber, IsQuickText, is_none, is_between, is_text_within}
 
 -- one of two tests holds, and a value is shown

@@ -4,7 +4,7 @@ use Rattle.std.specs.List.{AllByRecursion}
 use Rattle.sbe_types.specs.declared.kind.Order.TheVariants.{Little}
 use Rattle.sbe_types.specs.Places.{width}
 use Rattle.flat_rows.specs.declared.rows.FlatRow.{FlatRow}
-use Rattle.flat_rows.specs.Judged.{bytes_there, ScalarsShow, ShowsSome}
+use Rattle.flat_rows.specs.BlockChecks.{bytes_there, ScalarsShow, ShowsSome}
 use Rattle.flat_rows.specs.Tables.{scalar_of}
 
 -- each row's bytes show a value

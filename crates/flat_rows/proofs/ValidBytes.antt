@@ -14,7 +14,7 @@ use Rattle.sbe_types.specs.declared.kind.Primitive.TheVariants.{Char, I8, I16, I
 use Rattle.sbe_types.specs.Numbers.{number_of, prim_width}
 use Rattle.sbe_types.specs.Shown.{is_null, is_listed, is_octets, is_optional}
 use Rattle.flat_rows.specs.Bytes.{is_byte, is_valid_byte, AreListedBytes, AreUnset, AreValidBytes, IsValidByte, Notes, NotesNull}
-use Rattle.flat_rows.specs.Judged.{ShowsSome}
+use Rattle.flat_rows.specs.BlockChecks.{ShowsSome}
 use Rattle.flat_rows.proofs.Looks.{enum_shows}
 
 untrue : ◌≡◌ {A = Bool} false true → ⊥

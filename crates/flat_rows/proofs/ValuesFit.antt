@@ -10,7 +10,7 @@ use Rattle.sbe_wire.proofs.Values.{row_grows}
 use Rattle.flat_rows.specs.declared.rows.FlatRow.{FlatRow}
 use Rattle.flat_rows.specs.declared.rows.FlatRows.{FlatRows}
 use Rattle.flat_rows.specs.Scalars.{Scalar, kind_scalars, member_scalars, field_scalars, scalars_of}
-use Rattle.flat_rows.specs.Judged.{AllAlive}
+use Rattle.flat_rows.specs.BlockChecks.{AllAlive}
 use Rattle.flat_rows.specs.Tables.{scalar_of, stands_for, IsRow, IsTable, RowsFit}
 use Rattle.flat_rows.proofs.Inside.{fields_grow, floor_is}
 

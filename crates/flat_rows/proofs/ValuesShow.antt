@@ -14,7 +14,7 @@ use Rattle.sbe_wire.specs.Placed.{IsPlacedKind, IsPlacedRow, ArePlaced}
 use Rattle.sbe_wire.specs.Versions.{floor}
 use Rattle.sbe_wire.proofs.Values.{row_grows, slice_long}
 use Rattle.flat_rows.specs.Scalars.{Scalar, kind_scalars, member_scalars, field_scalars, scalars_of}
-use Rattle.flat_rows.specs.Judged.{AllAlive, bytes_there, ShowsSome, ScalarsShow}
+use Rattle.flat_rows.specs.BlockChecks.{AllAlive, bytes_there, ShowsSome, ScalarsShow}
 use Rattle.flat_rows.proofs.Inside.{kind_inside, fields_grow, floor_is}
 
 module _ (order : Order) (known : Bool) (b : List ℕ) where

@@ -1,6 +1,6 @@
 pub mod Bytes
 pub mod Scalars
-pub mod Judged
+pub mod BlockChecks
 pub mod Quick
 pub mod Runs
 pub mod Tables

@@ -7,7 +7,7 @@ ghost use Rattle.sbe_types.specs.Places.{width};
 ghost use Rattle.sbe_types.specs.LeafBad.{leaf_bad};
 ghost use Rattle.sbe_types.specs.Shown.{is_listed, is_null};
 ghost use Rattle.schema_facts.specs.InOrder.{IsKindInOrder, IsLeafInOrder};
-ghost use Rattle.flat_rows.specs.Judged.{bytes_there, ScalarsShow, ShowsSome};
+ghost use Rattle.flat_rows.specs.BlockChecks.{bytes_there, ScalarsShow, ShowsSome};
 ghost use Rattle.flat_rows.specs.Quick.{is_between, is_none, is_text_within, is_word, IsByte};
 ghost use Rattle.flat_rows.specs.Tables.{stands_for, IsRow, IsTable, RowsFit};
 

@@ -9,7 +9,7 @@ ghost use Rattle.sbe_wire.specs.Placed.{ArePlaced};
 ghost use Rattle.sbe_wire.specs.Versions.{floor};
 ghost use Rattle.flat_rows.specs.declared.rows.FlatRows.{FlatRows};
 ghost use Rattle.flat_rows.specs.Scalars.{scalars_of};
-ghost use Rattle.flat_rows.specs.Judged.{AllAlive, ScalarsShow};
+ghost use Rattle.flat_rows.specs.BlockChecks.{AllAlive, ScalarsShow};
 ghost use Rattle.flat_rows.specs.Tables.{stands_for, IsTable, RowsFit};
 
 /// If the bytes of each value are valid and every field exists at the version, the bytes are a block of the fields.

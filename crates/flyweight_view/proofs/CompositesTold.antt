@@ -26,7 +26,7 @@ use Rattle.flyweight_view.specs.declared.plan.Plan.TheVariants as plan
 use Rattle.flyweight_view.specs.declared.plan.Slot.{Slot}
 use Rattle.flyweight_view.specs.declared.plan.Span.{Span}
 use Rattle.flyweight_view.specs.inner.Planned.{fields_of, block_of, typed_by, typed_at, values_at, IsPlannedBlock, IsMembersPlan}
-use Rattle.flyweight_view.specs.Seen.{member_field, typed_members, members_of, values_in, typed_composite, typed_field}
+use Rattle.flyweight_view.specs.TypedBlocks.{member_field, typed_members, members_of, values_in, typed_composite, typed_field}
 use Rattle.flyweight_view.specs.inner.Slots.{SlotIs}
 use Rattle.flyweight_view.proofs.MembersTold.{members_lie, members_placed, members_reach}
 use Rattle.flyweight_view.proofs.SlotsTold.{ValueOf, none_there}

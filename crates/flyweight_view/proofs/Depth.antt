@@ -10,7 +10,7 @@ use Rattle.sbe_types.specs.declared.message.Block.{Block}
 use Rattle.sbe_types.specs.declared.message.GroupVal.{GroupVal, items-the_row-Block}
 use Rattle.sbe_types.specs.declared.message.GroupVal as groupval
 use Rattle.schema_facts.specs.CheckedLevels.{groups_deep, row_deep}
-use Rattle.flyweight_view.specs.Seen.{TypedBlock, typed_level, entries_in, typed_groups}
+use Rattle.flyweight_view.specs.TypedBlocks.{TypedBlock, typed_level, entries_in, typed_groups}
 use Rattle.flyweight_view.specs.Deep.{deepest, deepest_in}
 
 row_is : (n : _) (row : Row_of-Group n) → deepest (items-the_row-Group n row) ≡ row_deep row

@@ -21,7 +21,7 @@ use Rattle.flyweight_view.specs.inner.Groups.{groups_by, group_entered, next_gro
 use Rattle.flyweight_view.specs.inner.Layers.{typed_entries}
 use Rattle.body_walk.specs.inner.Layers.{IsLayer}
 use Rattle.flyweight_view.specs.inner.Lefts.{items_of, rest_of}
-use Rattle.flyweight_view.specs.Seen.{typed_groups, entries_in}
+use Rattle.flyweight_view.specs.TypedBlocks.{typed_groups, entries_in}
 use Rattle.flyweight_view.proofs.GroupsTold.{from_number, seen_entered}
 use Rattle.flyweight_view.proofs.Lefts.{First, each_next}
 use Rattle.body_walk.proofs.Opens.{Child, child_here, child_next, level_within}

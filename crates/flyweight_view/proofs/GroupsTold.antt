@@ -32,7 +32,7 @@ use Rattle.body_walk.specs.inner.Cursor.{entries_read, dim_from}
 use Rattle.flyweight_view.specs.inner.Groups.{groups_by, group_entered}
 use Rattle.flyweight_view.specs.inner.Layers.{blocks_read, blocks_at, typed_entries, LieThere}
 use Rattle.flyweight_view.specs.inner.Lefts.{items_of, rest_of}
-use Rattle.flyweight_view.specs.Seen.{typed_level, entries_in}
+use Rattle.flyweight_view.specs.TypedBlocks.{typed_level, entries_in}
 use Rattle.flyweight_view.proofs.Lefts.{never_ok, step_ok, later_same, made_there}
 
 -- ---- the number of a group's level

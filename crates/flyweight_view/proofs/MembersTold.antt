@@ -14,7 +14,7 @@ use Rattle.sbe_wire.specs.Placed.{ArePlaced}
 use Rattle.sbe_wire.specs.Versions.{floor_from}
 use Rattle.sbe_wire.proofs.Blocks.{reach, reach_within}
 use Rattle.schema_facts.proofs.KindLists.{PlacedList}
-use Rattle.flyweight_view.specs.Seen.{member_field}
+use Rattle.flyweight_view.specs.TypedBlocks.{member_field}
 use Rattle.flyweight_view.proofs.SlotsTold.{zero_alive}
 
 -- members that show their values lie as fields do, at each version

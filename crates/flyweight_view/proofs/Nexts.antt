@@ -17,7 +17,7 @@ use Rattle.flyweight_view.specs.inner.Layers.{blocks_at, typed_entries, LieThere
 use Rattle.body_walk.specs.inner.Layers.{IsLayer}
 use Rattle.flyweight_view.specs.inner.Lefts.{items_of, rest_of}
 use Rattle.flyweight_view.specs.inner.Planned.{block_of, IsPlannedBlock}
-use Rattle.flyweight_view.specs.Seen.{typed_level}
+use Rattle.flyweight_view.specs.TypedBlocks.{typed_level}
 use Rattle.body_walk.proofs.LevelsReady.{level_ready}
 use Rattle.flyweight_view.proofs.Lefts.{First, times_next, times_many}
 use Rattle.flyweight_view.proofs.Tails.{entry_parts, IsFlat, flat_entry, flat_end}

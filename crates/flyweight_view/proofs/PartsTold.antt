@@ -27,7 +27,7 @@ use Rattle.body_walk.specs.inner.Cursor.{placed, range_answer}
 use Rattle.body_walk.specs.inner.Layers.{IsLayer}
 use Rattle.flyweight_view.specs.inner.Lefts.{items_of, rest_of}
 use Rattle.flyweight_view.specs.inner.Parts.{parts_by, part_entered, range_bytes, range_end, IsRange, LineUp, AreLeft, left_in, next_parts, parts_at, parts_left}
-use Rattle.flyweight_view.specs.Seen.{bytes_in}
+use Rattle.flyweight_view.specs.TypedBlocks.{bytes_in}
 use Rattle.flyweight_view.proofs.Lefts.{First, each_next, each_many, ok_there}
 use Rattle.body_walk.proofs.LevelsReady.{level_ready}
 use Rattle.body_walk.proofs.Walks.{part_walked}

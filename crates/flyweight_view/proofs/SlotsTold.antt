@@ -26,13 +26,13 @@ use Rattle.schema_facts.proofs.KindLists.{PlacedList, placed_members, width_comp
 use Rattle.schema_facts.proofs.KindMembers.{members_kinds}
 use Rattle.var_data.proofs.DataRows.{at_each}
 use Rattle.layout_tables.specs.declared.rows.FieldRow.{FieldRow}
-use Rattle.field_values.specs.Told.{all_elements, elements_in}
+use Rattle.field_values.specs.Reports.{all_elements, elements_in}
 use Rattle.flyweight_view.specs.declared.plan.Plan.{Plan}
 use Rattle.flyweight_view.specs.declared.plan.Slot.{Slot}
 use Rattle.flyweight_view.specs.declared.plan.Span.{Span}
 use Rattle.body_walk.specs.inner.Fields.{IsFieldRow, AreFieldRows}
 use Rattle.flyweight_view.specs.inner.Planned.{fields_of, tail_of, block_of, planned_block, values_at, bytes_of, IsPlannedBlock, IsMembersPlan}
-use Rattle.flyweight_view.specs.Seen.{member_field}
+use Rattle.flyweight_view.specs.TypedBlocks.{member_field}
 use Rattle.flyweight_view.specs.inner.Slots.{SlotIs, SlotShows}
 use Rattle.body_walk.proofs.MembersReady.{ends_behind}
 

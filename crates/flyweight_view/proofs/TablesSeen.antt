@@ -3,7 +3,7 @@ use Rattle.std.proofs.Common.{◌≡◌, length, refl, sym, ap, ◌∙◌, subst
 use Rattle.std.specs.Prelude.{Option, Some, None, IfSome}
 use Rattle.sbe_types.specs.declared.schema.Level.{Level, out-Level}
 use Rattle.sbe_wire.specs.Lays.{FieldsLay}
-use Rattle.flat_rows.specs.Judged.{AllAlive}
+use Rattle.flat_rows.specs.BlockChecks.{AllAlive}
 use Rattle.flat_rows.specs.Scalars.{scalars_of}
 use Rattle.flat_rows.specs.Tables.{stands_for, IsTable, RowsFit}
 use Rattle.layout_tables.specs.declared.rows.LevelRow.{LevelRow}

@@ -19,7 +19,7 @@ use Rattle.flyweight_view.specs.declared.plan.Span.{Span}
 use Rattle.flyweight_view.specs.inner.Groups.{groups_by, groups_at, groups_left, StandThere}
 use Rattle.body_walk.specs.inner.Layers.{IsLayer}
 use Rattle.flyweight_view.specs.inner.Lefts.{items_of, rest_of}
-use Rattle.flyweight_view.specs.Seen.{typed_groups, TypedBlock, bytes_in, entries_in, typed_group}
+use Rattle.flyweight_view.specs.TypedBlocks.{typed_groups, TypedBlock, bytes_in, entries_in, typed_group}
 use Rattle.flyweight_view.specs.inner.Parts.{parts_at, parts_by, parts_left, LineUp}
 use Rattle.flyweight_view.specs.inner.Planned.{fields_of, groups_of, parts_of, tail_of, block_of, planned_block, IsPlan, IsPlannedBlock}
 use Rattle.flyweight_view.proofs.Lefts.{ok_from, each_many}

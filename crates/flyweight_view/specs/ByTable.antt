@@ -4,11 +4,11 @@ use Rattle.sbe_types.specs.declared.kind.Order.TheVariants.{Little}
 use Rattle.sbe_types.specs.declared.message.Block.{out-Block}
 use Rattle.sbe_wire.specs.Lays.{FieldsLay}
 use Rattle.sbe_wire.specs.Placed.{ArePlaced}
-use Rattle.flat_rows.specs.Judged.{AllAlive}
+use Rattle.flat_rows.specs.BlockChecks.{AllAlive}
 use Rattle.flat_rows.specs.Scalars.{scalars_of}
 use Rattle.flat_rows.specs.Tables.{stands_for, IsTable, RowsFit}
 use Rattle.flyweight_view.specs.declared.by_table.TableBlock.{TableBlock}
-use Rattle.flyweight_view.specs.Seen.{TypedBlock}
+use Rattle.flyweight_view.specs.TypedBlocks.{TypedBlock}
 
 -- A block with the table of its values, in little-endian order. It may be of any version that has all fields.
 pub record IsTableBlock (b : TableBlock) (s : TypedBlock) : Type 0 where

@@ -2,7 +2,7 @@
 use Rattle.std.specs.Prelude.{ℕ, suc, max, List, [], ◌∷◌}
 use Rattle.sbe_types.specs.declared.schema.Group.{Group, out-Group}
 use Rattle.schema_facts.specs.CheckedLevels.{groups_deep}
-use Rattle.flyweight_view.specs.Seen.{TypedBlock}
+use Rattle.flyweight_view.specs.TypedBlocks.{TypedBlock}
 
 -- the greatest depth of groups, each counted with those inside it
 abbrev pub deepest : List Group → ℕ

@@ -1,4 +1,4 @@
-pub mod Seen
+pub mod TypedBlocks
 pub mod ShownIn
 pub mod ByTable
 pub mod Deep

@@ -4,9 +4,9 @@ ghost use Rattle.std.specs.Option.{option_map, option_and_then, IsSome};
 ghost use Rattle.sbe_types.specs.declared.message.Value.TheVariants.{Absent};
 ghost use Rattle.schema_facts.specs.CheckedLevels.{group_name};
 ghost use Rattle.schema_facts.specs.InOrder.{IsKindInOrder};
-ghost use Rattle.field_values.specs.Told.{all_elements, element_of, number_in, state_of, text_in};
+ghost use Rattle.field_values.specs.Reports.{all_elements, element_of, number_in, state_of, text_in};
 ghost use Rattle.flyweight_view.specs.ByTable.{IsTableBlock};
-ghost use Rattle.flyweight_view.specs.Seen.{typed_groups, bytes_in, typed_field, typed_group};
+ghost use Rattle.flyweight_view.specs.TypedBlocks.{typed_groups, bytes_in, typed_field, typed_group};
 ghost use Rattle.flyweight_view.specs.ShownIn.{IsShownIn};
 ghost use Rattle.flyweight_view.specs.inner.Planned.{typed_at, IsPlannedBlock};
 
@@ -40,7 +40,7 @@ impl<'a> Model for BlockView<'a> {
     ghost use Rattle.sbe_types.specs.contracts.message.Value as values;
     ghost use Rattle.sbe_types.specs.contracts.message.Block as blocks;
     ghost use Rattle.std.specs.Coded.{codes};
-    ghost use Rattle.flyweight_view.specs.Seen.{TypedBlock};
+    ghost use Rattle.flyweight_view.specs.TypedBlocks.{TypedBlock};
 
     ghost Value = { TypedBlock };
 

@@ -13,7 +13,7 @@ ghost use Rattle.flyweight_view.specs.inner.Layers.{blocks_at, typed_entries, Li
 ghost use Rattle.body_walk.specs.inner.Layers.{IsLayer};
 ghost use Rattle.flyweight_view.specs.inner.Lefts.{rest_of};
 ghost use Rattle.flyweight_view.specs.inner.Planned.{block_of};
-ghost use Rattle.flyweight_view.specs.Seen.{typed_level};
+ghost use Rattle.flyweight_view.specs.TypedBlocks.{typed_level};
 
 use crate::ranges::parts_end;
 use body_walk::{Layer, first_child, is_flat};

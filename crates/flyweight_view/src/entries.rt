@@ -5,7 +5,7 @@ ghost use Rattle.body_walk.specs.inner.Cursor.{entries_read};
 ghost use Rattle.flyweight_view.specs.inner.Layers.{typed_entries, LieThere};
 ghost use Rattle.body_walk.specs.inner.Layers.{IsLayer};
 ghost use Rattle.flyweight_view.specs.inner.Planned.{block_of};
-ghost use Rattle.flyweight_view.specs.Seen.{typed_level};
+ghost use Rattle.flyweight_view.specs.TypedBlocks.{typed_level};
 
 use crate::block::BlockView;
 use crate::by_table::TableBlock;
@@ -30,7 +30,7 @@ impl<'a> Model for EntriesView<'a> {
     ghost use Rattle.sbe_types.specs.contracts.schema.Level as levels;
     ghost use Rattle.sbe_types.specs.contracts.message.Value as values;
     ghost use Rattle.sbe_types.specs.contracts.message.Block as blocks;
-    ghost use Rattle.flyweight_view.specs.Seen.{TypedBlock};
+    ghost use Rattle.flyweight_view.specs.TypedBlocks.{TypedBlock};
 
     ghost Value = { List TypedBlock };
 

@@ -5,7 +5,7 @@ ghost use Rattle.sbe_types.specs.declared.message.Block.{out-Block};
 ghost use Rattle.flyweight_view.specs.inner.Groups.{groups_left, StandThere};
 ghost use Rattle.flyweight_view.specs.inner.Layers.{typed_entries, LieThere};
 ghost use Rattle.body_walk.specs.inner.Layers.{IsLayer};
-ghost use Rattle.flyweight_view.specs.Seen.{typed_groups, typed_group};
+ghost use Rattle.flyweight_view.specs.TypedBlocks.{typed_groups, typed_group};
 ghost use Rattle.flyweight_view.specs.inner.Planned.{block_of, planned_block, groups_of, IsPlannedBlock};
 
 use crate::ends::{GroupCursor, open_group};
@@ -31,7 +31,7 @@ impl<'a> Model for GroupsView<'a> {
     ghost use Rattle.sbe_types.specs.contracts.schema.Level as levels;
     ghost use Rattle.sbe_types.specs.contracts.message.Value as values;
     ghost use Rattle.sbe_types.specs.contracts.message.Block as blocks;
-    ghost use Rattle.flyweight_view.specs.Seen.{TypedBlock};
+    ghost use Rattle.flyweight_view.specs.TypedBlocks.{TypedBlock};
 
     ghost Value = { List (Option (List TypedBlock)) };
 

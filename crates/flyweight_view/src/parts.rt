@@ -3,7 +3,7 @@ ghost use Rattle.std.specs.Prelude.{◌≡◌, ◌<◌, [], ◌∷◌, length, m
 ghost use Rattle.std.specs.Option.{option_map};
 ghost use Rattle.sbe_types.specs.declared.message.Block.{out-Block};
 ghost use Rattle.body_walk.specs.inner.Layers.{IsLayer};
-ghost use Rattle.flyweight_view.specs.Seen.{bytes_in};
+ghost use Rattle.flyweight_view.specs.TypedBlocks.{bytes_in};
 ghost use Rattle.flyweight_view.specs.inner.Parts.{parts_left, LineUp};
 ghost use Rattle.flyweight_view.specs.inner.Planned.{block_of, planned_block, parts_of, IsPlannedBlock};
 

@@ -9,7 +9,7 @@ ghost use Rattle.schema_facts.specs.CheckedLevels.{group_name};
 ghost use Rattle.body_walk.specs.inner.Fields.{IsFieldRow};
 ghost use Rattle.flyweight_view.specs.inner.Planned.{bytes_of, fields_of, groups_of, parts_of, IsPlannedBlock, IsMembersPlan};
 ghost use Rattle.body_walk.specs.inner.Layers.{HasLevel};
-ghost use Rattle.flyweight_view.specs.Seen.{member_field};
+ghost use Rattle.flyweight_view.specs.TypedBlocks.{member_field};
 ghost use Rattle.flyweight_view.specs.inner.Slots.{SlotIs};
 
 use flat_rows::width_of;

@@ -4,9 +4,9 @@ ghost use Rattle.sbe_types.specs.declared.kind.Kind.{Comp};
 ghost use Rattle.std.specs.Option.{option_map, option_and_then, IsSome};
 ghost use Rattle.sbe_types.specs.declared.message.Value.TheVariants.{Absent};
 ghost use Rattle.schema_facts.specs.InOrder.{IsKindInOrder};
-ghost use Rattle.field_values.specs.Told.{all_elements, element_of, number_in, state_of, text_in};
+ghost use Rattle.field_values.specs.Reports.{all_elements, element_of, number_in, state_of, text_in};
 ghost use Rattle.flyweight_view.specs.inner.Planned.{fields_of, typed_at, values_at, IsPlannedBlock};
-ghost use Rattle.flyweight_view.specs.Seen.{typed_field, members_of};
+ghost use Rattle.flyweight_view.specs.TypedBlocks.{typed_field, members_of};
 ghost use Rattle.flyweight_view.specs.ShownIn.{IsShownIn};
 
 use crate::plan::{Plan, Span, slot_of};

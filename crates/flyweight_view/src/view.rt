@@ -8,7 +8,7 @@ ghost use Rattle.schema_facts.specs.IsChecked.{IsChecked};
 ghost use Rattle.body_walk.specs.Heads.{header_template};
 ghost use Rattle.body_walk.specs.Refusals.{refused};
 ghost use Rattle.body_walk.specs.Walked.{message_in, IsWalked};
-ghost use Rattle.flyweight_view.specs.Seen.{typed_level};
+ghost use Rattle.flyweight_view.specs.TypedBlocks.{typed_level};
 
 use crate::block::BlockView;
 use crate::plan::{Plan, Span};
@@ -31,7 +31,7 @@ impl<'a> Model for MsgView<'a> {
     ghost use Rattle.sbe_types.specs.contracts.message.Value as values;
     ghost use Rattle.sbe_types.specs.contracts.message.Block as blocks;
     ghost use Rattle.std.specs.Coded.{codes};
-    ghost use Rattle.flyweight_view.specs.Seen.{TypedMessage};
+    ghost use Rattle.flyweight_view.specs.TypedBlocks.{TypedMessage};
 
     ghost Value = { TypedMessage };
 

@@ -19,7 +19,7 @@ use Rattle.sbe_types.specs.declared.message.Value.TheVariants as value
 use Rattle.sbe_types.specs.Numbers.{number_of, natural, prim_width}
 use Rattle.sbe_types.specs.Shown.{admits, is_null, is_listed, is_optional, has_listed_bits}
 use Rattle.sbe_types.specs.Shows.{Shows, ShowsLeaf, ShowsText, ShowsArray, ShowsElements, is_empty}
-use Rattle.field_values.specs.Told.{before_zero}
+use Rattle.field_values.specs.Reports.{before_zero}
 use Rattle.field_values.proofs.Shown.{text_front}
 use Rattle.json_values.specs.Values.{value_data, is_character, single_data, number_data, enum_data, text_data, set_data, element_data, elements_data, constant_data, is_there}
 use Rattle.json_values.specs.Plain.{plain_text, plain_items, shown_text}

@@ -6,7 +6,7 @@ use Rattle.serde_json.specs.Data.{null, string}
 use Rattle.sbe_types.specs.declared.kind.Leaf.{Leaf}
 use Rattle.sbe_types.specs.Shown.{is_optional}
 use Rattle.sbe_types.specs.Shows.{is_empty}
-use Rattle.field_values.specs.Told.{before_zero}
+use Rattle.field_values.specs.Reports.{before_zero}
 use Rattle.json_values.specs.Plain.{plain_text, is_plain_byte}
 use Rattle.json_fields.specs.Shown.{text_shown}
 use Rattle.json_values.specs.Values.{text_data}

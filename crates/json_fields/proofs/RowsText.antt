@@ -25,7 +25,7 @@ use Rattle.flat_rows.proofs.Looks.{null_is}
 use Rattle.flat_rows.proofs.RowsJudged.{there}
 use Rattle.json_rows.specs.declared.rows.TextRow.{TextRow}
 use Rattle.json_rows.specs.Pieces.{Slot}
-use Rattle.flat_rows.specs.Judged.{bytes_there}
+use Rattle.flat_rows.specs.BlockChecks.{bytes_there}
 use Rattle.json_rows.specs.Tables.{value_of, AreTextRows, IsTextRow, TextsFit}
 use Rattle.json_fields.specs.Printed.{SlotsText}
 

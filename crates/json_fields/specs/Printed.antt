@@ -6,7 +6,7 @@ use Rattle.sbe_types.specs.Shows.{Shows}
 use Rattle.json_values.specs.Values.{value_data}
 use Rattle.json_values.specs.Plain.{shown_text}
 use Rattle.json_rows.specs.Pieces.{Piece, literal, shown, Slot, MergedPieces}
-use Rattle.flat_rows.specs.Judged.{bytes_there}
+use Rattle.flat_rows.specs.BlockChecks.{bytes_there}
 
 -- the text of pieces: a literal as it is, and a value as its bytes show it
 abbrev pub PiecesText : Order → Bool → List Piece → List ℕ → List ℕ → Type 0

@@ -10,7 +10,7 @@ use Rattle.sbe_types.specs.declared.message.Value.{Value}
 use Rattle.sbe_types.specs.Numbers.{number_of, prim_width}
 use Rattle.sbe_types.specs.Shown.{is_null, is_optional}
 use Rattle.sbe_types.specs.Shows.{Shows, is_empty}
-use Rattle.field_values.specs.Told.{before_zero}
+use Rattle.field_values.specs.Reports.{before_zero}
 use Rattle.json_values.specs.Values.{is_character, number_data, single_data, enum_data, text_data, value_data}
 use Rattle.json_values.specs.Plain.{shown_text}
 

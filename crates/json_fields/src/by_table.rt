@@ -8,7 +8,7 @@ ghost use Rattle.json_values.specs.Values.{number_data};
 ghost use Rattle.json_values.specs.Plain.{plain_text};
 ghost use Rattle.json_fields.specs.Shown.{PrintsShown};
 ghost use Rattle.printers.specs.Prints.{Prints};
-ghost use Rattle.flat_rows.specs.Judged.{bytes_there};
+ghost use Rattle.flat_rows.specs.BlockChecks.{bytes_there};
 ghost use Rattle.flat_rows.specs.Quick.{is_none, is_word, KeepsNumber, KeepsText};
 ghost use Rattle.flat_rows.specs.Tables.{IsRow};
 ghost use Rattle.json_rows.specs.Codes.{AreCodes};

@@ -3,7 +3,7 @@ use Rattle.std.proofs.Common.{◌≡◌, ℕ, ◌<◌, ◌≤◌, ◌==◌, true
 use Rattle.std.proofs.lemmas.Bool.Decides.{nat_tests}
 use Rattle.std.proofs.lemmas.List.Sums.{prefix_len_is, prefix_len_passes, prefix_len-le-length}
 use Rattle.std.specs.List.{prefix_len}
-use Rattle.field_values.specs.Told.{before_zero}
+use Rattle.field_values.specs.Reports.{before_zero}
 use Rattle.json_values.specs.Plain.{is_plain_byte}
 
 no_zero : (b : ℕ) → is_plain_byte b ≡ true → not (b == 0) ≡ true

@@ -1,7 +1,7 @@
 // How many bytes of a text need no escaping in a string of JSON.
 ghost use Rattle.std.specs.Prelude.{◌≡◌, ◌+◌, ◌-◌, ◌≤◌, ◌<◌, ◌==◌, true, not, length, take, drop, IfSome};
 ghost use Rattle.std.specs.List.{prefix_len, list_all};
-ghost use Rattle.field_values.specs.Told.{before_zero};
+ghost use Rattle.field_values.specs.Reports.{before_zero};
 ghost use Rattle.json_values.specs.Plain.{is_plain_byte};
 
 use flat_rows::first_set;

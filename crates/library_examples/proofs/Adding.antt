@@ -4,7 +4,7 @@ use Rattle.std.specs.Prelude.{unwrap_or, Option, Some, None, IfNone}
 use Rattle.std.proofs.Math.IntN.{+ℤ_assoc, +ℤ_idl, +ℤ_idr}
 use Rattle.std.proofs.lemmas.List.{append_assoc}
 use mir.Syntax.{w128}
-use Rattle.flyweight_view.specs.Seen.{TypedBlock}
+use Rattle.flyweight_view.specs.TypedBlocks.{TypedBlock}
 use Rattle.library_examples.specs.Sums.{number_at, sum_at, PassesRange}
 
 -- the number of an entry, or 0

@@ -15,7 +15,7 @@ use Rattle.sbe_types.specs.Shows.{Shows, ShowsLeaf, is_empty}
 use Rattle.std.specs.Prelude.{◌&&◌, ◌||◌, not}
 use Rattle.field_values.specs.declared.state.FieldState.{FieldState}
 use Rattle.field_values.specs.declared.state.FieldState.TheVariants as state
-use Rattle.field_values.specs.Told.{state_of, number_in, before_zero}
+use Rattle.field_values.specs.Reports.{state_of, number_in, before_zero}
 use Rattle.field_values.proofs.Shown.{text_front}
 use Rattle.flyweight_view.specs.declared.values.FieldBytes.{FieldBytes}
 use Rattle.flyweight_view.specs.ShownIn.{IsShownIn}

@@ -15,7 +15,7 @@ use Rattle.schema_facts.specs.Levels.{Node, all_nodes, groups_at, groups_in, roo
 use Rattle.layout_tables.specs.Parts.{group_number}
 use Rattle.layout_names.specs.Names.{template_named, field_named, group_named}
 use Rattle.flyweight_view.specs.declared.values.FieldBytes.{FieldBytes}
-use Rattle.flyweight_view.specs.Seen.{typed_composite, typed_field, members_of, values_in}
+use Rattle.flyweight_view.specs.TypedBlocks.{typed_composite, typed_field, members_of, values_in}
 use Rattle.flyweight_view.specs.ShownIn.{IsShownIn}
 use Rattle.library_examples.specs.declared.prices.EntryField.{EntryField}
 use Rattle.library_examples.specs.declared.prices.EntryNames.{EntryNames}

@@ -10,7 +10,7 @@ use Rattle.sbe_wire.specs.Lays.{Lays}
 use Rattle.schema_facts.specs.Levels.{root_of}
 use Rattle.layout_tables.specs.Parts.{group_number}
 use Rattle.layout_names.specs.Names.{template_named, field_named, group_named}
-use Rattle.flyweight_view.specs.Seen.{TypedBlock, TypedMessage, typed_level, typed_field}
+use Rattle.flyweight_view.specs.TypedBlocks.{TypedBlock, TypedMessage, typed_level, typed_field}
 use Rattle.library_examples.specs.declared.prices.EntryField.{EntryField}
 use Rattle.library_examples.specs.declared.prices.EntryNames.{EntryNames}
 use Rattle.library_examples.specs.Sums.{number_at, group_entries}

@@ -11,8 +11,8 @@ use Rattle.sbe_types.specs.declared.message.Block.{out-Block}
 use Rattle.sbe_types.specs.declared.message.Msg.{Msg}
 use Rattle.sbe_wire.specs.Faults.{FirstFault}
 use Rattle.sbe_wire.specs.Lays.{Lays}
-use Rattle.field_values.specs.Told.{number_in}
-use Rattle.flyweight_view.specs.Seen.{TypedBlock, typed_level, typed_group}
+use Rattle.field_values.specs.Reports.{number_in}
+use Rattle.flyweight_view.specs.TypedBlocks.{TypedBlock, typed_level, typed_group}
 use Rattle.body_walk.specs.Refusals.{refused}
 use Rattle.library_examples.specs.declared.sums.SumErr.{SumErr}
 use Rattle.library_examples.specs.declared.sums.SumErr.TheVariants.{Refused, Over}

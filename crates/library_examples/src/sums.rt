@@ -2,7 +2,7 @@
 ghost use Rattle.std.specs.Prelude.{◌≡◌, ◌<◌, length, is_some, slice_get, unwrap_or, pos, IfOk, IfErr, IfSome, IfNone};
 ghost use Rattle.std.specs.Option.{option_and_then};
 ghost use Rattle.sbe_types.specs.declared.message.Block.{out-Block};
-ghost use Rattle.field_values.specs.Told.{number_in};
+ghost use Rattle.field_values.specs.Reports.{number_in};
 ghost use Rattle.library_examples.specs.Sums.{group_entries, group_sum, is_number_kind, number_at, sum_at, IsNoSum, IsSum, PassesRange};
 
 use flyweight_view::{BlockView, EntriesView, FieldState, Refusal, validate};

@@ -2,7 +2,7 @@
 use Rattle.std.specs.Prelude.{ℕ, ◌+◌, Bool, is_none, List, [], ◌∷◌, ◌++◌, map, filter_map, Option, Some, None, option_map, option_and_then}
 use Rattle.std.specs.Borrow.{Bor}
 use Rattle.map_types.specs.Trees.{ref_in, Members}
-use Rattle.map_members.specs.Seen.{lent_members}
+use Rattle.map_members.specs.Lent.{lent_members}
 use Rattle.id_tables.specs.Places.{place_of}
 use Rattle.reference_graph.specs.declared.graph.Link.{Link}
 use Rattle.reference_graph.specs.declared.graph.Link.TheVariants.{Field, To}

@@ -2,7 +2,7 @@ ghost use Rattle.std.specs.Prelude.{◌≡◌, ◌+◌, ◌^◌, ◌<◌, length
 ghost use Rattle.reference_graph.specs.declared.graph.Link.TheVariants.{To};
 ghost use Rattle.id_tables.specs.Places.{place_of};
 ghost use Rattle.map_links.specs.Links.{link_of, is_unknown, ids_of, linked};
-ghost use Rattle.map_members.specs.Seen.{lent_members};
+ghost use Rattle.map_members.specs.Lent.{lent_members};
 
 use id_tables::{IdTable, NameTable};
 use lists::{List, NoMem, Text};

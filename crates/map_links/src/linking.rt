@@ -3,7 +3,7 @@ ghost use Rattle.reference_graph.specs.declared.graph.Link.{Link};
 ghost use Rattle.reference_graph.specs.declared.graph.Node.{Node};
 ghost use Rattle.map_links.specs.declared.ids.Ids.{Ids};
 ghost use Rattle.map_links.specs.Links.{link_of, item_link, component_node, group_node, message_node, count_of, structure_of, nodes_of, linked};
-ghost use Rattle.map_members.specs.Seen.{lent_members};
+ghost use Rattle.map_members.specs.Lent.{lent_members};
 
 use crate::ids::Ids;
 use lists::{List, NoMem};

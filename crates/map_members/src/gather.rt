@@ -1,7 +1,7 @@
 ghost use Rattle.std.specs.Prelude.{◌≡◌, List, flat_map, IfOk};
 ghost use Rattle.map_types.specs.declared.tree.RepositoryItem.{RepositoryItem};
 ghost use Rattle.map_types.specs.Trees.{datatypes_of, code_sets_of, fields_of, components_of, groups_of, messages_of};
-ghost use Rattle.map_members.specs.Seen.{lent_members};
+ghost use Rattle.map_members.specs.Lent.{lent_members};
 
 use lists::NoMem;
 use map_types::{CodeSetEl, ComponentEl, DatatypeEl, FieldEl, GroupEl, MessageEl, RepositoryItem};

@@ -9,7 +9,7 @@ use Rattle.map_types.specs.declared.tree.ComponentEl.{ComponentEl}
 use Rattle.map_types.specs.declared.tree.GroupEl.{GroupEl}
 use Rattle.map_types.specs.declared.tree.MessageEl.{MessageEl}
 use Rattle.map_types.specs.Trees.{code_sets_of, fields_of, components_of, groups_of, messages_of}
-use Rattle.map_members.specs.Seen.{lent_members}
+use Rattle.map_members.specs.Lent.{lent_members}
 use Rattle.map_links.specs.Links.{Linked, linked}
 use Rattle.map_rules.specs.declared.tables.Tables.{Tables}
 use Rattle.map_rules.specs.Verdicts.{Answers}

@@ -7,7 +7,7 @@ use Rattle.map_types.specs.declared.tree.FieldEl.{FieldEl}
 use Rattle.map_types.specs.declared.tree.ComponentEl.{ComponentEl}
 use Rattle.map_types.specs.declared.tree.GroupEl.{GroupEl}
 use Rattle.map_types.specs.declared.tree.MessageEl.{MessageEl}
-use Rattle.map_members.specs.Seen.{lent_members}
+use Rattle.map_members.specs.Lent.{lent_members}
 use Rattle.map_members.proofs.Lent.{map_seen}
 use Rattle.map_links.specs.declared.ids.Ids.{Ids}
 use Rattle.map_links.specs.Links.{linked, ids_of}

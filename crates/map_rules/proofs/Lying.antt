@@ -6,7 +6,7 @@ use Rattle.reference_graph.specs.Graphs.{is_endless}
 use Rattle.map_types.specs.declared.tree.ComponentEl.{ComponentEl}
 use Rattle.map_types.specs.declared.tree.GroupEl.{GroupEl}
 use Rattle.map_types.specs.declared.tree.MessageEl.{MessageEl}
-use Rattle.map_members.specs.Seen.{lent_members}
+use Rattle.map_members.specs.Lent.{lent_members}
 use Rattle.map_members.proofs.Lent.{as_many, map_seen, seen_at}
 use Rattle.map_links.specs.declared.ids.Ids.{Ids}
 use Rattle.map_links.specs.Links.{linked, component_node, group_node, message_node, nodes_of}

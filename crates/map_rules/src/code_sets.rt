@@ -1,5 +1,5 @@
 ghost use Rattle.std.specs.Prelude.{◌≡◌, ◌||◌, ◌<◌, map, codes, length, slice_get, Some, IfOk};
-ghost use Rattle.map_members.specs.Seen.{lent_members};
+ghost use Rattle.map_members.specs.Lent.{lent_members};
 ghost use Rattle.map_rules.specs.Verdicts.{first_broken, list_verdict, Answers};
 ghost use Rattle.map_rules.specs.Rules.{found_earlier, has_again, code_set_rules};
 

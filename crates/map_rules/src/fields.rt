@@ -1,6 +1,6 @@
 ghost use Rattle.std.specs.Prelude.{◌≡◌, ◌||◌, ◌<◌, map, codes, length, is_none, slice_get, Some};
 ghost use Rattle.id_tables.specs.Places.{place_of};
-ghost use Rattle.map_members.specs.Seen.{lent_members};
+ghost use Rattle.map_members.specs.Lent.{lent_members};
 ghost use Rattle.map_rules.specs.Verdicts.{first_broken, list_verdict, Answers};
 ghost use Rattle.map_rules.specs.Rules.{of_length, length_or_zero, stands_earlier, is_framing, is_other, is_other_at, field_rules};
 

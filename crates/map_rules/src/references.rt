@@ -2,7 +2,7 @@ ghost use Rattle.std.specs.Prelude.{◌≡◌, map, ◌-◌, ◌≤◌, ◌+◌,
 ghost use Rattle.std.specs.List.{list_any};
 ghost use Rattle.reference_graph.specs.Graphs.{Ends};
 ghost use Rattle.map_types.specs.declared.tree.MessageEl.{MessageEl};
-ghost use Rattle.map_members.specs.Seen.{lent_members};
+ghost use Rattle.map_members.specs.Lent.{lent_members};
 ghost use Rattle.map_links.specs.Links.{is_unknown, structure_of, component_node, group_node, message_node, nodes_of, linked};
 ghost use Rattle.map_rules.specs.Verdicts.{first_broken, list_verdict, Answers};
 ghost use Rattle.map_rules.specs.Standing.{StandAt};

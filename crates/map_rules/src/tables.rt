@@ -1,5 +1,5 @@
 ghost use Rattle.std.specs.Prelude.{◌≡◌, ◌<◌, map, length, slice_get, Some, IfOk};
-ghost use Rattle.map_members.specs.Seen.{lent_members};
+ghost use Rattle.map_members.specs.Lent.{lent_members};
 ghost use Rattle.map_rules.specs.Rules.{is_named, is_datatype, is_type, tables_of, length_or_zero};
 
 use crate::datatypes::is_standard;

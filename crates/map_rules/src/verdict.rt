@@ -1,6 +1,6 @@
 ghost use Rattle.std.specs.Prelude.{◌≡◌, ◌+◌, ◌^◌, ◌<◌, map, flat_map, length, IfOk};
 ghost use Rattle.map_types.specs.Trees.{datatypes_of, components_of, groups_of, messages_of, members_of};
-ghost use Rattle.map_members.specs.Seen.{lent_members};
+ghost use Rattle.map_members.specs.Lent.{lent_members};
 ghost use Rattle.map_links.specs.Links.{linked};
 ghost use Rattle.map_rules.specs.Verdicts.{Answers};
 ghost use Rattle.map_rules.specs.Rules.{length_or_zero, tables_of, verdict_by, fields_verdict, items_linked, lists_verdict, verdict};

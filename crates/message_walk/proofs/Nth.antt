@@ -7,7 +7,7 @@ use Rattle.sbe_types.specs.declared.message.DataVal.TheVariants as dataval
 use Rattle.sbe_types.specs.declared.message.GroupVal.{GroupVal}
 use Rattle.sbe_types.specs.declared.message.GroupVal as groupval
 use Rattle.sbe_types.specs.declared.schema.Group.{Group, out-Group}
-use Rattle.flyweight_view.specs.Seen.{TypedBlock, typed_level, bytes_in, typed_group, entries_in}
+use Rattle.flyweight_view.specs.TypedBlocks.{TypedBlock, typed_level, bytes_in, typed_group, entries_in}
 use Rattle.bridge_terms.specs.Blocks.{data_value, entries_of, nth_or}
 use Rattle.message_walk.specs.Rows.{entries_shown, value_of_bytes}
 

@@ -6,7 +6,7 @@ use Rattle.sbe_types.specs.declared.schema.Group.{Group, out-Group}
 use Rattle.sbe_types.specs.declared.schema.Level.{Level, out-Level}
 use Rattle.sbe_types.specs.declared.message.Block.{Block, out-Block}
 use Rattle.sbe_types.specs.declared.message.GroupVal.TheVariants as groupval
-use Rattle.flyweight_view.specs.Seen.{TypedBlock, typed_level}
+use Rattle.flyweight_view.specs.TypedBlocks.{TypedBlock, typed_level}
 use Rattle.bridge_rules.specs.Rules.{Rule}
 use Rattle.bridge_rules.specs.Texts.{text_by}
 use Rattle.bridge_terms.specs.Parts.{TagLists}

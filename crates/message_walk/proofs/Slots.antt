@@ -4,7 +4,7 @@ use Rattle.sbe_types.specs.declared.kind.Leaf.{Leaf as LeafOf}
 use Rattle.sbe_types.specs.declared.message.Block.{out-Block}
 use Rattle.sbe_types.specs.declared.message.DataVal.TheVariants as dataval
 use Rattle.tagvalue_codec.specs.Drafts.{Draft}
-use Rattle.flyweight_view.specs.Seen.{TypedBlock}
+use Rattle.flyweight_view.specs.TypedBlocks.{TypedBlock}
 use Rattle.bridge_rules.specs.Rules.{Rule, raw_data, text_data}
 use Rattle.bridge_rules.specs.Texts.{text_by}
 use Rattle.bridge_terms.specs.Parts.{TagLists}

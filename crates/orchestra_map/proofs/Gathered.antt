@@ -6,7 +6,7 @@ use Rattle.map_types.specs.declared.tree.ComponentEl.{ComponentEl}
 use Rattle.map_types.specs.declared.tree.GroupEl.{GroupEl}
 use Rattle.map_types.specs.declared.tree.MessageEl.{MessageEl}
 use Rattle.map_types.specs.Trees.{fields_of, components_of, groups_of, messages_of}
-use Rattle.map_members.specs.Seen.{lent_members}
+use Rattle.map_members.specs.Lent.{lent_members}
 use Rattle.map_members.proofs.Lent.{as_many}
 use Rattle.map_links.specs.declared.ids.Ids.{Ids}
 use Rattle.map_links.specs.Links.{Linked, linked, ids_of, nodes_of}

@@ -1,7 +1,7 @@
 ghost use Rattle.std.specs.Prelude.{◌≡◌, IfOk};
 ghost use Rattle.reference_graph.specs.Graphs.{Ends};
 ghost use Rattle.map_types.specs.Trees.{members_of};
-ghost use Rattle.map_members.specs.Seen.{lent_members};
+ghost use Rattle.map_members.specs.Lent.{lent_members};
 ghost use Rattle.map_links.specs.Links.{linked};
 ghost use Rattle.orchestra_map.specs.Headers.{is_header, framing_links, header_links, graph_of, HasHeadersOf, HasHeaderTags, IsKept};
 

@@ -17,7 +17,7 @@ use Rattle.writing_laws.proofs.MessageMisfit.{fits_none}
 use Rattle.writable_schemas.proofs.CheckedSchemas.{schema_writable}
 use Rattle.tree_json.specs.Lines.{line_of, message_at}
 use Rattle.clean_bodies.specs.Bodies.{IsCanonicalOf}
-use Rattle.flyweight_view.specs.Seen.{TypedMessage}
+use Rattle.flyweight_view.specs.TypedBlocks.{TypedMessage}
 use Rattle.line_reading.specs.Lines.{tree_of}
 use Rattle.line_laws.specs.LinesBack.{MessageHasBytes}
 use Rattle.line_laws.proofs.MessageBack.{line_back}

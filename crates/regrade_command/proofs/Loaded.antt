@@ -3,7 +3,7 @@ use Rattle.std.proofs.Common.{◌≡◌, ℕ, List, Option, Some, Result, Ok, Er
 use Rattle.sbe_base.specs.Causes.{one_more}
 use Rattle.sbe_types.specs.declared.schema.WireSchema.{WireSchema}
 use Rattle.schema_facts.specs.IsChecked.{IsChecked}
-use Rattle.schema_files.specs.Judged.{file_schema}
+use Rattle.schema_files.specs.FileChecks.{file_schema}
 use Rattle.schema_files.specs.Files.{JobCause, LoadsChecked, NamesLast, stop_of}
 use Rattle.schema_files.specs.declared.files.FileRefusal.{FileRefusal}
 use Rattle.schema_files.specs.declared.files.FileRole.TheVariants as role

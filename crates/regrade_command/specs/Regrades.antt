@@ -1,7 +1,7 @@
 -- The files of `regrade`.
 use Rattle.std.specs.Prelude.{◌≡◌, ℕ, List, Option, Result, Ok, Err, ⊤}
 use Rattle.sbe_types.specs.declared.schema.WireSchema.{WireSchema}
-use Rattle.schema_files.specs.Judged.{file_schema, refused_as, IsFromTo}
+use Rattle.schema_files.specs.FileChecks.{file_schema, refused_as, IsFromTo}
 use Rattle.schema_files.specs.declared.files.FileRefusal.{FileRefusal}
 use Rattle.schema_files.specs.declared.files.FileRefusal.TheVariants.{NotAnExtension}
 use Rattle.schema_files.specs.declared.files.FileRole.TheVariants as role

@@ -1,6 +1,6 @@
 -- What is answered when a schema is opened.
 use Rattle.std.specs.Prelude.{◌≡◌, ℕ, List, length, Option, Some, None, Ok, Err, ⊤}
-use Rattle.schema_files.specs.Judged.{schema_in}
+use Rattle.schema_files.specs.FileChecks.{schema_in}
 use Rattle.schema_files.specs.declared.files.FileRefusal.TheVariants.{Unread, Broken}
 use Rattle.sbe_c.specs.declared.answers.Answer.{Answer}
 use Rattle.sbe_c.specs.declared.answers.Answer.TheVariants as answer

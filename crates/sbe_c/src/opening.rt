@@ -1,6 +1,6 @@
 //! A schema is opened.
 ghost use Rattle.std.specs.Prelude.{◌≡◌, Ok, IfOk, IfErr, length};
-ghost use Rattle.schema_files.specs.Judged.{schema_in};
+ghost use Rattle.schema_files.specs.FileChecks.{schema_in};
 ghost use Rattle.sbe_c.specs.declared.opening.OpenErr.TheVariants.{Memory};
 ghost use Rattle.sbe_c.specs.Filling.{filled};
 ghost use Rattle.sbe_c.specs.Opening.{IsOpened, IsNotOpened, AnswersOpen};

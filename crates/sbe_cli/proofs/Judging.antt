@@ -1,6 +1,6 @@
 -- Each command's files are judged in one way, and each piece of the input of an accepted job has exactly one reply.
 use Rattle.std.proofs.Common.{◌≡◌, ℕ, List, Option, Result, Ok, Err, refl, sym, ap, ◌∙◌, subst}
-use Rattle.schema_files.specs.Judged.{file_schema, JudgesSchemas}
+use Rattle.schema_files.specs.FileChecks.{file_schema, JudgesSchemas}
 use Rattle.command_files.specs.Files.{in_role}
 use Rattle.schema_files.specs.declared.files.FileRole.TheVariants as role
 use Rattle.schema_files.specs.declared.files.RefusedFile.{RefusedFile}

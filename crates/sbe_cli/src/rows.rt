@@ -4,7 +4,7 @@ ghost use Rattle.std.specs.Prelude.{◌≡◌, ◌∷◌, ◌++◌, [], ℕ, Lis
 ghost use Rattle.sbe_base.specs.declared.status.Limits.{Limits};
 ghost use Rattle.sbe_base.specs.declared.status.Status.TheVariants as status;
 ghost use Rattle.dump_lines.specs.Dumped.{AreInOrder};
-ghost use Rattle.schema_files.specs.Judged.{alone, refused_as};
+ghost use Rattle.schema_files.specs.FileChecks.{alone, refused_as};
 ghost use Rattle.sbe_types.specs.declared.schema.WireSchema.{WireSchema};
 ghost use Rattle.schema_files.specs.declared.files.FileRefusal.{FileRefusal};
 ghost use Rattle.schema_files.specs.declared.files.FileRole.TheVariants as role;

@@ -10,7 +10,7 @@ use Rattle.schema_rules.specs.declared.levels.LevelFacts.{LevelFacts}
 use Rattle.schema_rules.specs.Judging.{CheckResult, ◌>>=◌, first_of, at_element}
 use Rattle.schema_rules.specs.Kinds.{members_named}
 use Rattle.schema_rules.specs.PartRules.{Scope, PartsBefore, no_part, with_part, part_name, entries_level, part_rules, dimension_rules, group_rules, level_check, part_check, parts_check}
-use Rattle.schema_check.specs.Seen.{level_of, group_check}
+use Rattle.schema_check.specs.LevelCheck.{level_of, group_check}
 
 abbrev row_in : PartItem → (n : Count) × Row_of-PartItem n
 row_in (part.Group' _ _ _ _ _ _ row) = (_, row)

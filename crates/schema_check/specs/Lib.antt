@@ -1,4 +1,4 @@
-pub mod Seen
+pub mod LevelCheck
 pub mod Forms
 pub mod Reach
 pub mod Entries

@@ -4,7 +4,7 @@ ghost use Rattle.schema_rules.specs.Judging.{Gives, first_of, at_element};
 ghost use Rattle.schema_rules.specs.Names.{is_among};
 ghost use Rattle.schema_rules.specs.Kinds.{kind_named, members_of, members_named};
 ghost use Rattle.schema_rules.specs.PartRules.{rank, greatest_since, begins_wrong, part_rules, since_in, entries_level, no_part, with_field, with_group, with_data, facts_with, part_name, data_rules, data_check, dimension_rules, is_short, is_bad_block, group_rules, part_check, parts_check};
-ghost use Rattle.schema_check.specs.Seen.{level_of, group_check};
+ghost use Rattle.schema_check.specs.LevelCheck.{level_of, group_check};
 
 use sbe_types::{DataEl, GroupEl, MemberItem, PartItem};
 use schema_rules::{CCode, CheckErr, Fact, LevelFacts, LevelScope, PartClass, PartHead};

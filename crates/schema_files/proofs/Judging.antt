@@ -14,7 +14,7 @@ use Rattle.schema_facts.specs.IsChecked.{IsChecked}
 use Rattle.schema_facts.proofs.WholeChecked.{schema_checked}
 use Rattle.dump_lines.specs.Dumped.{AreInOrder}
 use Rattle.dump_lines.specs.declared.schemas.Schemas.{Schemas}
-use Rattle.schema_files.specs.Judged.{in_order, tree_in_order, schema_in, file_schema, refused_as, alone, with_one, is_taken, Joins, taken, same_id, form_differs, JoinsFrom, GoesOn, JudgesMore, JudgesSchemas}
+use Rattle.schema_files.specs.FileChecks.{in_order, tree_in_order, schema_in, file_schema, refused_as, alone, with_one, is_taken, Joins, taken, same_id, form_differs, JoinsFrom, GoesOn, JudgesMore, JudgesSchemas}
 use Rattle.schema_files.specs.declared.files.FileRefusal.{FileRefusal}
 use Rattle.schema_files.specs.declared.files.FileRefusal.TheVariants.{TooLong, SameId, FormDiffers}
 use Rattle.schema_files.specs.declared.files.FileRole.TheVariants as role

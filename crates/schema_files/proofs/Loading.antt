@@ -12,7 +12,7 @@ use Rattle.schema_rules.specs.Judging.{CheckResult}
 use Rattle.schema_rules.specs.Checked.{checked_of}
 use Rattle.sbe_types.specs.declared.schema.WireSchema.{WireSchema}
 use Rattle.dump_lines.specs.declared.schemas.Schemas.{Schemas}
-use Rattle.schema_files.specs.Judged.{in_order, tree_in_order, schema_in, file_schema, refused_as, alone, with_one, JoinsFrom, GoesOn, JudgesMore}
+use Rattle.schema_files.specs.FileChecks.{in_order, tree_in_order, schema_in, file_schema, refused_as, alone, with_one, JoinsFrom, GoesOn, JudgesMore}
 use Rattle.schema_files.specs.Files.{Reads, IsRead, after_loads, loads_up_to, loads_with_map, NamesLast, NamesLastBy, LoadsAs, LoadsChecked, stop_of, JoinsAs, LoadsJoining, LoadsMore, LoadsSchemas, FailsAt}
 use Rattle.schema_files.specs.declared.files.FileRefusal.{FileRefusal}
 use Rattle.schema_files.specs.declared.files.FileRefusal.TheVariants.{TooLong}

@@ -2,7 +2,7 @@
 use Rattle.std.specs.Prelude.{◌≡◌, ◌≤◌, ℕ, zero, suc, List, Option, Some, None, Result, Ok, Err, ⊤}
 use Rattle.sbe_base.specs.Causes.{Rose, one_more}
 use Rattle.sbe_types.specs.declared.schema.WireSchema.{WireSchema}
-use Rattle.schema_files.specs.Judged.{file_schema, refused_as, IsWithin, JoinsFrom, JudgesSchemas, JudgesMore}
+use Rattle.schema_files.specs.FileChecks.{file_schema, refused_as, IsWithin, JoinsFrom, JudgesSchemas, JudgesMore}
 use Rattle.schema_files.specs.declared.files.FileRefusal.{FileRefusal}
 use Rattle.schema_files.specs.declared.files.FileRefusal.TheVariants as file
 use Rattle.schema_files.specs.declared.files.LoadStop.{LoadStop}

@@ -1,3 +1,3 @@
-pub mod Judged
+pub mod FileChecks
 pub mod Files
 pub mod Refusals

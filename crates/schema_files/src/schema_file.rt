@@ -1,6 +1,6 @@
 ghost use Rattle.std.specs.Prelude.{◌≡◌};
 ghost use Rattle.sbe_base.specs.Causes.{one_more};
-ghost use Rattle.schema_files.specs.Judged.{schema_in};
+ghost use Rattle.schema_files.specs.FileChecks.{schema_in};
 ghost use Rattle.schema_files.specs.Files.{LoadCause, LoadsChecked, Reads};
 
 use crate::files::{FileRefusal, LoadStop};

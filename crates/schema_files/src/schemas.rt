@@ -2,7 +2,7 @@ ghost use Rattle.std.specs.Prelude.{◌≡◌, ℕ, length, IfOk};
 ghost use Rattle.dump_lines.specs.Dumped.{AreInOrder};
 ghost use Rattle.sbe_base.specs.Causes.{one_more};
 ghost use Rattle.dump_lines.specs.declared.schemas.Schemas.{Schemas as SchemaSet};
-ghost use Rattle.schema_files.specs.Judged.{is_taken, Joins};
+ghost use Rattle.schema_files.specs.FileChecks.{is_taken, Joins};
 ghost use Rattle.schema_files.specs.Files.{further_schema, FailsAt, JobCause, LoadCause, LoadsJoining, LoadsMore, LoadsSchemas, NamesLast};
 
 use crate::files::{FileRefusal, FileRole, JobStop, LoadStop};

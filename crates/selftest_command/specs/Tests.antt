@@ -3,7 +3,7 @@ use Rattle.std.specs.Prelude.{◌≡◌, ℕ, List, [], Option, Result, Ok, Err,
 use Rattle.sbe_types.specs.declared.schema.WireSchema.{WireSchema}
 use Rattle.replies.specs.Reply.{Reply}
 use Rattle.replies.specs.declared.verdict.Verdict.TheVariants.{Answered}
-use Rattle.schema_files.specs.Judged.{file_schema, IsWithin}
+use Rattle.schema_files.specs.FileChecks.{file_schema, IsWithin}
 use Rattle.schema_files.specs.declared.files.FileRole.TheVariants as role
 use Rattle.schema_files.specs.declared.files.RefusedFile.{RefusedFile}
 use Rattle.command_files.specs.Files.{FilesOf, in_role}

@@ -11,7 +11,7 @@ use Rattle.dump_lines.specs.Chosen.{has_id}
 use Rattle.dump_lines.specs.declared.schemas.Schemas.{Schemas}
 use Rattle.dump_lines.specs.Dumped.{AreInOrder}
 use Rattle.schema_facts.specs.IsChecked.{IsChecked}
-use Rattle.schema_files.specs.Judged.{alone, with_one}
+use Rattle.schema_files.specs.FileChecks.{alone, with_one}
 use Rattle.dump_lines.proofs.Finding.{id_same, id_differs}
 use Rattle.tofix_command.specs.declared.translations.Translation.{Translation}
 use Rattle.tofix_command.specs.declared.translations.Translations.{Translations}

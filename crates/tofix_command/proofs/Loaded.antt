@@ -15,7 +15,7 @@ use Rattle.fix_translation.proofs.MsgTypes.{read_kinds}
 use Rattle.map_files.specs.Maps.{file_map, LoadsMap, WasRead}
 use Rattle.dump_lines.specs.Dumped.{AreInOrder}
 use Rattle.dump_lines.specs.declared.schemas.Schemas.{Schemas}
-use Rattle.schema_files.specs.Judged.{alone, file_schema, refused_as, IsWithin, Joins}
+use Rattle.schema_files.specs.FileChecks.{alone, file_schema, refused_as, IsWithin, Joins}
 use Rattle.schema_files.specs.Files.{stop_of, FailsAt, JobCause, LoadsChecked, LoadsJoining, LoadsMore, NamesLastBy}
 use Rattle.schema_files.specs.declared.files.FileRefusal.{FileRefusal}
 use Rattle.schema_files.specs.declared.files.FileRole.{FileRole}

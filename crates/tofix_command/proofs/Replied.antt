@@ -13,7 +13,7 @@ use Rattle.sbe_wire.specs.Faults.{Fault, FirstFault}
 use Rattle.sbe_wire.specs.Lays.{Lays}
 use Rattle.open_framing.specs.Frames.{Item}
 use Rattle.body_walk.specs.Refusals.{Misread}
-use Rattle.flyweight_view.specs.Seen.{TypedMessage}
+use Rattle.flyweight_view.specs.TypedBlocks.{TypedMessage}
 use Rattle.bridge_terms.specs.Blocks.{values_of}
 use Rattle.bridge_terms.specs.Places.{Places, Unsent, place_fields, places_of}
 use Rattle.bridge_terms.specs.Plans.{Plan, Tree}

@@ -7,7 +7,7 @@ use Rattle.map_files.specs.Maps.{file_map}
 use Rattle.bridge_mapping.specs.Mapped.{mapping_of}
 use Rattle.dump_lines.specs.Dumped.{AreInOrder}
 use Rattle.dump_lines.specs.declared.schemas.Schemas.{Schemas}
-use Rattle.schema_files.specs.Judged.{alone, file_schema, refused_as, JudgesMore}
+use Rattle.schema_files.specs.FileChecks.{alone, file_schema, refused_as, JudgesMore}
 use Rattle.schema_files.specs.declared.files.FileRefusal.{FileRefusal}
 use Rattle.schema_files.specs.declared.files.FileRole.{FileRole}
 use Rattle.schema_files.specs.declared.files.FileRole.TheVariants as role

@@ -13,7 +13,7 @@ use Rattle.dump_lines.specs.Dumped.{AreInOrder}
 use Rattle.dump_lines.specs.declared.schemas.Schemas.{Schemas}
 use Rattle.schema_files.specs.declared.files.LoadStop.{LoadStop}
 use Rattle.schema_files.specs.declared.files.JobStop.{JobStop}
-use Rattle.flyweight_view.specs.Seen.{TypedMessage}
+use Rattle.flyweight_view.specs.TypedBlocks.{TypedMessage}
 use Rattle.command_steps.specs.declared.kept.Kept.{Kept}
 use Rattle.fix_translation.specs.Translations.{HasKinds}
 use Rattle.tofix_replies.specs.ToFix.{head_after, text_limit, Bridge}

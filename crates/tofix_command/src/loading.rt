@@ -7,7 +7,7 @@ ghost use Rattle.map_types.specs.Trees.{members_of};
 ghost use Rattle.orchestra_map.specs.Headers.{IsKept};
 ghost use Rattle.bridge_mapping.specs.Mapped.{mapping_of};
 ghost use Rattle.dump_lines.specs.Dumped.{AreInOrder};
-ghost use Rattle.schema_files.specs.Judged.{alone};
+ghost use Rattle.schema_files.specs.FileChecks.{alone};
 ghost use Rattle.schema_files.specs.Files.{loads_with_map, FailsAt, JobCause, LoadCause, LoadsJoining, LoadsMore, NamesLastBy};
 ghost use Rattle.command_words.specs.Words.{HasFields};
 ghost use Rattle.command_files.specs.Files.{LoadsFiles};

@@ -3,7 +3,7 @@ use Rattle.std.specs.Prelude.{◌≡◌, List, Option, Some, Result, Ok, Err}
 use Rattle.sbe_base.specs.declared.status.Status.{Status}
 use Rattle.sbe_base.specs.declared.status.Status.TheVariants as status
 use Rattle.sbe_base.specs.declared.stream.WriteFault.{WriteFault}
-use Rattle.flyweight_view.specs.Seen.{TypedBlock}
+use Rattle.flyweight_view.specs.TypedBlocks.{TypedBlock}
 use Rattle.bridge_rules.specs.Rules.{Rule}
 use Rattle.bridge_terms.specs.Parts.{TagLists}
 use Rattle.bridge_terms.specs.Places.{Unsent}

@@ -14,7 +14,7 @@ use Rattle.field_types.proofs.ShortCodes.{codes_are_short, fields_mapped}
 use Rattle.bridge_plan.specs.CheckedLevels.{HasShortCodes}
 use Rattle.bridge_plan.proofs.SchemaGives.{table_short}
 use Rattle.bridge_mapping.specs.Mapped.{mapping_of}
-use Rattle.schema_files.specs.Judged.{file_schema}
+use Rattle.schema_files.specs.FileChecks.{file_schema}
 use Rattle.schema_files.specs.Files.{stop_of, JobCause, LoadsChecked, NamesLastBy}
 use Rattle.schema_files.specs.declared.files.FileRefusal.{FileRefusal}
 use Rattle.schema_files.specs.declared.files.FileRole.{FileRole}

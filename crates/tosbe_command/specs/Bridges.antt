@@ -13,7 +13,7 @@ use Rattle.bridge_plan.specs.Mappings.{Mapping}
 use Rattle.bridge_mapping.specs.Mapped.{mapping_of}
 use Rattle.sbe_translation.specs.declared.plan.BackPlan.{BackPlan}
 use Rattle.sbe_translation.specs.Plans.{AreBackPlans}
-use Rattle.schema_files.specs.Judged.{file_schema, refused_as}
+use Rattle.schema_files.specs.FileChecks.{file_schema, refused_as}
 use Rattle.schema_files.specs.declared.files.FileRefusal.{FileRefusal}
 use Rattle.schema_files.specs.declared.files.FileRole.{FileRole}
 use Rattle.schema_files.specs.declared.files.FileRole.TheVariants as role

@@ -17,7 +17,7 @@ use Rattle.sbe_types.specs.declared.message.Value.TheVariants as value
 use Rattle.sbe_types.specs.Numbers.{number_of, natural, prim_width}
 use Rattle.sbe_types.specs.Shown.{admits, is_null, is_listed, has_listed_bits}
 use Rattle.sbe_types.specs.Shows.{ShowsLeaf, ShowsArray, ShowsElements, text_value}
-use Rattle.field_values.specs.Told.{before_zero}
+use Rattle.field_values.specs.Reports.{before_zero}
 use Rattle.field_values.proofs.Shown.{text_front}
 use Rattle.tree_codec.specs.TheValues.{number_value, enum_value, element_value, elements_from, IsLeafValue, IsTheValue}
 

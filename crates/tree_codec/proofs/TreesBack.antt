@@ -10,7 +10,7 @@ use Rattle.sbe_types.specs.declared.message.GroupVal.{GroupVal, Row_of-Block, it
 use Rattle.sbe_types.specs.declared.schema.Group as groups
 use Rattle.sbe_types.specs.declared.schema.Group.{Group, Group', out-Group}
 use Rattle.sbe_types.specs.declared.schema.Level.{Level}
-use Rattle.flyweight_view.specs.Seen.{typed_groups, TypedBlock, typed_level, bytes_in, entries_in}
+use Rattle.flyweight_view.specs.TypedBlocks.{typed_groups, TypedBlock, typed_level, bytes_in, entries_in}
 use Rattle.tree_codec.specs.Trees.{part_of, blocks_of, group_of, Each, IsWhole, GroupIsWhole, GroupsAreWhole, IsWholeBlock, AllWhole, IsWholeGroup, AreWholeGroups}
 use Rattle.tree_codec.proofs.WholeLays.{seen_whole}
 

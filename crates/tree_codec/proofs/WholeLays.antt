@@ -17,7 +17,7 @@ use Rattle.sbe_types.specs.Places.{end_past}
 use Rattle.sbe_wire.specs.declared.mode.Mode.{Mode}
 use Rattle.sbe_wire.specs.Lays.{Lays, FieldsLay, TailLays, GroupsLay, GroupLays, GroupLies, EntryLays, IsConcatenation}
 use Rattle.sbe_wire.specs.Versions.{is_alive, form_of, mode_of}
-use Rattle.flyweight_view.specs.Seen.{typed_level}
+use Rattle.flyweight_view.specs.TypedBlocks.{typed_level}
 use Rattle.tree_codec.specs.Trees.{Each, IsWhole, AreWhole, GroupIsWhole, GroupsAreWhole, IsWholeBlock, entries_of}
 
 some_is : {A : Type 0} {x y : A} → ◌≡◌ {A = Option A} (Some x) (Some y) → x ≡ y

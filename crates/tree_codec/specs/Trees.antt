@@ -7,7 +7,7 @@ use Rattle.sbe_types.specs.declared.message.GroupVal.{GroupVal, items-the_row-Bl
 use Rattle.sbe_types.specs.declared.message.GroupVal as groupval
 use Rattle.sbe_types.specs.declared.schema.Group.{Group, Group'}
 use Rattle.sbe_types.specs.declared.schema.Level.{Level, Level', Row_of-Group, end_of-Group, more_of-Group}
-use Rattle.flyweight_view.specs.Seen.{TypedBlock}
+use Rattle.flyweight_view.specs.TypedBlocks.{TypedBlock}
 
 -- ---- trees
 

@@ -1,6 +1,6 @@
 ghost use Rattle.std.specs.Prelude.{◌≡◌, IfOk, IfErr};
 ghost use Rattle.sbe_wire.specs.Lays.{Lays};
-ghost use Rattle.flyweight_view.specs.Seen.{typed_level};
+ghost use Rattle.flyweight_view.specs.TypedBlocks.{typed_level};
 ghost use Rattle.tree_codec.specs.Decoded.{IsRefused};
 ghost use Rattle.tree_codec.specs.Trees.{IsWholeBlock};
 

@@ -7,7 +7,7 @@ ghost use Rattle.sbe_types.specs.Places.{width, is_const, begin_of as begins_at,
 ghost use Rattle.sbe_types.specs.Shows.{text_value};
 ghost use Rattle.schema_rules.specs.TypeRules.{is_set_primitive};
 ghost use Rattle.schema_facts.specs.InOrder.{IsKindInOrder, IsLeafInOrder};
-ghost use Rattle.field_values.specs.Told.{before_zero};
+ghost use Rattle.field_values.specs.Reports.{before_zero};
 ghost use Rattle.tree_codec.specs.TheValues.{number_value, enum_value, element_value, elements_from, IsLeafValue, IsTheValue};
 
 use field_values::before_zero;

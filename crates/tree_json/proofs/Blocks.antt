@@ -8,7 +8,7 @@ use Rattle.sbe_types.specs.declared.message.Block.{Block, out-Block}
 use Rattle.sbe_types.specs.declared.message.GroupVal.{GroupVal}
 use Rattle.sbe_types.specs.declared.message.Msg.{Msg}
 use Rattle.json.specs.Print.{quoted}
-use Rattle.flyweight_view.specs.Seen.{TypedBlock, typed_level}
+use Rattle.flyweight_view.specs.TypedBlocks.{TypedBlock, typed_level}
 use Rattle.serde_json.specs.Data.{object}
 use Rattle.json_values.specs.Values.{listed, zipped}
 use Rattle.tree_json.specs.Lines.{field_entry, part_entry, group_entry, three_entries, block_data, block_entries, groups_entries, message_at}

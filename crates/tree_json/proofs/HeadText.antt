@@ -16,7 +16,7 @@ use Rattle.json_rows.proofs.PieceValues.{values_in}
 use Rattle.tree_json.specs.Texts.{block_pieces, text_before, text_behind}
 use Rattle.flyweight_view.specs.declared.by_table.TableBlock.{TableBlock}
 use Rattle.flyweight_view.specs.ByTable.{IsTableBlock}
-use Rattle.flyweight_view.specs.Seen.{TypedBlock}
+use Rattle.flyweight_view.specs.TypedBlocks.{TypedBlock}
 use Rattle.json_values.specs.Values.{zipped}
 use Rattle.tree_json.specs.Lines.{field_entry, part_entry, group_entry}
 use Rattle.json_values.specs.Plain.{entries_text}

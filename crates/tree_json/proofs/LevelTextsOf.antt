@@ -10,7 +10,7 @@ use Rattle.sbe_types.specs.declared.schema.Level.{Level, Level', out-Level, Row_
 use Rattle.sbe_types.specs.declared.message.Block.{Block, out-Block}
 use Rattle.sbe_types.specs.declared.message.GroupVal.{GroupVal, items-the_row-Block}
 use Rattle.sbe_types.specs.declared.message.GroupVal as groupval
-use Rattle.flyweight_view.specs.Seen.{TypedBlock, typed_level, entries_in, typed_groups}
+use Rattle.flyweight_view.specs.TypedBlocks.{TypedBlock, typed_level, entries_in, typed_groups}
 use Rattle.json_rows.specs.declared.rows.TextRows.{TextRows}
 use Rattle.json_rows.specs.Tables.{HasPieces}
 use Rattle.tree_json.specs.declared.texts.LevelTexts.{LevelTexts, out-LevelTexts, roll-LevelTexts, out-roll-LevelTexts}

@@ -25,7 +25,7 @@ use Rattle.json_fields.proofs.MembersShown.{entry_goes}
 use Rattle.json_fields.proofs.FromBytes.{is_shown}
 use Rattle.json_rows.specs.Texts.{key_of, is_seen, hex_text, constant_text}
 use Rattle.json_rows.specs.Pieces.{Piece, literal, shown, kind_pieces, member_pieces, field_pieces, pieces_of, pieces_between, Slot, MergedPieces, no_slots, with_piece, with_pieces, merged_pieces}
-use Rattle.flat_rows.specs.Judged.{AllAlive, bytes_there}
+use Rattle.flat_rows.specs.BlockChecks.{AllAlive, bytes_there}
 use Rattle.flat_rows.proofs.Inside.{kind_inside}
 use Rattle.json_fields.specs.Printed.{PiecesText, SlotsText, MergedText}
 

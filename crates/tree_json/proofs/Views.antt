@@ -12,7 +12,7 @@ use Rattle.sbe_types.specs.declared.message.DataVal.{DataVal}
 use Rattle.sbe_types.specs.declared.message.DataVal.TheVariants as dataval
 use Rattle.sbe_types.specs.declared.message.GroupVal.{GroupVal, items-the_row-Block}
 use Rattle.sbe_types.specs.declared.message.GroupVal as groupval
-use Rattle.flyweight_view.specs.Seen.{TypedBlock, typed_level, bytes_in, entries_in, typed_groups}
+use Rattle.flyweight_view.specs.TypedBlocks.{TypedBlock, typed_level, bytes_in, entries_in, typed_groups}
 use Rattle.json_values.specs.Values.{Entry, zipped}
 use Rattle.tree_json.specs.Lines.{part_entry, group_entry, group_name, items_by, block_data, block_entries, message_at}
 use Rattle.json_values.specs.Plain.{plain_text, plain_items}

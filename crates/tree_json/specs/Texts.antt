@@ -9,7 +9,7 @@ use Rattle.sbe_types.specs.declared.schema.Level.{Level, Level', out-Level, Row_
 use Rattle.schema_facts.specs.InOrder.{IsKindInOrder}
 use Rattle.schema_facts.specs.Levels.{Node, nodes}
 use Rattle.schema_facts.specs.Measured.{AreNarrowFields}
-use Rattle.flyweight_view.specs.Seen.{TypedBlock}
+use Rattle.flyweight_view.specs.TypedBlocks.{TypedBlock}
 use Rattle.json_rows.specs.Pieces.{Piece, pieces_between}
 use Rattle.json_rows.specs.Tables.{HasPieces}
 use Rattle.tree_json.specs.declared.texts.LevelTexts.{LevelTexts, out-LevelTexts}

@@ -8,7 +8,7 @@ use Rattle.sbe_types.specs.declared.message.Block.{out-Block}
 use Rattle.sbe_types.specs.declared.message.DataVal.{DataVal}
 use Rattle.sbe_types.specs.declared.message.GroupVal.{GroupVal}
 use Rattle.tree_json.specs.Texts.{text_behind}
-use Rattle.flyweight_view.specs.Seen.{TypedBlock}
+use Rattle.flyweight_view.specs.TypedBlocks.{TypedBlock}
 use Rattle.json_values.specs.Values.{Entry, listed, zipped, text_data}
 use Rattle.tree_json.specs.Lines.{field_entry, part_entry, group_entry, group_name, items_by, three_entries}
 use Rattle.json_values.specs.Plain.{plain_items, entries_text}

@@ -8,7 +8,7 @@ ghost use Rattle.sbe_types.specs.declared.schema.Field.{Field};
 ghost use Rattle.json_rows.specs.Tables.{values_of, HasPieces, IsTextTable, TextsFit};
 ghost use Rattle.flyweight_view.specs.declared.by_table.TableBlock.{TableBlock};
 ghost use Rattle.flyweight_view.specs.ByTable.{IsTableBlock};
-ghost use Rattle.flyweight_view.specs.Seen.{TypedBlock};
+ghost use Rattle.flyweight_view.specs.TypedBlocks.{TypedBlock};
 ghost use Rattle.flyweight_view.specs.Deep.{deepest_in};
 ghost use Rattle.json_values.specs.Values.{zipped, text_data};
 ghost use Rattle.tree_json.specs.Lines.{field_entry, group_entry, items_by};

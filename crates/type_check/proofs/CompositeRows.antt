@@ -9,7 +9,7 @@ use Rattle.schema_rules.specs.declared.facts.Fact.{Fact}
 use Rattle.schema_rules.specs.Judging.{CheckResult, ◌>>=◌, first_of, at_element}
 use Rattle.schema_rules.specs.Kinds.{member_name}
 use Rattle.schema_rules.specs.CompositeRules.{Inside, deeper, MembersBefore, no_member, with_one, composite_rules, entered, row_check, member_check, members_check}
-use Rattle.type_check.specs.Seen.{made_of, inner_check}
+use Rattle.type_check.specs.CompositeCheck.{made_of, inner_check}
 
 abbrev row_in : MemberItem → (n : Count) × Row_of-MemberItem n
 row_in (part.Composite' _ _ _ _ row) = (_, row)

@@ -4,7 +4,7 @@ ghost use Rattle.schema_rules.specs.Judging.{Gives, first_of, at_element};
 ghost use Rattle.schema_rules.specs.Names.{is_among};
 ghost use Rattle.schema_rules.specs.Kinds.{member_name, member_offset};
 ghost use Rattle.schema_rules.specs.CompositeRules.{no_member, member_since, begins_early, member_rules, ref_rules, is_too_high, names_too_high, names_constant_enum, first_rules, last_rules, composite_rules, entered, member_check, members_check, composite_check};
-ghost use Rattle.type_check.specs.Seen.{made_of, inner_check};
+ghost use Rattle.type_check.specs.CompositeCheck.{made_of, inner_check};
 
 use crate::name_table::NameTable;
 use crate::refusals::{at_element, refuse};

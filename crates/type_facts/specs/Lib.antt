@@ -1,3 +1,3 @@
 pub mod Wholes
 pub mod Tables
-pub mod Seen
+pub mod References

@@ -2,7 +2,7 @@ ghost use Rattle.std.specs.Prelude.{◌≡◌, option_copied, option_map, option
 ghost use Rattle.std.specs.Str.{bytes_eq};
 ghost use Rattle.schema_rules.specs.Names.{referred};
 ghost use Rattle.schema_rules.specs.TypeRules.{refers_to_none, referred_number, refers_outside};
-ghost use Rattle.type_facts.specs.Seen.{referred_seen};
+ghost use Rattle.type_facts.specs.References.{referred_seen};
 
 use crate::encodings::encoding_named;
 use crate::numbers::{is_number_of, value_number};

@@ -44,7 +44,7 @@ use Rattle.value_texts.specs.declared.row.ValueText.TheVariants as row
 use Rattle.value_texts.specs.declared.row.ConstText.{ConstText}
 use Rattle.value_texts.specs.Rows.{const_text, CanAsk, Spells}
 use Rattle.value_texts.specs.Made.{const_shown, enum_spelling, kept_of}
-use Rattle.value_texts.specs.Seen.{IsValueOf}
+use Rattle.value_texts.specs.FieldViews.{IsValueOf}
 use Rattle.value_texts.proofs.Plain.{IsPlain, plain_shown}
 
 -- every number may be asked

@@ -13,13 +13,13 @@ use Rattle.sbe_types.specs.Shows.{Shows}
 use Rattle.sbe_types.proofs.PlaceLemmas.{each_from}
 use Rattle.flyweight_view.specs.declared.values.FieldBytes.{FieldBytes}
 use Rattle.flyweight_view.specs.ShownIn.{IsShownIn}
-use Rattle.flyweight_view.specs.Seen.{TypedBlock, member_field, typed_members, members_of, values_in, typed_composite, typed_field}
+use Rattle.flyweight_view.specs.TypedBlocks.{TypedBlock, member_field, typed_members, members_of, values_in, typed_composite, typed_field}
 use Rattle.bridge_rules.specs.Members.{first_number, mantissa_in, members_in, month_in, month_of, second_number}
 use Rattle.bridge_rules.proofs.OptionLemmas.{some_is, none_some}
 use Rattle.bridge_terms.specs.Blocks.{nth_or}
 use Rattle.message_walk.proofs.Nth.{nth_is}
 use Rattle.bridge_rules.proofs.BoolLemmas.{true_false}
-use Rattle.value_texts.specs.Seen.{is_composite, is_composite_field, members_seen, nth_number, HasMembers}
+use Rattle.value_texts.specs.FieldViews.{is_composite, is_composite_field, members_seen, nth_number, HasMembers}
 use Rattle.value_texts.proofs.Values.{enum_same, leaf_same, set_is}
 
 -- ---- numbers of members

@@ -9,7 +9,7 @@ use Rattle.fix_values.specs.declared.rule.NumRule.{NumRule}
 use Rattle.fix_values.specs.Values.{text_of}
 use Rattle.tagvalue_codec.specs.Drafts.{Draft}
 use Rattle.flyweight_view.specs.declared.values.FieldBytes.{FieldBytes}
-use Rattle.flyweight_view.specs.Seen.{TypedBlock}
+use Rattle.flyweight_view.specs.TypedBlocks.{TypedBlock}
 use Rattle.bridge_rules.specs.Members.{mantissa_in, members_in, month_in, number_in, unit_in, and_then}
 use Rattle.bridge_rules.specs.Texts.{floating_text, moment_text, month_text, text_if_any}
 use Rattle.bridge_table.specs.declared.rule.Epoch.{Epoch}
@@ -24,7 +24,7 @@ use Rattle.message_walk.specs.States.{IsPut, PutResult}
 use Rattle.value_texts.specs.declared.row.ValueText.{ValueText}
 use Rattle.value_texts.specs.declared.row.ValueText.TheVariants as row
 use Rattle.value_texts.specs.Rows.{row_text, AsksWords, CanAsk, CanAskOf, Spells}
-use Rattle.value_texts.specs.Seen.{choices_in, is_word, nth_number, unit_seen, CanReadAny, IsSeenOf}
+use Rattle.value_texts.specs.FieldViews.{choices_in, is_word, nth_number, unit_seen, CanReadAny, IsSeenOf}
 use Rattle.value_texts.proofs.Members.{mantissa_is, second_is}
 
 -- the number of a field may be asked of its rule

@@ -17,7 +17,7 @@ use Rattle.sbe_types.specs.Places.{width}
 use Rattle.sbe_types.specs.Shown.{admits, has_listed_bits, is_listed, is_null, is_optional}
 use Rattle.sbe_types.specs.Shows.{Shows, ShowsLeaf, is_empty, text_value}
 use Rattle.schema_facts.specs.InOrder.{IsKindInOrder}
-use Rattle.field_values.specs.Told.{before_zero, seen_element}
+use Rattle.field_values.specs.Reports.{before_zero, seen_element}
 use Rattle.field_values.proofs.Shown.{text_front}
 use Rattle.flyweight_view.specs.declared.values.FieldBytes.{FieldBytes}
 use Rattle.flyweight_view.specs.ShownIn.{IsShownIn}
@@ -27,7 +27,7 @@ use Rattle.bridge_terms.specs.Blocks.{nth_or}
 use Rattle.message_walk.proofs.Nth.{nth_is}
 use Rattle.std.proofs.lemmas.Bool.Decides.{nat_tests}
 use Rattle.std.proofs.lemmas.Int.{ints}
-use Rattle.value_texts.specs.Seen.{is_word, CanReadAny, IsSeenOf}
+use Rattle.value_texts.specs.FieldViews.{is_word, CanReadAny, IsSeenOf}
 
 -- ---- a field of a block
 

@@ -1,4 +1,4 @@
 pub mod Made
 pub mod Rows
-pub mod Seen
+pub mod FieldViews
 pub mod Spelled

@@ -10,7 +10,7 @@ use Rattle.fix_values.specs.declared.rule.NumRule.{NumRule}
 use Rattle.fix_values.specs.Decimals.{dec, decimal_text}
 use Rattle.fix_values.specs.Values.{is_asked, text_of, text_shown}
 use Rattle.date_answers.specs.Answers.{day_shown}
-use Rattle.flyweight_view.specs.Seen.{TypedBlock}
+use Rattle.flyweight_view.specs.TypedBlocks.{TypedBlock}
 use Rattle.bridge_rules.specs.Rules.{Rule}
 use Rattle.bridge_rules.specs.Members.{is_const, mantissa_in, members_in, month_in, number_in, second_number, text_in, unit_in}
 use Rattle.bridge_rules.specs.Texts.{field_text, floating_text, judged_text, moment_text, month_text, text_by, text_if_any}
@@ -20,7 +20,7 @@ use Rattle.value_texts.specs.declared.row.ValueText.{ValueText}
 use Rattle.value_texts.specs.declared.row.ValueText.TheVariants as row
 use Rattle.value_texts.specs.declared.row.ConstText.{ConstText}
 use Rattle.value_texts.specs.declared.row.ConstText.TheVariants as fixed
-use Rattle.value_texts.specs.Seen.{choices_in, is_word, IsValueOf}
+use Rattle.value_texts.specs.FieldViews.{choices_in, is_word, IsValueOf}
 
 -- the text of a constant, if it may be written
 abbrev pub const_text : ConstText → Result (Option (List ℕ)) V

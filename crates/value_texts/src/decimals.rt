@@ -9,7 +9,7 @@ ghost use Rattle.fix_values.specs.Numerals.{is_value};
 ghost use Rattle.fix_values.specs.Values.{Leaves};
 ghost use Rattle.bridge_rules.specs.Texts.{decimal_in_types, floating_text, if_read, text_if_any};
 ghost use Rattle.value_texts.specs.Rows.{is_ok_of};
-ghost use Rattle.value_texts.specs.Seen.{members_seen, nth_number, HasMembers};
+ghost use Rattle.value_texts.specs.FieldViews.{members_seen, nth_number, HasMembers};
 
 use crate::composite::member_number;
 use crate::shown::put_shown;

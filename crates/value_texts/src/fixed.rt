@@ -7,7 +7,7 @@ ghost use Rattle.message_walk.specs.States.{IsPut};
 ghost use Rattle.sbe_types.specs.declared.message.Value.{Value};
 ghost use Rattle.bridge_rules.specs.Members.{is_const};
 ghost use Rattle.value_texts.specs.Rows.{const_text};
-ghost use Rattle.value_texts.specs.Seen.{IsSeenOf};
+ghost use Rattle.value_texts.specs.FieldViews.{IsSeenOf};
 
 use crate::row::ConstText;
 use crate::seen::is_constant;

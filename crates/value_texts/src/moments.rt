@@ -11,7 +11,7 @@ ghost use Rattle.bridge_rules.specs.Rules.{From};
 ghost use Rattle.bridge_rules.specs.Members.{month_in};
 ghost use Rattle.bridge_rules.specs.Texts.{moment_text, month_text, text_if_any};
 ghost use Rattle.bridge_table.specs.Rows.{epoch_of};
-ghost use Rattle.value_texts.specs.Seen.{members_seen, nth_number, unit_seen, HasMembers};
+ghost use Rattle.value_texts.specs.FieldViews.{members_seen, nth_number, unit_seen, HasMembers};
 
 use crate::composite::{count_members, member_number};
 use crate::shown::put_shown;

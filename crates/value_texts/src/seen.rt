@@ -9,10 +9,10 @@ ghost use Rattle.sbe_types.specs.Places.{width};
 ghost use Rattle.sbe_types.specs.Shows.{text_value, Shows, ShowsLeaf};
 ghost use Rattle.schema_facts.specs.InOrder.{IsKindInOrder, IsLeafInOrder};
 ghost use Rattle.schema_rules.specs.TypeRules.{is_set_primitive};
-ghost use Rattle.field_values.specs.Told.{before_zero, seen_element};
+ghost use Rattle.field_values.specs.Reports.{before_zero, seen_element};
 ghost use Rattle.bridge_rules.specs.Members.{is_const, not_zero, number_in, text_in};
 ghost use Rattle.message_walk.specs.Rows.{field_of};
-ghost use Rattle.value_texts.specs.Seen.{choices_in, is_word, CanReadAny, IsSeenOf};
+ghost use Rattle.value_texts.specs.FieldViews.{choices_in, is_word, CanReadAny, IsSeenOf};
 
 use crate::fronts::front_of;
 use flyweight_view::{BlockView, FieldBytes};

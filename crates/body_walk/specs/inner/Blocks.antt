@@ -5,7 +5,7 @@ use Rattle.sbe_types.specs.declared.schema.Level.{Level, out-Level}
 use Rattle.sbe_wire.specs.Placed.{ArePlaced}
 use Rattle.sbe_wire.specs.Versions.{floor}
 use Rattle.sbe_wire.specs.declared.mode.Mode.{Mode}
-use Rattle.flat_rows.specs.Judged.{ScalarsShow}
+use Rattle.flat_rows.specs.BlockChecks.{ScalarsShow}
 use Rattle.flat_rows.specs.Tables.{stands_for}
 use Rattle.layout_tables.specs.declared.rows.LevelRow.{LevelRow}
 use Rattle.layout_tables.specs.Flats.{IsFlat}

@@ -18,7 +18,7 @@ use Rattle.var_data.specs.declared.data.DataErr.TheVariants as bad
 use Rattle.var_data.specs.Ranges.{data_range}
 use Rattle.sbe_wire.specs.declared.mode.Mode.{Mode}
 use Rattle.body_walk.specs.declared.found.Found.{Found}
-use Rattle.body_walk.specs.inner.Told.{fault_of}
+use Rattle.body_walk.specs.inner.Outcomes.{fault_of}
 
 -- the offset after what was read at offset `at` of `len` bytes
 abbrev pub placed : {X : Type 0} → ℕ → ℕ → Result (X × List ℕ) Fault → Result ℕ Fault

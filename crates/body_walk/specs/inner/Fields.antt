@@ -7,7 +7,7 @@ use Rattle.sbe_wire.specs.Reading.{◌>>=◌}
 use Rattle.sbe_wire.specs.Versions.{is_alive}
 use Rattle.layout_tables.specs.declared.rows.FieldRow.{FieldRow}
 use Rattle.sbe_wire.specs.declared.mode.Mode.{Mode}
-use Rattle.body_walk.specs.inner.Told.{Piece, piece}
+use Rattle.body_walk.specs.inner.Outcomes.{Piece, piece}
 use Rattle.body_walk.specs.inner.Kinds.{part_check, IsReady}
 
 -- whether a block shows a value of field i, by its row; a constant, or a field that isn't alive, isn't checked

@@ -17,7 +17,7 @@ use Rattle.sbe_wire.specs.Faults.{Fault, fault_at}
 use Rattle.sbe_wire.specs.Reading.{◌>>=◌, inside, leaf_read, value_read}
 use Rattle.schema_facts.specs.InOrder.{IsKindInOrder}
 use Rattle.sbe_wire.specs.declared.mode.Mode.{Mode}
-use Rattle.body_walk.specs.inner.Told.{Piece, piece, check_at}
+use Rattle.body_walk.specs.inner.Outcomes.{Piece, piece, check_at}
 
 -- the result for a number, by whether it shows a value; if not, the fault with this code
 abbrev pub answered : FCode → ℕ → ℤ → Bool → Result Unit Fault

@@ -10,7 +10,7 @@ use Rattle.layout_tables.specs.Heads.{header_width}
 use Rattle.body_walk.specs.declared.found.Found.{Found}
 use Rattle.body_walk.specs.declared.header.Start.{Start}
 use Rattle.body_walk.specs.Heads.{head_place, start_in}
-use Rattle.body_walk.specs.inner.Told.{fault_of}
+use Rattle.body_walk.specs.inner.Outcomes.{fault_of}
 use Rattle.body_walk.specs.inner.Cursor.{skim, entries_read}
 
 -- what a header gives, if the block reaches the floor

@@ -3,7 +3,7 @@ use Rattle.std.specs.Prelude.{ℕ, ◌+◌, ◌≤◌, List, [], ◌∷◌, drop
 use Rattle.sbe_types.specs.Places.{width}
 use Rattle.flat_rows.specs.declared.rows.FlatRow.{FlatRow}
 use Rattle.flat_rows.specs.Scalars.{Scalar}
-use Rattle.flat_rows.specs.Judged.{bytes_there}
+use Rattle.flat_rows.specs.BlockChecks.{bytes_there}
 use Rattle.clean_bodies.specs.Clean.{AreZeros, between, IsCleanKind}
 
 -- values after values that end at e: only zeros are before each, its bytes are clean, and only zeros follow the last

@@ -6,7 +6,7 @@ use Rattle.flyweight_view.specs.declared.block.BlockView.TheInside.{Inside}
 use Rattle.flyweight_view.specs.declared.by_table.TableBlock.{TableBlock}
 use Rattle.flyweight_view.specs.declared.plan.Span.{Span}
 use Rattle.flyweight_view.specs.inner.Planned.{bytes_of, typed_at, IsPlannedBlock}
-use Rattle.flyweight_view.specs.Seen.{TypedBlock}
+use Rattle.flyweight_view.specs.TypedBlocks.{TypedBlock}
 
 -- what the bytes at its offset show
 abbrev pub typed_of : Inside → TypedBlock

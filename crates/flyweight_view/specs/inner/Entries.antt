@@ -3,7 +3,7 @@ use Rattle.std.specs.Prelude.{List}
 use Rattle.flyweight_view.specs.declared.entries.EntriesView.TheInside.{Inside}
 use Rattle.body_walk.specs.inner.Layers.{IsLayer}
 use Rattle.flyweight_view.specs.inner.Layers.{LieThere, typed_entries}
-use Rattle.flyweight_view.specs.Seen.{TypedBlock}
+use Rattle.flyweight_view.specs.TypedBlocks.{TypedBlock}
 
 -- the entries that are left
 abbrev pub entries_of : Inside → List TypedBlock

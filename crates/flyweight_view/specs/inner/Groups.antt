@@ -15,7 +15,7 @@ use Rattle.sbe_wire.specs.declared.mode.Mode.{Mode}
 use Rattle.body_walk.specs.inner.Layers.{IsLayer}
 use Rattle.flyweight_view.specs.inner.Layers.{blocks_read}
 use Rattle.flyweight_view.specs.inner.Lefts.{items_of}
-use Rattle.flyweight_view.specs.Seen.{typed_groups, TypedBlock}
+use Rattle.flyweight_view.specs.TypedBlocks.{typed_groups, TypedBlock}
 
 -- the reader of a group
 abbrev pub groups_by : Mode → Group → Reader GroupVal

@@ -9,7 +9,7 @@ use Rattle.group_codec.specs.declared.dim.Dim.{Dim}
 use Rattle.body_walk.specs.declared.layer.Layer.{Layer}
 use Rattle.body_walk.specs.inner.Cursor.{entries_read}
 use Rattle.flyweight_view.specs.inner.Lefts.{items_of}
-use Rattle.flyweight_view.specs.Seen.{TypedBlock, typed_level}
+use Rattle.flyweight_view.specs.TypedBlocks.{TypedBlock, typed_level}
 
 -- the reader of as many entries as the dimension counts
 abbrev pub blocks_read : Layer → Dim → Reader (List Block)

@@ -11,7 +11,7 @@ use Rattle.sbe_wire.specs.declared.mode.Mode.{Mode}
 use Rattle.flyweight_view.specs.declared.parts.PartsView.TheInside.{Inside}
 use Rattle.body_walk.specs.inner.Layers.{IsLayer}
 use Rattle.flyweight_view.specs.inner.Lefts.{items_of}
-use Rattle.flyweight_view.specs.Seen.{bytes_in}
+use Rattle.flyweight_view.specs.TypedBlocks.{bytes_in}
 
 -- the reader of a data part
 abbrev pub parts_by : Mode → DataField → Reader DataVal

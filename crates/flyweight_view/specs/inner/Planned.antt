@@ -19,7 +19,7 @@ use Rattle.flyweight_view.specs.declared.plan.Plan.{Plan}
 use Rattle.flyweight_view.specs.declared.plan.Plan.TheVariants as plan
 use Rattle.flyweight_view.specs.declared.plan.Span.{Span}
 use Rattle.body_walk.specs.inner.Layers.{HasLevel}
-use Rattle.flyweight_view.specs.Seen.{TypedBlock, member_field}
+use Rattle.flyweight_view.specs.TypedBlocks.{TypedBlock, member_field}
 
 -- the fields of a block
 abbrev pub fields_of : Plan → List Field

@@ -1,7 +1,7 @@
 -- The message that a view lends.
 use Rattle.body_walk.specs.Walked.{message_in, IsWalked}
 use Rattle.flyweight_view.specs.declared.view.MsgView.TheInside.{Inside}
-use Rattle.flyweight_view.specs.Seen.{TypedMessage}
+use Rattle.flyweight_view.specs.TypedBlocks.{TypedMessage}
 
 -- the message that the body is, and the root level of its template
 abbrev pub viewed : Inside → TypedMessage

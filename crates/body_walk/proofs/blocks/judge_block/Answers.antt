@@ -1,7 +1,7 @@
 use Rattle.std.proofs.Common.{refl, subst, sym, ap, ◌∙◌, arith, length}
 use Rattle.sbe_types.specs.declared.schema.Level.{out-Level}
 use Rattle.body_walk.specs.inner.Fields.{fields_check, AreFieldRows}
-use Rattle.body_walk.specs.inner.Told.{piece}
+use Rattle.body_walk.specs.inner.Outcomes.{piece}
 use Rattle.body_walk.proofs.BlockRows.{block_fits, block_good}
 use Rattle.body_walk.proofs.blocks.judge_block.Goals as goal
 

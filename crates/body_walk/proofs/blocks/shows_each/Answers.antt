@@ -1,5 +1,5 @@
 use Rattle.std.proofs.Common.{subst, sym, arith}
-use Rattle.flat_rows.specs.Judged.{ScalarsShow}
+use Rattle.flat_rows.specs.BlockChecks.{ScalarsShow}
 use Rattle.flat_rows.specs.Tables.{stands_for}
 use Rattle.body_walk.proofs.blocks.shows_each.Goals as goal
 

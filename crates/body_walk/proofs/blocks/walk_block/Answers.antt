@@ -1,6 +1,6 @@
 use Rattle.std.proofs.Common.{Ok, Err, sym, subst}
 use Rattle.body_walk.specs.inner.Blocks.{IsBlockRow}
-use Rattle.body_walk.specs.inner.Told.{fault_of}
+use Rattle.body_walk.specs.inner.Outcomes.{fault_of}
 use Rattle.body_walk.proofs.Opens.{block_known}
 use Rattle.body_walk.proofs.blocks.walk_block.Goals as goal
 

@@ -3,7 +3,7 @@ use Rattle.sbe_wire.proofs.Messages.{message_judges}
 use Rattle.layout_tables.proofs.Items.{item_there}
 use Rattle.body_walk.specs.inner.Starts.{message_from}
 use Rattle.sbe_wire.specs.Versions.{mode_of}
-use Rattle.body_walk.specs.inner.Told.{fault_of}
+use Rattle.body_walk.specs.inner.Outcomes.{fault_of}
 use Rattle.body_walk.proofs.Bodies.{refused_early, refused_late, body_read, view_reads}
 use Rattle.body_walk.proofs.body.walk_body.Goals as goal
 

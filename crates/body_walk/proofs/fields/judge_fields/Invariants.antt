@@ -1,5 +1,5 @@
 use Rattle.std.proofs.Common.{◌≡◌, drop, length}
-use Rattle.body_walk.specs.inner.Told.{piece}
+use Rattle.body_walk.specs.inner.Outcomes.{piece}
 use Rattle.body_walk.specs.inner.Fields.{fields_check, AreFieldRows}
 use Rattle.body_walk.proofs.fields.judge_fields.Given as goal
 

@@ -1,6 +1,6 @@
 use Rattle.std.proofs.Common.{Err, ap, ◌∙◌}
 use Rattle.body_walk.specs.inner.Cursor.{skim, entries_read}
-use Rattle.body_walk.specs.inner.Told.{fault_of}
+use Rattle.body_walk.specs.inner.Outcomes.{fault_of}
 use Rattle.body_walk.proofs.Opens.{steps_more, steps_err, level_within}
 use Rattle.body_walk.proofs.flat.walk_blocks.Goals as goal
 

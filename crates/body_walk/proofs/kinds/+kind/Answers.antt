@@ -1,6 +1,6 @@
 use Rattle.std.proofs.Common.{◌≡◌, ◌+◌, ◌-◌, false, cond, take, drop, Ok, refl, sym, ap, subst, ◌∙◌, arith, rules}
 use Rattle.sbe_types.specs.Places.{width, is_const, begin_of, end_past}
-use Rattle.body_walk.specs.inner.Told.{piece}
+use Rattle.body_walk.specs.inner.Outcomes.{piece}
 use Rattle.body_walk.specs.inner.Kinds.{kind_check}
 use Rattle.body_walk.proofs.AtOnce.{part_looks}
 use Rattle.body_walk.proofs.KindTold.{leaf_is, enum_is, set_is, const_is, comp_is, const_part}

@@ -2,7 +2,7 @@ use Rattle.std.proofs.Common.{◌≡◌, ◌≤◌, drop, length}
 use Rattle.sbe_types.specs.declared.kind.Kind.{Comp}
 use Rattle.sbe_types.specs.declared.limits.TheConstants.{MEMBER_LIMIT}
 use Rattle.schema_facts.specs.InOrder.{height}
-use Rattle.body_walk.specs.inner.Told.{piece}
+use Rattle.body_walk.specs.inner.Outcomes.{piece}
 use Rattle.body_walk.specs.inner.Kinds.{members_check}
 use Rattle.body_walk.proofs.MembersReady.{AreReady}
 use Rattle.body_walk.proofs.kinds.+kind.Given as goal

@@ -6,7 +6,7 @@ use Rattle.sbe_types.specs.Numbers.{natural}
 use Rattle.sbe_types.specs.Shown.{has_listed_bits}
 use Rattle.sbe_wire.specs.declared.codes.FCode.TheVariants.{SetUnknown}
 use Rattle.sbe_wire.specs.Faults.{fault_at}
-use Rattle.body_walk.specs.inner.Told.{fault_of}
+use Rattle.body_walk.specs.inner.Outcomes.{fault_of}
 use Rattle.body_walk.specs.inner.Kinds.{answered}
 use Rattle.body_walk.proofs.kinds.judge_set.Goals as goal
 

@@ -8,7 +8,7 @@ use Rattle.sbe_wire.specs.Versions.{floor}
 use Rattle.schema_facts.specs.Levels.{fields_in}
 use Rattle.layout_tables.proofs.GroupWalk.{GroupsFrom, groups_begin}
 use Rattle.body_walk.specs.inner.Cursor.{skim, entries_read, groups_end, steps_end}
-use Rattle.body_walk.specs.inner.Told.{fault_of}
+use Rattle.body_walk.specs.inner.Outcomes.{fault_of}
 use Rattle.body_walk.proofs.BlockRows.{block_row}
 use Rattle.body_walk.proofs.LevelsReady.{level_ready, row_parts, row_since, parts_small, parts_few, group_shallow}
 use Rattle.body_walk.proofs.Opens.{steps_more, steps_err, entry_told, flat_told, flat_groups, flat_parts, tail_told, tail_refused, group_dead, group_told, group_dim, groups_next, child_here, child_next, item_at, level_within}

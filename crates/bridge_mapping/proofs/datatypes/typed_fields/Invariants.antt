@@ -1,6 +1,6 @@
 use Rattle.std.proofs.Common.{◌≡◌, List, map, take}
 use Rattle.map_types.specs.declared.tree.CodeSetEl.{CodeSetEl}
-use Rattle.map_members.specs.Seen.{lent_members}
+use Rattle.map_members.specs.Lent.{lent_members}
 use Rattle.field_types.specs.FieldTypes.{datatypes_of}
 use Rattle.bridge_table.specs.declared.datatype.Datatype.{Datatype as FieldDatatype}
 use Rattle.bridge_mapping.specs.Tables.{typed, AreSets}

@@ -1,5 +1,5 @@
 use Rattle.std.proofs.Common.{◌≡◌, map, take}
-use Rattle.map_members.specs.Seen.{lent_members}
+use Rattle.map_members.specs.Lent.{lent_members}
 use Rattle.field_types.specs.FieldTypes.{set_type}
 use Rattle.bridge_table.specs.Codes.{datatype_of_row}
 use Rattle.bridge_mapping.proofs.datatypes.types_of.Given as goal

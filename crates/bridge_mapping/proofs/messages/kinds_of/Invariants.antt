@@ -1,5 +1,5 @@
 use Rattle.std.proofs.Common.{◌≡◌, map, take}
-use Rattle.map_members.specs.Seen.{lent_members}
+use Rattle.map_members.specs.Lent.{lent_members}
 use Rattle.bridge_mapping.proofs.messages.kinds_of.Given as goal
 
 abbrev pub invariant-loop-message : goal.invariant-loop-message

@@ -1,6 +1,6 @@
 use Rattle.std.proofs.Common.{◌≡◌, map, length, sym, ◌∙◌}
 use Rattle.map_types.specs.declared.tree.MessageEl.{MessageEl}
-use Rattle.map_members.specs.Seen.{lent_members}
+use Rattle.map_members.specs.Lent.{lent_members}
 use Rattle.map_members.proofs.Lent.{as_many}
 use Rattle.map_links.specs.Links.{linked}
 use Rattle.orchestra_map.specs.Headers.{graph_of}

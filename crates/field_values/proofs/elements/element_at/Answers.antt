@@ -1,6 +1,6 @@
 use Rattle.std.proofs.Common.{◌+◌, ◌-◌, ◌*◌, take, drop, ap, ◌∙◌}
 use Rattle.sbe_types.specs.Numbers.{number_of, prim_width}
-use Rattle.field_values.specs.Told.{seen_element}
+use Rattle.field_values.specs.Reports.{seen_element}
 use Rattle.field_values.proofs.Shown.{cut}
 use Rattle.field_values.proofs.elements.element_at.Goals as goal
 

@@ -3,7 +3,7 @@ use Rattle.std.specs.Prelude.{Some}
 use Rattle.std.specs.Option.{IsSome}
 use Rattle.sbe_types.specs.declared.kind.Leaf.{Leaf}
 use Rattle.sbe_types.specs.Numbers.{number_of, prim_width}
-use Rattle.field_values.specs.Told.{leaf_in, element_of, seen_element}
+use Rattle.field_values.specs.Reports.{leaf_in, element_of, seen_element}
 use Rattle.field_values.proofs.Shown.{element_told, same_some}
 use Rattle.field_values.proofs.elements.element_in.Goals as goal
 

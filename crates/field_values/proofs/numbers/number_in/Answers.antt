@@ -4,7 +4,7 @@ use Rattle.std.specs.Prelude.{Some}
 use Rattle.std.specs.Option.{IsSome}
 use Rattle.std.proofs.lemmas.Int.{to_z-of_z}
 use Rattle.sbe_types.specs.Numbers.{number_of, prim_width}
-use Rattle.field_values.specs.Told.{prim_in}
+use Rattle.field_values.specs.Reports.{prim_in}
 use Rattle.field_values.proofs.Shown.{number_told, same_some}
 use Rattle.field_values.proofs.numbers.number_in.Goals as goal
 

@@ -1,6 +1,6 @@
 use Rattle.std.proofs.Common.{subst, sym, ap, ◌∙◌}
 use Rattle.sbe_types.specs.Shows.{ShowsLeaf}
-use Rattle.field_values.specs.Told.{state_of}
+use Rattle.field_values.specs.Reports.{state_of}
 use Rattle.field_values.proofs.Shown.{number_state_is, text_state_is}
 use Rattle.field_values.proofs.state.leaf_state.Goals as goal
 

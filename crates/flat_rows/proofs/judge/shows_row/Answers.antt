@@ -1,7 +1,7 @@
 use Rattle.std.proofs.Common.{◌≡◌, ◌-◌, arith, take, drop, subst}
 use Rattle.sbe_types.specs.declared.kind.Order.TheVariants.{Little}
 use Rattle.sbe_types.specs.Places.{width}
-use Rattle.flat_rows.specs.Judged.{ShowsSome}
+use Rattle.flat_rows.specs.BlockChecks.{ShowsSome}
 use Rattle.flat_rows.proofs.judge.shows_row.Goals as goal
 
 pub returns : goal.returns

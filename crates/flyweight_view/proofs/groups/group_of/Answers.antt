@@ -1,6 +1,6 @@
 use Rattle.std.proofs.Common.{◌≡◌, ◌<◌, length, drop, List, Option, sym, ap, ◌∙◌, arith}
 use Rattle.sbe_types.specs.declared.message.Block.{out-Block}
-use Rattle.flyweight_view.specs.Seen.{typed_groups, TypedBlock}
+use Rattle.flyweight_view.specs.TypedBlocks.{typed_groups, TypedBlock}
 use Rattle.flyweight_view.specs.inner.Planned.{block_of, planned_block, groups_of}
 use Rattle.flyweight_view.proofs.TailsSeen.{all_groups, group_there, drop_on, more_left}
 use Rattle.flyweight_view.proofs.groups.group_of.Goals as goal

@@ -1,6 +1,6 @@
 use Rattle.std.proofs.Common.{◌≡◌, drop}
 use Rattle.sbe_types.specs.declared.message.Block.{out-Block}
-use Rattle.flyweight_view.specs.Seen.{typed_groups}
+use Rattle.flyweight_view.specs.TypedBlocks.{typed_groups}
 use Rattle.flyweight_view.specs.inner.Planned.{block_of, planned_block, groups_of}
 use Rattle.flyweight_view.proofs.groups.group_of.Given as goal
 

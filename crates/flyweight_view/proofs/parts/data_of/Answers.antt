@@ -3,7 +3,7 @@ use Rattle.std.specs.Prelude.{map}
 use Rattle.std.specs.Option.{option_map}
 use Rattle.sbe_types.specs.declared.message.Block.{out-Block}
 use Rattle.flyweight_view.specs.inner.Planned.{block_of, planned_block}
-use Rattle.flyweight_view.specs.Seen.{bytes_in}
+use Rattle.flyweight_view.specs.TypedBlocks.{bytes_in}
 use Rattle.flyweight_view.proofs.TailsSeen.{all_parts, part_there, drop_on, more_left}
 use Rattle.flyweight_view.proofs.parts.data_of.Goals as goal
 

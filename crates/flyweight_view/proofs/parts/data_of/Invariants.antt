@@ -2,7 +2,7 @@ use Rattle.std.proofs.Common.{◌≡◌, drop}
 use Rattle.std.specs.Prelude.{map}
 use Rattle.sbe_types.specs.declared.message.Block.{out-Block}
 use Rattle.flyweight_view.specs.inner.Planned.{block_of, planned_block}
-use Rattle.flyweight_view.specs.Seen.{bytes_in}
+use Rattle.flyweight_view.specs.TypedBlocks.{bytes_in}
 use Rattle.flyweight_view.proofs.parts.data_of.Given as goal
 
 abbrev pub invariant-loop : goal.invariant-loop

@@ -4,7 +4,7 @@ use Rattle.std.specs.Option.{IsSome}
 use Rattle.sbe_types.specs.Places.{is_const, width, bytes_at, field_place}
 use Rattle.schema_facts.specs.InOrder.{IsKindInOrder}
 use Rattle.flyweight_view.specs.inner.Planned.{bytes_of}
-use Rattle.flyweight_view.specs.Seen.{member_field}
+use Rattle.flyweight_view.specs.TypedBlocks.{member_field}
 use Rattle.flyweight_view.proofs.SlotsTold.{const_place, field_of_member, member_order, placed_member, places_same, some_same, zero_alive}
 use Rattle.flyweight_view.proofs.plan.member_slot.Goals as goal
 

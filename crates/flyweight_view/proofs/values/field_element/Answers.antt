@@ -1,6 +1,6 @@
 use Rattle.std.proofs.Common.{ap, ◌∙◌}
 use Rattle.std.specs.Prelude.{slice_get}
-use Rattle.field_values.specs.Told.{all_elements}
+use Rattle.field_values.specs.Reports.{all_elements}
 use Rattle.flyweight_view.proofs.SlotsTold.{slot_value, array_of}
 use Rattle.flyweight_view.proofs.values.field_element.Goals as goal
 

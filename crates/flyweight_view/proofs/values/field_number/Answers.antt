@@ -3,7 +3,7 @@ use mir.Syntax.{w128}
 use Rattle.std.specs.Prelude.{Some}
 use Rattle.std.proofs.lemmas.Int.{to_z-of_z}
 use Rattle.std.specs.Option.{option_and_then}
-use Rattle.field_values.specs.Told.{number_in}
+use Rattle.field_values.specs.Reports.{number_in}
 use Rattle.flyweight_view.proofs.SlotsTold.{slot_value, alive_of}
 use Rattle.flyweight_view.proofs.values.field_number.Goals as goal
 

@@ -1,5 +1,5 @@
 use Rattle.std.proofs.Common.{◌≡◌, true, false, ap, rules}
-use Rattle.field_values.specs.Told.{state_of}
+use Rattle.field_values.specs.Reports.{state_of}
 use Rattle.flyweight_view.proofs.SlotsTold.{slot_value, shows_wide, told_of}
 use Rattle.flyweight_view.proofs.values.field_state.Goals as goal
 

@@ -1,6 +1,6 @@
 use Rattle.std.proofs.Common.{refl, ap, ◌∙◌}
 use Rattle.std.specs.Option.{option_and_then}
-use Rattle.field_values.specs.Told.{text_in}
+use Rattle.field_values.specs.Reports.{text_in}
 use Rattle.flyweight_view.proofs.SlotsTold.{slot_value, alive_of}
 use Rattle.flyweight_view.proofs.values.field_text.Goals as goal
 

@@ -4,7 +4,7 @@ use Rattle.body_walk.specs.Heads.{head_number}
 use Rattle.body_walk.proofs.Bodies.{root_level}
 use Rattle.body_walk.proofs.LevelsReady.{level_ready}
 use Rattle.body_walk.proofs.ReadyTold.{ready_schema}
-use Rattle.flyweight_view.specs.Seen.{typed_level}
+use Rattle.flyweight_view.specs.TypedBlocks.{typed_level}
 use Rattle.flyweight_view.proofs.Roots.{BlockPlace, root_at, read_own}
 use Rattle.flyweight_view.proofs.view.root_of.Goals as goal
 

@@ -3,7 +3,7 @@ use mir.Syntax.{w64}
 use Rattle.std.proofs.lemmas.Int.{to_z-of_z}
 use Rattle.sbe_types.specs.declared.kind.Order.TheVariants.{Little}
 use Rattle.sbe_types.specs.Numbers.{number_of}
-use Rattle.flat_rows.specs.Judged.{bytes_there}
+use Rattle.flat_rows.specs.BlockChecks.{bytes_there}
 use Rattle.json_fields.proofs.RowsText.{word_written}
 use Rattle.json_fields.proofs.by_table.put_number.Goals as goal
 

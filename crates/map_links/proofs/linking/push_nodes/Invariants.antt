@@ -1,5 +1,5 @@
 use Rattle.std.proofs.Common.{◌≡◌, ◌++◌, map, take}
-use Rattle.map_members.specs.Seen.{lent_members}
+use Rattle.map_members.specs.Lent.{lent_members}
 use Rattle.map_links.proofs.linking.push_nodes.Given as goal
 
 abbrev pub invariant-loop-member : goal.invariant-loop-member

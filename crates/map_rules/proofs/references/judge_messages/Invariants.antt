@@ -1,5 +1,5 @@
 use Rattle.std.proofs.Common.{◌≡◌, drop, codes}
-use Rattle.map_members.specs.Seen.{lent_members}
+use Rattle.map_members.specs.Lent.{lent_members}
 use Rattle.map_rules.specs.Verdicts.{list_verdict}
 use Rattle.map_rules.specs.Rules.{message_rules}
 use Rattle.map_rules.proofs.references.judge_messages.Given as goal

@@ -1,5 +1,5 @@
 use Rattle.std.proofs.Common.{◌≡◌, map, take}
-use Rattle.map_members.specs.Seen.{lent_members}
+use Rattle.map_members.specs.Lent.{lent_members}
 use Rattle.map_rules.specs.Rules.{length_or_zero}
 use Rattle.map_rules.proofs.tables.length_ids.Given as goal
 

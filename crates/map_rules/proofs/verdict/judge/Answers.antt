@@ -1,7 +1,7 @@
 use Rattle.std.proofs.Common.{List, ap, ◌∙◌, flat_map, subst}
 use Rattle.map_types.specs.declared.tree.RepositoryItem.{RepositoryItem}
 use Rattle.map_types.specs.Trees.{code_sets_of, fields_of}
-use Rattle.map_members.specs.Seen.{lent_members}
+use Rattle.map_members.specs.Lent.{lent_members}
 use Rattle.map_rules.specs.Verdicts.{Answers}
 use Rattle.map_rules.specs.Rules.{lists_verdict}
 use Rattle.map_rules.proofs.Gathering.{of_lists}

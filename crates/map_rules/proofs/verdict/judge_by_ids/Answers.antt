@@ -1,5 +1,5 @@
 use Rattle.std.proofs.Common.{subst}
-use Rattle.map_members.specs.Seen.{lent_members}
+use Rattle.map_members.specs.Lent.{lent_members}
 use Rattle.map_links.specs.declared.ids.Ids.{Ids}
 use Rattle.map_links.specs.Links.{linked}
 use Rattle.map_rules.specs.Verdicts.{Answers}

@@ -1,5 +1,5 @@
 use Rattle.std.proofs.Common.{ap, ◌∙◌}
-use Rattle.map_members.specs.Seen.{lent_members}
+use Rattle.map_members.specs.Lent.{lent_members}
 use Rattle.map_rules.proofs.Gathering.{of_items}
 use Rattle.map_rules.proofs.verdict.judge_items.Goals as goal
 

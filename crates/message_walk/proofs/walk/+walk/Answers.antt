@@ -4,7 +4,7 @@ use Rattle.std.specs.Fmt.{decimal}
 use Rattle.sbe_types.specs.declared.schema.Group.{out-Group}
 use Rattle.sbe_types.specs.declared.message.Block.{out-Block}
 use Rattle.sbe_types.specs.declared.message.GroupVal.TheVariants as groupval
-use Rattle.flyweight_view.specs.Seen.{typed_level}
+use Rattle.flyweight_view.specs.TypedBlocks.{typed_level}
 use Rattle.bridge_rules.specs.Texts.{text_by}
 use Rattle.bridge_terms.specs.Blocks.{values_of, value_at, entries_of, nth_or}
 use Rattle.bridge_terms.specs.Places.{to_part, places_of, place_of, entries_places, run_places, slot_places}

@@ -1,6 +1,6 @@
 use Rattle.std.proofs.Common.{◌≡◌, drop}
 use Rattle.std.specs.List.{list_any}
-use Rattle.map_members.specs.Seen.{lent_members}
+use Rattle.map_members.specs.Lent.{lent_members}
 use Rattle.orchestra_map.specs.DataFields.{hides_data}
 use Rattle.orchestra_map.proofs.data_fields.is_data_hidden.Given as goal
 

@@ -1,5 +1,5 @@
 use Rattle.std.proofs.Common.{◌≡◌, ◌++◌, drop, filter_map}
-use Rattle.map_members.specs.Seen.{lent_members}
+use Rattle.map_members.specs.Lent.{lent_members}
 use Rattle.orchestra_map.specs.DataFields.{data_pair}
 use Rattle.orchestra_map.proofs.data_fields.tags_in.Given as goal
 

@@ -1,5 +1,5 @@
 use Rattle.std.proofs.Common.{◌≡◌, ◌++◌, drop}
-use Rattle.map_members.specs.Seen.{lent_members}
+use Rattle.map_members.specs.Lent.{lent_members}
 use Rattle.orchestra_map.specs.Headers.{header_places, header_links}
 use Rattle.orchestra_map.proofs.headers.header_links.Given as goal
 

@@ -3,7 +3,7 @@ use Rattle.std.specs.Prelude.{IfOk}
 use Rattle.reference_graph.specs.Graphs.{Ends}
 use Rattle.structure_tags.specs.Reaching.{HasTags}
 use Rattle.map_types.specs.Trees.{members_of}
-use Rattle.map_members.specs.Seen.{lent_members}
+use Rattle.map_members.specs.Lent.{lent_members}
 use Rattle.orchestra_map.specs.Headers.{graph_of, header_links}
 use Rattle.orchestra_map.proofs.Gathered.{of_slices, to_slices}
 use Rattle.orchestra_map.proofs.HeaderEnds.{header_ends}

@@ -3,7 +3,7 @@ use Rattle.std.specs.Prelude.{IfOk}
 use Rattle.reference_graph.specs.declared.graph.Link.{Link}
 use Rattle.reference_graph.specs.declared.graph.Node.{Node}
 use Rattle.structure_tags.specs.Reaching.{HasTags}
-use Rattle.map_members.specs.Seen.{lent_members}
+use Rattle.map_members.specs.Lent.{lent_members}
 use Rattle.map_links.specs.Links.{linked}
 use Rattle.orchestra_map.specs.Headers.{graph_of, header_links}
 use Rattle.orchestra_map.proofs.Gathered.{graph_is}

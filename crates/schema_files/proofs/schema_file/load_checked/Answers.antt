@@ -1,5 +1,5 @@
 use Rattle.std.proofs.Common.{subst}
-use Rattle.schema_files.specs.Judged.{schema_in}
+use Rattle.schema_files.specs.FileChecks.{schema_in}
 use Rattle.schema_files.specs.Files.{Reads}
 use Rattle.schema_files.proofs.Loading.{checked_loaded, short_loaded}
 use Rattle.schema_files.proofs.schema_file.load_checked.Goals as goal

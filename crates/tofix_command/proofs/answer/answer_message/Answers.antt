@@ -5,7 +5,7 @@ use Rattle.tagvalue_codec.specs.Drafts.{IsValue}
 use Rattle.bridge_terms.specs.Blocks.{values_of}
 use Rattle.bridge_plan.specs.Covers.{plan_of, unmapped}
 use Rattle.bridge_plan.specs.Mappings.{Mapping}
-use Rattle.flyweight_view.specs.Seen.{TypedBlock}
+use Rattle.flyweight_view.specs.TypedBlocks.{TypedBlock}
 use Rattle.message_walk.specs.Rows.{AreRows, FitsBlock}
 use Rattle.message_plans.specs.Plans.{ArePlans, IsCover, IsMapped}
 use Rattle.value_texts.specs.Rows.{Spells}

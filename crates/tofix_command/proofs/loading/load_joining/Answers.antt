@@ -1,5 +1,5 @@
 use Rattle.std.proofs.Common.{◌≡◌, ◌∙◌, Some, Ok, sym, ap, subst}
-use Rattle.schema_files.specs.Judged.{is_taken, Joins}
+use Rattle.schema_files.specs.FileChecks.{is_taken, Joins}
 use Rattle.schema_files.specs.Files.{further_schema}
 use Rattle.schema_files.proofs.Loading.{judged_joined, not_joined}
 use Rattle.tofix_command.specs.Planned.{schemas_of}

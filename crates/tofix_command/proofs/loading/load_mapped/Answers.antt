@@ -1,6 +1,6 @@
 use Rattle.std.proofs.Common.{◌∙◌, ℕ, List, length, Err, ap, subst}
 use Rattle.sbe_base.specs.Causes.{one_more}
-use Rattle.schema_files.specs.Judged.{alone}
+use Rattle.schema_files.specs.FileChecks.{alone}
 use Rattle.schema_files.specs.Files.{loads_with_map, FailsAt, JobCause, LoadsMore}
 use Rattle.schema_files.specs.declared.files.FileRole.TheVariants as role
 use Rattle.schema_files.proofs.Loading.{named_last_by}

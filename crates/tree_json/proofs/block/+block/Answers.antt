@@ -3,7 +3,7 @@ use Rattle.std.specs.Prelude.{false, slice_get}
 use Rattle.std.specs.Option.{option_map}
 use Rattle.serde_json.specs.Written.{comma_if}
 use Rattle.sbe_types.specs.declared.message.Block.{out-Block}
-use Rattle.flyweight_view.specs.Seen.{TypedBlock}
+use Rattle.flyweight_view.specs.TypedBlocks.{TypedBlock}
 use Rattle.flyweight_view.specs.Deep.{deepest, deepest_in}
 use Rattle.json_values.specs.Values.{zipped}
 use Rattle.tree_json.specs.Lines.{group_name, group_entry, items_by}

@@ -1,6 +1,6 @@
 use Rattle.std.proofs.Common.{ap, arith}
 use Rattle.sbe_types.specs.declared.message.Block.{out-Block}
-use Rattle.flyweight_view.specs.Seen.{TypedBlock}
+use Rattle.flyweight_view.specs.TypedBlocks.{TypedBlock}
 use Rattle.tree_json.specs.Views.{data_front}
 use Rattle.tree_json.proofs.HeadText.{no_data, some_data}
 use Rattle.printers.proofs.Printing.{reprinted, prints_nothing}

@@ -1,5 +1,5 @@
 use Rattle.message_walk.specs.Rows.{field_of}
-use Rattle.value_texts.specs.Seen.{members_seen}
+use Rattle.value_texts.specs.FieldViews.{members_seen}
 use Rattle.value_texts.proofs.Rows.{month_row}
 use Rattle.value_texts.proofs.at.month_at.Goals as goal
 

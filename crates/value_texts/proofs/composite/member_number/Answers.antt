@@ -2,7 +2,7 @@ use Rattle.std.proofs.Common.{subst, sym, ap, ◌≡◌, ◌≤◌, None, length
 use Rattle.std.specs.Prelude.{Some}
 use Rattle.std.proofs.lemmas.Bool.Decides.{nat_tests}
 use Rattle.sbe_types.specs.declared.message.Block.{out-Block}
-use Rattle.value_texts.specs.Seen.{members_seen, nth_number, HasMembers}
+use Rattle.value_texts.specs.FieldViews.{members_seen, nth_number, HasMembers}
 use Rattle.value_texts.proofs.Members.{far_number}
 use Rattle.value_texts.proofs.composite.member_number.Goals as goal
 

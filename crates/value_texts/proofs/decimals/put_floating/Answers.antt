@@ -2,7 +2,7 @@ use Rattle.std.proofs.Common.{subst, sym, ◌∙◌, rules, FitsSigned}
 use Rattle.std.specs.Prelude.{Some}
 use Rattle.std.specs.Int.{w128}
 use Rattle.bridge_rules.specs.Texts.{floating_text}
-use Rattle.value_texts.specs.Seen.{members_seen, nth_number}
+use Rattle.value_texts.specs.FieldViews.{members_seen, nth_number}
 use Rattle.value_texts.proofs.Plain.{floating_plain, value_of_plain}
 use Rattle.fix_values.specs.Values.{Leaves}
 use Rattle.bridge_rules.specs.Texts.{text_if_any}

@@ -2,7 +2,7 @@ use Rattle.std.proofs.Common.{subst, sym, ◌∙◌, rules, FitsSigned}
 use Rattle.std.specs.Int.{w128}
 use Rattle.bridge_rules.specs.Texts.{field_text, moment_text}
 use Rattle.bridge_table.specs.Rows.{epoch_of}
-use Rattle.value_texts.specs.Seen.{members_seen, unit_seen}
+use Rattle.value_texts.specs.FieldViews.{members_seen, unit_seen}
 use Rattle.value_texts.proofs.Plain.{moment_plain, value_of_plain}
 use Rattle.fix_values.specs.Values.{Leaves}
 use Rattle.bridge_rules.specs.Texts.{text_if_any}

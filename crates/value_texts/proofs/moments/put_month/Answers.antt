@@ -1,7 +1,7 @@
 use Rattle.std.proofs.Common.{subst, sym, ◌∙◌}
 use Rattle.bridge_rules.specs.Members.{month_in}
 use Rattle.bridge_rules.specs.Texts.{field_text, month_text}
-use Rattle.value_texts.specs.Seen.{members_seen}
+use Rattle.value_texts.specs.FieldViews.{members_seen}
 use Rattle.value_texts.proofs.Plain.{month_plain, value_of_plain}
 use Rattle.bridge_rules.specs.Texts.{text_if_any}
 use Rattle.message_walk.specs.States.{IsPut}

@@ -1,5 +1,5 @@
 use Rattle.std.proofs.Common.{subst, ap}
-use Rattle.value_texts.specs.Seen.{choices_in, CanReadAny, IsSeenOf}
+use Rattle.value_texts.specs.FieldViews.{choices_in, CanReadAny, IsSeenOf}
 use Rattle.value_texts.proofs.seen.choices_of.Goals as goal
 
 pub kind_choices-requires-clause-ready : goal.kind_choices-requires-clause-ready

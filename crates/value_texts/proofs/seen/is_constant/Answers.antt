@@ -1,6 +1,6 @@
 use Rattle.std.proofs.Common.{subst, ap}
 use Rattle.bridge_rules.specs.Members.{is_const}
-use Rattle.value_texts.specs.Seen.{IsSeenOf}
+use Rattle.value_texts.specs.FieldViews.{IsSeenOf}
 use Rattle.value_texts.proofs.seen.is_constant.Goals as goal
 
 pub returns-in-None : goal.returns-in-None

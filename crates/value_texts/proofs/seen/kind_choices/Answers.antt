@@ -1,7 +1,7 @@
 use Rattle.std.proofs.Common.{subst, ap, ◌∙◌, refl}
 use Rattle.std.specs.Prelude.{None}
 use Rattle.sbe_types.specs.Shows.{Shows}
-use Rattle.value_texts.specs.Seen.{choices_in}
+use Rattle.value_texts.specs.FieldViews.{choices_in}
 use Rattle.value_texts.proofs.Values.{enum_same, leaf_same, set_is}
 use Rattle.value_texts.proofs.seen.kind_choices.Goals as goal
 

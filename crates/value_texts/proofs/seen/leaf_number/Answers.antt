@@ -2,7 +2,7 @@ use Rattle.std.proofs.Common.{subst, sym, ap, ◌∙◌, refl}
 use Rattle.sbe_types.specs.Shows.{ShowsLeaf}
 use Rattle.bridge_rules.specs.Members.{number_in}
 use Rattle.field_values.proofs.Shown.{text_front}
-use Rattle.field_values.specs.Told.{before_zero}
+use Rattle.field_values.specs.Reports.{before_zero}
 use Rattle.std.specs.Prelude.{None}
 use Rattle.value_texts.proofs.Values.{leaf_number_is, of_text}
 use Rattle.value_texts.proofs.seen.leaf_number.Goals as goal

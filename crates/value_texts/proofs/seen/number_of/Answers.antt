@@ -1,6 +1,6 @@
 use Rattle.std.proofs.Common.{subst, ap}
 use Rattle.bridge_rules.specs.Members.{number_in}
-use Rattle.value_texts.specs.Seen.{CanReadAny, IsSeenOf}
+use Rattle.value_texts.specs.FieldViews.{CanReadAny, IsSeenOf}
 use Rattle.value_texts.proofs.seen.number_of.Goals as goal
 
 pub kind_number-requires-clause-ready : goal.kind_number-requires-clause-ready

@@ -1,6 +1,6 @@
 use Rattle.std.proofs.Common.{subst, ap}
 use Rattle.bridge_rules.specs.Members.{text_in}
-use Rattle.value_texts.specs.Seen.{IsSeenOf}
+use Rattle.value_texts.specs.FieldViews.{IsSeenOf}
 use Rattle.value_texts.proofs.seen.text_of.Goals as goal
 
 pub returns-in-None : goal.returns-in-None

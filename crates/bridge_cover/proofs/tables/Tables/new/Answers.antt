@@ -1,7 +1,7 @@
 use Rattle.std.proofs.Common.{ap, ◌∙◌}
 use Rattle.std.specs.Prelude.{flat_map}
 use Rattle.map_types.specs.Trees.{code_sets_of, fields_of}
-use Rattle.map_members.specs.Seen.{lent_members}
+use Rattle.map_members.specs.Lent.{lent_members}
 use Rattle.field_types.specs.FieldTypes.{datatypes_of}
 use Rattle.bridge_cover.proofs.tables.Tables.new.Goals as goal
 

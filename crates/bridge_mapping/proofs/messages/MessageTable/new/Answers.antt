@@ -1,7 +1,7 @@
 use Rattle.std.proofs.Common.{◌≡◌, ap, ◌∙◌}
 use Rattle.std.specs.Prelude.{IfOk}
 use Rattle.map_types.specs.Trees.{members_of}
-use Rattle.map_members.specs.Seen.{lent_members}
+use Rattle.map_members.specs.Lent.{lent_members}
 use Rattle.orchestra_map.proofs.Gathered.{of_slices, to_slices}
 use Rattle.bridge_mapping.specs.Mapped.{structures_of}
 use Rattle.bridge_mapping.specs.Tables.{structures_in, HasWhole}

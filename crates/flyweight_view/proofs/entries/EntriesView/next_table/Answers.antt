@@ -2,7 +2,7 @@ use Rattle.std.proofs.Common.{sym, subst, ◌∙◌}
 use Rattle.std.proofs.Common.{drop}
 use Rattle.body_walk.specs.inner.Cursor.{entries_read}
 use Rattle.flyweight_view.specs.inner.Planned.{block_of}
-use Rattle.flyweight_view.specs.Seen.{typed_level}
+use Rattle.flyweight_view.specs.TypedBlocks.{typed_level}
 use Rattle.flyweight_view.specs.ByTable.{IsTableBlock}
 use Rattle.flyweight_view.proofs.Nexts.{flat_is}
 use Rattle.flyweight_view.proofs.entries.EntriesView.next_table.Goals as goal

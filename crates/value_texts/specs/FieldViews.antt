@@ -11,7 +11,7 @@ use Rattle.sbe_types.specs.Places.{width}
 use Rattle.sbe_types.specs.Shows.{Shows}
 use Rattle.schema_facts.specs.InOrder.{IsKindInOrder}
 use Rattle.flyweight_view.specs.declared.values.FieldBytes.{FieldBytes}
-use Rattle.flyweight_view.specs.Seen.{TypedBlock}
+use Rattle.flyweight_view.specs.TypedBlocks.{TypedBlock}
 use Rattle.flyweight_view.specs.ShownIn.{IsShownIn}
 use Rattle.bridge_rules.specs.Members.{and_then, bits_in, not_zero, number_in}
 use Rattle.bridge_terms.specs.Blocks.{nth_or}
