@@ -7,7 +7,7 @@ use Rattle.sbe_types.specs.declared.message.Value.{Value}
 use Rattle.sbe_types.specs.Places.{is_const, end_past, fields_end, field_place, width}
 use Rattle.sbe_types.specs.Wire.{padded, wire_bytes}
 use Rattle.sbe_wire.specs.Canonical.{block_bytes}
-use Rattle.typed_writer.specs.Empty.{followed_by}
+use Rattle.kind_bytes.specs.Members.{followed_by}
 use Rattle.typed_writer.specs.Held.{spliced}
 use Rattle.typed_writer.specs.Ready.{FieldsStand}
 use Rattle.typed_writer.specs.Steps.{IsWritten}

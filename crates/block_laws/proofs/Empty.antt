@@ -12,7 +12,8 @@ use Rattle.sbe_types.specs.Places.{end_past, fields_end, width}
 use Rattle.sbe_types.specs.Shown.{is_optional}
 use Rattle.sbe_types.specs.Wire.{both, padded, elements_bytes}
 use Rattle.sbe_types.proofs.Inverse.{bytes_of-width}
-use Rattle.typed_writer.specs.Empty.{followed_by, empty_block, empty_bytes, empty_field, empty_fields, has_null_elements}
+use Rattle.kind_bytes.specs.Members.{followed_by}
+use Rattle.typed_writer.specs.Empty.{empty_block, empty_bytes, empty_field, empty_fields, has_null_elements}
 use Rattle.block_laws.specs.Pieces.{gap, laid, AreWide, Ascend}
 use Rattle.block_laws.specs.Blocks.{Task, HoldsFirst}
 use Rattle.block_laws.proofs.Pieces.{laid_long}

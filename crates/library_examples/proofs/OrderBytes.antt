@@ -27,7 +27,8 @@ use Rattle.body_walk.proofs.Bodies.{root_level}
 use Rattle.body_walk.proofs.Opens.{child_here, item_at, level_within}
 use Rattle.typed_writer.specs.declared.stack.Frame.{Frame}
 use Rattle.typed_writer.specs.declared.stack.Frame.TheVariants.{Tail}
-use Rattle.typed_writer.specs.Empty.{followed_by, empty_block}
+use Rattle.kind_bytes.specs.Members.{followed_by}
+use Rattle.typed_writer.specs.Empty.{empty_block}
 use Rattle.typed_writer.specs.Held.{Held}
 use Rattle.typed_writer.specs.States.{SetsFields, block_at, level_of}
 use Rattle.typed_writer.specs.Steps.{Adds, Begins, Groups, Opens, SetsField, block_in, dimension_in, ends, goes_on_as, header_in, next_data, next_group}

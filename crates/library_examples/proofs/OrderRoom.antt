@@ -28,7 +28,7 @@ use Rattle.typed_writer.specs.declared.states.StartErr.{StartErr}
 use Rattle.typed_writer.specs.declared.states.TailErr.{TailErr}
 use Rattle.typed_writer.specs.declared.stack.Frame.{Frame}
 use Rattle.typed_writer.specs.declared.stack.Frame.TheVariants.{Entries, Tail}
-use Rattle.typed_writer.specs.Empty.{followed_by}
+use Rattle.kind_bytes.specs.Members.{followed_by}
 use Rattle.typed_writer.specs.Held.{Held}
 use Rattle.typed_writer.specs.States.{AppendsEntries, SetsFields, entries_left, level_of, parts_done, parts_in_tail}
 use Rattle.typed_writer.specs.Steps.{Begins, DataRefused, GroupRefused, Groups, Opens, SetsField, StartRefused, ends, first_unset, goes_on_as, misfit_at, next_data, next_group, unset_from}

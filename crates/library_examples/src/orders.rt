@@ -4,7 +4,7 @@ ghost use Rattle.sbe_wire.specs.Canonical.{canonical};
 ghost use Rattle.sbe_wire.specs.Fits.{Fits};
 ghost use Rattle.schema_facts.specs.Levels.{root_of};
 ghost use Rattle.body_walk.specs.inner.Ready.{IsReadySchema};
-ghost use Rattle.typed_writer.specs.Empty.{followed_by};
+ghost use Rattle.kind_bytes.specs.Members.{followed_by};
 ghost use Rattle.typed_writer.specs.States.{entries_left, level_of, AppendsEntries, AppendsParts};
 ghost use Rattle.library_examples.specs.Orders.{leg_bytes, legs_bytes, message_of_order, AtLegs, IsNoOrder, IsOrderSchema, LegFits, LegHasRoom, LegsFit, LegsHaveRoom, PutsLeg, PutsLegs};
 

@@ -22,7 +22,8 @@ use Rattle.body_walk.proofs.Opens.{Child, child_here, level_within}
 use Rattle.typed_writer.specs.declared.stack.Frame.TheVariants.{Fields, Tail, Entries}
 use Rattle.typed_writer.specs.declared.states.TailErr.{TailErr}
 use Rattle.typed_writer.specs.declared.states.TailErr.TheVariants as tail_err
-use Rattle.typed_writer.specs.Empty.{followed_by, empty_block}
+use Rattle.kind_bytes.specs.Members.{followed_by}
+use Rattle.typed_writer.specs.Empty.{empty_block}
 use Rattle.typed_writer.specs.Held.{Held}
 use Rattle.typed_writer.specs.States.{AppendsEntries, AppendsParts, block_at, entries_left, level_of, parts_done, parts_in_tail}
 use Rattle.typed_writer.specs.Steps.{GroupRefused, Groups, Opens, admits_entries, block_in, dimension_in, dimension_size, ends, goes_on_as, next_group}

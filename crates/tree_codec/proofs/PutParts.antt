@@ -16,7 +16,7 @@ use Rattle.layout_tables.specs.Parts.{dim_at}
 use Rattle.typed_writer.specs.declared.stack.Frame.TheVariants.{Tail, Entries}
 use Rattle.typed_writer.specs.declared.states.TailErr.{TailErr}
 use Rattle.typed_writer.specs.declared.states.TailErr.TheVariants as tail_err
-use Rattle.typed_writer.specs.Empty.{followed_by}
+use Rattle.kind_bytes.specs.Members.{followed_by}
 use Rattle.typed_writer.specs.Held.{Held}
 use Rattle.typed_writer.specs.States.{AppendsEntries, AppendsParts, block_at, deep_at, entries_left, level_of, parts_done, parts_in_tail}
 use Rattle.typed_writer.specs.Steps.{Adds, DataRefused, PartRefused, next_data}

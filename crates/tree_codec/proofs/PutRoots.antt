@@ -16,7 +16,8 @@ use Rattle.schema_facts.specs.Levels.{level_at, fields_at, fields_in, root_of}
 use Rattle.typed_writer.specs.declared.stack.Frame.TheVariants.{Fields, Tail}
 use Rattle.typed_writer.specs.declared.states.StartErr.{StartErr}
 use Rattle.typed_writer.specs.declared.states.StartErr.TheVariants as start_err
-use Rattle.typed_writer.specs.Empty.{followed_by, empty_block}
+use Rattle.kind_bytes.specs.Members.{followed_by}
+use Rattle.typed_writer.specs.Empty.{empty_block}
 use Rattle.typed_writer.specs.Held.{Held}
 use Rattle.typed_writer.specs.States.{block_at, level_of, parts_done, parts_in_tail}
 use Rattle.typed_writer.specs.Steps.{Begins, StartRefused, block_in, first_unset, goes_on_as, header_in, unset_from}

@@ -37,7 +37,7 @@ use Rattle.schema_rules.specs.Counters.{leaf_in, is_counter, is_counter_primitiv
 use Rattle.schema_facts.proofs.KindCounters.{small_primitive}
 use Rattle.schema_facts.proofs.KindNumbers.{both_true}
 use Rattle.typed_writer.specs.Counted.{HasRoomFor, HaveRoomFor}
-use Rattle.typed_writer.specs.Empty.{followed_by}
+use Rattle.kind_bytes.specs.Members.{followed_by}
 use Rattle.typed_writer.specs.Ready.{MembersStand}
 use Rattle.typed_writer.proofs.Lists.{behind_next, behind_none}
 use Rattle.tree_codec.specs.Puts.{entry_put, groups_put}

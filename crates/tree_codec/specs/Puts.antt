@@ -13,7 +13,8 @@ use Rattle.sbe_wire.specs.Canonical.{all_bytes, block_bytes, group_bytes, part_b
 use Rattle.sbe_wire.specs.Misfit.{Taken, each_taken, group_taken, part_taken, parts_taken, refusal_of, tail_taken}
 use Rattle.typed_writer.specs.declared.stack.Frame.{Frame}
 use Rattle.typed_writer.specs.declared.stack.Frame.TheVariants.{Tail}
-use Rattle.typed_writer.specs.Empty.{followed_by, empty_block}
+use Rattle.kind_bytes.specs.Members.{followed_by}
+use Rattle.typed_writer.specs.Empty.{empty_block}
 use Rattle.typed_writer.specs.Held.{Held}
 use Rattle.typed_writer.specs.States.{level_of, parts_in_tail}
 use Rattle.typed_writer.specs.Steps.{unset_from}

@@ -36,7 +36,7 @@ use Rattle.group_codec.proofs.DimRows.{row_dim, admitted_is}
 use Rattle.sbe_types.proofs.KindRows.{row_in}
 use Rattle.typed_writer.specs.Counted.{HaveRoomFor, number_of_name}
 use Rattle.typed_writer.specs.declared.counters.Counters.TheVariants.{Dimension}
-use Rattle.typed_writer.specs.Empty.{followed_by}
+use Rattle.kind_bytes.specs.Members.{followed_by}
 use Rattle.typed_writer.specs.Ready.{MembersStand}
 use Rattle.typed_writer.specs.States.{block_at}
 use Rattle.typed_writer.specs.Steps.{admits_entries, dimension_in, dimension_size}

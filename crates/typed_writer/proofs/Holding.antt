@@ -24,7 +24,7 @@ use Rattle.typed_writer.specs.Counted.{HaveRoomFor, number_of_name}
 use Rattle.typed_writer.specs.declared.counters.Counters.TheVariants.{Header, Dimension}
 use Rattle.sbe_types.specs.Wire.{both}
 use Rattle.sbe_wire.specs.Canonical.{named_bytes, header_numbers}
-use Rattle.typed_writer.specs.Empty.{followed_by}
+use Rattle.kind_bytes.specs.Members.{followed_by}
 use Rattle.typed_writer.specs.Ready.{MembersStand}
 use Rattle.typed_writer.specs.Steps.{header_in}
 use Rattle.typed_writer.proofs.Lists.{behind_both}

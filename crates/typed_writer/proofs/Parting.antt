@@ -23,7 +23,7 @@ use Rattle.schema_facts.proofs.KindDeclared.{all_at}
 use Rattle.schema_facts.proofs.KindNumbers.{both_true}
 use Rattle.layout_tables.proofs.Items.{item_there}
 use Rattle.typed_writer.specs.declared.stack.Frame.{Frame}
-use Rattle.typed_writer.specs.Empty.{followed_by}
+use Rattle.kind_bytes.specs.Members.{followed_by}
 use Rattle.typed_writer.specs.Steps.{next_data, data_in, admits_data}
 use Rattle.typed_writer.proofs.Checked.{level_is}
 use Rattle.typed_writer.proofs.Grouping.{holds_below}

@@ -10,7 +10,7 @@ use Rattle.sbe_types.specs.Numbers.{bytes_of}
 use Rattle.sbe_types.specs.Places.{width, is_const, begin_of, end_past, members_end, fields_end}
 use Rattle.sbe_types.specs.Wire.{elements_bytes}
 use Rattle.sbe_wire.specs.Placed.{BeginsBehind}
-use Rattle.typed_writer.specs.Empty.{followed_by}
+use Rattle.kind_bytes.specs.Members.{followed_by}
 use Rattle.typed_writer.specs.Ready.{MembersStand, FieldsStand}
 use Rattle.typed_writer.proofs.Lists.{behind_next}
 

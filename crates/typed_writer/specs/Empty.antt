@@ -11,7 +11,6 @@ use Rattle.sbe_types.specs.Numbers.{prim_width, bytes_of}
 use Rattle.sbe_types.specs.Places.{width, is_const, begin_of, end_past}
 use Rattle.sbe_types.specs.Shown.{is_optional}
 use Rattle.sbe_types.specs.Wire.{both, padded, elements_bytes}
-pub use Rattle.kind_bytes.specs.Members.{followed_by}
 
 -- the leaf is a number or an array of numbers, not a text or octets
 abbrev pub has_null_elements : LeafShape → Bool

@@ -28,7 +28,8 @@ use Rattle.typed_writer.specs.declared.states.StartErr.TheVariants as start_err
 use Rattle.typed_writer.specs.declared.states.TailErr.{TailErr}
 use Rattle.typed_writer.specs.declared.states.TailErr.TheVariants as tail_err
 use Rattle.typed_writer.specs.declared.stack.Frame.TheVariants.{Fields, Tail, Entries}
-use Rattle.typed_writer.specs.Empty.{followed_by, empty_block}
+use Rattle.kind_bytes.specs.Members.{followed_by}
+use Rattle.typed_writer.specs.Empty.{empty_block}
 use Rattle.typed_writer.specs.Held.{Held, spliced}
 use Rattle.typed_writer.specs.States.{level_of, parts_done, entries_left, block_at}
 

@@ -3,7 +3,7 @@ ghost use Rattle.std.specs.Borrow.{sem};
 ghost use Rattle.std.specs.Result.{result_err};
 ghost use Rattle.sbe_types.specs.Places.{members_end};
 ghost use Rattle.schema_facts.specs.Levels.{all_nodes};
-ghost use Rattle.typed_writer.specs.Empty.{followed_by};
+ghost use Rattle.kind_bytes.specs.Members.{followed_by};
 ghost use Rattle.typed_writer.specs.Lending.{FieldsRest, RootRests, TailRests};
 ghost use Rattle.typed_writer.specs.States.{AppendsEntries, AppendsParts, SetsFields, block_at, entries_left, level_of, next_part, parts_done};
 ghost use Rattle.typed_writer.specs.Steps.{Begins, IsFull, Opens, StartRefused, block_in, header_in, ends, first_unset, goes_on_as, must_be_set, none_set};

@@ -4,7 +4,7 @@ ghost use Rattle.sbe_types.specs.declared.kind.Kind.{Comp};
 ghost use Rattle.sbe_types.specs.declared.limits.TheConstants.{PLACE_LIMIT};
 ghost use Rattle.sbe_wire.specs.Canonical.{named_bytes, number_bytes_in};
 ghost use Rattle.typed_writer.specs.Counted.{HasRoomFor, HaveRoomFor, number_of_name};
-ghost use Rattle.typed_writer.specs.Empty.{followed_by};
+ghost use Rattle.kind_bytes.specs.Members.{followed_by};
 ghost use Rattle.typed_writer.specs.Ready.{MembersStand, member_bytes};
 
 use crate::room::Room;

@@ -6,7 +6,8 @@ ghost use Rattle.sbe_types.specs.Wire.{elements_bytes};
 ghost use Rattle.sbe_types.specs.declared.message.Elem.TheVariants.{Null};
 ghost use Rattle.schema_rules.specs.Ranges.{is_number_of};
 ghost use Rattle.schema_facts.specs.InOrder.{IsKindInOrder};
-ghost use Rattle.typed_writer.specs.Empty.{followed_by, empty_block, empty_bytes, empty_field, empty_fields, has_null_elements};
+ghost use Rattle.kind_bytes.specs.Members.{followed_by};
+ghost use Rattle.typed_writer.specs.Empty.{empty_block, empty_bytes, empty_field, empty_fields, has_null_elements};
 ghost use Rattle.typed_writer.specs.Ready.{CanStand, FieldsStand};
 ghost use Rattle.std.specs.Prelude.{replicate};
 

@@ -4,7 +4,7 @@ ghost use Rattle.schema_rules.specs.Ranges.{is_number_of};
 ghost use Rattle.sbe_types.specs.Places.{width};
 ghost use Rattle.sbe_wire.specs.Misfit.{value_misfit};
 ghost use Rattle.schema_facts.specs.InOrder.{IsKindInOrder};
-ghost use Rattle.typed_writer.specs.Empty.{followed_by};
+ghost use Rattle.kind_bytes.specs.Members.{followed_by};
 ghost use Rattle.typed_writer.specs.Steps.{IsWritten};
 
 use field_bytes::put_num;

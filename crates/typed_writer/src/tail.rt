@@ -9,7 +9,7 @@ ghost use Rattle.schema_facts.specs.InOrder.{IsLeafInOrder};
 ghost use Rattle.schema_facts.specs.Measured.{IsSmall};
 ghost use Rattle.schema_facts.specs.Levels.{all_nodes, groups_at, parts_at};
 ghost use Rattle.layout_tables.specs.Parts.{dim_at};
-ghost use Rattle.typed_writer.specs.Empty.{followed_by};
+ghost use Rattle.kind_bytes.specs.Members.{followed_by};
 ghost use Rattle.typed_writer.specs.Lending.{EntriesRest};
 ghost use Rattle.typed_writer.specs.States.{AppendsEntries, AppendsParts, level_of, parts_done, parts_in_tail};
 ghost use Rattle.typed_writer.specs.Steps.{Adds, DataRefused, GroupRefused, Groups, PartRefused, admits_entries, dimension_in, dimension_size, next_group};

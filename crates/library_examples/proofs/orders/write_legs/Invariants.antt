@@ -2,7 +2,7 @@ use Rattle.std.proofs.Common.{◌≡◌, ◌-◌, ◌∷◌, [], drop, length, m
 use Rattle.sbe_wire.specs.Canonical.{all_bytes}
 use Rattle.schema_facts.specs.Levels.{root_of}
 use Rattle.typed_writer.specs.declared.stack.Frame.TheVariants.{Entries, Tail}
-use Rattle.typed_writer.specs.Empty.{followed_by}
+use Rattle.kind_bytes.specs.Members.{followed_by}
 use Rattle.typed_writer.specs.States.{AppendsEntries}
 use Rattle.library_examples.specs.Orders.{LegsHaveRoom, leg_block, leg_bytes, legs_misfit, legs_of}
 use Rattle.sbe_types.specs.declared.schema.Group.{out-Group}

@@ -1,6 +1,7 @@
 use Rattle.std.proofs.Common.{◌≡◌, ◌+◌, drop, length}
 use Rattle.sbe_types.specs.Places.{fields_end}
-use Rattle.typed_writer.specs.Empty.{followed_by, empty_fields}
+use Rattle.kind_bytes.specs.Members.{followed_by}
+use Rattle.typed_writer.specs.Empty.{empty_fields}
 use Rattle.typed_writer.specs.Ready.{FieldsStand}
 use Rattle.typed_writer.proofs.room.Room.fields.Given as goal
 

@@ -2,7 +2,7 @@ use Rattle.std.proofs.Common.{◌≡◌, ◌+◌, ◌-◌, ◌*◌, length, repl
 use Rattle.sbe_types.specs.Numbers.{prim_width}
 use Rattle.sbe_types.specs.Wire.{elements_bytes}
 use Rattle.sbe_types.specs.declared.message.Elem.TheVariants.{Null}
-use Rattle.typed_writer.specs.Empty.{followed_by}
+use Rattle.kind_bytes.specs.Members.{followed_by}
 use Rattle.typed_writer.proofs.room.Room.nulls.Given as goal
 
 abbrev pub invariant-loop : goal.invariant-loop

@@ -2,7 +2,7 @@ use Rattle.std.proofs.Common.{◌≡◌, ◌+◌, ◌∙◌, ap, sym, take, leng
 use mir.Syntax.{w128}
 use Rattle.std.specs.Prelude.{Some}
 use Rattle.sbe_types.specs.Numbers.{bytes_of}
-use Rattle.typed_writer.specs.Empty.{followed_by}
+use Rattle.kind_bytes.specs.Members.{followed_by}
 use Rattle.typed_writer.specs.Held.{Filled}
 use Rattle.typed_writer.proofs.Lists.{front_put}
 use Rattle.typed_writer.proofs.room.Room.number.Goals as goal
