@@ -25,8 +25,9 @@ use Rattle.clean_bodies.specs.Whole.{Chain, Times}
 use Rattle.clean_bodies.proofs.CleanGroups.{entry_whole}
 use Rattle.clean_bodies.proofs.CleanLevels.{tail_whole, group_step, good_groups, good_parts}
 use Rattle.clean_bodies.proofs.CleanMessages.{message_clean}
-use Rattle.clean_walk.specs.declared.heads.Numbers.TheVariants.{Header}
-use Rattle.clean_walk.specs.inner.Heads.{GroupSays, number_of_name}
+use Rattle.sbe_wire.specs.HeadNumbers.{number_of_name}
+use Rattle.sbe_wire.specs.declared.counters.Counters.TheVariants.{Header}
+use Rattle.clean_walk.specs.inner.Heads.{GroupSays}
 use Rattle.clean_walk.specs.inner.Places.{place_in}
 use Rattle.clean_walk.proofs.Saying.{say_front}
 

@@ -2,56 +2,40 @@
 ghost use Rattle.std.specs.Prelude.{◌≡◌, ◌≤◌, length, IfSome};
 ghost use Rattle.sbe_types.specs.Places.{end_past, members_end};
 ghost use Rattle.clean_bodies.specs.Says.{SaysNumber, SayNumbers};
-ghost use Rattle.clean_walk.specs.inner.Heads.{number_of_name};
+ghost use Rattle.sbe_wire.specs.HeadNumbers.{number_of_name};
 
 use crate::names::is_same;
 use crate::places::{begin_of, natural_at};
 use crate::zeros::is_zero;
 use sbe_types::{Kind, Member, Order};
+use sbe_wire::Counters;
 
-/// The numbers of a header or of a dimension (SBE 1.0, "Message structure" and "Repeating group encoding").
-#[derive(Clone, Copy)]
-pub(crate) enum Numbers {
-    Header {
-        block: u32,
-        template: u32,
-        schema: u32,
-        version: u32,
-    },
-    Dimension {
-        block: u32,
-        count: u32,
-    },
-}
-
-impl Numbers {
-    /// The number with this name.
-    fn of_name(self, name: &[u8]) -> u32
-        ensures { result ≡ number_of_name self name.now }
-    {
-        match self {
-            Numbers::Header {
-                block,
-                template,
-                schema,
-                version,
-            } => {
-                if is_same(name, b"blockLength") {
-                    block
-                } else if is_same(name, b"templateId") {
-                    template
-                } else if is_same(name, b"schemaId") {
-                    schema
-                } else {
-                    version
-                }
+/// The number with this name.
+fn number_named(numbers: Counters, name: &[u8]) -> u32
+    ensures { result ≡ number_of_name numbers name.now }
+{
+    match numbers {
+        Counters::Header {
+            block,
+            template,
+            schema,
+            version,
+        } => {
+            if is_same(name, b"blockLength") {
+                block
+            } else if is_same(name, b"templateId") {
+                template
+            } else if is_same(name, b"schemaId") {
+                schema
+            } else {
+                version
             }
-            Numbers::Dimension { block, count } => {
-                if is_same(name, b"blockLength") {
-                    block
-                } else {
-                    count
-                }
+        }
+        Counters::Dimension { block, count } => {
+            if is_same(name, b"blockLength") {
+                block
+            } else {
+                count
             }
         }
     }
@@ -61,7 +45,7 @@ impl Numbers {
 pub(crate) fn end_said(
     order: Order,
     members: &[Member],
-    numbers: Numbers,
+    numbers: Counters,
     bytes: &[u8],
 ) -> Option<usize>
     ensures says { IfSome result (λ end. SayNumbers order (number_of_name numbers) 0 members.now bytes.now) }
@@ -70,7 +54,7 @@ pub(crate) fn end_said(
 {
     let mut end = 0usize;
     for member in members {
-        let number = numbers.of_name(member.name.as_slice());
+        let number = number_named(numbers, member.name.as_slice());
         match past_number(order, end, member, number, bytes) {
             Some(next) => end = next,
             None => return None,

@@ -15,12 +15,13 @@ ghost use Rattle.clean_walk.specs.inner.Heads.{GroupSays};
 ghost use Rattle.clean_walk.specs.inner.Places.{place_in};
 
 use crate::blocks::is_clean_block;
-use crate::heads::{Numbers, count_in, end_said};
+use crate::heads::{count_in, end_said};
 use crate::places::natural_at;
 use crate::zeros::are_bytes;
 use body_walk::first_child;
 use layout_tables::Layout;
 use sbe_types::{DataField, Group, Level, Order};
+use sbe_wire::Counters;
 
 /// Whether a body is the canonical one of the message that lies in it, if that has this template and the schema's own
 /// version. Doesn't check that a message lies there. `false` is inconclusive.
@@ -45,7 +46,7 @@ fn is_clean_root(layout: &Layout, n: usize, level: &Level, body: &[u8]) -> bool
     ensures { result ≡ true → IsCanonicalRoot layout.now level.now body.now }
 {
     let members = layout.header().members.as_slice();
-    let numbers = Numbers::Header {
+    let numbers = Counters::Header {
         block: level.block_length,
         template: level.id,
         schema: layout.id(),
@@ -157,7 +158,7 @@ fn dim_end(order: Order, group: &Group, body: &[u8], at: usize) -> Option<(u32, 
     let members = group.dim.as_slice();
     let rest = &body[at..];
     let count = count_in(order, members, rest)?;
-    let numbers = Numbers::Dimension {
+    let numbers = Counters::Dimension {
         block: group.level.block_length,
         count,
     };

@@ -6,6 +6,7 @@ pub mod Reading
 pub mod Agree
 pub mod Placed
 pub mod Canonical
+pub mod HeadNumbers
 pub mod Fits
 pub mod Misfit
 pub mod Rows

@@ -34,8 +34,9 @@ use Rattle.layout_tables.specs.Parts.{dim_at}
 use Rattle.layout_tables.specs.Rowed.{RowFor}
 use Rattle.group_codec.proofs.DimRows.{row_dim, admitted_is}
 use Rattle.sbe_types.proofs.KindRows.{row_in}
-use Rattle.typed_writer.specs.Counted.{HaveRoomFor, number_of_name}
-use Rattle.typed_writer.specs.declared.counters.Counters.TheVariants.{Dimension}
+use Rattle.sbe_wire.specs.HeadNumbers.{number_of_name}
+use Rattle.typed_writer.specs.Counted.{HaveRoomFor}
+use Rattle.sbe_wire.specs.declared.counters.Counters.TheVariants.{Dimension}
 use Rattle.kind_bytes.specs.Members.{followed_by}
 use Rattle.typed_writer.specs.Ready.{MembersStand}
 use Rattle.typed_writer.specs.States.{block_at}

@@ -20,8 +20,9 @@ use Rattle.schema_facts.proofs.KindNumbers.{both_true}
 use Rattle.schema_facts.proofs.LevelForms.{all_of_message, holds_below}
 use Rattle.layout_tables.proofs.Items.{item_there}
 use Rattle.layout_tables.proofs.Nodes.{nodes_open}
-use Rattle.typed_writer.specs.Counted.{HaveRoomFor, number_of_name}
-use Rattle.typed_writer.specs.declared.counters.Counters.TheVariants.{Header, Dimension}
+use Rattle.sbe_wire.specs.HeadNumbers.{number_of_name}
+use Rattle.typed_writer.specs.Counted.{HaveRoomFor}
+use Rattle.sbe_wire.specs.declared.counters.Counters.TheVariants.{Header, Dimension}
 use Rattle.sbe_types.specs.Wire.{both}
 use Rattle.sbe_wire.specs.Canonical.{named_bytes, header_numbers}
 use Rattle.kind_bytes.specs.Members.{followed_by}

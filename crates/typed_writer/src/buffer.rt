@@ -8,13 +8,13 @@ ghost use Rattle.typed_writer.specs.Lending.{FieldsRest, RootRests, TailRests};
 ghost use Rattle.typed_writer.specs.States.{AppendsEntries, AppendsParts, SetsFields, block_at, entries_left, level_of, next_part, parts_done};
 ghost use Rattle.typed_writer.specs.Steps.{Begins, IsFull, Opens, StartRefused, block_in, header_in, ends, first_unset, goes_on_as, must_be_set, none_set};
 
-use crate::counters::Counters;
 use crate::marks::Marks;
 use crate::room::{Full, Room};
 use crate::stack::{Frame, Stack};
 use crate::states::{FieldsW, NextPart, StartErr, TailW};
 use layout_tables::Layout;
 use lists::NoMem;
+use sbe_wire::Counters;
 use std::alloc::Global;
 use std::marker::Model;
 

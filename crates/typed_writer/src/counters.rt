@@ -3,57 +3,42 @@ ghost use Rattle.sbe_types.specs.Places.{members_end, end_past};
 ghost use Rattle.sbe_types.specs.declared.kind.Kind.{Comp};
 ghost use Rattle.sbe_types.specs.declared.limits.TheConstants.{PLACE_LIMIT};
 ghost use Rattle.sbe_wire.specs.Canonical.{named_bytes, number_bytes_in};
-ghost use Rattle.typed_writer.specs.Counted.{HasRoomFor, HaveRoomFor, number_of_name};
+ghost use Rattle.sbe_wire.specs.HeadNumbers.{number_of_name};
+ghost use Rattle.typed_writer.specs.Counted.{HasRoomFor, HaveRoomFor};
 ghost use Rattle.kind_bytes.specs.Members.{followed_by};
 ghost use Rattle.typed_writer.specs.Ready.{MembersStand, member_bytes};
 
 use crate::room::Room;
 use flat_rows::begin_of;
 use sbe_types::{Kind, Member, MemberList, Order};
+use sbe_wire::Counters;
 
-/// The numbers of a header or of a dimension (SBE 1.0, "Message structure" and "Repeating group encoding").
-#[derive(Clone, Copy)]
-pub(crate) enum Counters {
-    Header {
-        block: u32,
-        template: u32,
-        schema: u32,
-        version: u32,
-    },
-    Dimension {
-        block: u32,
-        count: u32,
-    },
-}
-
-impl Counters {
-    /// The number with this name.
-    fn of_name(self, name: &[u8]) -> u32
-        ensures { result ≡ number_of_name self name.now }
-    {
-        match self {
-            Counters::Header {
-                block,
-                template,
-                schema,
-                version,
-            } => {
-                if name == b"blockLength".as_slice() {
-                    block
-                } else if name == b"templateId".as_slice() {
-                    template
-                } else if name == b"schemaId".as_slice() {
-                    schema
-                } else {
-                    version
-                }
+/// The number with this name.
+fn number_named(numbers: Counters, name: &[u8]) -> u32
+    ensures { result ≡ number_of_name numbers name.now }
+{
+    match numbers {
+        Counters::Header {
+            block,
+            template,
+            schema,
+            version,
+        } => {
+            if name == b"blockLength".as_slice() {
+                block
+            } else if name == b"templateId".as_slice() {
+                template
+            } else if name == b"schemaId".as_slice() {
+                schema
+            } else {
+                version
             }
-            Counters::Dimension { block, count } => {
-                if name == b"blockLength".as_slice() {
-                    block
-                } else {
-                    count
-                }
+        }
+        Counters::Dimension { block, count } => {
+            if name == b"blockLength".as_slice() {
+                block
+            } else {
+                count
             }
         }
     }
@@ -88,7 +73,7 @@ impl Room {
         match &member.kind {
             Kind::Leaf(leaf) => {
                 let begin = begin_of(end, member.offset);
-                let n = numbers.of_name(member.name.as_slice());
+                let n = number_named(numbers, member.name.as_slice());
                 self.zeros((begin - end) as usize);
                 self.number(order, leaf.prim, n as i128);
                 begin + leaf.prim.width() as u32

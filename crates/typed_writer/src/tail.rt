@@ -15,11 +15,11 @@ ghost use Rattle.typed_writer.specs.States.{AppendsEntries, AppendsParts, level_
 ghost use Rattle.typed_writer.specs.Steps.{Adds, DataRefused, GroupRefused, Groups, PartRefused, admits_entries, dimension_in, dimension_size, next_group};
 
 use crate::buffer::FrameBuf;
-use crate::counters::Counters;
 use crate::stack::Frame;
 use crate::states::{EntriesW, TailErr};
 use layout_tables::Layout;
 use sbe_types::{DataField, Order};
+use sbe_wire::Counters;
 
 impl FrameBuf {
     /// Appends the dimension of the next group.

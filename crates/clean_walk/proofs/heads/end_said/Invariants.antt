@@ -1,6 +1,6 @@
 use Rattle.std.proofs.Common.{◌≡◌, ◌≤◌, length, drop}
 use Rattle.sbe_types.specs.Places.{members_end}
-use Rattle.clean_walk.specs.inner.Heads.{number_of_name}
+use Rattle.sbe_wire.specs.HeadNumbers.{number_of_name}
 use Rattle.clean_walk.proofs.Saying.{LeadsNumbers}
 use Rattle.clean_walk.proofs.heads.end_said.Given as goal
 

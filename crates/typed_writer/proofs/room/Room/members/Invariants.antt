@@ -1,7 +1,8 @@
 use Rattle.std.proofs.Common.{◌≡◌, ◌+◌, drop, length}
 use Rattle.sbe_types.specs.Places.{members_end}
 use Rattle.sbe_wire.specs.Canonical.{named_bytes}
-use Rattle.typed_writer.specs.Counted.{HaveRoomFor, number_of_name}
+use Rattle.sbe_wire.specs.HeadNumbers.{number_of_name}
+use Rattle.typed_writer.specs.Counted.{HaveRoomFor}
 use Rattle.kind_bytes.specs.Members.{followed_by}
 use Rattle.typed_writer.specs.Ready.{MembersStand}
 use Rattle.typed_writer.proofs.room.Room.members.Given as goal
