@@ -29,7 +29,7 @@ use Rattle.sbe_types.specs.Shows.{Shows, ShowsLeaf, is_empty}
 use Rattle.sbe_wire.specs.declared.mode.Mode.{Mode}
 use Rattle.sbe_wire.specs.Versions.{mode_of, form_of}
 use Rattle.sbe_wire.specs.Named.{is_admitted}
-use Rattle.sbe_wire.specs.Lays.{Joined, JoinedBoth, FieldsLay, DataLies, DataLays, EntryLays, GroupLies, TailLays, GroupsLay, GroupLays}
+use Rattle.sbe_wire.specs.Lays.{IsConcatenation, IsConcatenationOfBoth, FieldsLay, DataLies, DataLays, EntryLays, GroupLies, TailLays, GroupsLay, GroupLays}
 use Rattle.version_laws.specs.Plain.{is_absent_part, is_absent_group}
 use Rattle.writing_laws.specs.Writable.{AreWritableFields, AreWritableParts, IsWritableLevel, AreWritableGroups, IsWritableGroup, IsWritable}
 use Rattle.writing_laws.proofs.Own.{alive_from, writable_fields}
@@ -87,7 +87,7 @@ module _ (mode : Mode) where
       and_so (not (is_absent v && is_needed f.kind)) (has_fields fs vs) (ap (λ t. not (t && is_needed f.kind)) (shown_there mode.order mode.known f.kind v slice shows))
       (fields_there (end_past e f.offset f.kind) fs vs b writable.2 h.1)
 
-  parts_there : (ds : List DataField) (vs : List DataVal) (b : List ℕ) → AreWritableParts mode.version ds → JoinedBoth (DataLays mode.order mode.version) ds vs b → has_parts ds vs ≡ true
+  parts_there : (ds : List DataField) (vs : List DataVal) (b : List ℕ) → AreWritableParts mode.version ds → IsConcatenationOfBoth (DataLays mode.order mode.version) ds vs b → has_parts ds vs ≡ true
   parts_there [] [] b writable h = refl
   parts_there [] (v ∷ vs) b writable h = absurd h
   parts_there (d ∷ ds) [] b writable h = absurd h
@@ -95,7 +95,7 @@ module _ (mode : Mode) where
       let lies = alive_from ((bytes : List ℕ) × (v ≡ dataval.Bytes bytes) × DataLies mode.order d bytes h.0) ((v ≡ dataval.Absent) × (h.0 ≡ [])) mode.version d.since writable.0.known h.3 in
       and_so (not (is_absent_part v) || admits d.length (pos 0)) (has_parts ds vs) (ap (λ w. not (is_absent_part w) || admits d.length (pos 0)) lies.1) (parts_there ds vs h.1 writable.1 h.4)
 
-  each_there : {X : Type 0} (R : X → List ℕ → Type 0) (test : X → Bool) → ((x : X) (b : List ℕ) → R x b → test x ≡ true) → (xs : List X) (b : List ℕ) → Joined R xs b → list_all test xs ≡ true
+  each_there : {X : Type 0} (R : X → List ℕ → Type 0) (test : X → Bool) → ((x : X) (b : List ℕ) → R x b → test x ≡ true) → (xs : List X) (b : List ℕ) → IsConcatenation R xs b → list_all test xs ≡ true
   each_there R test turn [] b h = refl
   each_there R test turn (x ∷ xs) b h = and_so (test x) (list_all test xs) (turn x h.0 h.3) (each_there R test turn xs h.1 h.4)
 

@@ -24,7 +24,7 @@ use Rattle.sbe_types.specs.Shows.{Shows}
 use Rattle.sbe_wire.specs.declared.mode.Mode.{Mode}
 use Rattle.sbe_wire.specs.Versions.{is_alive, form_of}
 use Rattle.sbe_wire.specs.Named.{is_admitted}
-use Rattle.sbe_wire.specs.Lays.{Joined, JoinedBoth, FieldsLay, DataLies, DataLays, EntryLays, GroupLies, TailLays, GroupsLay, GroupLays}
+use Rattle.sbe_wire.specs.Lays.{IsConcatenation, IsConcatenationOfBoth, FieldsLay, DataLies, DataLays, EntryLays, GroupLies, TailLays, GroupsLay, GroupLays}
 use Rattle.sbe_wire.specs.Fits.{PartFits}
 use Rattle.bridge_rules.proofs.OptionLemmas.{some_is, none_some}
 use Rattle.bridge_terms.specs.Plans.{Each}
@@ -82,7 +82,7 @@ data_is order version d v b h = elim (one_of (is_alive version d.since) ((bytes 
   | inr absent ↦ inr absent.0
 ]
 
-data_at : (order : Order) (version : ℕ) (ds : List DataField) (vs : List DataVal) (b : List ℕ) → JoinedBoth (DataLays order version) ds vs b → (i : ℕ) (d : DataField) → slice_get ds i ≡ Some d →
+data_at : (order : Order) (version : ℕ) (ds : List DataField) (vs : List DataVal) (b : List ℕ) → IsConcatenationOfBoth (DataLays order version) ds vs b → (i : ℕ) (d : DataField) → slice_get ds i ≡ Some d →
     DataIs d (nth_or dataval.Absent i vs)
 data_at order version [] vs b h i d at = none_some at
 data_at order version (e ∷ es) [] b h i d at = absurd h
@@ -102,7 +102,7 @@ pub record GroupThere (mode : Mode) (g : Group) (v : GroupVal) : Type 0 where
 abbrev pub GroupIs : Mode → Group → GroupVal → Type 0
 GroupIs mode g v = GroupThere mode g v ⊎ (v ≡ groupval.Absent)
 
-entries_lie : (mode : Mode) (level : Level) (k : ℕ) (entries : List Block) (b : List ℕ) → IsBytes b → Joined (EntryLays (λ entry e. TailLays mode level entry e) (form_of mode level) k) entries b →
+entries_lie : (mode : Mode) (level : Level) (k : ℕ) (entries : List Block) (b : List ℕ) → IsBytes b → IsConcatenation (EntryLays (λ entry e. TailLays mode level entry e) (form_of mode level) k) entries b →
     Each (λ e. LevelLies mode level e) entries
 entries_lie mode level k [] b good h = tt
 entries_lie mode level k (e ∷ es) b good h =

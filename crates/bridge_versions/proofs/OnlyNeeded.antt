@@ -25,7 +25,7 @@ use Rattle.sbe_types.specs.Places.{end_past}
 use Rattle.sbe_types.specs.Shown.{admits}
 use Rattle.sbe_wire.specs.declared.mode.Mode.{Mode}
 use Rattle.sbe_wire.specs.Named.{Spot, spot_named, is_admitted}
-use Rattle.sbe_wire.specs.Lays.{JoinedBoth, FieldsLay, DataLays, TailLays, GroupsLay}
+use Rattle.sbe_wire.specs.Lays.{IsConcatenationOfBoth, FieldsLay, DataLays, TailLays, GroupsLay}
 use Rattle.version_laws.specs.Plain.{is_absent_part, is_absent_group}
 use Rattle.reference_graph.specs.Expansion.{Structure}
 use Rattle.bridge_rules.specs.Rules.{Rule}
@@ -58,7 +58,7 @@ fields_long mode e [] (v ∷ vs) b h = absurd h
 fields_long mode e (f ∷ fs) [] b h = absurd h
 fields_long mode e (f ∷ fs) (v ∷ vs) b h = ap suc (fields_long mode (end_past e f.offset f.kind) fs vs b h.1)
 
-parts_long : (order : Order) (version : ℕ) (ds : List DataField) (vs : List DataVal) (b : List ℕ) → JoinedBoth (DataLays order version) ds vs b → length vs ≡ length ds
+parts_long : (order : Order) (version : ℕ) (ds : List DataField) (vs : List DataVal) (b : List ℕ) → IsConcatenationOfBoth (DataLays order version) ds vs b → length vs ≡ length ds
 parts_long order version [] [] b h = refl
 parts_long order version [] (v ∷ vs) b h = absurd h
 parts_long order version (d ∷ ds) [] b h = absurd h

@@ -13,7 +13,7 @@ use Rattle.sbe_types.specs.Shown.{is_listed}
 use Rattle.fix_values.specs.declared.rule.V.{V}
 use Rattle.fix_values.specs.declared.rule.V.TheVariants as why
 use Rattle.fix_values.specs.declared.rule.Code.{Code}
-use Rattle.fix_values.specs.Codes.{has_soh, found_text, code_text, is_choice, truth_text, boolean_text, bits_of, codes_in, joined, set_text}
+use Rattle.fix_values.specs.Codes.{has_soh, found_text, code_text, is_choice, truth_text, boolean_text, bits_of, codes_in, spaced_texts, set_text}
 use Rattle.value_laws.proofs.SetsBack.{set_back}
 use Rattle.bridge_rules.specs.Rules.{Rule, enum_code, enum_number, enum_boolean, choice_set}
 use Rattle.bridge_rules.specs.Datatypes.{Datatype}
@@ -67,7 +67,7 @@ set_plain : (list : List Code) (n : ℕ) (t : List ℕ) → set_text list n ≡ 
 set_plain list n t h = by_tests (bits_of (codes_in list n) == n) (length own == 0) (has_soh own) refl refl h
   where
     own : List ℕ
-    own = joined (codes_in list n)
+    own = spaced_texts (codes_in list n)
 
     some : (k : ℕ) → (k == 0) ≡ false → 0 < k
     some zero e = true_false refl e

@@ -6,9 +6,9 @@ ghost use Rattle.sbe_types.specs.declared.message.DataVal.TheVariants as dataval
 ghost use Rattle.sbe_types.specs.declared.message.GroupVal.TheVariants as groupval;
 ghost use Rattle.sbe_types.specs.declared.schema.Group.{Group, out-Group};
 ghost use Rattle.bridge_terms.specs.Blocks.{data_value, entries_of, nth_or};
-ghost use Rattle.flyweight_view.specs.Seen.{seen_level};
+ghost use Rattle.flyweight_view.specs.TypedBlocks.{typed_level};
 ghost use Rattle.message_walk.specs.Reached.{AreGroupsFrom, ArePartsFrom, HaveGroups, HaveParts, IsReached};
-ghost use Rattle.message_walk.specs.Rows.{entries_seen, value_seen};
+ghost use Rattle.message_walk.specs.Rows.{entries_shown, value_of_bytes};
 
 use flyweight_view::{BlockView, EntriesView, GroupsView, PartsView};
 
@@ -49,7 +49,7 @@ impl<'a> Reached<'a> {
         requires { IsReached block.now self.old }
         ensures reached { IsReached block.now self.new }
         ensures entries { (group : Group) → slice_get block.now.groups number ≡ Some group
-            → entries_seen result ≡ map (seen_level (out-Group group).level) (entries_of (nth_or groupval.Absent number (out-Block block.now.block).groups)) }
+            → entries_shown result ≡ map (typed_level (out-Group group).level) (entries_of (nth_or groupval.Absent number (out-Block block.now.block).groups)) }
     {
         if number == 0 {
             return first_entries(block);
@@ -63,7 +63,7 @@ impl<'a> Reached<'a> {
         requires { IsReached block.now self.old }
         ensures reached { IsReached block.now self.new }
         ensures entries { (group : Group) → slice_get block.now.groups number ≡ Some group
-            → entries_seen result ≡ map (seen_level (out-Group group).level) (entries_of (nth_or groupval.Absent number (out-Block block.now.block).groups)) }
+            → entries_shown result ≡ map (typed_level (out-Group group).level) (entries_of (nth_or groupval.Absent number (out-Block block.now.block).groups)) }
     {
         let (_, count, _) = block.counts();
         if number >= count {
@@ -83,7 +83,7 @@ impl<'a> Reached<'a> {
         requires { IsReached block.now self.old }
         ensures reached { IsReached block.now self.new }
         ensures data { number < length block.now.parts
-            → value_seen (option_map (λ b. b.now) result) ≡ data_value (nth_or dataval.Absent number (out-Block block.now.block).parts) }
+            → value_of_bytes (option_map (λ b. b.now) result) ≡ data_value (nth_or dataval.Absent number (out-Block block.now.block).parts) }
     {
         if number == 0 {
             return first_data(block);
@@ -97,7 +97,7 @@ impl<'a> Reached<'a> {
         requires { IsReached block.now self.old }
         ensures reached { IsReached block.now self.new }
         ensures data { number < length block.now.parts
-            → value_seen (option_map (λ b. b.now) result) ≡ data_value (nth_or dataval.Absent number (out-Block block.now.block).parts) }
+            → value_of_bytes (option_map (λ b. b.now) result) ≡ data_value (nth_or dataval.Absent number (out-Block block.now.block).parts) }
     {
         let (_, _, count) = block.counts();
         if number >= count {
@@ -116,7 +116,7 @@ impl<'a> Reached<'a> {
 #[tactic(auto, using(crate::proofs::Nth::group_seen_at))]
 fn first_entries<'a>(block: &BlockView<'a>) -> Option<EntriesView<'a>>
     ensures { (group : Group) → slice_get block.now.groups 0 ≡ Some group
-        → entries_seen result ≡ map (seen_level (out-Group group).level) (entries_of (nth_or groupval.Absent 0 (out-Block block.now.block).groups)) }
+        → entries_shown result ≡ map (typed_level (out-Group group).level) (entries_of (nth_or groupval.Absent 0 (out-Block block.now.block).groups)) }
 {
     let (_, count, _) = block.counts();
     if count == 0 {
@@ -129,7 +129,7 @@ fn first_entries<'a>(block: &BlockView<'a>) -> Option<EntriesView<'a>>
 #[tactic(auto, using(crate::proofs::Nth::data_seen))]
 fn first_data<'a>(block: &BlockView<'a>) -> Option<&'a [u8]>
     ensures { 0 < length block.now.parts
-        → value_seen (option_map (λ b. b.now) result) ≡ data_value (nth_or dataval.Absent 0 (out-Block block.now.block).parts) }
+        → value_of_bytes (option_map (λ b. b.now) result) ≡ data_value (nth_or dataval.Absent 0 (out-Block block.now.block).parts) }
 {
     let (_, _, count) = block.counts();
     if count == 0 {

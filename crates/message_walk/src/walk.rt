@@ -11,7 +11,7 @@ ghost use Rattle.bridge_terms.specs.Plans.{Each, Plan, Slot};
 ghost use Rattle.message_walk.specs.declared.put.Put.TheVariants.{Nothing};
 ghost use Rattle.message_walk.specs.Halts.{undelimited_here};
 ghost use Rattle.message_walk.specs.Reached.{IsReached};
-ghost use Rattle.message_walk.specs.Rows.{entries_seen, entry_places, run_inside, size_of, AreRows, FitsSeen, IsSlotAt, IsThere};
+ghost use Rattle.message_walk.specs.Rows.{entries_shown, entry_places, run_inside, size_of, AreRows, FitsBlock, IsSlotAt, IsThere};
 ghost use Rattle.message_walk.specs.States.{after, outcome, IsPut};
 
 use crate::data::put_data;
@@ -27,7 +27,6 @@ use tagvalue_codec::FixWriter;
 
 /// Writes the fields of a block by the rows of its plan. If it returns false, `halt` receives the first place that
 /// isn't written, and the fields before it are written.
-#[cycle(walk)]
 pub fn put_rows<R: PutValue>(
     rows: &[PlanRow<R>],
     block: &BlockView<'_>,
@@ -39,14 +38,32 @@ pub fn put_rows<R: PutValue>(
     ensures put { (lists : TagLists) (p : Plan) → AreRows R.spells lists p rows.now → FitsBlock p block.now
         → outcome result out.new halt.new ≡ after lists out.old (places_of p (values_of p block.now.block)) }
 {
-    let mut left = rows;
     let mut reached = Reached::new();
+    put_rest(rows, block, &mut reached, out, halt)
+}
+
+/// The same, once some of the block's groups and data were read.
+#[cycle(walk)]
+fn put_rest<'a, R: PutValue>(
+    rows: &[PlanRow<R>],
+    block: &BlockView<'a>,
+    reached: &mut Reached<'a>,
+    out: &mut FixWriter,
+    halt: &mut Halt,
+) -> bool
+    requires open { out.old.phase ≡ Open }
+    requires reached { IsReached block.now reached.old }
+    ensures open { out.new.phase ≡ Open }
+    ensures put { (lists : TagLists) (p : Plan) → AreRows R.spells lists p rows.now → FitsBlock p block.now
+        → outcome result out.new halt.new ≡ after lists out.old (places_of p (values_of p block.now.block)) }
+{
+    let mut left = rows;
     while left.len() > 0 {
         let row = first(left);
         let rest = rest_from(left, 1);
         match size_of(&row.part) {
             None => {
-                if !put_row(row, block, &mut reached, out, halt) {
+                if !put_row(row, block, reached, out, halt) {
                     return false;
                 }
                 left = rest;
@@ -241,7 +258,7 @@ fn put_entry<R: PutValue>(
     let row = first(rows);
     let mut reached = Reached::new();
     match put_slot(row, entry, &mut reached, out, halt) {
-        Put::Written => put_rows(rest_from(rows, 1), entry, out, halt),
+        Put::Written => put_rest(rest_from(rows, 1), entry, &mut reached, out, halt),
         Put::Nothing => undelimited(halt),
         Put::Refused => {
             halt.under(WayStep::Part(row.lead.tag()));

@@ -20,7 +20,7 @@ use Rattle.replies.specs.declared.verdict.Verdict.TheVariants as verdict
 use Rattle.build_command.specs.Build.{body_limit}
 use Rattle.version_copies.specs.Copies.{IsCopied}
 use Rattle.regrade_laws.specs.Counts.{dropped, filled}
-use Rattle.regrade_command.specs.Regrade.{FromTo, Regrading, IsRegradable, copy_reply, written_reply, rewritten_as, told_reply, regrade_reply}
+use Rattle.regrade_command.specs.Regrade.{FromTo, Regrading, IsRegradable, copy_reply, written_reply, rewritten_as, reply_by, regrade_reply}
 use Rattle.regrade_command.proofs.Answering.{message_read}
 
 -- with these bytes and counts
@@ -41,7 +41,7 @@ module _ (on : Regrading) (number encoding : ℕ) (body : List ℕ) where
       let none : misfit to n (body_limit on.frame) ≡ None =
       fits_none to n (body_limit on.frame) good.to.placed (schema_writable to good.to) copied.fits (bytes, copied.written, within)
       in
-      message_read on number encoding body m same good.from.placed copied.lies ∙ ap (told_reply on number m) copied.told
+      message_read on number encoding body m same good.from.placed copied.lies ∙ ap (reply_by on number m) copied.told
       ∙ ap (written_reply to number (rewritten_as on.pair m n)) none
       ∙ ap (λ (b : Option (List ℕ)). with on.pair b (dropped on.pair.from to m) (filled on.pair.from to m)) copied.written
       ∙ ap (λ d. with on.pair (Some bytes) d (filled on.pair.from to m)) copied.none_dropped

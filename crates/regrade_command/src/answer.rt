@@ -12,7 +12,7 @@ ghost use Rattle.build_command.specs.Build.{body_limit};
 ghost use Rattle.regrade_laws.specs.Regraded.{moved, regraded, NoFill};
 ghost use Rattle.regrade_laws.specs.Counts.{dropped, filled};
 ghost use Rattle.regrade.specs.Regrades.{LiesInFrame};
-ghost use Rattle.regrade_command.specs.Regrade.{body_reply, counted_verdict, lack_line, refused_so, regrade_reply, rewritten_reply, told_reply, written_reply};
+ghost use Rattle.regrade_command.specs.Regrade.{body_reply, counted_verdict, lack_line, refused_so, regrade_reply, rewritten_reply, reply_by, written_reply};
 
 use crate::copies::answer_copy;
 use crate::lines::{note_encoding, note_fault, note_no_fill, note_no_template};

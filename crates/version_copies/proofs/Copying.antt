@@ -44,8 +44,8 @@ use Rattle.version_copies.specs.Copies.{IsSame, HasHeader, IsTwin, IsCopied}
 use Rattle.version_copies.proofs.Untouched.{none_filled, none_dropped}
 
 -- what follows the front of some bytes
-behind : (a b whole : List ℕ) (n : ℕ) → length a ≡ n → a ++ b ≡ whole → b ≡ drop n whole
-behind a b whole n long is = sym (ap (λ k. drop k (a ++ b)) (sym long) ∙ drop-append_seam a b) ∙ ap (drop n) is
+left_over : (a b whole : List ℕ) (n : ℕ) → length a ≡ n → a ++ b ≡ whole → b ≡ drop n whole
+left_over a b whole n long is = sym (ap (λ k. drop k (a ++ b)) (sym long) ∙ drop-append_seam a b) ∙ ap (drop n) is
 
 module _ (from to : WireSchema) (checked : IsChecked from) (good : IsChecked to) (template place : ℕ) (same : IsSame from to template place)
     (m : Msg) (here : m.template ≡ template) (own : m.version ≡ from.version) (body : List ℕ) (bytes : IsBytes body) (lies : Lays from m body) where
@@ -135,7 +135,7 @@ module _ (from to : WireSchema) (checked : IsChecked from) (good : IsChecked to)
         let two = both_some (head_of from) (rest_of from) body (sym (canonical_is from m level at) ∙ clean) in
         let head = names_written from.order (header_numbers from level) 0 from.header.members ((schema_writable from checked).header m.template level at) in
         let long : length two.0 ≡ wide = omega (arith, ap length (some_is (sym two.2 ∙ head.1)), head.2) in
-        two.3 ∙ ap Some (behind two.0 two.1 body wide long two.4)
+        two.3 ∙ ap Some (left_over two.0 two.1 body wide long two.4)
 
     copied_is : canonical to n ≡ Some (header ++ drop wide body)
     copied_is =

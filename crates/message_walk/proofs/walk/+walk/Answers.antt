@@ -62,8 +62,8 @@ put_run-returns-clause-put g t c = λ lists p unpaired rows fits.
     run_on lists d e c.put_count.new.halt c.args.lead.now (entry_places p) es _ (omega (arith, many, c.if-count-eq0.false)) counted
     (c.put_entries.ensures.put lists p rows fits)
 
-pub put_rows-returns-then-not-put_row-clause-put : goal.put_rows-returns-then-not-put_row-clause-put
-put_rows-returns-then-not-put_row-clause-put g t c = λ lists p rows fits.
+pub put_rest-returns-then-not-put_row-clause-put : goal.put_rest-returns-then-not-put_row-clause-put
+put_rest-returns-then-not-put_row-clause-put g t c = λ lists p rows fits.
     let seen = c.args.block.now in
     let q = c.loop-left.invariant.put lists p rows fits in
     let at = left_slot g.R.PutValue.spells lists q.0 c.loop-left.left.now c.first-row.result.now seen q.1 c.first-row.ensures (sym c.size_of.ensures ∙ c.in-None.is) q.2 in
@@ -74,8 +74,8 @@ put_rows-returns-then-not-put_row-clause-put g t c = λ lists p rows fits.
     (subst (λ b. outcome b e c.put_row.new.halt ≡ after lists d slot) c.if-not-put_row.true (c.put_row.ensures.put lists at.slot at.is at.there))
     ∙ ap (after lists d) (sym at.places) ∙ q.3
 
-pub put_rows-loop-left-preserved-in-None : goal.put_rows-loop-left-preserved-in-None
-put_rows-loop-left-preserved-in-None g t c = record {
+pub put_rest-loop-left-preserved-in-None : goal.put_rest-loop-left-preserved-in-None
+put_rest-loop-left-preserved-in-None g t c = record {
   shorter = omega (arith, c.loop-left.invariant.shorter, ap length c.rest_from-rest.ensures, length-drop 1 c.loop-left.left.now);
   reached = c.put_row.ensures.reached;
   begun = c.put_row.ensures.open;
@@ -95,8 +95,8 @@ put_rows-loop-left-preserved-in-None g t c = record {
       );
 }
 
-pub put_rows-returns-then-not-put_group-clause-put : goal.put_rows-returns-then-not-put_group-clause-put
-put_rows-returns-then-not-put_group-clause-put g t c = λ lists p rows fits.
+pub put_rest-returns-then-not-put_group-clause-put : goal.put_rest-returns-then-not-put_group-clause-put
+put_rest-returns-then-not-put_group-clause-put g t c = λ lists p rows fits.
     let seen = c.args.block.now in
     let q = c.loop-left.invariant.put lists p rows fits in
     let row = c.first-row.result.now in
@@ -106,8 +106,8 @@ put_rows-returns-then-not-put_group-clause-put g t c = λ lists p rows fits.
     let e = c.put_group.new.out in
     let level = (out-Group at.found).level in
     let blocks = entries_of (nth_or groupval.Absent row.number (out-Block seen.block).groups) in
-    let es = map (seen_level level) blocks in
-    let same : entries_seen c.entries_at-entries.result ≡ es = c.entries_at-entries.ensures.entries at.found at.there in
+    let es = map (typed_level level) blocks in
+    let same : entries_shown c.entries_at-entries.result ≡ es = c.entries_at-entries.ensures.entries at.found at.there in
     let size_is : c.at_most-size.result ≡ size = c.at_most-size.ensures.same (subst (λ xs. size ≤ length xs) (sym c.rest_from-rest.ensures) at.within) in
     let own : c.front.result.now ≡ take size (drop 1 c.loop-left.left.now) = c.front.ensures ∙ ap (λ n. take n c.rest_from-rest.result.now) size_is ∙ ap (take size) c.rest_from-rest.ensures in
     let put = c.put_group.ensures.put lists at.inner at.unpaired (subst (AreRows g.R.PutValue.spells lists at.inner) (sym own) at.own_rows)
@@ -117,8 +117,8 @@ put_rows-returns-then-not-put_group-clause-put g t c = λ lists p rows fits.
     (put ∙ ap (λ es. after lists d (run_places row.lead (entry_places at.inner) es)) same))
     ∙ ap (after lists d) (sym at.places) ∙ q.3
 
-pub put_rows-loop-left-preserved : goal.put_rows-loop-left-preserved
-put_rows-loop-left-preserved g t c = record {
+pub put_rest-loop-left-preserved : goal.put_rest-loop-left-preserved
+put_rest-loop-left-preserved g t c = record {
   shorter = omega (arith, c.loop-left.invariant.shorter, ap length c.rest_from-rest.ensures, ap length c.rest_from-left.ensures, length-drop 1 c.loop-left.left.now, length-drop c.at_most-size.result c.rest_from-rest.result.now);
   reached = c.entries_at-entries.ensures.reached;
   begun = c.put_group.ensures.open;
@@ -132,8 +132,8 @@ put_rows-loop-left-preserved g t c = record {
       let e = c.put_group.new.out in
       let level = (out-Group at.found).level in
       let blocks = entries_of (nth_or groupval.Absent row.number (out-Block seen.block).groups) in
-      let es = map (seen_level level) blocks in
-      let same : entries_seen c.entries_at-entries.result ≡ es = c.entries_at-entries.ensures.entries at.found at.there in
+      let es = map (typed_level level) blocks in
+      let same : entries_shown c.entries_at-entries.result ≡ es = c.entries_at-entries.ensures.entries at.found at.there in
       let size_is : c.at_most-size.result ≡ size = c.at_most-size.ensures.same (subst (λ xs. size ≤ length xs) (sym c.rest_from-rest.ensures) at.within) in
       let own : c.front.result.now ≡ take size (drop 1 c.loop-left.left.now) = c.front.ensures ∙ ap (λ n. take n c.rest_from-rest.result.now) size_is ∙ ap (take size) c.rest_from-rest.ensures in
       let left : c.rest_from-left.result.now ≡ drop size (drop 1 c.loop-left.left.now) = c.rest_from-left.ensures ∙ ap (λ n. drop n c.rest_from-rest.result.now) size_is ∙ ap (drop size) c.rest_from-rest.ensures in
@@ -149,8 +149,8 @@ put_rows-loop-left-preserved g t c = record {
       );
 }
 
-pub put_rows-returns-clause-put : goal.put_rows-returns-clause-put
-put_rows-returns-clause-put g t c = λ lists p rows fits.
+pub put_rest-returns-clause-put : goal.put_rest-returns-clause-put
+put_rest-returns-clause-put g t c = λ lists p rows fits.
     let seen = c.args.block.now in
     let q = c.loop-left.invariant.put lists p rows fits in
     let none = left_none g.R.PutValue.spells lists q.0 c.loop-left.left.now seen.block q.1 (omega (arith, c.loop-left-test.false)) in
@@ -168,7 +168,7 @@ put_entry-returns-in-Written-clause-put g t c = λ lists p rows fits.
           entry_on_slot g.R.PutValue.spells lists d e h _ p row (drop 1 c.args.rows.now) seen at
           (subst (λ r. IsPut lists d row.lead (text_by at.slot.rule (value_at at.slot.place seen.block)) (record { put = r; draft = e; halt = h })) c.in-Written.is
           (c.put_slot.ensures.put lists at.slot at.is at.there))
-          (c.put_rows.ensures.put lists at.rest (subst (AreRows g.R.PutValue.spells lists at.rest) (sym c.rest_from.ensures) at.rows) at.fits)
+          (c.put_rest.ensures.put lists at.rest (subst (AreRows g.R.PutValue.spells lists at.rest) (sym c.rest_from.ensures) at.rows) at.fits)
       | inr bare ↦ absurd (nothing_written (sym (c.put_slot.ensures.group bare.0 bare.1).0 ∙ c.in-Written.is))
     ]
 

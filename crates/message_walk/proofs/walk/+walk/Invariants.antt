@@ -5,12 +5,12 @@ use Rattle.bridge_terms.specs.Parts.{TagLists}
 use Rattle.bridge_terms.specs.Places.{places_of, entries_places}
 use Rattle.bridge_terms.specs.Plans.{Plan, Each}
 use Rattle.message_walk.specs.Reached.{IsReached}
-use Rattle.message_walk.specs.Rows.{AreRows, FitsSeen, entry_places}
+use Rattle.message_walk.specs.Rows.{AreRows, FitsBlock, entry_places}
 use Rattle.message_walk.specs.States.{after}
 use Rattle.message_walk.proofs.walk.+walk.Given as goal
 
-abbrev pub decreases-put_rows : goal.decreases-put_rows
-decreases-put_rows g l = 5 * length l.rows.now
+abbrev pub decreases-put_rest : goal.decreases-put_rest
+decreases-put_rest g l = 5 * length l.rows.now
 
 abbrev pub decreases-put_group : goal.decreases-put_group
 decreases-put_group g l = 5 * length l.rows.now + 4
@@ -24,8 +24,8 @@ decreases-put_entries g l = 5 * length l.rows.now + 2
 abbrev pub decreases-put_entry : goal.decreases-put_entry
 decreases-put_entry g l = 5 * length l.rows.now + 1
 
-abbrev pub invariant-put_rows-loop-left : goal.invariant-put_rows-loop-left
-invariant-put_rows-loop-left g l =
+abbrev pub invariant-put_rest-loop-left : goal.invariant-put_rest-loop-left
+invariant-put_rest-loop-left g l =
     record {
       shorter : length l.left ≤ length l.rows;
       reached : IsReached l.block l.reached;
@@ -35,8 +35,8 @@ invariant-put_rows-loop-left g l =
           × (after lists l.out (places_of q (values_of q l.block.block)) ≡ after lists l.initial.out (places_of p (values_of p l.block.block)));
     }
 
-abbrev pub decreases-put_rows-loop-left : goal.decreases-put_rows-loop-left
-decreases-put_rows-loop-left g l = length l.left
+abbrev pub decreases-put_rest-loop-left : goal.decreases-put_rest-loop-left
+decreases-put_rest-loop-left g l = length l.left
 
 abbrev pub invariant-put_entries-loop-entry : goal.invariant-put_entries-loop-entry
 invariant-put_entries-loop-entry g l =

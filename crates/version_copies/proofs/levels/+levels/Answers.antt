@@ -1,6 +1,6 @@
 use Rattle.std.proofs.Common.{ap, refl, arith}
 use Rattle.sbe_types.specs.declared.schema.Level.{Level, out-Level}
-use Rattle.type_kinds.proofs.ListSame.{more_same, whole_same}
+use Rattle.sbe_types.proofs.ListSame.{more_same, whole_same}
 use Rattle.version_copies.proofs.LevelParts.{level_is}
 use Rattle.version_copies.proofs.levels.+levels.Goals as goal
 

@@ -1,5 +1,5 @@
 use Rattle.std.proofs.Common.{refl, arith}
-use Rattle.type_kinds.proofs.ListSame.{more_same, whole_same}
+use Rattle.sbe_types.proofs.ListSame.{more_same, whole_same}
 use Rattle.version_copies.proofs.levels.are_same_parts.Goals as goal
 
 pub loop-i-preserved : goal.loop-i-preserved
