@@ -7,9 +7,13 @@ ghost use Rattle.sbe_types.specs.declared.schema.WireSchema.{WireSchema};
 ghost use Rattle.tagvalue_codec.specs.declared.data_tags.Pair.{Pair};
 ghost use Rattle.tagvalue_codec.specs.Fields.{Field};
 ghost use Rattle.reference_graph.specs.Expansion.{Structure};
+ghost use Rattle.bridge_terms.specs.PlanFacts.{EachRule};
+ghost use Rattle.bridge_plan.specs.Covers.{plan_of};
 ghost use Rattle.bridge_plan.specs.Mappings.{Mapping};
+ghost use Rattle.bridge_plan.specs.StructureFacts.{EachGroup};
 ghost use Rattle.bridge_plan.specs.Translation.{IsMessageOf};
-ghost use Rattle.back_texts.specs.Backs.{IsOwnMessage, IsWrittenAs};
+ghost use Rattle.back_texts.specs.Backs.{IsExact, IsOwnMessage, IsWrittenAs};
+ghost use Rattle.back_texts.specs.Forms.{HasOneForm, HaveOneForm};
 
 use writable_schemas::laws::kinds_in_order_are_writable;
 
@@ -21,3 +25,9 @@ pub fn written_messages_are_those_of_their_texts()
 {
     kinds_in_order_are_writable();
 }
+
+/// The plan of a level writes each value in one form, if the kinds of its fields have one, and so at each depth.
+pub fn plans_of_one_form_are_exact()
+    ensures { (m : Mapping) (s : Structure) (level : Level) → HaveOneForm level → EachGroup HasOneForm s level
+        → EachRule IsExact (plan_of m s level) }
+{}

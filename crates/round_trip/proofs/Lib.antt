@@ -1,0 +1,7 @@
+pub mod Passing
+pub mod Texts
+pub mod Following
+pub mod Sending
+pub mod Returning
+pub mod Streams
+pub mod Runs
