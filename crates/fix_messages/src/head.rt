@@ -1,11 +1,10 @@
 // The first fields of a text.
-ghost use Rattle.std.specs.Prelude.{◌≡◌, false, true, [], Some};
+ghost use Rattle.std.specs.Prelude.{◌≡◌, ℕ, false, true, [], Some};
 ghost use Rattle.std.specs.Option.{option_map};
 ghost use Rattle.std.specs.Fmt.{decimal};
 ghost use Rattle.tagvalue_codec.specs.declared.write.Phase.TheVariants.{Open};
-ghost use Rattle.tagvalue_codec.specs.Drafts.{begun, IsValue};
-ghost use Rattle.tagvalue_codec.specs.Fields.{IsTag};
-ghost use Rattle.tagvalue_codec.specs.Texts.{is_locked};
+ghost use Rattle.tagvalue_codec.specs.Drafts.{begun, IsReady, IsValue};
+ghost use Rattle.tagvalue_codec.specs.Fields.{tag_bytes};
 ghost use Rattle.message_walk.specs.declared.halt.Cause.TheVariants as cause;
 ghost use Rattle.message_walk.specs.States.{after, outcome};
 ghost use Rattle.fix_messages.specs.Heads.{field_places, given, given_fields, head_fields, head_of, no_lists, IsGivenValue, IsHeadReady};
@@ -56,62 +55,65 @@ fn put_given_fields(head: &FixHead<'_>, out: &mut FixWriter, halt: &mut Halt) ->
     ensures open { out.new.phase ≡ Open }
     ensures put { outcome result out.new halt.new ≡ after no_lists out.old (field_places (given_fields (head_of head.now))) }
 {
-    if !put_given(49, head.sender, out, halt) {
+    if !put_given(b"49=", head.sender, out, halt) {
         return false;
     }
-    if !put_given(56, head.target, out, halt) {
+    if !put_given(b"56=", head.target, out, halt) {
         return false;
     }
-    if !put_number(34, head.seq, out, halt) {
+    if !put_number(b"34=", head.seq, out, halt) {
         return false;
     }
-    put_given(52, head.time, out, halt)
+    put_given(b"52=", head.time, out, halt)
 }
 
-/// Writes a header field, if it is given.
-fn put_given(tag: u32, value: Option<&[u8]>, out: &mut FixWriter, halt: &mut Halt) -> bool
+/// Writes a header field, if it is given. `lead` is its tag with the `=`.
+#[inline(always)]
+fn put_given(lead: &[u8], value: Option<&[u8]>, out: &mut FixWriter, halt: &mut Halt) -> bool
     requires open { out.old.phase ≡ Open }
-    requires tag { IsTag tag }
-    requires unlocked { is_locked tag ≡ false }
+    requires lead { IsReady lead.now }
     requires ready { IsGivenValue (option_map (λ v. v.now) value) }
     ensures open { out.new.phase ≡ Open }
-    ensures put { outcome result out.new halt.new ≡ after no_lists out.old (field_places (given tag (option_map (λ v. v.now) value.entry))) }
+    ensures put { (tag : ℕ) → lead.now ≡ tag_bytes tag
+        → outcome result out.new halt.new ≡ after no_lists out.old (field_places (given tag (option_map (λ v. v.now) value.entry))) }
 {
     match value {
         None => true,
-        Some(value) => put_field(tag, value, out, halt),
+        Some(value) => put_field(lead, value, out, halt),
     }
 }
 
 /// Writes a header field with a number, if it is given.
+#[inline(always)]
 #[tactic(auto, using(message_walk::proofs::Values::count_value))]
-fn put_number(tag: u32, number: Option<u64>, out: &mut FixWriter, halt: &mut Halt) -> bool
+fn put_number(lead: &[u8], number: Option<u64>, out: &mut FixWriter, halt: &mut Halt) -> bool
     requires open { out.old.phase ≡ Open }
-    requires tag { IsTag tag }
-    requires unlocked { is_locked tag ≡ false }
+    requires lead { IsReady lead.now }
     ensures open { out.new.phase ≡ Open }
-    ensures put { outcome result out.new halt.new ≡ after no_lists out.old (field_places (given tag (option_map decimal number))) }
+    ensures put { (tag : ℕ) → lead.now ≡ tag_bytes tag
+        → outcome result out.new halt.new ≡ after no_lists out.old (field_places (given tag (option_map decimal number))) }
 {
     match number {
         None => true,
         Some(number) => {
             let mut buffer = Buffer::new();
             let digits = buffer.format(number).as_bytes();
-            put_field(tag, digits, out, halt)
+            put_field(lead, digits, out, halt)
         }
     }
 }
 
-/// Writes a header field.
-fn put_field(tag: u32, value: &[u8], out: &mut FixWriter, halt: &mut Halt) -> bool
+/// Writes a header field, given its tag with the `=`.
+#[inline(always)]
+fn put_field(lead: &[u8], value: &[u8], out: &mut FixWriter, halt: &mut Halt) -> bool
     requires open { out.old.phase ≡ Open }
-    requires tag { IsTag tag }
-    requires unlocked { is_locked tag ≡ false }
+    requires lead { IsReady lead.now }
     requires value { IsValue value.now }
     ensures open { out.new.phase ≡ Open }
-    ensures put { outcome result out.new halt.new ≡ after no_lists out.old (field_places (given tag (Some value.now))) }
+    ensures put { (tag : ℕ) → lead.now ≡ tag_bytes tag
+        → outcome result out.new halt.new ≡ after no_lists out.old (field_places (given tag (Some value.now))) }
 {
-    match out.field(tag, value) {
+    match out.ready_field(lead, value) {
         Ok(()) => true,
         Err(full) => no_room(full, halt),
     }

@@ -8,10 +8,10 @@ use Rattle.sbe_types.specs.declared.message.Value.{Value, items_hidden-the_row-V
 use Rattle.sbe_types.specs.Places.{begin_of, bytes_at, is_const, member_place, place_of, width}
 use Rattle.sbe_types.specs.Shows.{Shows}
 use Rattle.sbe_types.proofs.PlaceLemmas.{each_from, EachFrom}
-use Rattle.body_walk.proofs.MembersReady.{row_in}
+use Rattle.sbe_types.proofs.KindRows.{row_in}
 use Rattle.bridge_rules.specs.Members.{first_number, mantissa_in, number_in}
 use Rattle.bridge_rules.proofs.BoolLemmas.{true_false}
-use Rattle.value_texts.specs.Seen.{IsSeenOf}
+use Rattle.value_texts.specs.FieldViews.{IsSeenOf}
 
 -- the values of a composite's members
 record Values (order : Order) (known : Bool) (ms : List Member) (v : Value) (b : List ℕ) : Type 0 where

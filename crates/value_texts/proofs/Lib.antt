@@ -5,6 +5,8 @@ pub mod Leaving
 pub mod MadeRows
 pub mod Members
 pub mod Plain
+pub mod PlainFronts
+pub mod QuickTexts
 pub mod Rows
 pub mod SmallDecimals
 pub mod Values

@@ -1,6 +1,6 @@
 -- What the bytes of a field tell of its value.
 use Rattle.std.proofs.Common.{◌≡◌, ◌<◌, ◌^◌, ℕ, zero, suc, Bool, true, false, cond, List, length, Option, Some, None, ℤ, pos, refl, sym, ap, ◌∙◌, subst, arith}
-use Rattle.std.specs.Prelude.{◌&&◌, ◌||◌, not, slice_get, IfSome, IfNone}
+use Rattle.std.specs.Prelude.{◌&&◌, ◌||◌, not, slice_get, slice_index, IfSome, IfNone}
 use Rattle.std.specs.Option.{option_map}
 use Rattle.sbe_types.specs.declared.kind.Kind.{Kind, Leaf, Enum, Set, Const, Comp'}
 use Rattle.sbe_types.specs.declared.kind.Leaf.{Leaf as LeafOf}
@@ -8,7 +8,10 @@ use Rattle.sbe_types.specs.declared.kind.LeafShape.{LeafShape}
 use Rattle.sbe_types.specs.declared.kind.LeafShape.TheVariants.{Number, RangedText, EncodedText, Octets, Numbers}
 use Rattle.sbe_types.specs.declared.kind.Named.{Named}
 use Rattle.sbe_types.specs.declared.kind.Order.{Order}
+use Rattle.sbe_types.specs.declared.kind.Order.TheVariants.{Big, Little}
 use Rattle.sbe_types.specs.declared.kind.Primitive.{Primitive}
+use Rattle.sbe_types.specs.declared.kind.Primitive.TheVariants.{Char, U8}
+use Rattle.sbe_types.proofs.NumberLemmas.{read_big, read_little}
 use Rattle.sbe_types.specs.declared.message.Elem.{Elem}
 use Rattle.sbe_types.specs.declared.message.Value.{Value}
 use Rattle.sbe_types.specs.declared.message.Value.TheVariants as value
@@ -55,6 +58,16 @@ seen_of None n vs shows absent = nth_is value.Absent n vs value.Absent absent
 seen_of (Some f) n vs shows absent =
     let there = shown_at f (slice_get vs n) shows in
     subst (λ v. IsShownIn f (Some v)) (sym (nth_is value.Absent n vs there.0 there.1)) there.2
+
+-- ---- numbers of one byte
+
+pub char_number : (order : Order) (bs : List ℕ) → length bs ≡ 1 → ((i : ℕ) → slice_index bs i < 256) → pos (slice_index bs 0) ≡ number_of order Char bs
+char_number Big bs one are = read_big Char bs one are
+char_number Little bs one are = read_little Char bs one are
+
+pub octet_number : (order : Order) (bs : List ℕ) → length bs ≡ 1 → ((i : ℕ) → slice_index bs i < 256) → pos (slice_index bs 0) ≡ number_of order U8 bs
+octet_number Big bs one are = read_big U8 bs one are
+octet_number Little bs one are = read_little U8 bs one are
 
 -- ---- leaves
 

@@ -1,4 +1,7 @@
-pub mod Made
-pub mod Rows
 pub mod FieldViews
+pub mod Fronts
+pub mod Made
+pub mod Quick
+pub mod Rows
+pub mod Small
 pub mod Spelled

@@ -1,11 +1,12 @@
 // The fields of the values of a block.
-ghost use Rattle.std.specs.Prelude.{◌≡◌, ◌<◌, length, None};
+ghost use Rattle.std.specs.Prelude.{◌≡◌, ◌<◌, ℕ, List, length, None};
 ghost use Rattle.tagvalue_codec.specs.declared.write.Phase.TheVariants.{Open};
 ghost use Rattle.bridge_terms.specs.MessageFields.{length_in};
 ghost use Rattle.bridge_terms.specs.Parts.{TagLists};
 ghost use Rattle.message_walk.specs.Rows.{field_of};
 ghost use Rattle.message_walk.specs.States.{IsPut};
 ghost use Rattle.value_texts.specs.declared.row.ValueText.TheVariants as row;
+ghost use Rattle.value_texts.specs.Quick.{HasValue, IsQuick};
 ghost use Rattle.value_texts.specs.Rows.{row_text, CanAskOf};
 
 use crate::composite::{mantissa_of, members_at};
@@ -13,8 +14,10 @@ use crate::decimals::{put_fixed_decimal, put_floating};
 use crate::fixed::put_constant;
 use crate::moments::{put_day, put_moment, put_month};
 use crate::numbers::{put_number, put_passage};
+use crate::quick::{Quick, quick_decimal, quick_front};
 use crate::row::ConstText;
 use crate::seen::{choices_of, field_at, number_of, text_of};
+use crate::small::SMALL_ROOM;
 use crate::spelling::Spelling;
 use bridge_table::{Epoch, Unit};
 use flyweight_view::BlockView;
@@ -22,8 +25,63 @@ use message_walk::{Halt, Lead, Put};
 use sbe_types::Leaf;
 use tagvalue_codec::FixWriter;
 
-/// Writes the field of a number, if there is one.
+/// What a number gives, without the general rules.
 #[inline(always)]
+pub(crate) fn quick_number_at<'a>(
+    rule: &'a Spelling,
+    block: &BlockView<'_>,
+    number: usize,
+    room: &mut [u8; SMALL_ROOM],
+) -> Quick<'a>
+    requires field { number < length block.now.fields }
+    requires long { length room.old ≡ SMALL_ROOM }
+    ensures long { length room.new ≡ SMALL_ROOM }
+    ensures value { HasValue result room.new }
+    ensures told { IsQuick result room.new (row_text (row.Number rule.now) (field_of block.now number)) }
+{
+    let field = field_at(block, number);
+    match number_of(field) {
+        Some(n) => rule.quick(n, room),
+        None => Quick::Nothing,
+    }
+}
+
+/// What a decimal with this exponent gives, without the general rules.
+#[inline(always)]
+pub(crate) fn quick_decimal_at<'a>(
+    exponent: i128,
+    block: &BlockView<'_>,
+    number: usize,
+    room: &mut [u8; SMALL_ROOM],
+) -> Quick<'a>
+    requires field { number < length block.now.fields }
+    requires long { length room.old ≡ SMALL_ROOM }
+    ensures long { length room.new ≡ SMALL_ROOM }
+    ensures value { HasValue result room.new }
+    ensures told { IsQuick result room.new (row_text (row.Decimal exponent) (field_of block.now number)) }
+{
+    let field = field_at(block, number);
+    match mantissa_of(field) {
+        Some(mantissa) => quick_decimal(mantissa, exponent, room),
+        None => Quick::Nothing,
+    }
+}
+
+/// What a text gives, without the general rules.
+#[inline(always)]
+pub(crate) fn quick_passage_at<'a>(block: &BlockView<'a>, number: usize) -> Quick<'a>
+    requires { number < length block.now.fields }
+    ensures value { (room : List ℕ) → HasValue result room }
+    ensures told { (room : List ℕ) → IsQuick result room (row_text row.Passage (field_of block.now number)) }
+{
+    let field = field_at(block, number);
+    match text_of(field) {
+        Some(front) => quick_front(front),
+        None => Quick::Nothing,
+    }
+}
+
+/// Writes the field of a number, if there is one.
 pub(crate) fn number_at(
     rule: &Spelling,
     lead: &Lead,
@@ -65,7 +123,6 @@ pub(crate) fn choices_at(
 }
 
 /// Writes the field of a text, if there is one.
-#[inline(always)]
 pub(crate) fn passage_at(
     lead: &Lead,
     block: &BlockView<'_>,
@@ -125,7 +182,6 @@ pub(crate) fn constant_at(
 }
 
 /// Writes the field of a decimal with this exponent, if it has a mantissa.
-#[inline(always)]
 pub(crate) fn decimal_at(
     exponent: i128,
     lead: &Lead,

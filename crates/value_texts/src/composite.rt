@@ -7,7 +7,7 @@ ghost use Rattle.sbe_types.specs.Shows.{Shows};
 ghost use Rattle.schema_facts.specs.InOrder.{IsKindInOrder};
 ghost use Rattle.bridge_rules.specs.Members.{mantissa_in, members_in};
 ghost use Rattle.message_walk.specs.Rows.{field_of};
-ghost use Rattle.value_texts.specs.Seen.{is_composite, is_composite_field, members_seen, nth_number, CanReadAny, HasMembers, IsSeenOf};
+ghost use Rattle.value_texts.specs.FieldViews.{is_composite, is_composite_field, members_seen, nth_number, CanReadAny, HasMembers, IsSeenOf};
 
 use crate::seen::{field_at, kind_number, number_of};
 use flat_rows::{begin_of, width_of};

@@ -1,22 +1,24 @@
 // The fields of decimals.
-ghost use Rattle.std.specs.Prelude.{◌≡◌, None, Some};
+ghost use Rattle.std.specs.Prelude.{◌≡◌, ◌≤◌, None, Ok, Some};
 ghost use Rattle.tagvalue_codec.specs.declared.write.Phase.TheVariants.{Open};
+ghost use Rattle.tagvalue_codec.specs.Drafts.{IsValue};
 ghost use Rattle.bridge_terms.specs.MessageFields.{length_in};
 ghost use Rattle.bridge_terms.specs.Parts.{TagLists};
 ghost use Rattle.message_walk.specs.States.{IsPut};
-ghost use Rattle.fix_values.specs.Decimals.{dec, decimal_of, decimal_text};
+ghost use Rattle.fix_values.specs.Decimals.{dec, decimal_of, decimal_text, parts_text};
 ghost use Rattle.fix_values.specs.Numerals.{is_value};
 ghost use Rattle.fix_values.specs.Values.{Leaves};
-ghost use Rattle.bridge_rules.specs.Texts.{decimal_in_types, floating_text, if_read, text_if_any};
+ghost use Rattle.bridge_rules.specs.Texts.{decimal_in_types, field_text, floating_text, if_read, text_if_any};
 ghost use Rattle.value_texts.specs.Rows.{is_ok_of};
+ghost use Rattle.value_texts.specs.Small.{small_parts};
 ghost use Rattle.value_texts.specs.FieldViews.{members_seen, nth_number, HasMembers};
 
 use crate::composite::member_number;
 use crate::shown::put_shown;
-use crate::small::{MOST_PLACES, show_small};
+use crate::small::{SMALL_ROOM, SmallDecimal, small_of, write_small};
 use fix_values::{Short, V, read_decimal, show_decimal};
 use flyweight_view::BlockView;
-use message_walk::{Halt, Lead, Put};
+use message_walk::{Halt, Lead, Put, put_text};
 use sbe_types::Leaf;
 use tagvalue_codec::FixWriter;
 
@@ -37,43 +39,57 @@ pub(crate) fn put_fixed_decimal(
 {
     match mantissa {
         None => Put::Nothing,
-        Some(mantissa) => {
-            let mut text = Short::new();
-            let shown = show_any_decimal(mantissa, exponent, &mut text);
-            put_shown(shown, &text, lead, out, halt)
-        }
+        Some(mantissa) => match small_of(mantissa, exponent) {
+            Some(small) => put_small(small, lead, out, halt),
+            None => put_wide(mantissa, exponent, lead, out, halt),
+        },
     }
 }
 
-/// Writes a decimal with any exponent as text.
+/// Writes the field of a decimal with a mantissa of at most 64 bits.
+#[inline(always)]
+fn put_small(small: SmallDecimal, lead: &Lead, out: &mut FixWriter, halt: &mut Halt) -> Put
+    requires open { out.old.phase ≡ Open }
+    requires few { small.places ≤ 18 }
+    requires value { IsValue (parts_text (small_parts small)) }
+    ensures open { out.new.phase ≡ Open }
+    ensures put { (lists : TagLists) → length_in lead.now lists.lengths ≡ None
+        → IsPut lists out.old lead.now (Ok (Some (parts_text (small_parts small)))) (record { put = result; draft = out.new; halt = halt.new }) }
+{
+    let mut room = [0; SMALL_ROOM];
+    let at = write_small(small, &mut room);
+    put_text(lead, &room[at..], out, halt)
+}
+
+/// Writes the field of any decimal.
 #[inline(never)]
+fn put_wide(
+    mantissa: i128,
+    exponent: i128,
+    lead: &Lead,
+    out: &mut FixWriter,
+    halt: &mut Halt,
+) -> Put
+    requires { out.old.phase ≡ Open }
+    ensures open { out.new.phase ≡ Open }
+    ensures put { (lists : TagLists) → length_in lead.now lists.lengths ≡ None
+        → IsPut lists out.old lead.now (field_text (decimal_text (dec mantissa exponent))) (record { put = result; draft = out.new; halt = halt.new }) }
+{
+    let mut text = Short::new();
+    let shown = show_any_decimal(mantissa, exponent, &mut text);
+    put_shown(shown, &text, lead, out, halt)
+}
+
+/// Writes a decimal with any exponent as text.
 fn show_any_decimal(mantissa: i128, exponent: i128, out: &mut Short) -> Result<(), V>
     ensures { Leaves result out.new (decimal_text (dec mantissa exponent)) }
 {
     match i32::try_from(exponent) {
-        Ok(exponent) => show_with(mantissa, exponent, out),
+        Ok(exponent) => show_decimal(mantissa, exponent, out),
         Err(_) => {
             out.clear();
             Err(V::Range)
         }
-    }
-}
-
-/// Writes a decimal as text, with numbers of 64 bits if they are enough.
-#[inline(always)]
-fn show_with(mantissa: i128, exponent: i32, out: &mut Short) -> Result<(), V>
-    ensures { Leaves result out.new (decimal_text (dec mantissa exponent)) }
-{
-    if exponent < -MOST_PLACES || exponent > 0 {
-        return show_decimal(mantissa, exponent, out);
-    }
-    let places = exponent.unsigned_abs();
-    match u64::try_from(mantissa.unsigned_abs()) {
-        Ok(size) => {
-            show_small(mantissa < 0, size, places, out);
-            Ok(())
-        }
-        Err(_) => show_decimal(mantissa, exponent, out),
     }
 }
 

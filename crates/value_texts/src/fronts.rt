@@ -1,8 +1,9 @@
 // The text at the front of a char array.
 ghost use Rattle.std.specs.Prelude.{◌≡◌, ◌≤◌, length, take};
 ghost use Rattle.std.specs.List.{prefix_len};
-ghost use Rattle.flat_rows.specs.Runs.{is_set};
-ghost use Rattle.field_values.specs.Told.{before_zero};
+ghost use Rattle.flat_rows.specs.Runs.{is_set, lies_between};
+ghost use Rattle.field_values.specs.Reports.{before_zero};
+ghost use Rattle.value_texts.specs.Fronts.{IsFront};
 
 use field_values::before_zero;
 use flat_rows::first_set;
@@ -11,15 +12,31 @@ use std::simd::prelude::*;
 /// How many bytes are looked at at once.
 const LANES: usize = 8;
 
+/// The text at the front of a char array.
+#[derive(Clone, Copy)]
+pub(crate) struct Front<'a> {
+    pub(crate) text: &'a [u8],
+    /// Whether it is known to have no SOH. `false` is inconclusive.
+    pub(crate) plain: bool,
+}
+
 /// The bytes before the first 00. Eight bytes are looked at at once.
 #[inline(always)]
-pub(crate) fn front_of(bytes: &[u8]) -> &[u8]
-    ensures { result.now ≡ before_zero bytes.now }
+pub(crate) fn front_of(bytes: &[u8]) -> Front<'_>
+    ensures text { result.text.now ≡ before_zero bytes.now }
+    ensures plain { IsFront result }
 {
     if bytes.len() != LANES {
-        return before_zero(bytes);
+        return Front {
+            text: before_zero(bytes),
+            plain: false,
+        };
     }
-    &bytes[..set_run(bytes)]
+    let run = set_run(bytes);
+    Front {
+        text: &bytes[..run],
+        plain: run <= plain_run(bytes),
+    }
 }
 
 /// How many leading bytes of eight are not 00.
@@ -30,4 +47,15 @@ fn set_run(bytes: &[u8]) -> usize
 {
     let lanes = u8x8::from_slice(bytes);
     first_set(lanes.simd_eq(u8x8::splat(0)).to_bitmask())
+}
+
+/// How many leading bytes of eight are neither 00 nor SOH.
+#[inline(always)]
+fn plain_run(bytes: &[u8]) -> usize
+    requires { LANES ≤ length bytes.now }
+    ensures { result ≡ prefix_len (lies_between 2 255) (take LANES bytes.now) }
+{
+    let lanes = u8x8::from_slice(bytes);
+    let below = lanes.simd_lt(u8x8::splat(2)) | lanes.simd_gt(u8x8::splat(255));
+    first_set(below.to_bitmask())
 }

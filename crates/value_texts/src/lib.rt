@@ -9,6 +9,7 @@ mod fronts;
 mod making;
 mod moments;
 mod numbers;
+mod quick;
 mod row;
 mod seen;
 mod shown;

@@ -1,12 +1,12 @@
 // Makes rows from rules.
-ghost use Rattle.std.specs.Prelude.{◌≡◌, true, List, IfOk, IfSome};
+ghost use Rattle.std.specs.Prelude.{◌≡◌, true, is_some, List, IfOk, IfSome};
 ghost use Rattle.sbe_types.specs.declared.kind.Named.{Named as AnyNamed};
-ghost use Rattle.fix_values.specs.Values.{is_asked, text_of};
+ghost use Rattle.fix_values.specs.Values.{can_show, is_asked, text_of};
 ghost use Rattle.date_answers.specs.Answers.{day_shown};
 ghost use Rattle.bridge_rules.specs.Texts.{field_text};
 ghost use Rattle.bridge_table.specs.Rows.{const_with, rule_with};
 ghost use Rattle.value_texts.specs.declared.row.ValueText.TheVariants as rows;
-ghost use Rattle.value_texts.specs.Made.{const_shown, enum_spelling, kept_of};
+ghost use Rattle.value_texts.specs.Made.{const_shown, enum_spelling, is_spellable, is_spellable_const, kept_of};
 ghost use Rattle.value_texts.specs.Rows.{const_text, Spells};
 
 use crate::moments::show_day_number;
@@ -18,14 +18,15 @@ use lists::{List, NoMem};
 use std::alloc::Global;
 
 impl ValueText {
-    /// The row of a rule. `None` for data, and if the texts of the rule's codes are empty, too long or not distinct,
-    /// which they never are in a valid mapping.
+    /// The row of a rule. `None` for data, and if the texts of the rule's codes are empty or too long, or those of a set
+    /// not distinct, which they never are in a valid mapping.
     ///
     /// # Errors
     ///
     /// If memory runs out.
     pub fn new(alloc: Global, rule: FieldRule) -> Result<Option<ValueText>, NoMem>
-        ensures { IfOk result (λ made. IfSome made (λ row. (names : List AnyNamed) → Spells row (rule_with names rule))) }
+        ensures spells { IfOk result (λ made. IfSome made (λ row. (names : List AnyNamed) → Spells row (rule_with names rule))) }
+        ensures some { IfOk result (λ made. is_some made ≡ is_spellable rule) }
     {
         match rule {
             FieldRule::Integer(_) => Ok(number(NumRule::Int)),
@@ -49,7 +50,8 @@ impl ValueText {
 }
 
 fn number(rule: NumRule) -> Option<ValueText>
-    ensures { IfSome result (λ row. row ≡ rows.Number rule) }
+    ensures same { IfSome result (λ row. row ≡ rows.Number rule) }
+    ensures some { is_some result ≡ can_show rule }
 {
     match Spelling::new(rule) {
         Some(spelling) => Some(ValueText::Number(spelling)),
@@ -58,7 +60,8 @@ fn number(rule: NumRule) -> Option<ValueText>
 }
 
 fn choices(rule: NumRule) -> Option<ValueText>
-    ensures { IfSome result (λ row. row ≡ rows.Choices rule) }
+    ensures same { IfSome result (λ row. row ≡ rows.Choices rule) }
+    ensures some { is_some result ≡ can_show rule }
 {
     match Spelling::new(rule) {
         Some(spelling) => Some(ValueText::Choices(spelling)),
@@ -79,7 +82,8 @@ fn enum_rule(rule: EnumRule) -> NumRule
 
 /// The row of a constant.
 fn constant(alloc: Global, rule: ConstRule) -> Result<Option<ValueText>, NoMem>
-    ensures { IfOk result (λ made. IfSome made (λ row. (names : List AnyNamed) → Spells row (const_with names rule))) }
+    ensures spells { IfOk result (λ made. IfSome made (λ row. (names : List AnyNamed) → Spells row (const_with names rule))) }
+    ensures some { IfOk result (λ made. is_some made ≡ is_spellable_const rule) }
 {
     match constant_text(alloc, rule)? {
         None => Ok(None),
@@ -89,7 +93,8 @@ fn constant(alloc: Global, rule: ConstRule) -> Result<Option<ValueText>, NoMem>
 
 /// The text of a constant, or `None` if its codes can't be written.
 fn constant_text(alloc: Global, rule: ConstRule) -> Result<Option<ConstText>, NoMem>
-    ensures { IfOk result (λ made. IfSome made (λ text. const_text text ≡ const_shown rule)) }
+    ensures shown { IfOk result (λ made. IfSome made (λ text. const_text text ≡ const_shown rule)) }
+    ensures some { IfOk result (λ made. is_some made ≡ is_spellable_const rule) }
 {
     match rule {
         ConstRule::Text(text) => Ok(Some(ConstText::Given(text))),
@@ -103,7 +108,8 @@ fn constant_text(alloc: Global, rule: ConstRule) -> Result<Option<ConstText>, No
 
 /// The text of a constant that is a number.
 fn number_text(alloc: Global, rule: NumRule, n: i128) -> Result<Option<ConstText>, NoMem>
-    ensures { is_asked rule n ≡ true → IfOk result (λ made. IfSome made (λ text. const_text text ≡ field_text (text_of rule n))) }
+    ensures shown { is_asked rule n ≡ true → IfOk result (λ made. IfSome made (λ text. const_text text ≡ field_text (text_of rule n))) }
+    ensures some { IfOk result (λ made. is_some made ≡ can_show rule) }
 {
     let Some(spelling) = Spelling::new(rule) else {
         return Ok(None);

@@ -10,6 +10,7 @@ ghost use Rattle.fix_values.specs.Values.{text_of, text_shown};
 ghost use Rattle.bridge_rules.specs.Texts.{judged_text, text_if_any};
 ghost use Rattle.value_texts.specs.Rows.{CanAsk};
 
+use crate::fronts::Front;
 use crate::spelling::Spelling;
 use itoa::Buffer;
 use message_walk::{Halt, Lead, Put, put_judged, put_text};
@@ -51,7 +52,7 @@ pub(crate) fn put_digits(n: i128, lead: &Lead, out: &mut FixWriter, halt: &mut H
 /// Writes the field of a text, if there is one and it may be written.
 #[inline(always)]
 pub(crate) fn put_passage(
-    text: Option<&[u8]>,
+    text: Option<Front<'_>>,
     lead: &Lead,
     out: &mut FixWriter,
     halt: &mut Halt,
@@ -59,10 +60,10 @@ pub(crate) fn put_passage(
     requires { out.old.phase ≡ Open }
     ensures open { out.new.phase ≡ Open }
     ensures put { (lists : TagLists) → length_in lead.now lists.lengths ≡ None
-        → IsPut lists out.old lead.now (text_if_any (option_map (λ b. b.now) text.entry) (λ t. judged_text t (text_shown t))) (record { put = result; draft = out.new; halt = halt.new }) }
+        → IsPut lists out.old lead.now (text_if_any (option_map (λ f. f.text.now) text.entry) (λ t. judged_text t (text_shown t))) (record { put = result; draft = out.new; halt = halt.new }) }
 {
     match text {
         None => Put::Nothing,
-        Some(text) => put_judged(lead, text, out, halt),
+        Some(front) => put_judged(lead, front.text, out, halt),
     }
 }

@@ -12,9 +12,10 @@ ghost use Rattle.schema_rules.specs.TypeRules.{is_set_primitive};
 ghost use Rattle.field_values.specs.Reports.{before_zero, seen_element};
 ghost use Rattle.bridge_rules.specs.Members.{is_const, not_zero, number_in, text_in};
 ghost use Rattle.message_walk.specs.Rows.{field_of};
+ghost use Rattle.value_texts.specs.Fronts.{IsFront};
 ghost use Rattle.value_texts.specs.FieldViews.{choices_in, is_word, CanReadAny, IsSeenOf};
 
-use crate::fronts::front_of;
+use crate::fronts::{Front, front_of};
 use flyweight_view::{BlockView, FieldBytes};
 use sbe_types::{Kind, Leaf, LeafShape, Order, Presence, Prim, get_num};
 
@@ -79,11 +80,26 @@ fn number_unless_null(order: Order, leaf: &Leaf, bytes: &[u8]) -> Option<i128>
     requires { length bytes.now ≡ prim_width leaf.now.prim }
     ensures { result ≡ seen_element leaf.now (number_of order leaf.now.prim bytes.now) }
 {
-    let number = get_num(order, leaf.prim, bytes);
+    let number = prim_number(order, leaf.prim, bytes);
     if leaf.is_null(number) {
         None
     } else {
         Some(number)
+    }
+}
+
+/// The number that the bytes of one primitive encode. A single byte is read at once.
+#[inline(always)]
+fn prim_number(order: Order, prim: Prim, bytes: &[u8]) -> i128
+    requires { length bytes.now ≡ prim_width prim }
+    ensures { result ≡ number_of order prim bytes.now }
+{
+    match prim {
+        Prim::Char => bytes[0] as i128,
+        Prim::U8 => bytes[0] as i128,
+        Prim::I8 | Prim::I16 | Prim::I32 | Prim::I64 | Prim::U16 | Prim::U32 | Prim::U64 => {
+            get_num(order, prim, bytes)
+        }
     }
 }
 
@@ -141,8 +157,9 @@ fn set_number(order: Order, prim: Prim, bytes: &[u8]) -> u64
 
 /// The text of a field that is a text, and not null.
 #[inline(always)]
-pub(crate) fn text_of<'a>(field: Option<FieldBytes<'a>>) -> Option<&'a [u8]>
-    ensures { (v : Value) → IsSeenOf field.entry v → text_in v ≡ option_map (λ b. b.now) result }
+pub(crate) fn text_of<'a>(field: Option<FieldBytes<'a>>) -> Option<Front<'a>>
+    ensures plain { IfSome result IsFront }
+    ensures text { (v : Value) → IsSeenOf field.entry v → text_in v ≡ option_map (λ f. f.text.now) result }
 {
     match field {
         None => None,
@@ -152,8 +169,9 @@ pub(crate) fn text_of<'a>(field: Option<FieldBytes<'a>>) -> Option<&'a [u8]>
 
 /// The same for the bytes of a kind.
 #[inline(always)]
-fn kind_text<'a>(kind: &Kind, bytes: &'a [u8]) -> Option<&'a [u8]>
-    ensures { (order : AnyOrder) (known : Bool) (v : Value) → Shows order known kind.now v bytes.now → text_in v ≡ option_map (λ b. b.now) result }
+fn kind_text<'a>(kind: &Kind, bytes: &'a [u8]) -> Option<Front<'a>>
+    ensures plain { IfSome result IsFront }
+    ensures text { (order : AnyOrder) (known : Bool) (v : Value) → Shows order known kind.now v bytes.now → text_in v ≡ option_map (λ f. f.text.now) result }
 {
     match kind {
         Kind::Leaf(leaf) => leaf_text(leaf, bytes),
@@ -166,8 +184,9 @@ fn kind_text<'a>(kind: &Kind, bytes: &'a [u8]) -> Option<&'a [u8]>
 
 /// The text of a leaf that is a text, and not null.
 #[inline(always)]
-fn leaf_text<'a>(leaf: &Leaf, bytes: &'a [u8]) -> Option<&'a [u8]>
-    ensures { (order : AnyOrder) (v : Value) → ShowsLeaf order leaf.now.shape leaf.now v bytes.now → text_in v ≡ option_map (λ b. b.now) result }
+fn leaf_text<'a>(leaf: &Leaf, bytes: &'a [u8]) -> Option<Front<'a>>
+    ensures plain { IfSome result IsFront }
+    ensures text { (order : AnyOrder) (v : Value) → ShowsLeaf order leaf.now.shape leaf.now v bytes.now → text_in v ≡ option_map (λ f. f.text.now) result }
 {
     match leaf.shape {
         LeafShape::RangedText => text_unless_null(leaf, bytes),
@@ -180,14 +199,15 @@ fn leaf_text<'a>(leaf: &Leaf, bytes: &'a [u8]) -> Option<&'a [u8]>
 
 /// The text before the first 00, unless it is empty and the leaf is optional.
 #[inline(always)]
-fn text_unless_null<'a>(leaf: &Leaf, bytes: &'a [u8]) -> Option<&'a [u8]>
-    ensures { text_in (text_value leaf.now (before_zero bytes.now)) ≡ option_map (λ b. b.now) result }
+fn text_unless_null<'a>(leaf: &Leaf, bytes: &'a [u8]) -> Option<Front<'a>>
+    ensures plain { IfSome result IsFront }
+    ensures text { text_in (text_value leaf.now (before_zero bytes.now)) ≡ option_map (λ f. f.text.now) result }
 {
-    let text = front_of(bytes);
-    if leaf.presence == Presence::Optional && text.is_empty() {
+    let front = front_of(bytes);
+    if leaf.presence == Presence::Optional && front.text.is_empty() {
         None
     } else {
-        Some(text)
+        Some(front)
     }
 }
 

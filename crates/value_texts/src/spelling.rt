@@ -1,17 +1,20 @@
 // How a number is written.
-ghost use Rattle.std.specs.Prelude.{◌≡◌, true, None, Some, IfSome};
+ghost use Rattle.std.specs.Prelude.{◌≡◌, length, true, is_some, None, Some, IfSome};
 ghost use Rattle.tagvalue_codec.specs.declared.write.Phase.TheVariants.{Open};
 ghost use Rattle.bridge_terms.specs.MessageFields.{length_in};
 ghost use Rattle.bridge_terms.specs.Parts.{TagLists};
 ghost use Rattle.message_walk.specs.States.{IsPut};
 ghost use Rattle.std.specs.List.{list_all};
 ghost use Rattle.fix_values.specs.Codes.{code_text, found_text, has_short_text};
-ghost use Rattle.fix_values.specs.Values.{is_asked, text_of, Leaves};
+ghost use Rattle.fix_values.specs.Values.{can_show, is_asked, text_of, Leaves};
 ghost use Rattle.bridge_rules.specs.Texts.{field_text};
+ghost use Rattle.value_texts.specs.Quick.{HasValue, IsQuick};
 ghost use Rattle.value_texts.specs.Spelled.{is_plain};
 
 use crate::numbers::put_digits;
+use crate::quick::{Quick, quick_code, quick_digits};
 use crate::shown::{put_shown, refuse};
+use crate::small::SMALL_ROOM;
 use fix_values::{Code, CodeList, NumRule, Short, V, show_num};
 use message_walk::{Halt, Lead, Put, put_judged};
 use std::marker::Model;
@@ -38,7 +41,8 @@ impl Model for Spelling {
 impl Spelling {
     /// Wraps a rule. `None` if numbers can't be written by it.
     pub fn new(rule: NumRule) -> Option<Spelling>
-        ensures { IfSome result (λ spelling. spelling ≡ rule) }
+        ensures same { IfSome result (λ spelling. spelling ≡ rule) }
+        ensures some { is_some result ≡ can_show rule }
     {
         if rule.can_show() {
             return Some(Spelling { rule });
@@ -63,9 +67,25 @@ impl Spelling {
         if !is_asked(&self.rule, n) {
             return Put::Nothing;
         }
-        let mut text = Short::new();
-        let shown = show_num(&self.rule, n, &mut text);
-        put_shown(shown, &text, lead, out, halt)
+        put_ruled(&self.rule, n, lead, out, halt)
+    }
+
+    /// The text of most numbers, without the general rules.
+    #[inline(always)]
+    pub(crate) fn quick(&self, n: i128, room: &mut [u8; SMALL_ROOM]) -> Quick<'_>
+        requires { length room.old ≡ SMALL_ROOM }
+        ensures long { length room.new ≡ SMALL_ROOM }
+        ensures value { HasValue result room.new }
+        ensures told { IsQuick result room.new (field_text (text_of self.now n)) }
+    {
+        match &self.rule {
+            NumRule::Int => quick_digits(n, room),
+            NumRule::Decimal => quick_digits(n, room),
+            NumRule::Code(codes) => quick_code(codes, n),
+            NumRule::Char => Quick::Other,
+            NumRule::Boolean(_) => Quick::Other,
+            NumRule::Codes(_) => Quick::Other,
+        }
     }
 
     /// Writes a number as text. One that the rule can't be given is refused.
@@ -77,6 +97,21 @@ impl Spelling {
         }
         show_num(&self.rule, n, out)
     }
+}
+
+/// Writes the field of a number by any rule that can be given it. The short text is cleared here alone.
+#[inline(never)]
+fn put_ruled(rule: &NumRule, n: i128, lead: &Lead, out: &mut FixWriter, halt: &mut Halt) -> Put
+    requires open { out.old.phase ≡ Open }
+    requires rule { can_show rule.now ≡ true }
+    requires asked { is_asked rule.now n ≡ true }
+    ensures open { out.new.phase ≡ Open }
+    ensures put { (lists : TagLists) → length_in lead.now lists.lengths ≡ None
+        → IsPut lists out.old lead.now (field_text (text_of rule.now n)) (record { put = result; draft = out.new; halt = halt.new }) }
+{
+    let mut text = Short::new();
+    let shown = show_num(rule, n, &mut text);
+    put_shown(shown, &text, lead, out, halt)
 }
 
 /// Writes the field of the first code with this number.

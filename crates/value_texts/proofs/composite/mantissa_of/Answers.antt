@@ -1,6 +1,6 @@
 use Rattle.std.proofs.Common.{subst, ap}
 use Rattle.bridge_rules.specs.Members.{mantissa_in}
-use Rattle.value_texts.specs.Seen.{CanReadAny, IsSeenOf}
+use Rattle.value_texts.specs.FieldViews.{CanReadAny, IsSeenOf}
 use Rattle.value_texts.proofs.composite.mantissa_of.Goals as goal
 
 pub kind_mantissa-requires-clause-ready : goal.kind_mantissa-requires-clause-ready
