@@ -5,7 +5,8 @@ use Rattle.std.proofs.Math.IntN.{+ℤ_assoc, +ℤ_idl, +ℤ_idr}
 use Rattle.std.proofs.lemmas.List.{append_assoc}
 use mir.Syntax.{w128}
 use Rattle.flyweight_view.specs.TypedBlocks.{TypedBlock}
-use Rattle.library_examples.specs.Sums.{number_at, sum_at, PassesRange}
+use Rattle.field_lookup.specs.Values.{number_at}
+use Rattle.library_examples.specs.Sums.{sum_at, PassesRange}
 
 -- the number of an entry, or 0
 abbrev pub number_or_zero : ℕ → TypedBlock → ℤ

@@ -1,7 +1,5 @@
-mod NumberThere
 mod Adding
 mod Within
 mod OrderBytes
 mod OrderFits
 mod OrderRoom
-mod PriceLemmas

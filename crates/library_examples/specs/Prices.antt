@@ -1,50 +1,13 @@
 -- The prices of a feed, found by their names.
-use Rattle.std.specs.Prelude.{◌≡◌, ℕ, Bool, true, false, nat_eq, nat_lt, if◌then◌else◌, ℤ, Option, Some, None, List, [], ◌∷◌, length, slice_get}
-use Rattle.std.specs.Option.{option_map, option_and_then}
-use Rattle.sbe_types.specs.declared.kind.Kind.{Kind, Leaf, Enum, Set, Const, Comp'}
+use Rattle.std.specs.Prelude.{◌≡◌, ℕ, nat_eq, nat_lt, if◌then◌else◌, ℤ, Option, Some, None, List, [], ◌∷◌, length, slice_get}
+use Rattle.std.specs.Option.{option_and_then}
 use Rattle.sbe_types.specs.declared.schema.Level.{Level}
 use Rattle.sbe_types.specs.declared.schema.WireSchema.{WireSchema}
-use Rattle.sbe_types.specs.declared.message.Block.{out-Block}
 use Rattle.sbe_types.specs.declared.message.Msg.{Msg}
 use Rattle.sbe_wire.specs.Lays.{Lays}
-use Rattle.schema_facts.specs.Levels.{root_of}
-use Rattle.layout_tables.specs.Parts.{group_number}
-use Rattle.layout_names.specs.Names.{template_named, field_named, group_named}
-use Rattle.flyweight_view.specs.TypedBlocks.{TypedBlock, TypedMessage, typed_level, typed_field}
-use Rattle.library_examples.specs.declared.prices.EntryField.{EntryField}
-use Rattle.library_examples.specs.declared.prices.EntryNames.{EntryNames}
-use Rattle.library_examples.specs.Sums.{number_at, group_entries}
-
--- ---- names
-
--- the field of a group of that message
-abbrev pub field_of_group : EntryNames → WireSchema → ℕ → ℕ → Option EntryField
-field_of_group path schema template group =
-    option_map (λ field. record { template = template; group = group; field = field })
-    (field_named path.field.now schema (group_number schema (root_of schema template) group))
-
--- the field of the group of its name in that message
-abbrev pub field_of_template : EntryNames → WireSchema → ℕ → Option EntryField
-field_of_template path schema template =
-    option_and_then (field_of_group path schema template) (group_named path.group.now schema (root_of schema template))
-
--- the field of its name, in the group of its name, in the message of its name
-abbrev pub entry_field_named : EntryNames → WireSchema → Option EntryField
-entry_field_named path schema = option_and_then (field_of_template path schema) (template_named path.template.now schema)
-
--- ---- prices
-
--- a value of this kind is a composite
-abbrev pub is_composite : Kind → Bool
-is_composite (Comp' n members) = true
-is_composite (Leaf l) = false
-is_composite (Enum l names) = false
-is_composite (Set p names) = false
-is_composite (Const c) = false
-
--- the members of field i of a block, if it is a composite with a value
-abbrev pub composite_at : ℕ → TypedBlock → Option TypedBlock
-composite_at i seen = typed_field (slice_get seen.fields i) (slice_get (out-Block seen.block).fields i)
+use Rattle.flyweight_view.specs.TypedBlocks.{TypedBlock, TypedMessage, typed_level}
+use Rattle.field_lookup.specs.declared.entry_fields.EntryField.{EntryField}
+use Rattle.field_lookup.specs.Values.{composite_at, group_entries, number_at}
 
 -- the mantissa of a price: the number of a composite's first member
 abbrev pub mantissa_at : ℕ → TypedBlock → Option ℤ

@@ -1,56 +1,21 @@
 -- The sum of a field over the entries of a group.
-use Rattle.std.specs.Prelude.{◌≡◌, ℕ, Bool, true, false, nat_lt, if◌then◌else◌, ℤ, pos, ◌+ℤ◌, Option, Some, None, unwrap_or, List, [], ◌∷◌, ◌++◌, length, slice_get, FitsSigned}
+use Rattle.std.specs.Prelude.{◌≡◌, ℕ, ℤ, pos, ◌+ℤ◌, Some, unwrap_or, List, [], ◌∷◌, ◌++◌, slice_get, FitsSigned}
 use mir.Syntax.{w128}
-use Rattle.std.specs.Option.{option_and_then}
-use Rattle.sbe_types.specs.declared.kind.Kind.{Kind, Leaf, Enum, Set, Const, Comp'}
-use Rattle.sbe_types.specs.declared.kind.LeafShape.{LeafShape}
-use Rattle.sbe_types.specs.declared.kind.LeafShape.TheVariants.{Number, RangedText, EncodedText, Octets, Numbers}
 use Rattle.sbe_types.specs.declared.schema.Level.{Level}
 use Rattle.sbe_types.specs.declared.schema.WireSchema.{WireSchema}
-use Rattle.sbe_types.specs.declared.message.Block.{out-Block}
 use Rattle.sbe_types.specs.declared.message.Msg.{Msg}
 use Rattle.sbe_wire.specs.Faults.{FirstFault}
 use Rattle.sbe_wire.specs.Lays.{Lays}
-use Rattle.field_values.specs.Reports.{number_in}
-use Rattle.flyweight_view.specs.TypedBlocks.{TypedBlock, typed_level, typed_group}
+use Rattle.flyweight_view.specs.TypedBlocks.{TypedBlock, typed_level}
 use Rattle.body_walk.specs.Refusals.{refused}
+use Rattle.field_lookup.specs.Values.{group_entries, number_at}
 use Rattle.library_examples.specs.declared.sums.SumErr.{SumErr}
 use Rattle.library_examples.specs.declared.sums.SumErr.TheVariants.{Refused, Over}
-
--- a leaf of this shape is one number
-abbrev pub is_number_shape : LeafShape → Bool
-is_number_shape Number = true
-is_number_shape RangedText = false
-is_number_shape EncodedText = false
-is_number_shape Octets = false
-is_number_shape Numbers = false
-
--- a value of this kind is one number: an integer, an enum or a set
-abbrev pub is_number_kind : Kind → Bool
-is_number_kind (Leaf l) = is_number_shape l.shape
-is_number_kind (Enum l names) = true
-is_number_kind (Set p names) = true
-is_number_kind (Const c) = false
-is_number_kind (Comp' n members) = false
-
--- the number of field i of a block, if it has one
-abbrev pub number_at : ℕ → TypedBlock → Option ℤ
-number_at i seen = if nat_lt i (length seen.fields) then option_and_then number_in (slice_get (out-Block seen.block).fields i) else None
 
 -- the sum of field i over entries; one without a number counts as 0
 abbrev pub sum_at : ℕ → List TypedBlock → ℤ
 sum_at i [] = pos 0
 sum_at i (e ∷ es) = unwrap_or (number_at i e) (pos 0) +ℤ sum_at i es
-
--- the entries of a group; none if it is absent
-abbrev pub all_entries : Option (Option (List TypedBlock)) → List TypedBlock
-all_entries None = []
-all_entries (Some None) = []
-all_entries (Some (Some es)) = es
-
--- the entries of group number `group` of a block
-abbrev pub group_entries : ℕ → TypedBlock → List TypedBlock
-group_entries group seen = all_entries (typed_group (slice_get seen.groups group) (slice_get (out-Block seen.block).groups group))
 
 -- the sum of a field over the entries of group number `group` of a block
 abbrev pub group_sum : ℕ → ℕ → TypedBlock → ℤ

@@ -13,6 +13,6 @@ mod sums;
 pub use bodies::{BodyErr, body_of_line};
 pub use lines::template_of;
 pub use orders::{Order, OrderErr, write_order};
-pub use prices::{EntryField, EntryNames, find_field, last_price};
+pub use prices::last_price;
 pub use schemas::{LoadErr, load};
 pub use sums::{SumErr, sum_entries};

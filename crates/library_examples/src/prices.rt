@@ -1,88 +1,12 @@
 // The prices of a feed, found by their names.
-ghost use Rattle.std.specs.Prelude.{◌≡◌, ◌<◌, length, slice_get, IfOk, IfErr};
-ghost use Rattle.sbe_types.specs.declared.message.Block.{out-Block};
+ghost use Rattle.std.specs.Prelude.{◌≡◌, IfOk, IfErr};
 ghost use Rattle.sbe_wire.specs.Faults.{FirstFault};
-ghost use Rattle.schema_facts.specs.Levels.{groups_at, root_of};
 ghost use Rattle.body_walk.specs.Refusals.{refused};
-ghost use Rattle.layout_names.specs.Tables.{AreNames};
-ghost use Rattle.library_examples.specs.Prices.{composite_at, entry_field_named, field_of_group, field_of_template, is_composite, last_price, mantissa_at, price_in, IsLastPrice};
-ghost use Rattle.library_examples.specs.Sums.{group_entries, number_at};
+ghost use Rattle.library_examples.specs.Prices.{last_price, mantissa_at, price_in, IsLastPrice};
 
-use crate::sums::has_number;
+use field_lookup::{EntryField, composite_of, number_of};
 use flyweight_view::{BlockView, EntriesView, MsgView, Refusal, validate};
-use layout_names::LayoutNames;
 use layout_tables::Layout;
-use sbe_types::Kind;
-
-/// A field of a group's entries by its names: those of the message, of the group, and its own.
-#[derive(Clone, Copy)]
-pub struct EntryNames<'a> {
-    pub template: &'a [u8],
-    pub group: &'a [u8],
-    pub field: &'a [u8],
-}
-
-/// The same field by its numbers: those of the message's template, of the group in its root, and of the field in the
-/// group's entries.
-#[derive(Clone, Copy)]
-pub struct EntryField {
-    pub template: usize,
-    pub group: usize,
-    pub field: usize,
-}
-
-/// Looks up a field of a group's entries by its names. It needs the names of the layout.
-pub fn find_field(layout: &Layout, names: &LayoutNames, path: &EntryNames<'_>) -> Option<EntryField>
-    requires { AreNames layout.now names.now }
-    ensures { result ≡ entry_field_named path.now layout.now }
-{
-    match names.template(path.template) {
-        Some(template) => field_of_template(layout, names, path, template),
-        None => None,
-    }
-}
-
-/// Looks up the group in the root of a message, and then the field. It needs a template in range.
-fn field_of_template(
-    layout: &Layout,
-    names: &LayoutNames,
-    path: &EntryNames<'_>,
-    template: usize,
-) -> Option<EntryField>
-    requires names { AreNames layout.now names.now }
-    requires template { template < length layout.now.messages }
-    ensures { result ≡ field_of_template path.now layout.now template }
-{
-    match names.group(layout.root(template), path.group) {
-        Some(group) => field_of_group(layout, names, path, template, group),
-        None => None,
-    }
-}
-
-/// Looks up the field in the entries of a group. It needs both in range.
-#[tactic(auto, using(crate::proofs::PriceLemmas::level_within))]
-fn field_of_group(
-    layout: &Layout,
-    names: &LayoutNames,
-    path: &EntryNames<'_>,
-    template: usize,
-    group: usize,
-) -> Option<EntryField>
-    requires names { AreNames layout.now names.now }
-    requires template { template < length layout.now.messages }
-    requires group { group < length (groups_at layout.now (root_of layout.now template)) }
-    ensures { result ≡ field_of_group path.now layout.now template group }
-{
-    let level = layout.group(layout.root(template), group);
-    match names.field(level, path.field) {
-        Some(field) => Some(EntryField {
-            template,
-            group,
-            field,
-        }),
-        None => None,
-    }
-}
 
 /// The last price in the message that lies in a body: the mantissa of the last entry that has one. A message of another
 /// template has none. It takes no memory.
@@ -141,39 +65,4 @@ fn mantissa_of(entry: &BlockView<'_>, price: usize) -> Option<i128>
         Some(members) => number_of(&members, 0),
         None => None,
     }
-}
-
-/// The members of a field that is a composite. It needs a field in range.
-#[tactic(auto, using(crate::proofs::PriceLemmas::members_there, crate::proofs::PriceLemmas::no_members, crate::proofs::PriceLemmas::absent_members))]
-fn composite_of<'a>(block: &BlockView<'a>, i: usize) -> Option<BlockView<'a>>
-    requires { i < length block.now.fields }
-    ensures { result ≡ composite_at i block.now }
-{
-    match block.field(i) {
-        Some(field) => {
-            if is_composite(field.kind) {
-                Some(block.comp(i))
-            } else {
-                None
-            }
-        }
-        None => None,
-    }
-}
-
-/// The number of a field, where it has one.
-fn number_of(block: &BlockView<'_>, i: usize) -> Option<i128>
-    ensures { result ≡ number_at i block.now }
-{
-    if i < block.counts().0 && has_number(block, i) {
-        return Some(block.num(i));
-    }
-    None
-}
-
-/// Whether a kind is a composite.
-fn is_composite(kind: &Kind) -> bool
-    ensures { result ≡ is_composite kind.now }
-{
-    matches!(kind, Kind::Comp(_))
 }

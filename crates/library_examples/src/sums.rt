@@ -1,13 +1,11 @@
 // The sum of a field over the entries of a group.
-ghost use Rattle.std.specs.Prelude.{◌≡◌, ◌<◌, length, is_some, slice_get, unwrap_or, pos, IfOk, IfErr, IfSome, IfNone};
-ghost use Rattle.std.specs.Option.{option_and_then};
-ghost use Rattle.sbe_types.specs.declared.message.Block.{out-Block};
-ghost use Rattle.field_values.specs.Reports.{number_in};
-ghost use Rattle.library_examples.specs.Sums.{group_entries, group_sum, is_number_kind, number_at, sum_at, IsNoSum, IsSum, PassesRange};
+ghost use Rattle.std.specs.Prelude.{◌≡◌, unwrap_or, pos, IfOk, IfErr, IfSome, IfNone};
+ghost use Rattle.field_lookup.specs.Values.{group_entries, number_at};
+ghost use Rattle.library_examples.specs.Sums.{group_sum, sum_at, IsNoSum, IsSum, PassesRange};
 
-use flyweight_view::{BlockView, EntriesView, FieldState, Refusal, validate};
+use field_lookup::number_of;
+use flyweight_view::{BlockView, EntriesView, Refusal, validate};
 use layout_tables::Layout;
-use sbe_types::{Kind, LeafShape};
 
 /// Why there is no sum.
 #[derive(Drop)]
@@ -68,33 +66,5 @@ fn sum_over(entries: EntriesView<'_>, field: usize) -> Option<i128>
 fn number_or_zero(block: &BlockView<'_>, i: usize) -> i128
     ensures { result ≡ unwrap_or (number_at i block.now) (pos 0) }
 {
-    if i < block.counts().0 && has_number(block, i) {
-        return block.num(i);
-    }
-    0
-}
-
-/// Whether a field has a number. Requires a field in range.
-pub(crate) fn has_number(block: &BlockView<'_>, i: usize) -> bool
-    requires { i < length block.now.fields }
-    ensures { result ≡ is_some (option_and_then number_in (slice_get (out-Block block.now.block).fields i)) }
-{
-    match block.field(i) {
-        Some(field) => match block.state(i) {
-            FieldState::Here => is_number_kind(field.kind),
-            FieldState::Absent | FieldState::Const | FieldState::Null => false,
-        },
-        None => false,
-    }
-}
-
-/// Whether a value of the kind is a single number: an integer, an enum or a set.
-fn is_number_kind(kind: &Kind) -> bool
-    ensures { result ≡ is_number_kind kind.now }
-{
-    match kind {
-        Kind::Leaf(leaf) => leaf.shape == LeafShape::Number,
-        Kind::Enum(_, _) | Kind::Set(_, _) => true,
-        Kind::Comp(_) | Kind::Const(_) => false,
-    }
+    number_of(block, i).unwrap_or(0)
 }

@@ -1,3 +1,3 @@
-pub mod CompositeThere
-pub mod NumberThere
+pub mod Built
+pub mod Given
 pub mod Values

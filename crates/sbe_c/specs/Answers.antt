@@ -6,8 +6,14 @@ use Rattle.schema_rules.specs.declared.codes.CCode.{CCode}
 use Rattle.schema_rules.specs.declared.codes.CCode.TheVariants as rule
 use Rattle.sbe_wire.specs.declared.codes.FCode.{FCode}
 use Rattle.sbe_wire.specs.declared.codes.FCode.TheVariants as fault
+use Rattle.sbe_wire.specs.declared.codes.NCode.{NCode}
+use Rattle.sbe_wire.specs.declared.codes.NCode.TheVariants as misfit
+use Rattle.line_values.specs.declared.refusals.JCode.{JCode}
+use Rattle.line_values.specs.declared.refusals.JCode.TheVariants as line
+use Rattle.field_values.specs.declared.state.FieldState.{FieldState}
+use Rattle.field_values.specs.declared.state.FieldState.TheVariants as state
 use Rattle.sbe_c.specs.declared.answers.Answer.{Answer}
-use Rattle.sbe_c.specs.declared.answers.Answer.TheVariants.{Done, Closed, Memory, File, Rule, Body, Room, Absent}
+use Rattle.sbe_c.specs.declared.answers.Answer.TheVariants.{Done, Closed, Memory, File, Rule, Body, Room, Absent, Line, Misfit}
 
 -- the number of an answer
 abbrev pub answer_code : Answer → ℕ
@@ -19,6 +25,8 @@ answer_code Rule = 4
 answer_code Body = 5
 answer_code Room = 6
 answer_code Absent = 7
+answer_code Line = 8
+answer_code Misfit = 9
 
 -- the number in the code of a refused file: 1 of S01
 abbrev pub cause_number : Cause → ℕ
@@ -65,3 +73,29 @@ fault_number fault.TextByte = 9
 fault_number fault.Count = 10
 fault_number fault.Length = 11
 fault_number fault.Trailing = 12
+
+-- the number in the code of a line's refusal: 1 of J01
+abbrev pub line_number : JCode → ℕ
+line_number line.NotJson = 1
+line_number line.Shape = 2
+line_number line.UnknownName = 3
+line_number line.Kind = 4
+
+-- the number in the code of a message's misfit: 1 of N01
+abbrev pub misfit_number : NCode → ℕ
+misfit_number misfit.Range = 1
+misfit_number misfit.EnumUnknown = 2
+misfit_number misfit.SetUnknown = 3
+misfit_number misfit.TextByte = 4
+misfit_number misfit.Kind = 5
+misfit_number misfit.Count = 6
+misfit_number misfit.Length = 7
+misfit_number misfit.Full = 8
+misfit_number misfit.Shape = 9
+
+-- the number of a field's state
+abbrev pub state_number : FieldState → ℕ
+state_number state.Here = 0
+state_number state.Null = 1
+state_number state.Absent = 2
+state_number state.Const = 3

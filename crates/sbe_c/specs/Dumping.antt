@@ -13,9 +13,9 @@ use Rattle.sbe_c.specs.declared.answers.Answer.TheVariants as answer
 use Rattle.sbe_c.specs.declared.answers.Report.{Report}
 use Rattle.sbe_c.specs.declared.dumping.DumpErr.{DumpErr}
 use Rattle.sbe_c.specs.declared.dumping.DumpErr.TheVariants.{Refused, Memory}
-use Rattle.sbe_c.specs.declared.opened.Opened.{Opened}
 use Rattle.sbe_c.specs.Answers.{fault_number}
 use Rattle.sbe_c.specs.Filling.{filled}
+use Rattle.sbe_c.specs.Outcomes.{Outcome}
 
 -- A message lies in the body, and this is its line.
 pub record IsLine (schema : WireSchema) (body line : List ℕ) : Type 0 where
@@ -31,11 +31,11 @@ IsNoLine schema body (Refused r) = FirstFault schema (refused r) body
 IsNoLine schema body Memory = ⊤
 
 -- The body has this line, and it is told as far as there is room.
-pub record TellsLine (schema : WireSchema) (body old new : List ℕ) (report : Report) : Type 0 where
+pub record TellsLine (schema : WireSchema) (body : List ℕ) (told : Outcome) : Type 0 where
   pub line : List ℕ
   pub is : IsLine schema body line
-  pub length_told : report.length ≡ length line
-  pub line_told : new ≡ filled line old
+  pub length_told : told.report.length ≡ length line
+  pub line_told : told.new ≡ filled line told.old
 
 -- The body isn't a message, and its first fault is told.
 pub record TellsFault (schema : WireSchema) (body : List ℕ) (report : Report) : Type 0 where
@@ -45,17 +45,19 @@ pub record TellsFault (schema : WireSchema) (body : List ℕ) (report : Report) 
   pub offset_told : report.offset ≡ fault.offset
 
 -- what a body is answered with, by an open schema
-abbrev pub AnswersBody : Answer → WireSchema → List ℕ → List ℕ → List ℕ → Report → Type 0
-AnswersBody answer.Done schema body old new report = TellsLine schema body old new report × (report.length ≤ length old)
-AnswersBody answer.Closed schema body old new report = ⊥
-AnswersBody answer.Memory schema body old new report = ⊤
-AnswersBody answer.File schema body old new report = ⊥
-AnswersBody answer.Rule schema body old new report = ⊥
-AnswersBody answer.Body schema body old new report = TellsFault schema body report
-AnswersBody answer.Room schema body old new report = TellsLine schema body old new report × (length old < report.length)
-AnswersBody answer.Absent schema body old new report = ⊥
+abbrev pub AnswersBody : Answer → WireSchema → List ℕ → Outcome → Type 0
+AnswersBody answer.Done schema body told = TellsLine schema body told × (told.report.length ≤ length told.old)
+AnswersBody answer.Closed schema body told = ⊥
+AnswersBody answer.Memory schema body told = ⊤
+AnswersBody answer.File schema body told = ⊥
+AnswersBody answer.Rule schema body told = ⊥
+AnswersBody answer.Body schema body told = TellsFault schema body told.report
+AnswersBody answer.Room schema body told = TellsLine schema body told × (length told.old < told.report.length)
+AnswersBody answer.Absent schema body told = ⊥
+AnswersBody answer.Line schema body told = ⊥
+AnswersBody answer.Misfit schema body told = ⊥
 
 -- the same by a handle, which may be closed
-abbrev pub AnswersDump : Answer → Option Opened → List ℕ → List ℕ → List ℕ → Report → Type 0
-AnswersDump a (Some opened) body old new report = AnswersBody a opened.lines body old new report
-AnswersDump a None body old new report = a ≡ answer.Closed
+abbrev pub AnswersDump : Answer → Option WireSchema → List ℕ → Outcome → Type 0
+AnswersDump a (Some schema) body told = AnswersBody a schema body told
+AnswersDump a None body told = a ≡ answer.Closed

@@ -1,7 +1,12 @@
 pub mod Handles
 pub mod Answers
 pub mod Filling
+pub mod Outcomes
 pub mod Opening
 pub mod Dumping
 pub mod Reading
+pub mod Validating
+pub mod Building
+pub mod Naming
+pub mod Fields
 pub mod Exports

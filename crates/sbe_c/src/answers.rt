@@ -1,9 +1,11 @@
 //! What an export answers.
 ghost use Rattle.std.specs.Prelude.{◌≡◌};
-ghost use Rattle.sbe_c.specs.Answers.{answer_code, cause_number, rule_number, fault_number};
+ghost use Rattle.sbe_c.specs.Answers.{answer_code, cause_number, rule_number, fault_number, line_number, misfit_number, state_number};
 
+use flyweight_view::{FieldState, Refusal};
 use json_elements::Cause;
-use sbe_wire::FCode;
+use line_values::JCode;
+use sbe_wire::{FCode, NCode};
 use schema_check::CCode;
 
 /// What an export answers. C sees its number.
@@ -25,10 +27,14 @@ pub enum Answer {
     Room,
     /// Nothing has these names.
     Absent,
+    /// The line doesn't hold a message of the schema.
+    Line,
+    /// The message has no body that the caller's buffer has room for.
+    Misfit,
 }
 
 impl Answer {
-    /// Its number in C.
+    /// The number that C sees.
     pub fn code(self) -> u32
         ensures { result ≡ answer_code self }
     {
@@ -41,19 +47,21 @@ impl Answer {
             Answer::Body => 5,
             Answer::Room => 6,
             Answer::Absent => 7,
+            Answer::Line => 8,
+            Answer::Misfit => 9,
         }
     }
 }
 
-/// What C is told beside an answer.
+/// What a call reports with its answer.
 #[repr(C)]
 #[derive(Clone, Copy)]
 pub struct Report {
-    /// Why something is refused: the number in a code, as 2 of `F02`.
+    /// Why something is refused: the number in a code, such as 2 in `F02`. Also the number of a state.
     pub code: u32,
     /// The offset of a fault from the body's first byte.
     pub offset: usize,
-    /// How many bytes or numbers belong into the caller's buffer.
+    /// How many bytes or numbers the answer has, even if the caller's buffer has room for fewer.
     pub length: usize,
 }
 
@@ -115,5 +123,55 @@ pub fn fault_number(code: FCode) -> u32
         FCode::Count => 10,
         FCode::Length => 11,
         FCode::Trailing => 12,
+    }
+}
+
+/// Reports the first fault of a body.
+pub fn tell_fault(refusal: &Refusal, report: &mut Report)
+    ensures code { report.new.code ≡ fault_number refusal.now.code }
+    ensures offset { report.new.offset ≡ refusal.now.offset }
+{
+    report.code = fault_number(refusal.code);
+    report.offset = refusal.offset;
+}
+
+/// The number in the code of a line's refusal.
+pub fn line_number(code: JCode) -> u32
+    ensures { result ≡ line_number code }
+{
+    match code {
+        JCode::NotJson => 1,
+        JCode::Shape => 2,
+        JCode::UnknownName => 3,
+        JCode::Kind => 4,
+    }
+}
+
+/// The number in the code of a message's misfit.
+pub fn misfit_number(code: NCode) -> u32
+    ensures { result ≡ misfit_number code }
+{
+    match code {
+        NCode::Range => 1,
+        NCode::EnumUnknown => 2,
+        NCode::SetUnknown => 3,
+        NCode::TextByte => 4,
+        NCode::Kind => 5,
+        NCode::Count => 6,
+        NCode::Length => 7,
+        NCode::Full => 8,
+        NCode::Shape => 9,
+    }
+}
+
+/// The number of a field's state in C.
+pub fn state_number(state: FieldState) -> u32
+    ensures { result ≡ state_number state }
+{
+    match state {
+        FieldState::Here => 0,
+        FieldState::Null => 1,
+        FieldState::Absent => 2,
+        FieldState::Const => 3,
     }
 }

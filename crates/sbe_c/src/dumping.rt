@@ -3,8 +3,9 @@ ghost use Rattle.std.specs.Prelude.{◌≡◌, Some, slice_get, IfOk, IfErr};
 ghost use Rattle.serde_json.specs.Written.{compact_text};
 ghost use Rattle.tree_json.specs.Lines.{message_at};
 ghost use Rattle.sbe_c.specs.Dumping.{IsLine, IsNoLine, AnswersDump};
+ghost use Rattle.sbe_c.specs.Outcomes.{outcome};
 
-use crate::answers::{Answer, Report, fault_number};
+use crate::answers::{Answer, Report, tell_fault};
 use crate::filling::fill;
 use crate::opened::Opened;
 use crate::text_sink::TextSink;
@@ -53,7 +54,7 @@ fn text_of(alloc: Global, lines: &LineLayout, view: &MsgView<'_>) -> Result<Text
     }
 }
 
-/// Writes the line of the message that lies in a body into the caller's buffer, or tells the first fault.
+/// Writes the line of the message that lies in a body into the caller's buffer, or reports the first fault.
 pub fn dump_in(
     alloc: Global,
     opened: &Opened,
@@ -61,9 +62,9 @@ pub fn dump_in(
     line: &mut [u8],
     report: &mut Report,
 ) -> Answer
-    ensures { AnswersDump result (Some opened.now) body.now line.old line.new report.new }
+    ensures { AnswersDump result (Some opened.now) body.now (outcome line.old line.new report.new) }
 {
-    match dump(alloc, &opened.lines, body) {
+    match dump(alloc, opened.lines(), body) {
         Ok(text) => {
             fill(line, text.bytes.as_slice());
             report.length = text.bytes.len();
@@ -73,8 +74,7 @@ pub fn dump_in(
             Answer::Done
         }
         Err(DumpErr::Refused(refusal)) => {
-            report.code = fault_number(refusal.code);
-            report.offset = refusal.offset;
+            tell_fault(&refusal, report);
             Answer::Body
         }
         Err(DumpErr::Memory) => Answer::Memory,

@@ -3,7 +3,7 @@ ghost use Rattle.std.specs.Prelude.{◌≡◌};
 ghost use Rattle.std.specs.declared.option.Option.{Option};
 ghost use Rattle.std.specs.declared.option.Option.TheVariants.{None, Some};
 ghost use Rattle.std.specs.Option.{option_map};
-ghost use Rattle.sbe_c.specs.declared.opened.Opened.{Opened};
+ghost use Rattle.sbe_types.specs.declared.schema.WireSchema.{WireSchema};
 ghost use Rattle.sbe_c.specs.Handles.{handle_owns, opened_coded};
 
 use crate::opened::Opened;
@@ -19,8 +19,8 @@ pub struct Handle {
     ptr: *mut u8,
     alloc: Global,
     is_open: bool,
-    /// What it owns.
-    pub ghost opened: { Option Opened } by { opened_coded },
+    /// The schema that it owns.
+    pub ghost opened: { Option WireSchema } by { opened_coded },
 }
 
 impl Model for Handle {
@@ -51,7 +51,7 @@ impl Handle {
         }
     }
 
-    /// What it owns.
+    /// Returns what the handle owned, in parts.
     fn into_parts(self) -> Option<Parts<Opened, Global>>
         ensures { option_map (λ b. b.value) result ≡ self.opened }
     {
@@ -69,7 +69,7 @@ impl Handle {
         None
     }
 
-    /// Takes out what it owns, and closes it.
+    /// Takes the schema out of the handle, which is closed then.
     pub fn take(&mut self, alloc: Global) -> Option<Box<Opened>>
         ensures value { option_map (λ b. b.value) result ≡ self.old.opened }
         ensures after { self.new.opened ≡ None }
@@ -82,7 +82,7 @@ impl Handle {
         }
     }
 
-    /// Opens it with a schema. What it owned before is freed.
+    /// Opens the handle with a schema. What it owned before is freed.
     pub fn put(&mut self, opened: Box<Opened>)
         ensures { self.new.opened ≡ Some opened.value }
     {

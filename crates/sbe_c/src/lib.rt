@@ -2,12 +2,17 @@
 #![tactic(auto)]
 
 mod answers;
+mod building;
 mod dumping;
 mod exports;
+mod fields;
 mod filling;
 mod handle;
+mod names;
 mod opened;
 mod opening;
 mod parts;
 mod reading;
 mod text_sink;
+mod validating;
+mod ways;

@@ -1,21 +1,20 @@
-//! A schema is opened.
+//! Opens the schema of a file.
 ghost use Rattle.std.specs.Prelude.{◌≡◌, Ok, IfOk, IfErr, length};
 ghost use Rattle.schema_files.specs.FileChecks.{schema_in};
 ghost use Rattle.sbe_c.specs.declared.opening.OpenErr.TheVariants.{Memory};
 ghost use Rattle.sbe_c.specs.Filling.{filled};
 ghost use Rattle.sbe_c.specs.Opening.{IsOpened, IsNotOpened, AnswersOpen};
+ghost use Rattle.sbe_c.specs.Outcomes.{outcome};
 
 use crate::answers::{Answer, Report, cause_number, rule_number};
 use crate::filling::fill;
 use crate::handle::Handle;
 use crate::opened::Opened;
 use json_elements::Cause;
-use layout_compile::compile;
 use lists::{NoMem, Text};
 use sbe_schema::{SchemaErr, read_schema};
 use schema_check::{CCode, CheckErr, Checked, check};
 use std::alloc::Global;
-use tree_json::LineLayout;
 
 /// Why a schema isn't opened.
 #[derive(Drop)]
@@ -41,8 +40,8 @@ pub fn open(alloc: Global, file: &[u8]) -> Result<Box<Opened>, OpenErr>
         Ok(checked) => checked,
         Err(e) => return Err(e),
     };
-    match lines_of(alloc, &checked) {
-        Ok(lines) => boxed(alloc, lines),
+    match Opened::new(alloc, checked) {
+        Ok(opened) => boxed(alloc, opened),
         Err(NoMem) => Err(OpenErr::Memory),
     }
 }
@@ -63,28 +62,18 @@ fn read_checked(alloc: Global, file: &[u8]) -> Result<Checked, OpenErr>
     }
 }
 
-/// The layout of a checked schema, with the texts of its lines.
-fn lines_of(alloc: Global, checked: &Checked) -> Result<LineLayout, NoMem>
-    ensures { IfOk result (λ lines. lines ≡ checked.now) }
-{
-    match compile(alloc, checked) {
-        Ok(layout) => LineLayout::new(alloc, layout),
-        Err(NoMem) => Err(NoMem),
-    }
-}
-
-/// Puts a layout on the heap.
-fn boxed(alloc: Global, lines: LineLayout) -> Result<Box<Opened>, OpenErr>
-    ensures opened { IfOk result (λ opened. opened.value.lines ≡ lines) }
+/// Puts an opened schema on the heap.
+fn boxed(alloc: Global, opened: Opened) -> Result<Box<Opened>, OpenErr>
+    ensures opened { IfOk result (λ b. b.value ≡ opened) }
     ensures memory { IfErr result (λ e. e ≡ Memory) }
 {
-    match Box::new(alloc, Opened { lines }) {
+    match Box::new(alloc, opened) {
         Ok(opened) => Ok(opened),
         Err(_) => Err(OpenErr::Memory),
     }
 }
 
-/// Opens the schema of a file in a handle, or tells why not. A handle that isn't opened is closed.
+/// Opens the schema of a file in a handle, or reports why not. A handle that isn't opened is closed.
 pub fn open_in(
     alloc: Global,
     handle: &mut Handle,
@@ -92,7 +81,7 @@ pub fn open_in(
     path: &mut [u8],
     report: &mut Report,
 ) -> Answer
-    ensures { AnswersOpen result file.now handle.new.opened path.old path.new report.new }
+    ensures { AnswersOpen result file.now handle.new.opened (outcome path.old path.new report.new) }
 {
     drop(handle.take(alloc));
     match open(alloc, file) {
@@ -112,8 +101,8 @@ pub fn open_in(
     }
 }
 
-/// Tells the number of a code, and a path.
-fn tell(buffer: &mut [u8], report: &mut Report, code: u32, path: &[u8])
+/// Reports the number of a code, and a path.
+pub fn tell(buffer: &mut [u8], report: &mut Report, code: u32, path: &[u8])
     ensures text { buffer.new ≡ filled path.now buffer.old }
     ensures code { report.new.code ≡ code }
     ensures length { report.new.length ≡ length path.now }

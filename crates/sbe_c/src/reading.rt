@@ -1,35 +1,17 @@
 //! Numbers of the entries of a group.
-ghost use Rattle.std.specs.Prelude.{◌≡◌, ◌<◌, length, is_some, map, slice_get, Some, IfOk, IfErr};
-ghost use Rattle.std.specs.Option.{option_and_then};
-ghost use Rattle.sbe_types.specs.declared.message.Block.{out-Block};
-ghost use Rattle.field_values.specs.Told.{number_in};
-ghost use Rattle.library_examples.specs.Prices.{composite_at, is_composite};
-ghost use Rattle.library_examples.specs.Sums.{is_number_kind, number_at};
-ghost use Rattle.sbe_c.specs.Reading.{AnswersFind, AnswersNumbers, AreNumbers, IsNoReading, number_told, numbers_at, value_at};
+ghost use Rattle.std.specs.Prelude.{◌≡◌, map, Some, IfOk, IfErr};
+ghost use Rattle.sbe_c.specs.Outcomes.{number_told, numbers_outcome};
+ghost use Rattle.sbe_c.specs.Reading.{AnswersFind, AnswersNumbers, AreNumbers, IsNoReading, numbers_at, value_at};
 
-use crate::answers::{Answer, Report, fault_number};
+use crate::answers::{Answer, Report, tell_fault};
 use crate::filling::fill;
 use crate::opened::Opened;
-use flyweight_view::{BlockView, EntriesView, FieldState, MsgView, Refusal, validate};
+use field_lookup::{EntryField, EntryNames, composite_of, find_field, number_of};
+use flyweight_view::{BlockView, EntriesView, MsgView, Refusal, validate};
 use layout_names::LayoutNames;
 use layout_tables::Layout;
-use library_examples::{EntryNames, find_field};
 use lists::NoMem;
-use sbe_types::{Kind, LeafShape};
 use std::alloc::Global;
-
-/// Where numbers are: a field of the entries of a group in the root of a message. Each is counted from 0, in the
-/// schema's order.
-#[repr(C)]
-#[derive(Clone, Copy)]
-pub struct Place {
-    /// The message's template.
-    pub template: usize,
-    /// The group in its root.
-    pub group: usize,
-    /// The field in the group's entries.
-    pub field: usize,
-}
 
 /// A number, or that there is none.
 #[repr(C)]
@@ -58,7 +40,7 @@ const WORD: u128 = 1 << 64;
 
 impl Number {
     /// A number as C sees it.
-    fn of(number: Option<i128>) -> Number
+    pub fn of(number: Option<i128>) -> Number
         ensures { number_told result ≡ number }
     {
         match number {
@@ -87,36 +69,39 @@ impl Number {
 }
 
 /// Finds the field of a group's entries by its names.
-pub fn find_in(alloc: Global, opened: &Opened, names: &EntryNames<'_>, place: &mut Place) -> Answer
+pub fn find_in(
+    alloc: Global,
+    opened: &Opened,
+    names: &EntryNames<'_>,
+    place: &mut EntryField,
+) -> Answer
     ensures { AnswersFind result (Some opened.now) names.now place.new }
 {
-    let layout = opened.lines.layout();
+    let layout = opened.layout();
     let Ok(tables) = LayoutNames::new(alloc, layout) else {
         return Answer::Memory;
     };
     match find_field(layout, &tables, names) {
         Some(found) => {
-            place.template = found.template;
-            place.group = found.group;
-            place.field = found.field;
+            *place = found;
             Answer::Done
         }
         None => Answer::Absent,
     }
 }
 
-/// Writes the numbers of a field of a group's entries into the caller's buffer, or tells the first fault of the body.
+/// Writes the numbers of a field of a group's entries into the caller's buffer, or reports the first fault of the body.
 pub fn numbers_in(
     alloc: Global,
     opened: &Opened,
     body: &[u8],
-    place: Place,
+    place: EntryField,
     numbers: &mut [Number],
     report: &mut Report,
 ) -> Answer
-    ensures { AnswersNumbers result (Some opened.now) body.now place numbers.old numbers.new report.new }
+    ensures { AnswersNumbers result (Some opened.now) body.now place (numbers_outcome numbers.old numbers.new report.new) }
 {
-    match read(alloc, opened.lines.layout(), body, place) {
+    match read(alloc, opened.layout(), body, place) {
         Ok(read) => {
             fill(numbers, read.as_slice());
             report.length = read.len();
@@ -126,8 +111,7 @@ pub fn numbers_in(
             Answer::Done
         }
         Err(ReadErr::Refused(refusal)) => {
-            report.code = fault_number(refusal.code);
-            report.offset = refusal.offset;
+            tell_fault(&refusal, report);
             Answer::Body
         }
         Err(ReadErr::Memory) => Answer::Memory,
@@ -135,7 +119,12 @@ pub fn numbers_in(
 }
 
 /// The numbers of a field of the entries of a group, in the message that lies in a body.
-fn read(alloc: Global, layout: &Layout, body: &[u8], place: Place) -> Result<Vec<Number>, ReadErr>
+fn read(
+    alloc: Global,
+    layout: &Layout,
+    body: &[u8],
+    place: EntryField,
+) -> Result<Vec<Number>, ReadErr>
     ensures numbers { IfOk result (λ numbers. AreNumbers layout.now body.now place numbers.items) }
     ensures refused { IfErr result (IsNoReading layout.now body.now) }
 {
@@ -149,7 +138,7 @@ fn read(alloc: Global, layout: &Layout, body: &[u8], place: Place) -> Result<Vec
 }
 
 /// The numbers of a field of the entries of a group in a message. A message of another template has none.
-fn numbers_of(alloc: Global, view: &MsgView<'_>, place: Place) -> Result<Vec<Number>, NoMem>
+fn numbers_of(alloc: Global, view: &MsgView<'_>, place: EntryField) -> Result<Vec<Number>, NoMem>
     ensures { IfOk result (λ numbers. map number_told numbers.items ≡ numbers_at place view.now) }
 {
     if view.template() != place.template {
@@ -186,65 +175,5 @@ fn value_of(block: &BlockView<'_>, i: usize) -> Option<i128>
     match composite_of(block, i) {
         Some(members) => number_of(&members, 0),
         None => number_of(block, i),
-    }
-}
-
-/// The members of a field that is a composite. Requires a field in range.
-#[tactic(auto, using(crate::proofs::CompositeThere::members_there, crate::proofs::CompositeThere::no_members, crate::proofs::CompositeThere::absent_members))]
-fn composite_of<'a>(block: &BlockView<'a>, i: usize) -> Option<BlockView<'a>>
-    requires { i < length block.now.fields }
-    ensures { result ≡ composite_at i block.now }
-{
-    match block.field(i) {
-        Some(field) => {
-            if is_composite(field.kind) {
-                Some(block.comp(i))
-            } else {
-                None
-            }
-        }
-        None => None,
-    }
-}
-
-/// The number of a field, if it has one.
-fn number_of(block: &BlockView<'_>, i: usize) -> Option<i128>
-    ensures { result ≡ number_at i block.now }
-{
-    if i < block.counts().0 && has_number(block, i) {
-        return Some(block.num(i));
-    }
-    None
-}
-
-/// Whether a field has a number. Requires a field in range.
-fn has_number(block: &BlockView<'_>, i: usize) -> bool
-    requires { i < length block.now.fields }
-    ensures { result ≡ is_some (option_and_then number_in (slice_get (out-Block block.now.block).fields i)) }
-{
-    match block.field(i) {
-        Some(field) => match block.state(i) {
-            FieldState::Here => is_number_kind(field.kind),
-            FieldState::Absent | FieldState::Const | FieldState::Null => false,
-        },
-        None => false,
-    }
-}
-
-/// Whether a kind is a composite.
-fn is_composite(kind: &Kind) -> bool
-    ensures { result ≡ is_composite kind.now }
-{
-    matches!(kind, Kind::Comp(_))
-}
-
-/// Whether a value of the kind is a single number: an integer, an enum or a set.
-fn is_number_kind(kind: &Kind) -> bool
-    ensures { result ≡ is_number_kind kind.now }
-{
-    match kind {
-        Kind::Leaf(leaf) => leaf.shape == LeafShape::Number,
-        Kind::Enum(_, _) | Kind::Set(_, _) => true,
-        Kind::Comp(_) | Kind::Const(_) => false,
     }
 }

@@ -7,12 +7,14 @@ use std::alloc::Global;
 /// The bytes that were written. A write fails only if memory runs out.
 #[derive(Drop)]
 pub struct TextSink {
+    /// What was written.
     pub bytes: Vec<u8>,
+    /// How many writes failed.
     pub faults: u64,
 }
 
 impl TextSink {
-    /// One without bytes.
+    /// A text without bytes.
     pub fn new(alloc: Global) -> TextSink
         ensures { result.bytes.items ≡ [] }
     {

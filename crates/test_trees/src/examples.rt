@@ -2,12 +2,13 @@
 
 use crate::bench::{layout_of, refused_text, with_bytes};
 use anyhow::{Result, bail};
+use field_lookup::{EntryField, EntryNames, find_field};
 use layout_compile::compile;
 use layout_names::LayoutNames;
 use layout_tables::Layout;
 use library_examples::{
-    BodyErr, EntryField, EntryNames, Order, OrderErr, SumErr, body_of_line, find_field, last_price,
-    sum_entries, template_of, write_order,
+    BodyErr, Order, OrderErr, SumErr, body_of_line, last_price, sum_entries, template_of,
+    write_order,
 };
 use line_values::LineFault;
 use schema_check::Checked;

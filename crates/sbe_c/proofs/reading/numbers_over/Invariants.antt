@@ -1,5 +1,6 @@
 use Rattle.std.proofs.Common.{◌≡◌, ◌++◌, map}
-use Rattle.sbe_c.specs.Reading.{number_told, value_at}
+use Rattle.sbe_c.specs.Outcomes.{number_told}
+use Rattle.sbe_c.specs.Reading.{value_at}
 use Rattle.sbe_c.proofs.reading.numbers_over.Given as goal
 
 abbrev pub invariant-loop-entry : goal.invariant-loop-entry

@@ -1,0 +1,4 @@
+mod CompositeThere
+mod EntryFieldLemmas
+mod NumberThere
+mod TextThere
