@@ -106,7 +106,11 @@ pub fn answer_message<O: Sink, N: Sink>(
 }
 
 /// Writes the answer that is the frame of a body. Allocates nothing.
-fn answer_body<O: Sink>(layout: &Layout, body: &[u8], output: &mut O) -> Result<Verdict, Status>
+///
+/// # Errors
+///
+/// `WriteFault` if a write fails.
+pub fn answer_body<O: Sink>(layout: &Layout, body: &[u8], output: &mut O) -> Result<Verdict, Status>
     requires { length body.now < 2 ^ 24 }
     ensures { (notes : Object (List ℕ)) → DeliversDraft (frame_reply layout.now body.now)
         (sinks_of (O.state output.old) notes)

@@ -10,6 +10,6 @@ mod target;
 mod unbuilt;
 
 pub use build::{Builder, load_build};
-pub use built::{answer_built, answer_message};
+pub use built::{answer_body, answer_built, answer_message};
 pub use space::LineSpace;
 pub use target::Target;

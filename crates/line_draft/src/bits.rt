@@ -38,7 +38,7 @@ pub(crate) fn big(bits: u64, out: &mut [u8])
 }
 
 /// The bits of a number, in two's complement, or 0 if it doesn't fit 64 bits.
-pub(crate) fn bits_of(number: i128) -> u64 {
+pub fn bits_of(number: i128) -> u64 {
     match u64::try_from(number) {
         Ok(bits) => bits,
         Err(_) => match i64::try_from(number) {

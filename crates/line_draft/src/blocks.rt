@@ -3,7 +3,7 @@ use crate::cursor::Cursor;
 use crate::draft::BodyDraft;
 use crate::kinds::{begin_of, end_of, past, value_in};
 use crate::parts::{parts_in, past_parts};
-use sbe_types::{Field, Group, Kind, Level, Member, Order};
+use sbe_types::{Field, Group, Kind, Level, Order};
 
 /// The beginning of the object of a root or of an entry.
 pub(crate) const FRONT: &[u8] = b"{\"data\":{";
@@ -83,12 +83,11 @@ fn groups_in(
 /// The dimension and the entries of a group.
 #[cycle(level)]
 fn group_in(cursor: &mut Cursor<'_>, order: Order, group: &Group, draft: &mut BodyDraft) -> bool {
-    let dim = group.dim.as_slice();
-    let Some(at) = draft.zeros(end_of(dim)) else {
+    let Some(at) = draft.zeros(end_of(group.dim.as_slice())) else {
         return false;
     };
     match entries_in(cursor, order, &group.level, draft) {
-        Some(count) => put_dim(order, dim, group.level.block_length, count, draft, at),
+        Some(count) => put_dim(order, group, count, draft, at),
         None => false,
     }
 }
@@ -121,17 +120,12 @@ fn entries_in(
     Some(count)
 }
 
-/// The numbers of a dimension that begins at an offset of the draft. Its two names have different lengths.
-fn put_dim(
-    order: Order,
-    members: &[Member],
-    block: u32,
-    count: u32,
-    draft: &mut BodyDraft,
-    at: usize,
-) -> bool {
+/// The numbers of the dimension of a group, from an offset of the draft on; false if there is no room. Its two names have
+/// different lengths.
+pub fn put_dim(order: Order, group: &Group, count: u32, draft: &mut BodyDraft, at: usize) -> bool {
+    let block = group.level.block_length;
     let mut end = 0usize;
-    for member in members {
+    for member in group.dim.as_slice() {
         let Kind::Leaf(leaf) = &member.kind else {
             return false;
         };

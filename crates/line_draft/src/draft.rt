@@ -44,19 +44,31 @@ impl BodyDraft {
     }
 
     /// Removes the bytes.
-    pub(crate) fn clear(&mut self) {
+    pub fn clear(&mut self) {
         self.len = 0;
     }
 
     /// Appends `many` zeros, and returns where they begin, or `None` if there is no room.
     #[inline(always)]
-    pub(crate) fn zeros(&mut self, many: usize) -> Option<usize> {
+    pub fn zeros(&mut self, many: usize) -> Option<usize> {
         let at = self.len;
         if many > DRAFT_BYTES - at {
             return None;
         }
         self.room[at..at + many].fill(0);
         self.len = at + many;
+        Some(at)
+    }
+
+    /// Appends bytes, and returns where they begin, or `None` if there is no room.
+    #[inline(always)]
+    pub fn append(&mut self, bytes: &[u8]) -> Option<usize> {
+        let at = self.len;
+        if bytes.len() > DRAFT_BYTES - at {
+            return None;
+        }
+        self.room[at..at + bytes.len()].copy_from_slice(bytes);
+        self.len = at + bytes.len();
         Some(at)
     }
 
@@ -71,7 +83,7 @@ impl BodyDraft {
 
     /// Writes bytes at an offset; false if they don't fit there.
     #[inline(always)]
-    pub(crate) fn put(&mut self, at: usize, bytes: &[u8]) -> bool {
+    pub fn put(&mut self, at: usize, bytes: &[u8]) -> bool {
         if at > DRAFT_BYTES || bytes.len() > DRAFT_BYTES - at {
             return false;
         }
@@ -81,7 +93,7 @@ impl BodyDraft {
 
     /// Writes a number of a primitive, given as its bits, at an offset; false if there is no room.
     #[inline(always)]
-    pub(crate) fn put_bits(&mut self, order: Order, prim: Prim, bits: u64, at: usize) -> bool {
+    pub fn put_bits(&mut self, order: Order, prim: Prim, bits: u64, at: usize) -> bool {
         let wide = prim.width();
         if at > DRAFT_BYTES - wide {
             return false;

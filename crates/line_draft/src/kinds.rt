@@ -21,9 +21,9 @@ fn width_of(kind: &Kind) -> usize {
     }
 }
 
-/// The end of the members.
+/// The end of the members of a composite, a header or a dimension.
 #[cycle(width)]
-pub(crate) fn end_of(members: &[Member]) -> usize {
+pub fn end_of(members: &[Member]) -> usize {
     let mut end = 0usize;
     for member in members {
         end = past(end, begin_of(end, member.offset), &member.kind);
@@ -33,7 +33,7 @@ pub(crate) fn end_of(members: &[Member]) -> usize {
 
 /// The offset of a part after parts that end at `end`.
 #[inline(always)]
-pub(crate) fn begin_of(end: usize, offset: Option<u32>) -> usize {
+pub fn begin_of(end: usize, offset: Option<u32>) -> usize {
     match offset {
         Some(place) => place as usize,
         None => end,
@@ -43,7 +43,7 @@ pub(crate) fn begin_of(end: usize, offset: Option<u32>) -> usize {
 /// The end of a part that begins at an offset, after parts that end at `end`.
 #[cycle(width)]
 #[inline(always)]
-pub(crate) fn past(end: usize, begin: usize, kind: &Kind) -> usize {
+pub fn past(end: usize, begin: usize, kind: &Kind) -> usize {
     match kind {
         Kind::Const(_) => end,
         Kind::Leaf(_) | Kind::Enum(_, _) | Kind::Set(_, _) | Kind::Comp(_) => {

@@ -16,5 +16,8 @@ mod parts;
 mod tail;
 mod texts;
 
+pub use bits::bits_of;
+pub use blocks::put_dim;
 pub use draft::BodyDraft;
-pub use messages::draft_body;
+pub use kinds::{begin_of, end_of, past};
+pub use messages::{draft_body, put_header};

@@ -39,8 +39,8 @@ fn header_number(schema: &WireSchema, level: &Level, name: &[u8]) -> u32 {
     }
 }
 
-/// The header of a message of this level.
-fn put_header(schema: &WireSchema, level: &Level, draft: &mut BodyDraft) -> bool {
+/// Appends the header of a message of this level; false if there is no room.
+pub fn put_header(schema: &WireSchema, level: &Level, draft: &mut BodyDraft) -> bool {
     let members = schema.header.members.as_slice();
     let Some(at) = draft.zeros(end_of(members)) else {
         return false;

@@ -7,4 +7,4 @@ mod translate;
 mod trees;
 
 pub use plan::{BackPlan, make_back_plan};
-pub use translate::{ToSbeErr, to_sbe};
+pub use translate::{ToSbeErr, to_sbe, type_in};

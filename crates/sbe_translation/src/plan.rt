@@ -1,4 +1,4 @@
-ghost use Rattle.std.specs.Prelude.{⊤, IfOk};
+ghost use Rattle.std.specs.Prelude.{◌≡◌, ⊤, slice_get, Some, IfOk, IfSome};
 ghost use Rattle.map_types.specs.Trees.{members_of};
 ghost use Rattle.orchestra_map.specs.Headers.{IsKept};
 ghost use Rattle.bridge_plan.specs.CheckedLevels.{HasShortCodes};
@@ -37,6 +37,28 @@ pub struct BackPlan {
     pub(crate) plan: Plan<Covered>,
     pub(crate) trees: List<Option<BackTree>>,
     pub(crate) tags: TagTable,
+}
+
+impl BackPlan {
+    /// The mapping's tags.
+    pub fn tags(&self) -> &TagTable
+        ensures { result.now ≡ self.now.tags }
+    {
+        &self.tags
+    }
+
+    /// The levels of a template, if it is in range and the mapping covers it.
+    pub fn tree(&self, template: usize) -> Option<&BackTree>
+        ensures { IfSome result (λ tree. slice_get self.now.trees template ≡ Some (Some tree.now)) }
+    {
+        if template >= self.trees.len() {
+            return None;
+        }
+        match self.trees.at(template) {
+            None => None,
+            Some(tree) => Some(tree),
+        }
+    }
 }
 
 /// The same without the tags.

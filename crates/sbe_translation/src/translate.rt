@@ -147,7 +147,7 @@ fn message_with<'a>(
 }
 
 /// The MsgType of a text whose fields the table holds.
-fn type_in<'a>(text: &'a [u8], table: &FieldTable) -> &'a [u8]
+pub fn type_in<'a>(text: &'a [u8], table: &FieldTable) -> &'a [u8]
     requires held { HoldsFields text.now table.now }
     requires typed { 2 < length table.now }
     ensures { (fields : List Field) (kind : List ℕ) → text.now ≡ bytes_of fields → table.now ≡ placed 0 fields → HasKind fields kind → result.now ≡ kind }

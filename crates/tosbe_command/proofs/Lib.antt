@@ -3,3 +3,4 @@ pub mod Places
 pub mod Replied
 pub mod Told
 pub mod Loaded
+pub mod TextBodies

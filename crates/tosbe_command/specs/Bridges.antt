@@ -13,6 +13,8 @@ use Rattle.bridge_plan.specs.Mappings.{Mapping}
 use Rattle.bridge_mapping.specs.Mapped.{mapping_of}
 use Rattle.sbe_translation.specs.declared.plan.BackPlan.{BackPlan}
 use Rattle.sbe_translation.specs.Plans.{AreBackPlans}
+use Rattle.text_judge.specs.declared.judge.TextJudge.{TextJudge}
+use Rattle.text_judge.specs.Judges.{IsJudge}
 use Rattle.schema_files.specs.FileChecks.{file_schema, refused_as}
 use Rattle.schema_files.specs.declared.files.FileRefusal.{FileRefusal}
 use Rattle.schema_files.specs.declared.files.FileRole.{FileRole}
@@ -46,12 +48,13 @@ pub record IsBackBridge (b : BackBridge) : Type 0 where
   pub kept : IsKept b.repository
   pub short : HasShortCodes (mapping_in b)
 
--- the same of a bridge with this layout, these plans and these data fields
-pub record IsSetUp (b : BackBridge) (layout : WireSchema) (plan : BackPlan) (tags : List Pair) : Type 0 where
+-- the same of a bridge with this layout, these plans, these data fields and this judge
+pub record IsSetUp (b : BackBridge) (layout : WireSchema) (plan : BackPlan) (tags : List Pair) (judge : TextJudge) : Type 0 where
   pub good : IsBackBridge b
   pub laid_out : layout ≡ b.schema
   pub planned : AreBackPlans (mapping_in b) b.schema.messages plan
   pub tagged : tags ≡ tags_in b
+  pub judged : IsJudge (mapping_in b) b.schema.messages (tags_in b) judge
 
 -- its frames have at most the bytes of the largest frame, and bodies have the room that such a frame leaves
 pub record HasRoom (frame limit : ℕ) : Type 0 where

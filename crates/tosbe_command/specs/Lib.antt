@@ -1,3 +1,4 @@
 pub mod Bridges
+pub mod Bodies
 pub mod ToSbe
 pub mod Unsent

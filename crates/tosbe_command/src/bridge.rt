@@ -5,8 +5,10 @@ ghost use Rattle.bridge_plan.specs.CheckedLevels.{HasShortCodes};
 ghost use Rattle.bridge_mapping.specs.Mapped.{mapping_of};
 ghost use Rattle.orchestra_map.specs.DataFields.{pairs_of};
 ghost use Rattle.sbe_translation.specs.Plans.{AreBackPlans};
+ghost use Rattle.text_judge.specs.Judges.{IsJudge};
 ghost use Rattle.tosbe_command.specs.Bridges.{IsBackBridge};
 
+use crate::direct::DirectWay;
 use crate::files::BridgeFiles;
 use layout_compile::compile;
 use layout_tables::Layout;
@@ -31,11 +33,18 @@ pub(crate) struct BridgeParts {
     pub(crate) planned: BridgePlan,
 }
 
+/// The ways from a text to its message: by the plan of its template, and directly to the body.
+#[derive(Drop)]
+pub(crate) struct BridgeWays {
+    pub(crate) parts: BridgeParts,
+    pub(crate) direct: DirectWay,
+}
+
 /// What texts are translated by: the files, what is made of them, and the most bytes of a frame.
 #[derive(Drop)]
 pub(crate) struct Bridge {
     pub(crate) files: BridgeFiles,
-    pub(crate) parts: BridgeParts,
+    pub(crate) ways: BridgeWays,
     pub(crate) frame: usize,
 }
 
@@ -52,7 +61,7 @@ impl Model for Bridge {
     ghost view = { λ it. record { schema = it.files.checked; repository = it.files.repository; frame = it.frame } };
 
     ghost invariant = { λ it. IsSetUp (record { schema = it.files.checked; repository = it.files.repository; frame = it.frame })
-        it.parts.layout it.parts.planned.plan it.parts.planned.tags };
+        it.ways.parts.layout it.ways.parts.planned.plan it.ways.parts.planned.tags it.ways.direct.judge };
 }
 
 impl Bridge {
@@ -64,18 +73,30 @@ impl Bridge {
         ensures good { IfOk result (λ bridge. IsBackBridge bridge) }
     {
         let _schema = files.checked.schema();
-        match BridgeParts::new(alloc, &files) {
-            Ok(parts) => Ok(Bridge {
-                files,
-                parts,
-                frame,
-            }),
+        match BridgeWays::new(alloc, &files) {
+            Ok(ways) => Ok(Bridge { files, ways, frame }),
             Err(NoMem) => Err(NoMem),
         }
     }
 }
 
 // Each function here owns one large value, since the check of one that drops several doesn't end.
+
+impl BridgeWays {
+    fn new(alloc: Global, files: &BridgeFiles) -> Result<BridgeWays, NoMem>
+        requires kept { IsKept files.now.repository }
+        requires short { HasShortCodes (mapping_of (members_of files.now.repository)) }
+        ensures layout { IfOk result (λ ways. ways.parts.layout ≡ files.now.checked) }
+        ensures plan { IfOk result (λ ways. AreBackPlans (mapping_of (members_of files.now.repository)) files.now.checked.messages ways.parts.planned.plan) }
+        ensures tags { IfOk result (λ ways. ways.parts.planned.tags ≡ pairs_of (members_of files.now.repository)) }
+        ensures judge { IfOk result (λ ways. IsJudge (mapping_of (members_of files.now.repository)) files.now.checked.messages
+            (pairs_of (members_of files.now.repository)) ways.direct.judge) }
+    {
+        let parts = BridgeParts::new(alloc, files)?;
+        let direct = DirectWay::new(alloc, files, &parts)?;
+        Ok(BridgeWays { parts, direct })
+    }
+}
 
 impl BridgeParts {
     fn new(alloc: Global, files: &BridgeFiles) -> Result<BridgeParts, NoMem>

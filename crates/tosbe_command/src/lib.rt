@@ -4,6 +4,8 @@
 
 mod answer;
 mod bridge;
+mod direct;
+mod drafts;
 mod files;
 mod notes;
 mod rows;

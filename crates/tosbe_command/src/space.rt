@@ -1,10 +1,14 @@
 ghost use Rattle.std.specs.Prelude.{◌≡◌, IfOk};
 
+use line_draft::BodyDraft;
 use lists::NoMem;
 use printers::Chunk;
 use std::alloc::Global;
-use tagvalue_codec::FieldTable;
+use tagvalue_codec::{FieldTable, FixWriter};
 use typed_writer::FrameBuf;
+
+/// The most bytes of a text whose body is drafted. A longer one takes the general way.
+const DRAFTED_TEXT: usize = 32_768;
 
 /// The working memory for the replies to frames. It is lent from frame to frame.
 #[derive(Drop)]
@@ -12,6 +16,10 @@ pub(crate) struct MessageSpace {
     pub(crate) alloc: Global,
     /// The fields of a text.
     pub(crate) table: FieldTable,
+    /// The body that it seems to have.
+    pub(crate) draft: BodyDraft,
+    /// The text of that body's message.
+    pub(crate) writer: FixWriter,
     /// The body of its message.
     pub(crate) buffer: FrameBuf,
     /// What lines are printed through.
@@ -24,10 +32,13 @@ impl MessageSpace {
         ensures { IfOk result (λ space. space.buffer.limit ≡ limit) }
     {
         let table = FieldTable::new(alloc)?;
+        let writer = FixWriter::new(alloc, DRAFTED_TEXT)?;
         let buffer = FrameBuf::new(alloc, limit)?;
         Ok(MessageSpace {
             alloc,
             table,
+            draft: BodyDraft::new(),
+            writer,
             buffer,
             chunk: Chunk::new(),
         })

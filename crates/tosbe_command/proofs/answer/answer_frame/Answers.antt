@@ -38,7 +38,7 @@ returns-in-Ok-clause-replied g c =
     (own.0, a_text c.if-encoding-ne-TAG_VALUE.false held.fields held.is own.1, own.2, own.3)
 
 pub note_fault-requires : goal.note_fault-requires
-note_fault-requires g c = has_digits c.bridge.inside.parts.planned.tags c.args.body.now c.in-Err.fault c.in-Err.ensures.err
+note_fault-requires g c = has_digits c.bridge.inside.ways.parts.planned.tags c.args.body.now c.in-Err.fault c.in-Err.ensures.err
 
 pub returns-in-Err-clause-replied : goal.returns-in-Err-clause-replied
 returns-in-Err-clause-replied g c =

@@ -1,0 +1,3 @@
+pub mod ClearRows
+pub mod Exact
+pub mod Taking

@@ -1,0 +1,55 @@
+ghost use Rattle.std.specs.Prelude.{◌≡◌, true};
+ghost use Rattle.byte_digits.specs.Digits.{IsBytes};
+ghost use Rattle.tagvalue_codec.specs.Drafts.{IsValue};
+ghost use Rattle.fix_messages.specs.Heads.{head_of, IsHeadReady};
+ghost use Rattle.text_bodies.specs.Bodies.{IsBodyOfText, IsPlannedBy, IsReadWith, Reading};
+
+use back_texts::laws::written_messages_are_those_of_their_texts;
+use clean_walk::is_clean_body;
+use fix_messages::{FixHead, MessageRows};
+use flyweight_view::validate;
+use layout_tables::Layout;
+use message_walk::PutValue;
+use tagvalue_codec::FixWriter;
+use text_match::has_text;
+
+/// Whether a body is the canonical one of a message of this template, and the text is the one that the message is written as with
+/// this head. If so, and if the plan of the template writes each value in one form, the message is the one that the text is
+/// translated to. `false` is inconclusive. Allocates nothing.
+pub fn is_body_of_text<R: PutValue>(
+    layout: &Layout,
+    template: usize,
+    rows: &MessageRows<'_, R>,
+    head: &FixHead<'_>,
+    text: &[u8],
+    body: &[u8],
+    out: &mut FixWriter,
+) -> bool
+    requires head { IsHeadReady (head_of head.now) }
+    requires kind { IsValue rows.now.msg_type.now }
+    ensures { result ≡ true → (r : Reading) → IsPlannedBy R.spells layout.now template rows.now r → IsReadWith (head_of head.now) text.now r
+        → IsBodyOfText layout.now template r body.now }
+{
+    written_messages_are_those_of_their_texts();
+    are_bytes(body);
+    let _schema = layout.schema();
+    let Ok(view) = validate(layout, body) else {
+        return false;
+    };
+    if view.template() != template {
+        return false;
+    }
+    if view.version() != layout.version() {
+        return false;
+    }
+    let root = view.root();
+    if !has_text(rows, &root, head, text, out) {
+        return false;
+    }
+    is_clean_body(layout, template, body)
+}
+
+/// The items of a byte slice are bytes.
+fn are_bytes(bytes: &[u8])
+    ensures { IsBytes bytes.now }
+{}

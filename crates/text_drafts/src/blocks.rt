@@ -1,0 +1,327 @@
+// Blocks of a text's fields, taken on trust. No contract covers the result.
+use crate::digits::{decimal_in, integer_in};
+use crate::fields::Fields;
+use crate::level::{BackLevels, DraftLevel, DraftPart, DraftRow, DraftTree, FieldForm};
+use crate::values::put_value;
+use field_judge::{BackLevel, BackPart, level_at};
+use line_draft::BodyDraft;
+use sbe_types::{DataField, Field, Group, Level, Order, WireSchema};
+use tagvalue_codec::FieldTable;
+use text_values::TextValue;
+
+/// The most data parts of a level. A level with more takes the general way.
+const MOST_DATA: usize = 8;
+
+/// The number of the field of data that a text doesn't have: that of BeginString.
+const NO_DATA: usize = 0;
+
+/// What a template's bodies are drafted by: its schema, its levels, and those by which its texts are read.
+#[derive(Clone, Copy)]
+pub struct Drafting<'a> {
+    pub schema: &'a WireSchema,
+    pub tree: &'a DraftTree,
+    pub back: BackLevels<'a>,
+}
+
+/// A level: how its blocks are drafted, and how its texts are read.
+#[derive(Clone, Copy)]
+struct LevelRows<'a> {
+    own: &'a DraftLevel,
+    back: &'a BackLevel,
+}
+
+/// A block that is drafted: its offset in the draft, how many of its groups were, and for each of its data the number of its
+/// field.
+#[derive(Drop)]
+struct Block {
+    at: usize,
+    groups: usize,
+    data: [usize; MOST_DATA],
+}
+
+impl Block {
+    /// The place of a field with this offset in the block.
+    #[inline(always)]
+    fn place(&self, begin: usize) -> usize {
+        self.at.saturating_add(begin)
+    }
+
+    /// Counts group `i`, and says whether it is the next one.
+    fn has_next(&mut self, i: usize) -> bool {
+        let is_next = i == self.groups;
+        self.groups = i.saturating_add(1);
+        is_next
+    }
+}
+
+/// Writes the body of the message that a text seems to be translated to, if its fields are in the order of the template's
+/// structure. Returns false if they aren't, or if the draft is full. Neither answer is guaranteed: a caller has to verify
+/// it. Allocates nothing.
+pub fn draft_text(
+    by: Drafting<'_>,
+    level: &Level,
+    text: &[u8],
+    table: &FieldTable,
+    draft: &mut BodyDraft,
+) -> bool {
+    draft.clear();
+    if draft.append(by.tree.header.as_slice()).is_none() {
+        return false;
+    }
+    let rows = LevelRows {
+        own: &by.tree.root,
+        back: by.back.root,
+    };
+    let mut fields = Fields::after_head(text, table);
+    block_in(by, rows, level, &mut fields, draft) && fields.at_sum()
+}
+
+/// The block of a root or of an entry, its groups and its data.
+#[cycle(level)]
+fn block_in(
+    by: Drafting<'_>,
+    rows: LevelRows<'_>,
+    level: &Level,
+    fields: &mut Fields<'_>,
+    draft: &mut BodyDraft,
+) -> bool {
+    let Some(at) = draft.append(rows.own.empty.as_slice()) else {
+        return false;
+    };
+    let mut block = Block {
+        at,
+        groups: 0,
+        data: [NO_DATA; MOST_DATA],
+    };
+    for (k, row) in rows.own.rows.as_slice().iter().enumerate() {
+        if !put_part(by, rows, level, (k, row), &mut block, fields, draft) {
+            return false;
+        }
+    }
+    block.groups == level.groups.len()
+        && put_all_data(
+            by.schema.order,
+            level.parts.as_slice(),
+            &block.data,
+            fields,
+            draft,
+        )
+}
+
+/// What is at place `k` of a level, if it comes next.
+#[cycle(level)]
+fn put_part(
+    by: Drafting<'_>,
+    rows: LevelRows<'_>,
+    level: &Level,
+    place: (usize, &DraftRow),
+    block: &mut Block,
+    fields: &mut Fields<'_>,
+    draft: &mut BodyDraft,
+) -> bool {
+    let (k, row) = place;
+    let order = by.schema.order;
+    match row.part {
+        DraftPart::Field(begin, form) => match fields.takes(row.tag) {
+            None => true,
+            Some(text) => field_in(order, form, text, draft, block.place(begin)),
+        },
+        DraftPart::Other(begin, i) => match fields.takes(row.tag) {
+            None => true,
+            Some(text) => {
+                let part = (value_at(rows.back, k), field_at(level, i));
+                other_in(order, part, text, draft, block.place(begin))
+            }
+        },
+        DraftPart::Data(i, lead) => data_in(row.tag, i, lead, fields, &mut block.data),
+        DraftPart::Group(i, delimiter) => {
+            block.has_next(i) && group_in(by, rows, level, (k, i, delimiter), fields, draft)
+        }
+    }
+}
+
+/// The value of a field's text, from an offset of the draft on.
+#[inline(always)]
+fn field_in(order: Order, form: FieldForm, text: &[u8], draft: &mut BodyDraft, at: usize) -> bool {
+    match form {
+        FieldForm::Integer(prim) => match integer_in(text) {
+            Some(bits) => draft.put_bits(order, prim, bits, at),
+            None => false,
+        },
+        FieldForm::Decimal(prim, places) => match decimal_in(text, places) {
+            Some(bits) => draft.put_bits(order, prim, bits, at),
+            None => false,
+        },
+        FieldForm::Text(most) => text.len() <= most && draft.put(at, text),
+        FieldForm::Character => text.len() == 1 && draft.put(at, text),
+    }
+}
+
+/// The same for any value, as its text is read.
+#[inline(never)]
+fn other_in(
+    order: Order,
+    part: (Option<&TextValue>, Option<&Field>),
+    text: &[u8],
+    draft: &mut BodyDraft,
+    at: usize,
+) -> bool {
+    let (Some(value), Some(field)) = part else {
+        return false;
+    };
+    match value.read(text) {
+        Ok(read) => put_value(order, &field.kind, read, draft, at),
+        Err(_) => false,
+    }
+}
+
+/// How the texts of row `k` are read, if it isn't a group.
+fn value_at(back: &BackLevel, k: usize) -> Option<&TextValue> {
+    if k >= back.rows.len() {
+        return None;
+    }
+    match &back.rows.at(k).part {
+        BackPart::Value(value) => Some(value),
+        BackPart::Group(_) => None,
+    }
+}
+
+/// Field `i` of a level.
+fn field_at(level: &Level, i: usize) -> Option<&Field> {
+    if i >= level.fields.len() {
+        return None;
+    }
+    Some(level.fields.at(i))
+}
+
+/// Data and its length field, if they come next: the number of the data's field is kept, since data follow the groups.
+fn data_in(tag: u32, i: usize, lead: u32, fields: &mut Fields<'_>, data: &mut [usize]) -> bool {
+    if i >= data.len() {
+        return false;
+    }
+    if lead != 0 {
+        fields.takes(lead);
+    }
+    let at = fields.at();
+    if fields.takes(tag).is_some() {
+        data[i] = at;
+    }
+    true
+}
+
+/// The dimension and the entries of a group; none if its count doesn't come next.
+#[cycle(level)]
+fn group_in(
+    by: Drafting<'_>,
+    rows: LevelRows<'_>,
+    level: &Level,
+    place: (usize, usize, u32),
+    fields: &mut Fields<'_>,
+    draft: &mut BodyDraft,
+) -> bool {
+    let (k, i, delimiter) = place;
+    if i >= level.groups.len() || i >= rows.own.groups.len() {
+        return false;
+    }
+    let own = rows.own.groups.at(i);
+    let Some((tag, entries)) = entries_rows(by, rows.back, k, own.level) else {
+        return false;
+    };
+    let Some(at) = draft.append(own.dim.as_slice()) else {
+        return false;
+    };
+    let Some(count) = count_in(fields.takes(tag)) else {
+        return false;
+    };
+    draft.put_bits(by.schema.order, own.count, count, at.saturating_add(own.at))
+        && entries_in(
+            by,
+            entries,
+            level.groups.at(i),
+            (count, delimiter),
+            fields,
+            draft,
+        )
+}
+
+/// The tag of the group of row `k`, and the level of its entries, which has this number.
+fn entries_rows<'a>(
+    by: Drafting<'a>,
+    back: &BackLevel,
+    k: usize,
+    number: usize,
+) -> Option<(u32, LevelRows<'a>)> {
+    if k >= back.rows.len() || number >= by.tree.levels.len() {
+        return None;
+    }
+    let row = back.rows.at(k);
+    let BackPart::Group(group) = &row.part else {
+        return None;
+    };
+    let back = level_at(by.back.levels, group.level)?;
+    let own = by.tree.levels.at(number);
+    Some((row.tag, LevelRows { own, back }))
+}
+
+/// The entries of a group.
+#[cycle(level)]
+fn entries_in(
+    by: Drafting<'_>,
+    rows: LevelRows<'_>,
+    group: &Group,
+    run: (u64, u32),
+    fields: &mut Fields<'_>,
+    draft: &mut BodyDraft,
+) -> bool {
+    let (count, delimiter) = run;
+    for _ in 0..count {
+        if !fields.is_next(delimiter) || !block_in(by, rows, &group.level, fields, draft) {
+            return false;
+        }
+    }
+    true
+}
+
+/// The number of entries, or 0 without a text.
+fn count_in(text: Option<&[u8]>) -> Option<u64> {
+    match text {
+        None => Some(0),
+        Some(digits) => integer_in(digits),
+    }
+}
+
+/// The data of a level, by the numbers of their fields.
+fn put_all_data(
+    order: Order,
+    parts: &[DataField],
+    data: &[usize],
+    fields: &Fields<'_>,
+    draft: &mut BodyDraft,
+) -> bool {
+    for (i, part) in parts.iter().enumerate() {
+        if i >= data.len() || !put_data(order, part, data_at(fields, data[i]), draft) {
+            return false;
+        }
+    }
+    true
+}
+
+/// The value of a field of data, which is empty without a field.
+fn data_at<'a>(fields: &Fields<'a>, i: usize) -> &'a [u8] {
+    if i == NO_DATA {
+        return &[];
+    }
+    match fields.value(i) {
+        Some(value) => value,
+        None => &[],
+    }
+}
+
+/// Appends data: their length, and then their bytes.
+fn put_data(order: Order, part: &DataField, bytes: &[u8], draft: &mut BodyDraft) -> bool {
+    let prim = part.length.prim;
+    let Some(at) = draft.zeros(prim.width()) else {
+        return false;
+    };
+    draft.put_bits(order, prim, bytes.len() as u64, at) && draft.append(bytes).is_some()
+}
