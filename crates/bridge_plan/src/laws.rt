@@ -83,7 +83,7 @@ pub fn a_text_is_translated_or_refused()
 {}
 
 /// A head of header tags and the length fields are skipped.
-pub fn heads_and_lengths_are_passed_over()
+pub fn heads_and_lengths_are_skipped()
     ensures { (m : Mapping) (s : Structure) (level : Level) (draft : Draft) (values : Values m s level)
         → IsCovered m s level → IsHead m draft.head → fields_of (plan_of m s level) values ≡ Ok draft.fields
         → application_fields m.lists (whole_text m draft) ≡ draft.fields }

@@ -122,7 +122,7 @@ impl Window {
         ensures ahead { IsSome (before_end (drop front self.old.held.bytes)) → input.new ≡ input.old }
         ensures cause { EndCause (I.state input.old).faults (I.state input.new).faults result }
     {
-        self.let_go(front);
+        self.release(front);
         self.is_within();
         match find_end(self.as_slice(), 0) {
             Some(i) => Ok(i),
@@ -131,7 +131,7 @@ impl Window {
     }
 
     /// Releases the first `n` bytes.
-    pub fn let_go(&mut self, n: usize)
+    pub fn release(&mut self, n: usize)
         requires { n ≤ length self.old.held.bytes }
         ensures { self.new.held ≡ let_go_of n self.old.held }
     {

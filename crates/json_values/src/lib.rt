@@ -7,7 +7,7 @@ mod sets;
 mod texts;
 mod values;
 
-pub use laws::names_stand_for_themselves;
+pub use laws::names_need_no_escapes;
 pub use runs::plain_front;
 pub use sets::put_set;
 pub use texts::{HEX_END, HEX_FRONT, hex_digit, put_key, put_plain_front, put_string, put_text};

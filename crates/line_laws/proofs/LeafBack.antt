@@ -40,7 +40,7 @@ use Rattle.line_values.specs.declared.refusals.JCode.TheVariants as code
 use Rattle.line_values.specs.Refusals.{Reading, ◌>>=◌, refuse}
 use Rattle.line_values.specs.Objects.{there_or, each, at_item, integer_of}
 use Rattle.line_values.specs.Values as line
-use Rattle.line_values.specs.Values.{null_in, number_in, text_in, text_of, element_of, element_in, array_in, shape_in, leaf_lack, lack_as, enum_in, set_in, constant_in, fixed, is_number}
+use Rattle.line_values.specs.Values.{null_in, number_in, text_in, text_of, element_of, element_in, array_in, shape_in, leaf_lack, value_if_missing, enum_in, set_in, constant_in, fixed, is_number}
 use Rattle.line_laws.specs.AsRead.{as_read, items_as_read, ItemsHaveIntegers, ItemsHaveTexts}
 use Rattle.line_laws.specs.ValuesBack.{TextHasBytes, ConstantHasBytes}
 use Rattle.line_laws.proofs.Differ.{do_differ}
@@ -223,7 +223,7 @@ enum_printed values n None is h kept = number_printed n kept
 enum_printed values n (Some s) is h kept = record { integers = tt; texts = name_text s (found_name values n s h is); deep = omega arith }
 
 abbrev pub GoodEnum : LeafOf → List Named → Value → Type 0
-GoodEnum l names v = IsGood (λ found. there_or (lack_as l value.Null) (λ d. enum_in l names d) found) 1 (shown_data (Enum l names) no_entries v) v
+GoodEnum l names v = IsGood (λ found. there_or (value_if_missing l value.Null) (λ d. enum_in l names d) found) 1 (shown_data (Enum l names) no_entries v) v
 
 enum_by : (l : LeafOf) (names : List Named) (t u : Bool) (n : ℤ) (v : Value) → IsEnumInOrder l names → is_null l n ≡ t → (is_listed names n || not true) ≡ u → Found t u value.Null (value.Enum n) v → GoodEnum l names v
 enum_by l names true u n v h e a is = subst (GoodEnum l names) (some_is is) (record { read = ap null_in (null_is l n e).0; printed = null_printed })

@@ -182,25 +182,25 @@ constant_in (constant.Code p named) d = fixed (is_code named d)
 -- ---- values
 
 -- the value of an optional leaf that is missing
-abbrev pub lack_as : LeafOf → Value → Reading Value
-lack_as l v = if is_optional l.presence then Ok v else refuse code.Shape []
+abbrev pub value_if_missing : LeafOf → Value → Reading Value
+value_if_missing l v = if is_optional l.presence then Ok v else refuse code.Shape []
 
 -- the value of an array that is missing: all nulls
 abbrev pub array_lack : LeafOf → Reading Value
-array_lack l = lack_as l (value.Nums (replicate l.length elem.Null))
+array_lack l = value_if_missing l (value.Nums (replicate l.length elem.Null))
 
 -- the value of a leaf that is missing: null, or all nulls; octets must not be missing
 abbrev pub leaf_lack : LeafShape → LeafOf → Reading Value
-leaf_lack Number l = lack_as l value.Null
-leaf_lack RangedText l = lack_as l value.Null
-leaf_lack EncodedText l = lack_as l value.Null
+leaf_lack Number l = value_if_missing l value.Null
+leaf_lack RangedText l = value_if_missing l value.Null
+leaf_lack EncodedText l = value_if_missing l value.Null
 leaf_lack Octets l = refuse code.Shape []
 leaf_lack Numbers l = array_lack l
 
 -- the value of a kind that is missing
 abbrev pub lack : Kind → Reading Value
 lack (Leaf l) = leaf_lack l.shape l
-lack (Enum l names) = lack_as l value.Null
+lack (Enum l names) = value_if_missing l value.Null
 lack (Set p names) = refuse code.Shape []
 lack (Const c) = Ok value.Const
 lack (Comp' n members) = refuse code.Shape []

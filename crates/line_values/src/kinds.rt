@@ -7,7 +7,7 @@ ghost use Rattle.line_values.specs.Values.{lack as lack_in, composite_of, compos
 ghost use Rattle.line_values.specs.Code.{object_members, member_list_names, member_list_read};
 
 use crate::choices::{read_constant, read_enum, read_set};
-use crate::leaves::{lack_as, lack_leaf, read_leaf};
+use crate::leaves::{leaf_if_missing, read_leaf, value_if_missing};
 use crate::names::Names;
 use crate::objects::{find_in, refuse_unknown};
 use crate::refusals::{JCode, LineFault, inside, refuse};
@@ -21,8 +21,8 @@ fn lack(alloc: Global, kind: &Kind) -> Result<Value, LineFault>
     ensures { Gives result (lack_in kind.now) }
 {
     match kind {
-        Kind::Leaf(leaf) => lack_leaf(alloc, leaf),
-        Kind::Enum(leaf, _) => lack_as(alloc, leaf, Value::Null),
+        Kind::Leaf(leaf) => leaf_if_missing(alloc, leaf),
+        Kind::Enum(leaf, _) => value_if_missing(alloc, leaf, Value::Null),
         Kind::Set(_, _) | Kind::Comp(_) => refuse(alloc, JCode::Shape, b""),
         Kind::Const(_) => Ok(Value::Const),
     }

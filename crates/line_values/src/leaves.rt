@@ -6,7 +6,7 @@ ghost use Rattle.sbe_types.specs.Shown.{is_optional as optional};
 ghost use Rattle.line_values.specs.declared.refusals.JCode.TheVariants as code;
 ghost use Rattle.line_values.specs.Refusals.{Gives, or_refuse};
 ghost use Rattle.line_values.specs.Objects.{each, integer_of};
-ghost use Rattle.line_values.specs.Values.{null_in, is_character, char_in, number_in, text_in, element_in, elements_of, array_in, shape_in, lack_as, array_lack, leaf_lack};
+ghost use Rattle.line_values.specs.Values.{null_in, is_character, char_in, number_in, text_in, element_in, elements_of, array_in, shape_in, value_if_missing, array_lack, leaf_lack};
 
 use crate::objects::at_item;
 use crate::refusals::{JCode, LineFault, refuse};
@@ -164,8 +164,8 @@ fn nulls(alloc: Global, length: u32) -> Result<ElemList, NoMem>
 }
 
 /// The value for a missing leaf or enum, if it may be null.
-pub fn lack_as(alloc: Global, leaf: &Leaf, value: Value) -> Result<Value, LineFault>
-    ensures { Gives result (lack_as leaf.now value) }
+pub fn value_if_missing(alloc: Global, leaf: &Leaf, value: Value) -> Result<Value, LineFault>
+    ensures { Gives result (value_if_missing leaf.now value) }
 {
     if is_optional(leaf.presence) {
         return Ok(value);
@@ -184,12 +184,12 @@ fn lack_array(alloc: Global, leaf: &Leaf) -> Result<Value, LineFault>
 }
 
 /// The value for a missing leaf: null, or an array of nulls. Octets must not be missing.
-pub fn lack_leaf(alloc: Global, leaf: &Leaf) -> Result<Value, LineFault>
+pub fn leaf_if_missing(alloc: Global, leaf: &Leaf) -> Result<Value, LineFault>
     ensures { Gives result (leaf_lack leaf.now.shape leaf.now) }
 {
     match leaf.shape {
         LeafShape::Number | LeafShape::RangedText | LeafShape::EncodedText => {
-            lack_as(alloc, leaf, Value::Null)
+            value_if_missing(alloc, leaf, Value::Null)
         }
         LeafShape::Octets => refuse(alloc, JCode::Shape, b""),
         LeafShape::Numbers => lack_array(alloc, leaf),

@@ -31,8 +31,8 @@ use structure_rows::PlaceRow;
 ///
 /// # Errors
 ///
-/// Out of memory. It is told too where the row of a covered part can't be made: no mapping in order is known for which that is so, but
-/// it isn't proved.
+/// Out of memory. The same error is given where the row of a covered part can't be made: no mapping in order is known for which that
+/// happens, but it isn't proved that there is none.
 pub fn make_plan<R: RuleRow>(
     alloc: Global,
     checked: &Checked,

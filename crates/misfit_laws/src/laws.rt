@@ -10,7 +10,7 @@ pub fn misfits_have_ways()
 
 /// A body that is too long (N08) is reported for the whole body, without a path. The reported number of bytes exceeds
 /// the limit, by less than one part may have.
-pub fn want_of_room_is_near()
+pub fn lack_of_room_is_near()
     ensures all { WantIsOfAll }
     ensures near { WantIsNear }
     ensures small { WantIsSmall }

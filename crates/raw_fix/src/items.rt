@@ -86,11 +86,11 @@ impl Items {
     }
 
     /// Releases the first bytes.
-    pub(crate) fn let_go(&mut self, n: usize)
+    pub(crate) fn release(&mut self, n: usize)
         requires { n ≤ length self.old.held.bytes }
         ensures { self.new ≡ record { held = let_go_of n self.old.held; begun = self.old.begun; met = self.old.met } }
     {
-        self.bytes.let_go(n);
+        self.bytes.release(n);
         self.plain = self.plain.saturating_sub(n);
     }
 
@@ -172,7 +172,7 @@ impl Items {
         requires { n ≤ length self.old.held.bytes }
         ensures { self.new ≡ record { held = let_go_of n self.old.held; begun = None; met = self.old.met } }
     {
-        self.let_go(n);
+        self.release(n);
         self.begun = None;
     }
 
@@ -183,7 +183,7 @@ impl Items {
         requires some { 0 < run.length }
         ensures { self.new ≡ record { held = let_go_of n self.old.held; begun = Some run; met = self.old.met } }
     {
-        self.let_go(n);
+        self.release(n);
         self.begun = Some(run);
     }
 

@@ -85,7 +85,7 @@ impl RawStream {
         if let Some(ended) = self.ended {
             return answer_at_end(ended);
         }
-        self.items.let_go(self.text);
+        self.items.release(self.text);
         self.text = 0;
         match self.items.next(input, tags, table) {
             Ok(Settled::Message(n)) => {

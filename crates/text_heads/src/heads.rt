@@ -18,8 +18,8 @@ use tagvalue_codec::{FieldTable, FixField};
 const SOH: u8 = 1;
 
 /// The head that the fields of a text begin with: after BeginString, BodyLength and MsgType, those of SenderCompID, TargetCompID,
-/// MsgSeqNum and SendingTime that are there in this order. `None` if BeginString isn't a value. That the text has this head isn't
-/// told: a text that is written with it is compared.
+/// MsgSeqNum and SendingTime that are there in this order. `None` if BeginString isn't a value. The text may
+/// have another head: it is compared with what is written with this one.
 pub fn head_in<'a>(own: HeadTags, text: &'a [u8], table: &FieldTable) -> Option<FixHead<'a>>
     ensures ready { IfSome result (λ head. IsHeadReady (head_of head)) }
     ensures header { IfSome result (λ head. (pairs : List Pair) (lists : TagLists) → ArePairsOf pairs lists → AreHeadTags pairs lists own

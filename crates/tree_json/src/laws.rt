@@ -8,6 +8,6 @@ pub fn printed_text_is_the_line()
 {}
 
 /// The names of a checked schema need no escaping in a line.
-pub fn checked_names_stand_for_themselves()
+pub fn checked_names_need_no_escapes()
     ensures { CheckedIsPlain }
 {}

@@ -8,7 +8,7 @@ mod line;
 mod texts;
 mod worked;
 
-pub use laws::{checked_names_stand_for_themselves, printed_text_is_the_line};
+pub use laws::{checked_names_need_no_escapes, printed_text_is_the_line};
 pub use line::{line_of, put_line, put_open_line};
 pub use texts::{LevelTexts, LineLayout};
 pub use worked::{

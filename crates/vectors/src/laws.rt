@@ -18,7 +18,7 @@ pub fn numbers_lie_in_range()
 {}
 
 /// A byte that is drawn for a text is allowed in it, if any byte is.
-pub fn text_bytes_may_stand()
+pub fn drawn_text_bytes_are_allowed()
     ensures { (leaf : LeafOf) (words : Lcg) → int_le (pos 0) leaf.low ≡ true → int_le leaf.high (pos LAST_BYTE) ≡ true → has_bytes leaf ≡ true
         → is_text_byte leaf (text_byte_drawn leaf words).0 ≡ true }
 {}

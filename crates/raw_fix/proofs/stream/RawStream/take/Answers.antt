@@ -13,7 +13,7 @@ returns-in-Ok-Message-clause-takes g c = λ none.
     let s = c.self.inside in
     let lefts : Lefts = record { before = (g.I.Source.state c.args.input.now).told; after = (g.I.Source.state c.next.new.input).told } in
     let n = c.in-Ok-Message.n in
-    let next = subst (λ (x : ItemState). Nexts (texts_of c.args.tags.now x) x c.next.new.self (lefts_if x.met lefts) (Ok (settled.Message n))) c.let_go.ensures (rw c.in-Ok-Message.field-0-is at c.in-Ok-Message.ensures.nexts) in
+    let next = subst (λ (x : ItemState). Nexts (texts_of c.args.tags.now x) x c.next.new.self (lefts_if x.met lefts) (Ok (settled.Message n))) c.release.ensures (rw c.in-Ok-Message.field-0-is at c.in-Ok-Message.ensures.nexts) in
     let takes = takes_next (texts_of c.args.tags.now s.items) s.items c.next.new.self s.text s.ended (lefts_if s.items.met lefts) (Ok (settled.Message n)) next in
     subst (λ old. TakesRaw (texts_for c.args.tags.now old) old (raw_shown n c.next.new.self s.ended) (lefts_if old.met lefts) (Ok taken.Message)) c.self.view_is
     (subst (λ e. TakesRaw (texts_of c.args.tags.now s.items) (raw_shown s.text s.items s.ended) (raw_shown n c.next.new.self e) (lefts_if s.items.met lefts) (Ok taken.Message)) (sym c.in_default.is) takes)
@@ -24,7 +24,7 @@ returns-in-Ok-Garbled-clause-takes g c = λ none.
     let lefts : Lefts = record { before = (g.I.Source.state c.args.input.now).told; after = (g.I.Source.state c.next.new.input).told } in
     let run = c.in-Ok-Garbled.run' in
     let told = Ok (taken.Garbled run.code run.at run.length) in
-    let next = subst (λ (x : ItemState). Nexts (texts_of c.args.tags.now x) x c.next.new.self (lefts_if x.met lefts) (Ok (settled.Garbled run))) c.let_go.ensures (rw c.in-Ok-Garbled.field-0-is at c.in-Ok-Garbled.ensures.nexts) in
+    let next = subst (λ (x : ItemState). Nexts (texts_of c.args.tags.now x) x c.next.new.self (lefts_if x.met lefts) (Ok (settled.Garbled run))) c.release.ensures (rw c.in-Ok-Garbled.field-0-is at c.in-Ok-Garbled.ensures.nexts) in
     let takes = takes_next (texts_of c.args.tags.now s.items) s.items c.next.new.self s.text s.ended (lefts_if s.items.met lefts) (Ok (settled.Garbled run)) next in
     subst (λ old. TakesRaw (texts_for c.args.tags.now old) old (raw_shown 0 c.next.new.self s.ended) (lefts_if old.met lefts) told) c.self.view_is
     (subst (λ e. TakesRaw (texts_of c.args.tags.now s.items) (raw_shown s.text s.items s.ended) (raw_shown 0 c.next.new.self e) (lefts_if s.items.met lefts) told) (sym c.in_default.is) takes)
@@ -33,7 +33,7 @@ pub returns-in-Ok-End-clause-takes : goal.returns-in-Ok-End-clause-takes
 returns-in-Ok-End-clause-takes g c = λ none.
     let s = c.self.inside in
     let lefts : Lefts = record { before = (g.I.Source.state c.args.input.now).told; after = (g.I.Source.state c.next.new.input).told } in
-    let next = subst (λ (x : ItemState). Nexts (texts_of c.args.tags.now x) x c.next.new.self (lefts_if x.met lefts) (Ok settled.End)) c.let_go.ensures (rw c.in-Ok-End.field-0-is at c.in-Ok-End.ensures.nexts) in
+    let next = subst (λ (x : ItemState). Nexts (texts_of c.args.tags.now x) x c.next.new.self (lefts_if x.met lefts) (Ok settled.End)) c.release.ensures (rw c.in-Ok-End.field-0-is at c.in-Ok-End.ensures.nexts) in
     subst (λ old. TakesRaw (texts_for c.args.tags.now old) old (raw_shown 0 c.next.new.self (Some ended.End)) (lefts_if old.met lefts) (Ok taken.End)) c.self.view_is
     (takes_next (texts_of c.args.tags.now s.items) s.items c.next.new.self s.text s.ended (lefts_if s.items.met lefts) (Ok settled.End) next)
 
@@ -41,7 +41,7 @@ pub returns-in-Err-InputLimit-clause-takes : goal.returns-in-Err-InputLimit-clau
 returns-in-Err-InputLimit-clause-takes g c = λ none.
     let s = c.self.inside in
     let lefts : Lefts = record { before = (g.I.Source.state c.args.input.now).told; after = (g.I.Source.state c.next.new.input).told } in
-    let next = subst (λ (x : ItemState). Nexts (texts_of c.args.tags.now x) x c.next.new.self (lefts_if x.met lefts) (Err err.InputLimit)) c.let_go.ensures (rw c.in-Err-InputLimit.field-0-is at c.in-Err-InputLimit.ensures.nexts) in
+    let next = subst (λ (x : ItemState). Nexts (texts_of c.args.tags.now x) x c.next.new.self (lefts_if x.met lefts) (Err err.InputLimit)) c.release.ensures (rw c.in-Err-InputLimit.field-0-is at c.in-Err-InputLimit.ensures.nexts) in
     subst (λ old. TakesRaw (texts_for c.args.tags.now old) old (raw_shown 0 c.next.new.self (Some ended.Limit)) (lefts_if old.met lefts) (Err err.InputLimit)) c.self.view_is
     (takes_next (texts_of c.args.tags.now s.items) s.items c.next.new.self s.text s.ended (lefts_if s.items.met lefts) (Err err.InputLimit) next)
 
@@ -49,7 +49,7 @@ pub returns-in-Err-ReadFault-clause-takes : goal.returns-in-Err-ReadFault-clause
 returns-in-Err-ReadFault-clause-takes g c = λ none.
     let s = c.self.inside in
     let lefts : Lefts = record { before = (g.I.Source.state c.args.input.now).told; after = (g.I.Source.state c.next.new.input).told } in
-    let next = subst (λ (x : ItemState). Nexts (texts_of c.args.tags.now x) x c.next.new.self (lefts_if x.met lefts) (Err err.ReadFault)) c.let_go.ensures (rw c.in-Err-ReadFault.field-0-is at c.in-Err-ReadFault.ensures.nexts) in
+    let next = subst (λ (x : ItemState). Nexts (texts_of c.args.tags.now x) x c.next.new.self (lefts_if x.met lefts) (Err err.ReadFault)) c.release.ensures (rw c.in-Err-ReadFault.field-0-is at c.in-Err-ReadFault.ensures.nexts) in
     let takes = takes_next (texts_of c.args.tags.now s.items) s.items c.next.new.self s.text s.ended (lefts_if s.items.met lefts) (Err err.ReadFault) next in
     subst (λ old. TakesRaw (texts_for c.args.tags.now old) old (raw_shown 0 c.next.new.self s.ended) (lefts_if old.met lefts) (Err err.ReadFault)) c.self.view_is
     (subst (λ e. TakesRaw (texts_of c.args.tags.now s.items) (raw_shown s.text s.items s.ended) (raw_shown 0 c.next.new.self e) (lefts_if s.items.met lefts) (Err err.ReadFault)) (sym c.in_default.is) takes)
