@@ -227,10 +227,23 @@ class Streams(Case):
     def test_a_stream_with_a_header_of_its_own(self):
         self.same(self.of(tcp(0, flags=2), tcp(1, b"lo"), tcp(3, b"gon" + sized(b"m"))), frames(b"m"), *SIZED, "--skip", "5")
 
+    def test_a_connection_whose_beginning_is_not_captured(self):
+        data = sized(b"one", b"two", b"three")
+        for start in (100, 0xFFFFFFFA):
+            first, second = tcp(start, data[:7]), tcp(start + 7, data[7:])
+            keep_alive, again = tcp(start - 1), tcp(start + 3, data[3:7])
+            for segments in ([first, second], [keep_alive, first, second, again], [first, again, tcp(start - 1), second]):
+                self.same(self.of(*segments), frames(b"one", b"two", b"three"), *SIZED, "--midstream", "--skip", "5")
+        early = "packet 2: 10.0.0.1:5000 to 10.0.0.2:9000: its bytes come before those of the first segment that was captured"
+        self.refused(self.of(tcp(105, data[5:]), tcp(100, data[:5])), frames(b"two", b"three"), early, *SIZED, "--midstream")
+        whole = self.of(tcp(0, flags=2), tcp(1, b"lo"), tcp(3, b"gon" + data))
+        self.same(whole, frames(b"one", b"two", b"three"), *SIZED, "--midstream", "--skip", "5")
+
     def test_refusals(self):
         way = "10.0.0.1:5000 to 10.0.0.2:9000"
         begin, one = tcp(0, flags=2), tcp(1, sized(b"one"))
-        self.refused(self.of(one), b"", "packet 1: %s begins before the capture does" % way, *SIZED)
+        told = "packet 1: %s begins before the capture does; --midstream reads it from here on" % way
+        self.refused(self.of(one), b"", told, *SIZED)
         told = "%s: 2 bytes from byte 5 on are missing" % way
         self.refused(self.of(begin, one, tcp(8, b"late")), frames(b"one"), told, *SIZED)
         told = "%s: byte 5: it ends inside a message, of which 3 bytes are there" % way
@@ -301,6 +314,12 @@ class Tools(Case):
         for way in (("-u", "5000,9000"), ("-u", "5000,9000", "-4", "10.0.0.1,10.0.0.2"), ("-u", "5000,9000", "-6", "fd00::1,fd00::2")):
             for data in self.captures(payloads, *way):
                 self.same(data, frames(b"one", b"two", b"three"), *SIZED, "--skip", "12", "--to", "9000")
+
+    def test_segments_without_a_beginning(self):
+        data = sized(b"one", b"two", b"three")
+        for way in (("-T", "5000,9000"), ("-T", "5000,9000", "-4", "10.0.0.1,10.0.0.2")):
+            for capture in self.captures([data[:7], data[7:]], *way):
+                self.same(capture, frames(b"one", b"two", b"three"), *SIZED, "--to", "9000", "--midstream")
 
 
 if __name__ == "__main__":
