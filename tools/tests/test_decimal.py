@@ -1,4 +1,4 @@
-"""Tests of tools/decimal.jq against Python's decimals; without jq they are passed over."""
+"""Tests of tools/decimal.jq against Python's decimals; without jq they are skipped."""
 import json
 import shutil
 import subprocess

@@ -1,5 +1,5 @@
 """Tests of tools/fuzz: it finds what is wrong with programs that are wrong, and makes the run smaller. The real program is
-crates/sbe/out/sbe, or the one that SBE names; without it the last test is passed over."""
+crates/sbe/out/sbe, or the one that SBE names; without it the last test is skipped."""
 import json
 import os
 import subprocess

@@ -1,6 +1,6 @@
 """Tests of the pages that the built program prints: which words ask for them, and what the help and the version say.
 
-The program is crates/sbe/out/sbe, or the one that SBE names; without it the tests are passed over.
+The program is crates/sbe/out/sbe, or the one that SBE names; without it the tests are skipped.
 """
 import os
 import re

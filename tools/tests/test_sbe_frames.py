@@ -123,7 +123,7 @@ class Datagrams(Case):
     def test_what_is_passed_over_is_counted(self):
         packets = [ethernet(b"\0" * 28, b"\x08\x06"), ethernet(udp(b"m")), ethernet(ip(1, b"ping")), ethernet(udp(b"n", port=9001))]
         found = self.run_on(pcap(*packets), "--whole", "--count", "--to", "9000")
-        self.assertEqual(found, (frames(b"m"), 0, "4 packets, 3 of them passed over, 1 frames"))
+        self.assertEqual(found, (frames(b"m"), 0, "4 packets, 3 of them skipped, 1 frames"))
 
     def test_ends(self):
         packets = pcap(*(ethernet(udp(name, port=port)) for name, port in ((b"a", 1), (b"b", 2), (b"c", 3))))
@@ -289,7 +289,7 @@ class Rules(Case):
         for words in ((), ("--fixed", "3", "--whole"), ("--fixed", "0"), ("--length", "3"), ("--length", "2", "--before", "1"),
                       ("--whole", "--encoding", "xyz1"), ("--whole", "--to", "host"), ("--whole", "--to", "65536")):
             self.assertEqual(self.run_on(b"", *words)[1], 2, words)
-        told = "--whole is for the datagrams of a capture, and this is no pcap or pcapng file"
+        told = "--whole is for the datagrams of a capture, and this isn't a pcap or pcapng file"
         self.refused(b"abc", b"", told, "--whole")
 
 
