@@ -3,4 +3,4 @@
 
 mod copies;
 
-pub use copies::{place, place_front};
+pub use copies::{place, place_front, place_within, put, put_front};

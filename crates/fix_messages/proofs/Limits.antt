@@ -13,7 +13,7 @@ use Rattle.bridge_terms.specs.Places.{Over, Places, Refused, Unsent, Written, fi
 use Rattle.bridge_terms.proofs.Limits.{under_limit}
 use Rattle.message_walk.specs.declared.halt.Halt.{Halt}
 use Rattle.message_walk.specs.Messages.{refusal_of}
-use Rattle.message_walk.specs.States.{State, after, after_places, fields_bytes, full_at, is_over, outcome, text_size, with_fields}
+use Rattle.message_walk.specs.States.{State, after, after_places, full_at, is_over, outcome, text_size, with_fields}
 use Rattle.fix_messages.specs.Heads.{Head, field_places, given_fields, head_fields, headed, no_lists}
 use Rattle.fix_messages.specs.Texts.{message_text, or_later, text_refusal}
 use Rattle.fix_messages.proofs.Texts.{no_lengths, same_fields}

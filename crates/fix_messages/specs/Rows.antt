@@ -1,5 +1,5 @@
 -- Heads and texts of worked rows.
-use Rattle.std.specs.Prelude.{ℕ, zero, suc, List, [], ◌∷◌, Option, Some, None, codes}
+use Rattle.std.specs.Prelude.{ℕ, zero, suc, List, [], ◌∷◌, Some, None, codes}
 use Rattle.bridge_terms.specs.Parts.{TagLists}
 use Rattle.fix_messages.specs.Heads.{Head}
 

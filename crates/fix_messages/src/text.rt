@@ -1,5 +1,6 @@
 // The text of a whole message.
-ghost use Rattle.std.specs.Prelude.{◌≡◌};
+ghost use Rattle.std.specs.Prelude.{◌≡◌, true};
+ghost use Rattle.tagvalue_codec.specs.declared.write.Phase.TheVariants.{Done};
 ghost use Rattle.tagvalue_codec.specs.Drafts.{IsValue};
 ghost use Rattle.bridge_terms.specs.Blocks.{values_of};
 ghost use Rattle.bridge_terms.specs.Parts.{TagLists};
@@ -34,6 +35,7 @@ pub fn write_text<R: PutValue>(
 ) -> bool
     requires head { IsHeadReady (head_of head.now) }
     requires kind { IsValue template.now.msg_type.now }
+    ensures done { result ≡ true → out.new.phase ≡ Done }
     ensures limit { (lists : TagLists) (p : Plan) → AreRows R.spells lists p template.now.rows.now → FitsBlock p root.now
         → out.new.limit ≡ out.old.limit }
     ensures text { (lists : TagLists) (p : Plan) → AreRows R.spells lists p template.now.rows.now → FitsBlock p root.now

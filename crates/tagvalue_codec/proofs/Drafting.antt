@@ -1,6 +1,5 @@
 -- How long a text is, and what a writer leaves.
-use Rattle.std.proofs.Common.{◌≡◌, ℕ, ◌+◌, ◌≤◌, ◌<◌, ◌/◌, ◌%◌, List, [], ◌∷◌, ◌++◌, length, min, sym, ap, ◌∙◌, subst, arith, append_assoc, length-append, length-drop, take, drop, ◌-◌}
-use Rattle.std.proofs.lemmas.List.{length-take, drop-append-le, take-append-le}
+use Rattle.std.proofs.Common.{◌≡◌, ℕ, ◌+◌, ◌≤◌, ◌<◌, ◌/◌, ◌%◌, List, [], ◌∷◌, ◌++◌, length, min, sym, ap, ◌∙◌, subst, arith, append_assoc, length-append, take}
 use Rattle.std.proofs.Math.Seq.{take-append_seam}
 use Rattle.std.specs.Prelude.{decimal, ⊤, Result, Ok, Err, OnOk, IfErr}
 use Rattle.std.proofs.lemmas.Fmt.{decimal_step, decimal_digit, length-decimal-le}
@@ -10,7 +9,8 @@ use Rattle.tagvalue_codec.specs.declared.write.Full.{Full}
 use Rattle.tagvalue_codec.specs.Fields.{soh, tag_bytes, field_bytes}
 use Rattle.tagvalue_codec.specs.Texts.{sum_over, sum_field, text_over}
 use Rattle.tagvalue_codec.specs.Drafts.{IsFull, IsReady, typed, field_of, ready_bytes, data_bytes, ready_data_bytes}
-use Rattle.tagvalue_codec.specs.Rooms.{front_over, text_from, head_bytes, needed_for, begin_in, Keeps}
+use Rattle.tagvalue_codec.specs.declared.framed.TheConstants.{BEFORE, SPARE}
+use Rattle.tagvalue_codec.specs.Rooms.{front_over, text_from, head_bytes, needed_for, begin_in, Around, Keeps}
 use Rattle.tagvalue_codec.proofs.Judging.{last_bytes}
 
 -- the length of a text
@@ -77,18 +77,6 @@ begin_here begin =
     ∙ ap (take (length begin)) (append_assoc begin (soh ∷ []) (57 ∷ 61 ∷ []))
     ∙ take-append_seam begin (soh ∷ 57 ∷ 61 ∷ [])
 
-inside : (n : ℕ) (text : List ℕ) → text ≡ head_bytes (begin_in n text) → (2 ≤ length text) × (n ≤ length (drop 2 text))
-inside n text is =
-    let long : length text ≡ length (begin_in n text) + 5 = ap length is ∙ head_long (begin_in n text) in
-    let taken : length (begin_in n text) ≡ min n (length (drop 2 text)) = length-take n (drop 2 text) in
-    let left : length (drop 2 text) ≡ length text - 2 = length-drop 2 text in (omega (arith, long), grind (arith, long, taken, left))
-
--- it stays where more is appended
-pub begin_kept : (n : ℕ) (text more : List ℕ) → text ≡ head_bytes (begin_in n text) → begin_in n (text ++ more) ≡ begin_in n text
-begin_kept n text more is =
-    let h = inside n text is in
-    ap (take n) (drop-append-le 2 text more h.0) ∙ take-append-le n (drop 2 text) more h.1
-
 -- ---- what is appended to the body
 
 pub field_long : (value digits : List ℕ) (tag : ℕ) → digits ≡ decimal tag → length (field_bytes (field_of tag value)) ≡ length digits + length value + 2
@@ -144,31 +132,32 @@ if_err (Ok u) f h = tt
 if_err (Err e) f h = f e h
 
 -- a begun text goes on with a longer body
-pub goes_on : (p : Phase) (begin text old piece new : List ℕ) (limit : ℕ) → p ≡ Open → Keeps p begin text old limit → new ≡ old ++ piece → length (text_over begin (old ++ piece)) ≤ limit → Keeps p begin text new limit
-goes_on p begin text old piece new limit open_is keeps is fits =
+pub goes_on : (p : Phase) (begin text : List ℕ) (old new : Around) (piece : List ℕ) (limit : ℕ) → p ≡ Open → Keeps p begin text old limit → new.bytes ≡ old.bytes ++ piece → new.start ≡ old.start → length (text_over begin (old.bytes ++ piece)) ≤ limit → Keeps p begin text new limit
+goes_on p begin text old new piece limit open_is keeps is same fits =
     let kept : Keeps Open begin text old limit = subst (λ (q : Phase). Keeps q begin text old limit) open_is keeps in
-    subst (λ (q : Phase). Keeps q begin text new limit) (sym open_is) (kept.0, subst (λ (x : List ℕ). length (text_over begin x) ≤ limit) (sym is) fits)
+    subst (λ (q : Phase). Keeps q begin text new limit) (sym open_is) (kept.0, subst (λ (x : List ℕ). length (text_over begin x) ≤ limit) (sym is) fits, same ∙ kept.2)
+
+-- there is room in the memory for what is within the limit
+pub has_room : (begin text : List ℕ) (body : Around) (limit more : ℕ) → body.size ≡ limit + SPARE → text ≡ head_bytes begin → body.start ≡ length text + BEFORE → length (head_bytes begin) + length body.bytes + more ≤ limit →
+    body.start + length body.bytes + more ≤ body.size
+has_room begin text body limit more size head start fits =
+    let long : length text ≡ length (head_bytes begin) = ap length head in
+    omega (arith, size, long, start, fits)
 
 -- ---- the finished text
 
-pub kept_open : (p : Phase) (begin text body : List ℕ) (limit : ℕ) → p ≡ Open → Keeps p begin text body limit → (text ≡ head_bytes begin) × (length (text_over begin body) ≤ limit)
+pub kept_open : (p : Phase) (begin text : List ℕ) (body : Around) (limit : ℕ) → p ≡ Open → Keeps p begin text body limit → (text ≡ head_bytes begin) × (length (text_over begin body.bytes) ≤ limit) × (body.start ≡ length text + BEFORE)
 kept_open p begin text body limit open_is keeps = subst (λ (q : Phase). Keeps q begin text body limit) open_is keeps
 
 -- the text of a head is that over the value in it
-from_over : (n : ℕ) (text body : List ℕ) → text ≡ head_bytes (begin_in n text) → text_from text body ≡ text_over (begin_in n text) body
-from_over n text body is = ap (λ t. text_from t body) is ∙ over_is (begin_in n text) body
+pub from_over : (begin text body : List ℕ) → text ≡ head_bytes begin → text_from text body ≡ text_over begin body
+from_over begin text body is = ap (λ t. text_from t body) is ∙ over_is begin body
 
-pub from_fits : (n : ℕ) (text body : List ℕ) (limit : ℕ) → text ≡ head_bytes (begin_in n text) → length (text_over (begin_in n text) body) ≤ limit → length (text_from text body) ≤ limit
-from_fits n text body limit is fits = subst (λ (k : ℕ). k ≤ limit) (sym (ap length (from_over n text body is))) fits
-
-pub begin_stays : (n : ℕ) (text body new : List ℕ) → text ≡ head_bytes (begin_in n text) → new ≡ text_from text body → begin_in n new ≡ begin_in n text
-begin_stays n text body new is new_is =
-    let last = field_bytes (sum_field (front_over text body)) in
-    ap (begin_in n) (new_is ∙ append_assoc text (decimal (length body) ++ (soh ∷ body)) last)
-    ∙ begin_kept n text ((decimal (length body) ++ (soh ∷ body)) ++ last) is
-
-pub is_done : (n : ℕ) (text body new : List ℕ) → text ≡ head_bytes (begin_in n text) → new ≡ text_from text body → new ≡ text_over (begin_in n new) body
-is_done n text body new is new_is = new_is ∙ from_over n text body is ∙ ap (λ b. text_over b body) (sym (begin_stays n text body new is new_is))
+-- a finished text has as many bytes
+pub parts_fit : (begin text body : List ℕ) (limit : ℕ) → text ≡ head_bytes begin → length (text_over begin body) ≤ limit → length text + length body + 8 ≤ limit
+parts_fit begin text body limit is fits =
+    let long : length (text_over begin body) ≡ needed_for (length (head_bytes begin)) (length body) = ap length (sym (over_is begin body)) ∙ text_long (head_bytes begin) body in
+    omega (arith, long, fits, ap length is)
 
 -- ---- digits
 

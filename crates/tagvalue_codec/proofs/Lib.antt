@@ -5,6 +5,7 @@ pub mod Filling
 pub mod Judging
 pub mod Told
 pub mod Drafting
+pub mod Framing
 pub mod Written
 pub mod Marks
 pub mod Roles

@@ -6,3 +6,4 @@ pub mod Places
 pub mod Marked
 pub mod Drafts
 pub mod Rooms
+pub mod Lending

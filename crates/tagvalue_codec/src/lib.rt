@@ -6,6 +6,8 @@
 #![tactic(auto)]
 
 mod data_tags;
+mod digits;
+mod framed;
 pub mod laws;
 mod read;
 mod room;

@@ -1,5 +1,4 @@
-ghost use Rattle.std.specs.Prelude.{◌≡◌, ◌≤◌, ◌+◌, ◌++◌, ◌∷◌, [], length, IfOk};
-ghost use Rattle.tagvalue_codec.specs.Fields.{soh};
+ghost use Rattle.std.specs.Prelude.{◌≡◌, ◌≤◌, ◌+◌, ◌++◌, [], length, IfOk};
 ghost use Rattle.tagvalue_codec.specs.Drafts.{ready_bytes};
 
 use crate::scan::SOH;
@@ -98,18 +97,5 @@ impl Room {
         let after_tag = place(&mut self.memory, self.len, tag);
         let after_value = place(&mut self.memory, after_tag, value);
         self.len = place(&mut self.memory, after_value, &[SOH]);
-    }
-
-    /// Appends a field, given the digits of its tag.
-    #[inline(always)]
-    pub(crate) fn append_field(&mut self, digits: &[u8], value: &[u8])
-        requires { length self.old.bytes + length digits.now + length value.now + 2 ≤ self.old.limit }
-        ensures bytes { self.new.bytes ≡ self.old.bytes ++ ready_bytes (digits.now ++ 61 ∷ []) value.now }
-        ensures limit { self.new.limit ≡ self.old.limit }
-    {
-        self.append(digits);
-        self.append(b"=");
-        self.append(value);
-        self.append(&[SOH]);
     }
 }

@@ -1,13 +1,17 @@
-ghost use Rattle.std.specs.Prelude.{◌≡◌, ℕ, List, ◌≤◌, ◌<◌, ◌+◌, ◌++◌, ◌∷◌, [], length, false, decimal, IfOk, OnOk, OnErr, IfErr, min};
+ghost use Rattle.std.specs.Prelude.{◌≡◌, ℕ, List, ◌≤◌, ◌<◌, ◌+◌, ◌++◌, ◌∷◌, [], length, take, true, false, decimal, IfOk, OnOk, OnErr, IfErr, min};
+ghost use Rattle.std.specs.Borrow.{sem};
 ghost use Rattle.tagvalue_codec.specs.Fields.{IsTag, soh, field_bytes};
 ghost use Rattle.tagvalue_codec.specs.Drafts.{IsValue, IsReady, IsFull, idle, begun, done, finished, typed, field_of, ready_bytes, data_bytes, ready_data_bytes};
 ghost use Rattle.tagvalue_codec.specs.Rooms.{head_bytes, text_from, needed_for, sum_of_bytes};
+ghost use Rattle.tagvalue_codec.specs.Lending.{DraftRests};
 ghost use Rattle.tagvalue_codec.specs.Texts.{is_locked, text_over};
-ghost use Rattle.tagvalue_codec.specs.declared.write.TheConstants.{MOST_AROUND, MOST_MORE};
+ghost use Rattle.tagvalue_codec.specs.declared.write.Phase.TheVariants.{Done};
+ghost use Rattle.tagvalue_codec.specs.declared.write.TheConstants.{MOST_AFTER, MOST_MORE, MOST_SHORT};
 ghost use Rattle.tagvalue_codec.specs.declared.room.TheConstants.{TEXT_LIMIT};
 
+use crate::digits::digit_count;
+use crate::framed::Framed;
 use crate::room::Room;
-use crate::scan::{SOH, sum_of};
 use itoa::Buffer;
 use lists::NoMem;
 use std::alloc::Global;
@@ -17,8 +21,12 @@ use thiserror::Error;
 /// No piece of a body has more bytes: a value of a slice's length, three numbers and what is between them.
 const MOST_MORE: u64 = 9_223_372_036_854_775_900;
 
-/// No text has more bytes than its head, its body and these: 20 digits, SOH and the last field.
-const MOST_AROUND: u64 = 28;
+/// No text is longer than the offset of its body's end and this: the 28 bytes of 20 digits, SOH and the last field, less
+/// the room for them before the body.
+const MOST_AFTER: u64 = 13;
+
+/// No field of a short value has more bytes: sixteen of its tag with the `=`, forty of its value, and SOH.
+const MOST_SHORT: u64 = 57;
 
 /// A text has no room for a field.
 #[derive(Clone, Copy, Debug, PartialEq, Eq, Drop, Error)]
@@ -50,21 +58,25 @@ pub struct FixWriter {
     phase: Phase,
     /// The number of bytes of the value after `8=`.
     begin: usize,
-    /// `8=`, its value, SOH and `9=`; the whole text once it is finished.
+    /// `8=`, its value, SOH and `9=`.
     text: Room,
-    body: Room,
+    /// The body; in the whole text once it is finished.
+    body: Framed,
 }
 
 impl Model for FixWriter {
-    ghost use Rattle.std.specs.Prelude.{◌≡◌};
+    ghost use Rattle.std.specs.Prelude.{◌≡◌, ◌≤◌, ◌+◌};
     ghost use Rattle.tagvalue_codec.specs.Drafts.{Draft};
     ghost use Rattle.tagvalue_codec.specs.Rooms.{begin_in, Keeps};
+    ghost use Rattle.tagvalue_codec.specs.declared.room.TheConstants.{TEXT_LIMIT};
 
     ghost Value = { Draft };
 
     ghost view = { λ w. record { phase = w.phase; begin = begin_in w.begin w.text.bytes; body = w.body.bytes; limit = w.text.limit } };
 
-    ghost invariant = { λ w. (w.body.limit ≡ w.text.limit) × Keeps w.phase (begin_in w.begin w.text.bytes) w.text.bytes w.body.bytes w.text.limit };
+    ghost use Rattle.tagvalue_codec.specs.declared.framed.TheConstants.{SPARE};
+
+    ghost invariant = { λ w. (w.body.size ≡ w.text.limit + SPARE) × (w.text.limit ≤ TEXT_LIMIT) × Keeps w.phase (begin_in w.begin w.text.bytes) w.text.bytes w.body w.text.limit };
 }
 
 impl FixWriter {
@@ -78,7 +90,7 @@ impl FixWriter {
         ensures { IfOk result (λ w. w ≡ idle limit) }
     {
         let text = Room::new(alloc, limit)?;
-        let body = Room::new(alloc, limit)?;
+        let body = Framed::new(alloc, limit)?;
         Ok(FixWriter {
             phase: Phase::Idle,
             begin: 0,
@@ -92,7 +104,7 @@ impl FixWriter {
         ensures { result.now ≡ finished self.now }
     {
         match self.phase {
-            Phase::Done => self.text.bytes(),
+            Phase::Done => self.body.whole(),
             Phase::Idle | Phase::Open => &[],
         }
     }
@@ -113,14 +125,17 @@ impl FixWriter {
         self.phase = Phase::Idle;
         self.begin = 0;
         self.text.clear();
-        self.body.clear();
         let head = begin.len() as u64 + 5;
         let body = msg_type.len() as u64 + 4;
         match self.judge(head, body) {
             Ok(()) => {}
-            Err(full) => return Err(full),
+            Err(full) => {
+                self.body.clear(0);
+                return Err(full);
+            }
         }
         self.begin = begin.len();
+        self.body.clear(begin.len() + 5);
         put_head(&mut self.text, begin);
         self.body.append_ready(b"35=", msg_type);
         self.phase = Phase::Open;
@@ -175,6 +190,55 @@ impl FixWriter {
         }
         self.body.append_ready(tag, value);
         Ok(())
+    }
+
+    /// Appends a field of a short value, given an array that begins with the bytes of its tag with the `=`, such as
+    /// `55=`. Returns false if the text might exceed the limit, and is unchanged then.
+    #[inline(always)]
+    pub fn led_field(&mut self, lead: &[u8], used: usize, value: &[u8]) -> bool
+        requires open { self.old.phase ≡ Phase.Open }
+        requires lead { 16 ≤ length lead.now }
+        requires used { used ≤ 16 }
+        requires tag { IsReady (take used lead.now) }
+        requires value { IsValue value.now }
+        requires short { length value.now ≤ 40 }
+        ensures done { result ≡ true → self.new ≡ begun self.old.limit self.old.begin (self.old.body ++ ready_bytes (take used lead.now) value.now) }
+        ensures kept { result ≡ false → self.new ≡ self.old }
+        ensures fits { result ≡ true → length (text_over self.old.begin (self.old.body ++ ready_bytes (take used lead.now) value.now)) ≤ self.old.limit }
+    {
+        if !self.has_room() {
+            return false;
+        }
+        self.body.append_led(lead, used, value);
+        true
+    }
+
+    /// The same, given an array of at least `N` bytes that begins with the value too.
+    #[inline(always)]
+    pub fn front_field<const N: usize>(
+        &mut self,
+        lead: &[u8],
+        used: usize,
+        value: &[u8],
+        count: usize,
+    ) -> bool
+        requires open { self.old.phase ≡ Phase.Open }
+        requires lead { 16 ≤ length lead.now }
+        requires used { used ≤ 16 }
+        requires tag { IsReady (take used lead.now) }
+        requires short { N ≤ 40 }
+        requires enough { N ≤ length value.now }
+        requires count { count ≤ N }
+        requires value { IsValue (take count value.now) }
+        ensures done { result ≡ true → self.new ≡ begun self.old.limit self.old.begin (self.old.body ++ ready_bytes (take used lead.now) (take count value.now)) }
+        ensures kept { result ≡ false → self.new ≡ self.old }
+        ensures fits { result ≡ true → length (text_over self.old.begin (self.old.body ++ ready_bytes (take used lead.now) (take count value.now))) ≤ self.old.limit }
+    {
+        if !self.has_room() {
+            return false;
+        }
+        self.body.append_front::<N>(lead, used, value, count);
+        true
     }
 
     /// Appends a length field and its data field, which count as one. The value may contain SOH.
@@ -251,8 +315,34 @@ impl FixWriter {
         requires { self.old.phase ≡ Phase.Open }
         ensures { self.new ≡ done self.old }
     {
-        put_rest(&mut self.text, &self.body);
+        self.body.enclose(self.text.bytes());
         self.phase = Phase::Done;
+    }
+
+    /// The finished text with six bytes before it, such as the head of its frame. It is empty before `finish`.
+    #[inline(always)]
+    pub fn framed(&mut self, before: &[u8; 6]) -> &[u8]
+        ensures* rests { sem 𝓛 (DraftRests self.entry) }
+        ensures bytes { self.old.phase ≡ Done → result.now ≡ before.now ++ finished self.old }
+    {
+        match self.phase {
+            Phase::Done => self.body.behind(before),
+            Phase::Idle | Phase::Open => &[],
+        }
+    }
+
+    /// Whether the text finished with any field of a short value is within the limit.
+    #[inline(always)]
+    fn has_room(&self) -> bool
+        requires { self.now.phase ≡ Phase.Open }
+        ensures room { result ≡ true → length (head_bytes self.now.begin) + length self.now.body + MOST_SHORT ≤ self.now.limit }
+        ensures fits { result ≡ true → (piece : List ℕ) → length piece ≤ MOST_SHORT → length (text_over self.now.begin (self.now.body ++ piece)) ≤ self.now.limit }
+    {
+        let end = self.body.end() as u64;
+        if end + MOST_SHORT + MOST_AFTER <= self.text.limit() as u64 {
+            return true;
+        }
+        false
     }
 
     /// Checks that the text finished with `more` bytes added to its body is within the limit.
@@ -260,15 +350,16 @@ impl FixWriter {
     fn admit(&self, more: u64) -> Result<(), Full>
         requires open { self.now.phase ≡ Phase.Open }
         requires few { more ≤ MOST_MORE }
-        ensures room { OnOk result (length self.now.body + more ≤ self.now.limit) }
+        ensures room { OnOk result (length (head_bytes self.now.begin) + length self.now.body + more ≤ self.now.limit) }
         ensures ok { OnOk result ((piece : List ℕ) → length piece ≡ more → length (text_over self.now.begin (self.now.body ++ piece)) ≤ self.now.limit) }
         ensures full { IfErr result (λ f. (piece : List ℕ) → length piece ≡ more → IsFull self.now.limit self.now.begin (self.now.body ++ piece) f) }
     {
-        let head = self.text.len() as u64;
-        let body = self.body.len() as u64 + more;
-        if head + body + MOST_AROUND <= self.text.limit() as u64 {
+        let end = self.body.end() as u64 + more;
+        if end + MOST_AFTER <= self.text.limit() as u64 {
             return Ok(());
         }
+        let head = self.text.len() as u64;
+        let body = self.body.len() as u64 + more;
         self.judge(head, body)
     }
 
@@ -288,33 +379,6 @@ impl FixWriter {
     }
 }
 
-/// The number of decimal digits of a number.
-#[inline(always)]
-fn digit_count(number: u64) -> u64
-    ensures is { result ≡ length (decimal number) }
-    ensures few { result ≤ 20 }
-{
-    if number < 10 {
-        return 1;
-    }
-    if number < 100 {
-        return 2;
-    }
-    if number < 1000 {
-        return 3;
-    }
-    long_digit_count(number)
-}
-
-/// The same, by writing them.
-fn long_digit_count(number: u64) -> u64
-    ensures is { result ≡ length (decimal number) }
-    ensures few { result ≤ 20 }
-{
-    let mut buffer = Buffer::new();
-    buffer.format(number).len() as u64
-}
-
 /// Appends what precedes the number after `9=`.
 #[inline(always)]
 fn put_head(room: &mut Room, begin: &[u8])
@@ -324,34 +388,4 @@ fn put_head(room: &mut Room, begin: &[u8])
 {
     room.append_ready(b"8=", begin);
     room.append(b"9=");
-}
-
-/// Appends what comes after `9=`: the number, the body and the last field.
-fn put_rest(text: &mut Room, body: &Room)
-    requires { length (text_from text.old.bytes body.now.bytes) ≤ text.old.limit }
-    ensures bytes { text.new.bytes ≡ text_from text.old.bytes body.now.bytes }
-    ensures limit { text.new.limit ≡ text.old.limit }
-{
-    let mut buffer = Buffer::new();
-    text.append(buffer.format(body.len()).as_bytes());
-    text.append(&[SOH]);
-    text.append(body.bytes());
-    let sum = sum_of(text.bytes());
-    text.append(&last_field(sum));
-}
-
-/// The bytes of the last field.
-#[inline(always)]
-fn last_field(sum: u8) -> [u8; 7]
-    ensures { result ≡ field_bytes (sum_of_bytes sum) }
-{
-    [
-        b'1',
-        b'0',
-        b'=',
-        b'0' + sum / 100,
-        b'0' + sum / 10 % 10,
-        b'0' + sum % 10,
-        SOH,
-    ]
 }

@@ -89,7 +89,7 @@ pub fn answer_covered<O: Sink, N: Sink, R: PutValue>(
     ensures wants { Wants true result }
 {
     if write_text(template, root, head, &mut space.out, &mut space.halt) {
-        let put = write_frame(output, space.out.bytes(), &mut space.chunk);
+        let put = write_frame(output, &mut space.out);
         return verdict_of(put, Verdict::Translated);
     }
     let put = note_halt(

@@ -9,7 +9,6 @@ mod notes;
 pub mod worked;
 
 pub use covered::{TextSpace, answer_covered};
-pub use frames::write_frame;
 pub use given::GivenHead;
 pub use notes::{
     note_encoding, note_fault, note_halt, note_no_message, note_uncovered, value_code,

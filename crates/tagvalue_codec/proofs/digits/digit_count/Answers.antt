@@ -1,6 +1,6 @@
 use Rattle.std.proofs.Common.{rules, sym}
 use Rattle.tagvalue_codec.proofs.Drafting.{one_digit, two_digits, three_digits}
-use Rattle.tagvalue_codec.proofs.write.digit_count.Goals as goal
+use Rattle.tagvalue_codec.proofs.digits.digit_count.Goals as goal
 
 pub returns-then-number-lt10-clause-is : goal.returns-then-number-lt10-clause-is
 returns-then-number-lt10-clause-is c = sym (one_digit c.args.number (search rules))

@@ -1,6 +1,0 @@
-use Rattle.std.proofs.Common.{◌≡◌}
-use Rattle.tagvalue_codec.specs.declared.write.Phase.TheVariants.{Open}
-use Rattle.tagvalue_codec.proofs.read.tests.fill_text.Given as goal
-
-abbrev pub invariant-loop : goal.invariant-loop
-invariant-loop l = l.writer.phase ≡ Open
