@@ -9,6 +9,7 @@ pub mod GroupsTold
 pub mod PartsTold
 pub mod GroupSteps
 pub mod TailsSeen
+pub mod FieldsAt
 pub mod TablesSeen
 pub mod Standing
 pub mod Depth

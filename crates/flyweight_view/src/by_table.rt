@@ -1,19 +1,37 @@
 // Blocks of a level, read by the table of the level's fields.
 ghost use Rattle.std.specs.Prelude.{◌≤◌, ◌+◌, length, IfSome};
-ghost use Rattle.flyweight_view.specs.ByTable.{IsTableBlock};
+ghost use Rattle.flyweight_view.specs.ByTable.{AreWithin, IsTableBlock, ShowsField};
+ghost use Rattle.flyweight_view.specs.TypedBlocks.{TypedBlock};
 ghost use Rattle.flyweight_view.specs.inner.Blocks.{IsRowBlock};
 ghost use Rattle.flyweight_view.specs.inner.Planned.{typed_at, IsPlannedBlock};
 
 use crate::plan::{Plan, Span};
 use flat_rows::FlatRows;
-use layout_tables::LevelRow;
+use layout_tables::{FieldRow, LevelRow};
 use sbe_types::Order;
 
-/// The bytes of a block, and the table of its values. Its numbers are little-endian.
+/// The bytes of a block, the table of its values, and the rows of its fields. Its numbers are little-endian.
 #[derive(Clone, Copy)]
 pub struct TableBlock<'a> {
     pub table: &'a FlatRows,
+    pub fields: &'a [FieldRow],
     pub bytes: &'a [u8],
+}
+
+impl<'a> TableBlock<'a> {
+    /// The bytes of field `i`. `None` if it is a constant, or there is no such field.
+    #[inline(always)]
+    pub fn field(&self, i: usize) -> Option<&'a [u8]>
+        requires { AreWithin self.now }
+        ensures { IfSome result (λ bytes. (s : TypedBlock) → IsTableBlock self.now s → ShowsField s i bytes.now) }
+    {
+        let row = self.fields.get(i)?;
+        if row.is_constant {
+            return None;
+        }
+        let bytes = &self.bytes[row.place as usize..row.end as usize];
+        Some(bytes)
+    }
 }
 
 /// A block that lies in a body, with the table of its fields. `None` if it is a composite, lacks a field, or its
@@ -41,6 +59,7 @@ fn row_block<'a>(span: &Span<'a>, row: &'a LevelRow) -> Option<TableBlock<'a>>
     match span.mode.order {
         Order::Little => Some(TableBlock {
             table: &row.flat,
+            fields: row.fields.as_slice(),
             bytes: &span.body[span.at..span.at + span.size],
         }),
         Order::Big => None,

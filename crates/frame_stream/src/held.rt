@@ -32,6 +32,7 @@ pub(crate) enum Stop {
 
 impl Window {
     /// Takes the next frame. A whole frame that was held is released first.
+    #[inline(always)]
     pub(crate) fn next_frame<I: Source>(&mut self, input: &mut I, whole: bool) -> Result<Head, Stop>
         requires room { HEAD_BYTES ≤ self.old.held.size }
         requires begun { whole ≡ false → IsBegun self.old.held }
@@ -48,6 +49,7 @@ impl Window {
     }
 
     /// Takes the next frame from what the source has read ahead, if all of it is there.
+    #[inline(always)]
     fn take_ahead<I: Source>(&mut self, input: &mut I) -> Option<Head>
         requires none { self.old.held.bytes ≡ [] }
         ensures nexts { IfSome result (λ head. Nexts self.old.held self.new.held (I.state input.old).told (I.state input.new).told (Ok head)) }
@@ -134,13 +136,13 @@ fn stop_of(dry: Dry, len: usize) -> Stop
 {
     match dry {
         Dry::Fault => Stop::Fault,
-        Dry::End => Stop::Ended(end_behind(len)),
+        Dry::End => Stop::Ended(end_after(len)),
         Dry::Over => Stop::Ended(Ended::Over),
     }
 }
 
 /// The end of a source after `len` bytes of a frame.
-fn end_behind(len: usize) -> Ended
+fn end_after(len: usize) -> Ended
     ensures { IsEndBehind len result }
 {
     if len == 0 {

@@ -11,16 +11,22 @@ use Rattle.sbe_types.specs.declared.schema.Field.{Field}
 use Rattle.sbe_types.specs.declared.schema.WireSchema.{WireSchema}
 use Rattle.sbe_types.specs.declared.schema.Level.{Level, out-Level}
 use Rattle.sbe_types.specs.Places.{is_const, begin_of, end_past, field_place}
+use Rattle.sbe_wire.specs.Faults.{message_named}
 use Rattle.sbe_wire.specs.Versions.{floor, floor_from, is_alive}
 use Rattle.layout_tables.specs.declared.rows.FieldRow.{FieldRow}
 use Rattle.layout_tables.specs.declared.rows.LevelRow.{LevelRow}
 use Rattle.layout_tables.specs.declared.rows.PartRow.{PartRow}
 use Rattle.schema_facts.specs.Levels.{Node, nodes, nodes_from, all_nodes, level_at, fields_at, groups_at, parts_at, fields_in, groups_in, parts_in, root_of}
 use Rattle.schema_facts.specs.CheckedLevels.{HasFewParts}
-use Rattle.schema_facts.specs.IsChecked.{LevelsHaveFewParts}
+use Rattle.schema_facts.specs.IsChecked.{IsChecked, LevelsHaveFewParts}
 use Rattle.layout_tables.specs.Parts.{parts_in_all}
 use Rattle.layout_tables.specs.Rowed.{FieldsAre, AreRows, RowFor, newest_from, rows_floor, part_row, roots_from}
 use Rattle.layout_tables.proofs.Items.{item_there, long_map}
+
+-- the number of a message whose id is known
+pub guessed : (schema : WireSchema) (n id : ℕ) (level : Level) → IsChecked schema → slice_get schema.messages n ≡ Some level → (out-Level level).id ≡ id → option_map (λ m. m.0) (message_named 0 id schema.messages) ≡ Some n
+guessed schema n id level checked at same =
+    ap (λ i. option_map (λ (m : ℕ × Level). m.0) (message_named 0 i schema.messages)) (sym same) ∙ ap (option_map (λ (m : ℕ × Level). m.0)) (checked.placed.ids n level at)
 
 -- the floor by the rows is the floor
 pub floor_rows : (version e reached : ℕ) (fs : List Field) (rs : List FieldRow) → FieldsAre e fs rs → rows_floor version reached rs ≡ floor_from version e reached fs

@@ -4,7 +4,7 @@ ghost use Rattle.sbe_types.specs.declared.kind.Kind.{Comp};
 ghost use Rattle.sbe_types.specs.Places.{member_place as place_in};
 ghost use Rattle.schema_facts.specs.Measured.{IsNarrow};
 
-use flat_rows::{begin_of, end_behind};
+use flat_rows::{begin_of, end_after};
 use sbe_types::MemberList;
 
 /// The offset of a composite's member `i` from the composite's first byte (SBE 1.0, offset). Requires a member in range
@@ -16,7 +16,7 @@ pub fn member_place(members: &MemberList, i: usize) -> u32
 {
     let mut end = 0;
     for member in &members.as_slice()[..i] {
-        end = end_behind(end, member.offset, &member.kind);
+        end = end_after(end, member.offset, &member.kind);
     }
     begin_of(end, members.at(i).offset)
 }

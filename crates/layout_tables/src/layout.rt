@@ -1,4 +1,4 @@
-ghost use Rattle.std.specs.Prelude.{◌≡◌, ℕ, ◌≤◌, ◌<◌, ◌+◌, ◌^◌, length, flat_map, slice_get, Some};
+ghost use Rattle.std.specs.Prelude.{◌≡◌, ℕ, ◌≤◌, ◌<◌, ◌+◌, ◌^◌, length, flat_map, slice_get, Some, IfSome};
 ghost use Rattle.std.specs.Option.{option_map, IsSome};
 ghost use Rattle.sbe_types.specs.declared.limits.TheConstants.{PART_LIMIT};
 ghost use Rattle.sbe_types.specs.declared.schema.Group.{out-Group};
@@ -64,7 +64,25 @@ impl Layout {
     pub fn template(&self, id: u32) -> Option<usize>
         ensures { result ≡ option_map (λ m. m.0) (message_named 0 id self.now.messages) }
     {
-        self.tables.ids.get(&id).copied()
+        match self.guess(id) {
+            Some(number) => Some(number),
+            None => self.tables.ids.get(&id).copied(),
+        }
+    }
+
+    /// The same, if the ids of the messages follow one another from the first one on. `None` is inconclusive.
+    #[inline(always)]
+    #[tactic(auto, using(crate::proofs::Told::guessed))]
+    fn guess(&self, id: u32) -> Option<usize>
+        ensures { IfSome result (λ n. option_map (λ m. m.0) (message_named 0 id self.now.messages) ≡ Some n) }
+    {
+        let first = self.schema().messages.as_slice().first()?;
+        let number = id.checked_sub(first.id)? as usize;
+        if number < self.templates() && self.message(number).id == id {
+            Some(number)
+        } else {
+            None
+        }
     }
 
     /// How many messages the schema has.

@@ -18,7 +18,7 @@ pub fn levels_are_numbered_from_the_root_down()
 {}
 
 /// The second message's root follows all levels of the first one, and the second group those of the first one.
-pub fn roots_and_groups_stand_behind_those_before_them()
+pub fn roots_and_groups_follow_those_before_them()
     ensures root { root_of worked 1 ≡ 4 }
     ensures group { group_number worked 0 1 ≡ 3 }
 {}
@@ -30,7 +30,7 @@ pub fn data_is_numbered_level_by_level()
 {}
 
 /// A constant has no offset and takes no bytes, and a stated offset leaves a gap.
-pub fn fields_stand_behind_one_another()
+pub fn fields_follow_one_another()
     ensures constant { field_place 0 order_fields 1 ≡ None }
     ensures behind_it { field_place 0 order_fields 2 ≡ Some 1 }
     ensures array { field_place 0 order_fields 3 ≡ Some 6 }

@@ -16,9 +16,10 @@ typed_of v = typed_at v.span v.plan
 abbrev pub IsShown : Inside → Type 0
 IsShown v = IsPlannedBlock v.span v.plan
 
--- a block is that of a span, all fields of the row exist in it, and it is little-endian
+-- a block is that of a span, with the table and the fields of a row, which all exist in it, and it is little-endian
 pub record IsRowBlock (s : Span) (row : LevelRow) (b : TableBlock) : Type 0 where
   pub order : s.mode.order ≡ Little
   pub newest : row.newest ≤ s.mode.version
   pub table_is : b.table.now ≡ row.flat
+  pub fields_are : b.fields.now ≡ row.fields.items
   pub bytes_are : b.bytes.now ≡ bytes_of s

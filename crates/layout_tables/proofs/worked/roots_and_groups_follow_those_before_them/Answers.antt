@@ -1,7 +1,7 @@
 use Rattle.std.proofs.Common.{refl}
 use Rattle.sbe_types.specs.declared.schema.Level.{items_shown-the_row-Group-0}
 use Rattle.layout_tables.proofs.Computing.{computing}
-use Rattle.layout_tables.proofs.worked.roots_and_groups_stand_behind_those_before_them.Goals as goal
+use Rattle.layout_tables.proofs.worked.roots_and_groups_follow_those_before_them.Goals as goal
 
 pub returns-clause-root : goal.returns-clause-root
 unfolding computing

@@ -1,6 +1,6 @@
 use Rattle.std.proofs.Common.{refl}
 use Rattle.layout_tables.proofs.Computing.{computing}
-use Rattle.layout_tables.proofs.worked.fields_stand_behind_one_another.Goals as goal
+use Rattle.layout_tables.proofs.worked.fields_follow_one_another.Goals as goal
 
 pub returns-clause-constant : goal.returns-clause-constant
 unfolding computing
