@@ -63,6 +63,19 @@ impl Lead {
     {
         &self.bytes[..self.used]
     }
+
+    /// An array of sixteen bytes that begins with these, and how many they are.
+    #[inline(always)]
+    #[tactic(auto, using(crate::proofs::Leads::ready_lead))]
+    pub fn array(&self) -> (&[u8], usize)
+        ensures long { length result.0.now ≡ 16 }
+        ensures within { result.1 ≤ 16 }
+        ensures bytes { take result.1 result.0.now ≡ tag_bytes self.now }
+        ensures ready { IsReady (take result.1 result.0.now) }
+    {
+        let bytes: &[u8] = &self.bytes;
+        (bytes, self.used)
+    }
 }
 
 /// Whether the tag belongs to the head or is that of the sum.

@@ -20,6 +20,6 @@ pub use halt::{Cause, Halt};
 pub use lead::Lead;
 pub use message::put_message;
 pub use plan::{Part, PlanRow};
-pub use put::{Put, PutValue, put_text};
+pub use put::{Put, PutValue, put_front, put_text};
 pub use trail::{Trail, WayStep};
 pub use walk::put_rows;

@@ -1,18 +1,5 @@
-// What is at the places of a block.
-ghost use Rattle.std.specs.Prelude.{◌≡◌, ◌<◌, ◌≤◌, nat_lt, drop, length, slice_get, take, Some};
-
-use flyweight_view::BlockView;
-
-/// Whether the block has a field with this number.
-#[inline(always)]
-pub(crate) fn has_field(block: &BlockView<'_>, number: usize) -> bool
-    ensures { result ≡ nat_lt number (length block.now.fields) }
-{
-    let (count, _, _) = block.counts();
-    number < count
-}
-
-// ---- rows
+// The rows of a plan.
+ghost use Rattle.std.specs.Prelude.{◌≡◌, ◌<◌, ◌≤◌, drop, length, slice_get, take, Some};
 
 /// The first row.
 #[inline(always)]

@@ -1,21 +1,26 @@
 // The field of a value.
-ghost use Rattle.std.specs.Prelude.{◌≡◌, ◌<◌, List, length, None, Ok, Some};
+ghost use Rattle.std.specs.Prelude.{◌≡◌, ◌<◌, ◌≤◌, List, length, take, None, Ok, Some, IfSome};
 ghost use Rattle.std.specs.Fmt.{decimal};
 ghost use Rattle.tagvalue_codec.specs.declared.write.Phase.TheVariants.{Open};
 ghost use Rattle.tagvalue_codec.specs.Drafts.{IsValue};
+ghost use Rattle.flyweight_view.specs.ByTable.{IsTableBlock};
 ghost use Rattle.bridge_rules.specs.Rules.{Rule};
 ghost use Rattle.bridge_rules.specs.Texts.{text_by};
 ghost use Rattle.bridge_terms.specs.MessageFields.{length_in};
 ghost use Rattle.bridge_terms.specs.Parts.{TagLists};
 ghost use Rattle.bridge_terms.specs.Places.{place_of};
+ghost use Rattle.message_walk.specs.declared.put.TheConstants.{SHORT_TEXT};
 ghost use Rattle.message_walk.specs.Rows.{field_of, IsForField};
 ghost use Rattle.message_walk.specs.States.{after, outcome, IsPut};
 
 use crate::halt::{Cause, Halt};
 use crate::lead::Lead;
-use flyweight_view::BlockView;
+use flyweight_view::{BlockView, TableBlock};
 use itoa::Buffer;
 use tagvalue_codec::FixWriter;
+
+/// No text that is written with its tag at once has more bytes.
+const SHORT_TEXT: usize = 40;
 
 /// What became of the field of a value.
 #[derive(Clone, Copy, Debug, PartialEq, Eq, Drop)]
@@ -47,11 +52,47 @@ pub trait PutValue {
         ensures put { (lists : TagLists) (rule : Rule) → length_in lead.now lists.lengths ≡ None → spells self.now rule
             → IsForField rule number block.now.fields
             → IsPut lists out.old lead.now (text_by rule (field_of block.now number)) (record { put = result; draft = out.new; halt = halt.new }) };
+
+    /// The same for a field of any number, given the block's table, if it has one.
+    fn put_at(
+        &self,
+        lead: &Lead,
+        block: &BlockView<'_>,
+        table: &Option<TableBlock<'_>>,
+        number: usize,
+        out: &mut FixWriter,
+        halt: &mut Halt,
+    ) -> Put
+        requires open { out.old.phase ≡ Open }
+        requires table { IfSome table.now (λ t. IsTableBlock t block.now) }
+        ensures open { out.new.phase ≡ Open }
+        ensures put { (lists : TagLists) (rule : Rule) → length_in lead.now lists.lengths ≡ None → spells self.now rule
+            → IsForField rule number block.now.fields
+            → IsPut lists out.old lead.now (text_by rule (field_of block.now number)) (record { put = result; draft = out.new; halt = halt.new }) };
 }
 
 /// Writes a field with this text.
 #[inline(always)]
 pub fn put_text(lead: &Lead, text: &[u8], out: &mut FixWriter, halt: &mut Halt) -> Put
+    requires open { out.old.phase ≡ Open }
+    requires value { IsValue text.now }
+    ensures open { out.new.phase ≡ Open }
+    ensures put { (lists : TagLists) → length_in lead.now lists.lengths ≡ None
+        → IsPut lists out.old lead.now (Ok (Some text.now)) (record { put = result; draft = out.new; halt = halt.new }) }
+{
+    if text.len() > SHORT_TEXT {
+        return put_long(lead, text, out, halt);
+    }
+    let (array, used) = lead.array();
+    if out.led_field(array, used, text) {
+        return Put::Written;
+    }
+    put_long(lead, text, out, halt)
+}
+
+/// The same for a text of any length, which may have no room.
+#[inline(never)]
+fn put_long(lead: &Lead, text: &[u8], out: &mut FixWriter, halt: &mut Halt) -> Put
     requires open { out.old.phase ≡ Open }
     requires value { IsValue text.now }
     ensures open { out.new.phase ≡ Open }
@@ -66,6 +107,32 @@ pub fn put_text(lead: &Lead, text: &[u8], out: &mut FixWriter, halt: &mut Halt) 
             Put::Refused
         }
     }
+}
+
+/// Writes a field whose text is the first bytes of a slice. `N` bytes of the slice are copied, so that the copy doesn't
+/// branch on a length.
+#[inline(always)]
+pub fn put_front<const N: usize>(
+    lead: &Lead,
+    bytes: &[u8],
+    count: usize,
+    out: &mut FixWriter,
+    halt: &mut Halt,
+) -> Put
+    requires open { out.old.phase ≡ Open }
+    requires short { N ≤ SHORT_TEXT }
+    requires enough { N ≤ length bytes.now }
+    requires count { count ≤ N }
+    requires value { IsValue (take count bytes.now) }
+    ensures open { out.new.phase ≡ Open }
+    ensures put { (lists : TagLists) → length_in lead.now lists.lengths ≡ None
+        → IsPut lists out.old lead.now (Ok (Some (take count bytes.now))) (record { put = result; draft = out.new; halt = halt.new }) }
+{
+    let (array, used) = lead.array();
+    if out.front_field::<N>(array, used, bytes, count) {
+        return Put::Written;
+    }
+    put_long(lead, &bytes[..count], out, halt)
 }
 
 /// Writes a length field and the data field with these bytes.

@@ -1,5 +1,5 @@
 -- The number of a composite's first member.
-use Rattle.std.proofs.Common.{◌≡◌, ◌≤◌, ◌+◌, ℕ, Bool, true, false, cond, List, [], ◌∷◌, length, Option, Some, None, ℤ, refl, sym, ap, ◌∙◌, subst, arith}
+use Rattle.std.proofs.Common.{◌≡◌, ℕ, Bool, true, false, cond, List, [], ◌∷◌, length, Some, None, refl, ap, ◌∙◌, subst, arith}
 use Rattle.std.specs.Prelude.{slice_get}
 use Rattle.sbe_types.specs.declared.kind.Kind.{Kind, Leaf, Enum, Set, Const, Comp, Comp', items_hidden-the_row-Member-0}
 use Rattle.sbe_types.specs.declared.kind.Member.{Member}
@@ -11,7 +11,6 @@ use Rattle.sbe_types.proofs.PlaceLemmas.{each_from, EachFrom}
 use Rattle.sbe_types.proofs.KindRows.{row_in}
 use Rattle.bridge_rules.specs.Members.{first_number, mantissa_in, number_in}
 use Rattle.bridge_rules.proofs.BoolLemmas.{true_false}
-use Rattle.value_texts.specs.FieldViews.{IsSeenOf}
 
 -- the values of a composite's members
 record Values (order : Order) (known : Bool) (ms : List Member) (v : Value) (b : List ℕ) : Type 0 where

@@ -2,7 +2,7 @@
 use Rattle.std.proofs.Common.{◌≡◌, ℕ, List, [], Some, Result, Ok, Err, refl, sym, ap, subst, ◌∙◌, ℤ, FitsSigned, to_z, of_z}
 use Rattle.std.specs.Prelude.{IfOk}
 use Rattle.fix_values.specs.declared.rule.V.{V}
-use Rattle.std.specs.Int.{w128}
+use Rattle.std.specs.Int.{w64, w128}
 use Rattle.std.proofs.lemmas.Int.{to_z-of_z}
 use Rattle.sbe_types.specs.declared.kind.Leaf.{Leaf as LeafOf}
 use Rattle.fix_values.specs.Decimals.{dec, decimal_of, decimal_text}
@@ -53,6 +53,10 @@ shown_bad lists d r tag w shown told v is left put = subst (λ o. IsPut lists d 
 -- a number that went into a call and back
 pub whole : (P : ℤ → Type 0) (z : ℤ) → FitsSigned w128 z → P (to_z w128 (of_z w128 z)) → P z
 whole P z fits h = subst P (to_z-of_z w128 z fits) h
+
+-- the same for a number of 64 bits
+pub narrow : (P : ℤ → Type 0) (z : ℤ) → FitsSigned w64 z → P (to_z w64 (of_z w64 z)) → P z
+narrow P z fits h = subst P (to_z-of_z w64 z fits) h
 
 -- a decimal with an exponent, where its text can be read back
 pub back_fine : (mantissa exponent : LeafOf) (m e : ℤ) (r s : Result Unit V) (w x : List ℕ) → Leaves r w (decimal_text (dec m e)) → r ≡ Ok tt

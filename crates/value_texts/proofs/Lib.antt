@@ -1,5 +1,8 @@
-pub mod Codes
+pub mod CodeBytes
+pub mod CodesJudged
 pub mod Dates
+pub mod Faces
+pub mod FaceReads
 pub mod FirstMembers
 pub mod Leaving
 pub mod MadeRows

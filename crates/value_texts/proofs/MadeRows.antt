@@ -38,13 +38,20 @@ use Rattle.bridge_table.specs.declared.rule.ConstRule.{ConstRule}
 use Rattle.bridge_table.specs.declared.rule.ConstRule.TheVariants as given
 use Rattle.bridge_table.specs.declared.rule.EnumRule.{EnumRule}
 use Rattle.bridge_table.specs.declared.rule.EnumRule.TheVariants as listed
+use Rattle.bridge_table.specs.declared.rule.FieldRule.TheVariants as given_rule
+use Rattle.bridge_table.specs.declared.rule.MonthLeaves.{MonthLeaves as Months}
 use Rattle.bridge_table.specs.Rows.{const_with, enum_with, epoch_of, unit_of}
-use Rattle.value_texts.specs.declared.row.ValueText.{ValueText}
-use Rattle.value_texts.specs.declared.row.ValueText.TheVariants as row
+use Rattle.value_texts.specs.declared.row.TextRule.{TextRule}
+use Rattle.value_texts.specs.declared.row.TextRule.TheVariants as row
 use Rattle.value_texts.specs.declared.row.ConstText.{ConstText}
-use Rattle.value_texts.specs.Rows.{const_text, CanAsk, Spells}
-use Rattle.value_texts.specs.Made.{const_shown, enum_spelling, kept_of}
+use Rattle.value_texts.specs.declared.row.ValueText.{ValueText}
+use Rattle.value_texts.specs.Coded.{AreCodes}
+use Rattle.value_texts.specs.Rows.{const_text, CanAsk, ReadsBy, Spells, SpellsText}
+use Rattle.value_texts.specs.declared.face.NumberFace.{NumberFace}
+use Rattle.value_texts.specs.Faces.{enum_leaf, IsFaceFor}
+use Rattle.value_texts.specs.Made.{const_shown, enum_spelling, kept_of, IsMadeFor}
 use Rattle.value_texts.specs.FieldViews.{IsValueOf}
+use Rattle.value_texts.proofs.FaceReads.{char_reads, code_reads, decimal_reads, integer_reads, listed_reads, text_reads, truth_reads, unscaled_reads, ReadsNumbers}
 use Rattle.value_texts.proofs.Plain.{IsPlain, plain_shown}
 
 -- every number may be asked
@@ -52,47 +59,47 @@ free : (rule : NumRule) → ((n : ℤ) → is_asked rule n ≡ true) → (o : Op
 free rule all None = tt
 free rule all (Some n) = all n
 
-pub spells_integer : (leaf : LeafOf) → Spells (row.Number spelling.Int) (integer leaf)
+pub spells_integer : (leaf : LeafOf) → SpellsText (row.Number spelling.Int) (integer leaf)
 spells_integer leaf = record { text = λ v. refl; asked = λ k v table order is. free spelling.Int (λ n. refl) (number_in v); words = tt }
 
-pub spells_unscaled : (leaf : LeafOf) → Spells (row.Number spelling.Decimal) (integer_decimal leaf)
+pub spells_unscaled : (leaf : LeafOf) → SpellsText (row.Number spelling.Decimal) (integer_decimal leaf)
 spells_unscaled leaf = record { text = λ v. refl; asked = λ k v table order is. free spelling.Decimal (λ n. refl) (number_in v); words = tt }
 
-pub spells_code : (leaf : LeafOf) (names : List Named) (codes : List Code) → Spells (row.Number (spelling.Code codes)) (enum_code leaf names codes)
+pub spells_code : (leaf : LeafOf) (names : List Named) (codes : List Code) → SpellsText (row.Number (spelling.Code codes)) (enum_code leaf names codes)
 spells_code leaf names codes = record { text = λ v. refl; asked = λ k v table order is. free (spelling.Code codes) (λ n. refl) (number_in v); words = tt }
 
-pub spells_number : (leaf : LeafOf) (names : List Named) (codes : List Code) → Spells (row.Number (spelling.Code codes)) (enum_number leaf names codes)
+pub spells_number : (leaf : LeafOf) (names : List Named) (codes : List Code) → SpellsText (row.Number (spelling.Code codes)) (enum_number leaf names codes)
 spells_number leaf names codes = record { text = λ v. refl; asked = λ k v table order is. free (spelling.Code codes) (λ n. refl) (number_in v); words = tt }
 
-pub spells_boolean : (leaf : LeafOf) (own : List Named) → Spells (row.Number (spelling.Boolean own)) (enum_boolean leaf own)
+pub spells_boolean : (leaf : LeafOf) (own : List Named) → SpellsText (row.Number (spelling.Boolean own)) (enum_boolean leaf own)
 spells_boolean leaf own = record { text = λ v. refl; asked = λ k v table order is. free (spelling.Boolean own) (λ n. refl) (number_in v); words = tt }
 
-pub spells_fixed : (leaf : LeafOf) (exponent : ℤ) → Spells (row.Decimal exponent) (fixed_decimal leaf exponent)
+pub spells_fixed : (leaf : LeafOf) (exponent : ℤ) → SpellsText (row.Decimal exponent) (fixed_decimal leaf exponent)
 spells_fixed leaf exponent = record { text = λ v. refl; asked = λ k v table order is. tt; words = tt }
 
-pub spells_floating : (m e : LeafOf) → Spells (row.Floating m e) (floating_decimal m e)
+pub spells_floating : (m e : LeafOf) → SpellsText (row.Floating m e) (floating_decimal m e)
 spells_floating m e = record { text = λ v. refl; asked = λ k v table order is. tt; words = tt }
 
-pub spells_array : (leaf : LeafOf) → Spells row.Passage (char_array leaf)
+pub spells_array : (leaf : LeafOf) → SpellsText row.Passage (char_array leaf)
 spells_array leaf = record { text = λ v. refl; asked = λ k v table order is. tt; words = tt }
 
-pub spells_day : (leaf : LeafOf) → Spells row.Day (day_count leaf)
+pub spells_day : (leaf : LeafOf) → SpellsText row.Day (day_count leaf)
 spells_day leaf = record { text = λ v. refl; asked = λ k v table order is. tt; words = tt }
 
-pub spells_moment : (from : Epoch) (leaf : LeafOf) (u : UnitRow) → Spells (row.Moment from u) (moment (epoch_of from) leaf (unit_of u))
+pub spells_moment : (from : Epoch) (leaf : LeafOf) (u : UnitRow) → SpellsText (row.Moment from u) (moment (epoch_of from) leaf (unit_of u))
 spells_moment from leaf u = record { text = λ v. refl; asked = λ k v table order is. tt; words = tt }
 
-pub spells_month : (leaves : MonthLeaves) → Spells row.Month (month_year leaves)
+pub spells_month : (leaves : MonthLeaves) → SpellsText row.Month (month_year leaves)
 spells_month leaves = record { text = λ v. refl; asked = λ k v table order is. tt; words = tt }
 
-pub spells_constant : (inner : Rule) (own : Value) (t : ConstText) → const_text t ≡ text_by inner own → Spells (row.Const t) (constant inner own)
+pub spells_constant : (inner : Rule) (own : Value) (t : ConstText) → const_text t ≡ text_by inner own → SpellsText (row.Const t) (constant inner own)
 spells_constant inner own t same = record { text = λ v. ap (λ t. cond (is_const v) t (Ok None)) (sym same); asked = λ k v table order is. tt; words = tt }
 
 set_same : (codes : List Code) (o : Option ℕ) → text_if_any o (λ n. set_text codes n) ≡ text_if_any (option_map pos o) (λ n. text_of (spelling.Codes codes) n)
 set_same codes None = refl
 set_same codes (Some n) = refl
 
-pub spells_set : (names : List Named) (codes : List Code) → Spells (row.Choices (spelling.Codes codes)) (choice_set names codes)
+pub spells_set : (names : List Named) (codes : List Code) → SpellsText (row.Choices (spelling.Codes codes)) (choice_set names codes)
 spells_set names codes = record { text = λ v. set_same codes (and_then (bits_in v) not_zero); asked = λ k v table order is. tt; words = λ n h. h }
 
 -- ---- characters
@@ -172,7 +179,7 @@ kind_asked leaf k v of order is =
     let shows : Shows is.order is.known (Leaf leaf) v is.bytes = subst (λ k. Shows is.order is.known k v is.bytes) of.0 is.shown in
     leaf_asked leaf is.order v is.bytes (subst IsKindInOrder of.0 order).parts of.1 shows.1
 
-pub spells_char : (leaf : LeafOf) → Spells (row.Number spelling.Char) (single_char leaf)
+pub spells_char : (leaf : LeafOf) → SpellsText (row.Number spelling.Char) (single_char leaf)
 spells_char leaf = record {
   text = λ v. refl;
   asked = λ k v table order is. kind_asked leaf k v (char_of k table.datatype (single_char leaf) table.is) order is;
@@ -181,16 +188,61 @@ spells_char leaf = record {
 
 -- ---- what is made
 
--- a row that is made, where it is this one
-pub made_as : (o : Option ValueText) (own : ValueText) (R : List Named → Rule) → IfSome o (λ r. r ≡ own) → ((names : List Named) → Spells own (R names)) → IfSome o (λ r. (names : List Named) → Spells r (R names))
-made_as None own R is spells = tt
-made_as (Some r) own R is spells = λ names. subst (λ r. Spells r (R names)) (sym is) (spells names)
+-- a rule of texts that is made, where it is this one
+pub made_as : (o : Option TextRule) (own : TextRule) (P : TextRule → Type 0) → IfSome o (λ r. r ≡ own) → P own → IfSome o P
+made_as None own P is made = tt
+made_as (Some r) own P is made = subst P (sym is) made
 
 -- an enum's row
-pub spells_enum : (rule : EnumRule) (names : List Named) → Spells (row.Number (enum_spelling rule)) (enum_with names rule)
+pub spells_enum : (rule : EnumRule) (names : List Named) → SpellsText (row.Number (enum_spelling rule)) (enum_with names rule)
 spells_enum (listed.Code leaf codes) names = spells_code leaf names codes
 spells_enum (listed.Number leaf codes) names = spells_number leaf names codes
 spells_enum (listed.Boolean leaf own) names = spells_boolean leaf own
+
+made_by : (own : ValueText) (text : TextRule) (rule : Rule) → own.rule ≡ text → SpellsText text rule → ReadsBy text own.face rule → AreCodes own.rule own.face own.codes.items → Spells own rule
+made_by own text rule is texts reads codes = record {
+  texts = subst (λ t. SpellsText t rule) (sym is) texts;
+  reads = subst (λ t. ReadsBy t own.face rule) (sym is) reads;
+  codes = codes;
+}
+
+enum_reads : (rule : EnumRule) (names : List Named) (q : NumberFace) → IsFaceFor q (enum_leaf rule) → ReadsNumbers q (enum_with names rule)
+enum_reads (listed.Code leaf codes) names q face = code_reads q leaf names codes face
+enum_reads (listed.Number leaf codes) names q face = listed_reads q leaf names codes face
+enum_reads (listed.Boolean leaf own) names q face = truth_reads q leaf own face
+
+pub made_integer : (leaf : LeafOf) → IsMadeFor (given_rule.Integer leaf) (row.Number spelling.Int)
+made_integer leaf names own is face codes = made_by own _ _ is (spells_integer leaf) (integer_reads own.face leaf face) codes
+
+pub made_unscaled : (leaf : LeafOf) → IsMadeFor (given_rule.IntegerDecimal leaf) (row.Number spelling.Decimal)
+made_unscaled leaf names own is face codes = made_by own _ _ is (spells_unscaled leaf) (unscaled_reads own.face leaf face) codes
+
+pub made_char : (leaf : LeafOf) → IsMadeFor (given_rule.SingleChar leaf) (row.Number spelling.Char)
+made_char leaf names own is face codes = made_by own _ _ is (spells_char leaf) (char_reads own.face leaf face) codes
+
+pub made_enum : (rule : EnumRule) → IsMadeFor (given_rule.Enum rule) (row.Number (enum_spelling rule))
+made_enum rule names own is face codes = made_by own _ _ is (spells_enum rule names) (enum_reads rule names own.face face) codes
+
+pub made_fixed : (leaf : LeafOf) (exponent : ℤ) → IsMadeFor (given_rule.FixedDecimal leaf exponent) (row.Decimal exponent)
+made_fixed leaf exponent names own is face codes = made_by own _ _ is (spells_fixed leaf exponent) (decimal_reads own.face leaf exponent face) codes
+
+pub made_floating : (m e : LeafOf) → IsMadeFor (given_rule.FloatingDecimal m e) (row.Floating m e)
+made_floating m e names own is face codes = made_by own _ _ is (spells_floating m e) (λ k v known bytes table order shows. tt) codes
+
+pub made_array : (leaf : LeafOf) → IsMadeFor (given_rule.CharArray leaf) row.Passage
+made_array leaf names own is face codes = made_by own _ _ is (spells_array leaf) (text_reads leaf) codes
+
+pub made_set : (codes : List Code) → IsMadeFor (given_rule.ChoiceSet codes) (row.Choices (spelling.Codes codes))
+made_set codes_of names own is face codes = made_by own _ _ is (spells_set names codes_of) (λ k v known bytes table order shows. tt) codes
+
+pub made_day : (leaf : LeafOf) → IsMadeFor (given_rule.DayCount leaf) row.Day
+made_day leaf names own is face codes = made_by own _ _ is (spells_day leaf) (λ k v known bytes table order shows. tt) codes
+
+pub made_moment : (from : Epoch) (leaf : LeafOf) (u : UnitRow) → IsMadeFor (given_rule.Moment from leaf u) (row.Moment from u)
+made_moment from leaf u names own is face codes = made_by own _ _ is (spells_moment from leaf u) (λ k v known bytes table order shows. tt) codes
+
+pub made_month : (leaves : Months) → IsMadeFor (given_rule.MonthYear leaves) row.Month
+made_month leaves names own is face codes = made_by own _ _ is (spells_month _) (λ k v known bytes table order shows. tt) codes
 
 -- the text of an enum's number
 pub enum_text : (rule : EnumRule) (names : List Named) (n : ℤ) → text_by (enum_with names rule) (value.Enum n) ≡ field_text (text_of (enum_spelling rule) n)
@@ -209,13 +261,16 @@ kept_is r w (Ok t) h plain =
     ap (λ r. const_text (kept_of r w)) h.0 ∙ ap (λ w. field_text (judged_text w (text_shown w))) h.1 ∙ ap (λ o. field_text (judged_text t o)) (plain_shown t (plain t refl))
 kept_is r w (Err v) h plain = ap (λ r. const_text (kept_of r w)) h.0
 
-pub const_spelled : (names : List Named) (rule : ConstRule) (t : ConstText) → const_text t ≡ const_shown rule → Spells (row.Const t) (const_with names rule)
+const_spelled : (names : List Named) (rule : ConstRule) (t : ConstText) → const_text t ≡ const_shown rule → SpellsText (row.Const t) (const_with names rule)
 const_spelled names (given.Text s) t h = spells_constant any_text (value.Text s) t h
 const_spelled names (given.Character b) t h = spells_constant (single_char (every_byte b)) (value.Num (pos b)) t h
 const_spelled names (given.Integer n) t h = spells_constant (integer (every_number I64)) (value.Num n) t h
 const_spelled names (given.Decimal n) t h = spells_constant (integer_decimal (every_number I64)) (value.Num n) t h
 const_spelled names (given.Day n) t h = spells_constant (day_count (every_number I64)) (value.Num n) t h
 const_spelled names (given.Enum rule n) t h = spells_constant (enum_with names rule) (value.Enum n) t (h ∙ sym (enum_text rule names n))
+
+pub made_constant : (rule : ConstRule) (t : ConstText) → const_text t ≡ const_shown rule → IsMadeFor (given_rule.Const rule) (row.Const t)
+made_constant rule t h names own is face codes = made_by own _ _ is (const_spelled names rule t h) (λ k v known bytes table order shows. tt) codes
 
 pub kept_ok : {E : Type 0} (o : Result ConstText E) (made : ConstText) (T : Result (Option (List ℕ)) V) → IfOk o (λ m. m ≡ made) → const_text made ≡ T → IfOk o (λ m. const_text m ≡ T)
 kept_ok (Ok m) made T is same = ap const_text is ∙ same

@@ -3,12 +3,15 @@ use Rattle.std.proofs.Common.{◌≡◌, ℕ, true, List, Option, Some, None, �
 use Rattle.std.specs.Prelude.{IfSome, slice_get}
 use Rattle.std.specs.Option.{option_map}
 use Rattle.sbe_types.specs.declared.kind.Leaf.{Leaf as LeafOf}
+use Rattle.sbe_types.specs.declared.message.Block.{out-Block}
 use Rattle.sbe_types.specs.declared.message.Value.{Value}
+use Rattle.sbe_types.specs.declared.message.Value.TheVariants as value
 use Rattle.sbe_types.specs.Numbers.{natural}
 use Rattle.fix_values.specs.declared.rule.NumRule.{NumRule}
 use Rattle.fix_values.specs.Values.{text_of}
 use Rattle.tagvalue_codec.specs.Drafts.{Draft}
 use Rattle.flyweight_view.specs.declared.values.FieldBytes.{FieldBytes}
+use Rattle.flyweight_view.specs.ByTable.{ShowsField}
 use Rattle.flyweight_view.specs.TypedBlocks.{TypedBlock}
 use Rattle.bridge_rules.specs.Members.{mantissa_in, members_in, month_in, number_in, unit_in, and_then}
 use Rattle.bridge_rules.specs.Texts.{floating_text, moment_text, month_text, text_if_any}
@@ -21,9 +24,11 @@ use Rattle.message_walk.specs.Rows.{field_of, IsByTable, IsForField}
 use Rattle.bridge_rules.specs.Rules.{Rule}
 use Rattle.bridge_rules.proofs.OptionLemmas.{some_is}
 use Rattle.message_walk.specs.States.{IsPut, PutResult}
+use Rattle.message_walk.proofs.Nth.{nth_is}
+use Rattle.value_texts.specs.declared.row.TextRule.{TextRule}
+use Rattle.value_texts.specs.declared.row.TextRule.TheVariants as row
 use Rattle.value_texts.specs.declared.row.ValueText.{ValueText}
-use Rattle.value_texts.specs.declared.row.ValueText.TheVariants as row
-use Rattle.value_texts.specs.Rows.{row_text, AsksWords, CanAsk, CanAskOf, Spells}
+use Rattle.value_texts.specs.Rows.{row_text, AsksWords, CanAsk, CanAskOf, Reads, Spells, SpellsText}
 use Rattle.value_texts.specs.FieldViews.{choices_in, is_word, nth_number, unit_seen, CanReadAny, IsSeenOf}
 use Rattle.value_texts.proofs.Members.{mantissa_is, second_is}
 
@@ -74,10 +79,17 @@ month_row lists d tag r v vs members put =
     (subst (λ n. IsPut lists d tag (text_if_any n (λ year. month_text (month_in vs))) r) (sym (mantissa_is v ∙ ap (nth_number 0) members)) put)
 
 -- what may be asked of a row whose rule is that of a field's kind
-pub asks_of : (row : ValueText) (rule : Rule) (i : ℕ) (seen : TypedBlock) → Spells row rule → IsForField rule i seen.fields → CanAskOf row i seen
+pub asks_of : (row : TextRule) (rule : Rule) (i : ℕ) (seen : TypedBlock) → SpellsText row rule → IsForField rule i seen.fields → CanAskOf row i seen
 asks_of row rule i seen by near = record {
   number = λ k there order is.
       let same : near.field.kind ≡ k = some_is (sym (ap (option_map (λ f. f.kind)) near.there) ∙ there) in
       by.asked k (field_of seen i) (subst (λ k. IsByTable k rule) same near.by_table) order is;
   words = by.words;
 }
+
+-- what the bytes of a field show is what is read of its value, where the row spells the rule of its kind
+pub reads_of : (own : ValueText) (rule : Rule) (i : ℕ) (seen : TypedBlock) (bytes : List ℕ) → Spells own rule → IsForField rule i seen.fields → ShowsField seen i bytes → Reads own.rule own.face (field_of seen i) bytes
+reads_of own rule i seen bytes by near shows =
+    let same : near.field.kind ≡ shows.field.kind = some_is (sym (ap (option_map (λ f. f.kind)) near.there) ∙ ap (option_map (λ f. f.kind)) shows.there) in
+    subst (λ v. Reads own.rule own.face v bytes) (sym (nth_is value.Absent i (out-Block seen.block).fields shows.value shows.given))
+    (by.reads shows.field.kind shows.value shows.known bytes (subst (λ k. IsByTable k rule) same near.by_table) shows.order shows.shown)

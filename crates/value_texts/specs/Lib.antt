@@ -1,3 +1,5 @@
+pub mod Faces
+pub mod Coded
 pub mod FieldViews
 pub mod Fronts
 pub mod Made

@@ -1,5 +1,5 @@
 -- The rows made from rules. Own profile.
-use Rattle.std.specs.Prelude.{ℕ, Bool, true, false, List, pos, Option, Result, Ok, Err}
+use Rattle.std.specs.Prelude.{◌≡◌, ℕ, Bool, true, false, List, pos, Option, Result, Ok, Err}
 use Rattle.fix_values.specs.declared.rule.V.{V}
 use Rattle.fix_values.specs.declared.rule.NumRule.{NumRule}
 use Rattle.fix_values.specs.declared.rule.NumRule.TheVariants as spelling
@@ -12,8 +12,15 @@ use Rattle.bridge_table.specs.declared.rule.EnumRule.{EnumRule}
 use Rattle.bridge_table.specs.declared.rule.EnumRule.TheVariants as listed
 use Rattle.bridge_table.specs.declared.rule.FieldRule.{FieldRule}
 use Rattle.bridge_table.specs.declared.rule.FieldRule.TheVariants as rule
+use Rattle.sbe_types.specs.declared.kind.Named.{Named}
+use Rattle.bridge_table.specs.Rows.{rule_with}
+use Rattle.value_texts.specs.declared.row.ValueText.{ValueText}
+use Rattle.value_texts.specs.declared.row.TextRule.{TextRule}
 use Rattle.value_texts.specs.declared.row.ConstText.{ConstText}
 use Rattle.value_texts.specs.declared.row.ConstText.TheVariants as fixed
+use Rattle.value_texts.specs.Coded.{AreCodes}
+use Rattle.value_texts.specs.Faces.{IsRuleFace}
+use Rattle.value_texts.specs.Rows.{Spells}
 
 -- how the numbers of an enum are spelled
 abbrev pub enum_spelling : EnumRule → NumRule
@@ -60,3 +67,7 @@ is_spellable (rule.CharArray leaf) = true
 is_spellable (rule.DayCount leaf) = true
 is_spellable (rule.Moment from leaf unit) = true
 is_spellable (rule.MonthYear leaves) = true
+
+-- a row of this rule of texts, with a face of the rule's numbers and their codes, spells the rule
+abbrev pub IsMadeFor : FieldRule → TextRule → Type 0
+IsMadeFor own text = (names : List Named) (row : ValueText) → row.rule ≡ text → IsRuleFace row.face own → AreCodes row.rule row.face row.codes.items → Spells row (rule_with names own)

@@ -5,7 +5,7 @@ ghost use Rattle.bridge_terms.specs.MessageFields.{length_in};
 ghost use Rattle.bridge_terms.specs.Parts.{TagLists};
 ghost use Rattle.message_walk.specs.Rows.{field_of};
 ghost use Rattle.message_walk.specs.States.{IsPut};
-ghost use Rattle.value_texts.specs.declared.row.ValueText.TheVariants as row;
+ghost use Rattle.value_texts.specs.declared.row.TextRule.TheVariants as row;
 ghost use Rattle.value_texts.specs.Quick.{HasValue, IsQuick};
 ghost use Rattle.value_texts.specs.Rows.{row_text, CanAskOf};
 

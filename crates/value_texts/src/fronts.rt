@@ -1,15 +1,15 @@
 // The text at the front of a char array.
-ghost use Rattle.std.specs.Prelude.{◌≡◌, ◌≤◌, length, take};
+ghost use Rattle.std.specs.Prelude.{◌≡◌, ◌≤◌, ◌<◌, length, take};
 ghost use Rattle.std.specs.List.{prefix_len};
 ghost use Rattle.flat_rows.specs.Runs.{is_set, lies_between};
 ghost use Rattle.field_values.specs.Reports.{before_zero};
-ghost use Rattle.value_texts.specs.Fronts.{IsFront};
+ghost use Rattle.value_texts.specs.Fronts.{IsFront, IsPlainFront};
 
 use field_values::before_zero;
 use flat_rows::first_set;
 use std::simd::prelude::*;
 
-/// How many bytes are looked at at once.
+/// How many bytes are checked at once.
 const LANES: usize = 8;
 
 /// The text at the front of a char array.
@@ -20,7 +20,15 @@ pub(crate) struct Front<'a> {
     pub(crate) plain: bool,
 }
 
-/// The bytes before the first 00. Eight bytes are looked at at once.
+/// A text at the front of eight bytes or more.
+#[derive(Clone, Copy)]
+pub(crate) struct FrontText<'a> {
+    pub(crate) bytes: &'a [u8],
+    /// How many of the bytes it has.
+    pub(crate) count: usize,
+}
+
+/// The bytes before the first 00. Eight bytes are checked at once.
 #[inline(always)]
 pub(crate) fn front_of(bytes: &[u8]) -> Front<'_>
     ensures text { result.text.now ≡ before_zero bytes.now }
@@ -37,6 +45,24 @@ pub(crate) fn front_of(bytes: &[u8]) -> Front<'_>
         text: &bytes[..run],
         plain: run <= plain_run(bytes),
     }
+}
+
+/// How many bytes of a char array its text has, if the array has eight bytes and the text no SOH, or else 0.
+#[inline(always)]
+pub(crate) fn plain_front(bytes: &[u8]) -> usize
+    ensures { 0 < result → IsPlainFront result bytes.now }
+{
+    if bytes.len() != LANES {
+        return 0;
+    }
+    let run = plain_run(bytes);
+    if run >= LANES {
+        return run;
+    }
+    if bytes[run] != 0 {
+        return 0;
+    }
+    run
 }
 
 /// How many leading bytes of eight are not 00.

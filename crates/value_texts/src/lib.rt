@@ -2,8 +2,11 @@
 #![tactic(auto)]
 
 mod at;
+mod bytes;
+mod codes;
 mod composite;
 mod decimals;
+mod face;
 mod fixed;
 mod fronts;
 mod making;
@@ -16,5 +19,6 @@ mod shown;
 mod small;
 mod spelling;
 
-pub use row::{ConstText, ValueText};
+pub use face::NumberFace;
+pub use row::{ConstText, TextRule, ValueText};
 pub use spelling::Spelling;

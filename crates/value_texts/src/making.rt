@@ -4,13 +4,17 @@ ghost use Rattle.sbe_types.specs.declared.kind.Named.{Named as AnyNamed};
 ghost use Rattle.fix_values.specs.Values.{can_show, is_asked, text_of};
 ghost use Rattle.date_answers.specs.Answers.{day_shown};
 ghost use Rattle.bridge_rules.specs.Texts.{field_text};
-ghost use Rattle.bridge_table.specs.Rows.{const_with, rule_with};
-ghost use Rattle.value_texts.specs.declared.row.ValueText.TheVariants as rows;
-ghost use Rattle.value_texts.specs.Made.{const_shown, enum_spelling, is_spellable, is_spellable_const, kept_of};
+ghost use Rattle.bridge_table.specs.Rows.{rule_with};
+ghost use Rattle.bridge_table.specs.declared.rule.FieldRule.TheVariants as field_rules;
+ghost use Rattle.value_texts.specs.declared.row.TextRule.TheVariants as rows;
+ghost use Rattle.value_texts.specs.Faces.{enum_leaf, IsFaceFor, IsRuleFace};
+ghost use Rattle.value_texts.specs.Made.{const_shown, enum_spelling, is_spellable, is_spellable_const, kept_of, IsMadeFor};
 ghost use Rattle.value_texts.specs.Rows.{const_text, Spells};
 
+use crate::codes::codes_of;
+use crate::face::{NumberFace, UNREAD};
 use crate::moments::show_day_number;
-use crate::row::{ConstText, ValueText};
+use crate::row::{ConstText, TextRule, ValueText};
 use crate::spelling::Spelling;
 use bridge_table::{ConstRule, EnumRule, FieldRule};
 use fix_values::{NumRule, Short, V};
@@ -28,43 +32,91 @@ impl ValueText {
         ensures spells { IfOk result (λ made. IfSome made (λ row. (names : List AnyNamed) → Spells row (rule_with names rule))) }
         ensures some { IfOk result (λ made. is_some made ≡ is_spellable rule) }
     {
-        match rule {
-            FieldRule::Integer(_) => Ok(number(NumRule::Int)),
-            FieldRule::IntegerDecimal(_) => Ok(number(NumRule::Decimal)),
-            FieldRule::SingleChar(_) => Ok(number(NumRule::Char)),
-            FieldRule::FixedDecimal(_, exponent) => Ok(Some(ValueText::Decimal(exponent))),
-            FieldRule::FloatingDecimal(mantissa, exponent) => {
-                Ok(Some(ValueText::Floating(mantissa, exponent)))
+        let face = face_of(&rule);
+        match text_rule(alloc, rule)? {
+            Some(rule) => {
+                let codes = codes_of(alloc, &rule, &face)?;
+                Ok(Some(ValueText { rule, face, codes }))
             }
-            FieldRule::CharArray(_) => Ok(Some(ValueText::Passage)),
-            FieldRule::Enum(rule) => Ok(number(enum_rule(rule))),
-            FieldRule::ChoiceSet(codes) => Ok(choices(NumRule::Codes(codes))),
-            FieldRule::DayCount(_) => Ok(Some(ValueText::Day)),
-            FieldRule::Moment(epoch, _, unit) => Ok(Some(ValueText::Moment(epoch, unit))),
-            FieldRule::MonthYear(_) => Ok(Some(ValueText::Month)),
-            FieldRule::Const(rule) => constant(alloc, rule),
-            FieldRule::RawData(_) => Ok(None),
-            FieldRule::TextData(_) => Ok(None),
+            None => Ok(None),
         }
     }
 }
 
-fn number(rule: NumRule) -> Option<ValueText>
+/// How the numbers of a rule's values are read.
+fn face_of(rule: &FieldRule) -> NumberFace
+    ensures { IsRuleFace result rule.now }
+{
+    match rule {
+        FieldRule::Integer(leaf) => NumberFace::new(leaf),
+        FieldRule::IntegerDecimal(leaf) => NumberFace::new(leaf),
+        FieldRule::FixedDecimal(leaf, _) => NumberFace::new(leaf),
+        FieldRule::SingleChar(leaf) => NumberFace::new(leaf),
+        FieldRule::Enum(rule) => enum_face(rule),
+        FieldRule::FloatingDecimal(_, _) => UNREAD,
+        FieldRule::CharArray(_) => UNREAD,
+        FieldRule::ChoiceSet(_) => UNREAD,
+        FieldRule::DayCount(_) => UNREAD,
+        FieldRule::Moment(_, _, _) => UNREAD,
+        FieldRule::MonthYear(_) => UNREAD,
+        FieldRule::Const(_) => UNREAD,
+        FieldRule::RawData(_) => UNREAD,
+        FieldRule::TextData(_) => UNREAD,
+    }
+}
+
+/// How the numbers of an enum are read.
+fn enum_face(rule: &EnumRule) -> NumberFace
+    ensures { IsFaceFor result (enum_leaf rule.now) }
+{
+    match rule {
+        EnumRule::Code(leaf, _) => NumberFace::new(leaf),
+        EnumRule::Number(leaf, _) => NumberFace::new(leaf),
+        EnumRule::Boolean(leaf, _) => NumberFace::new(leaf),
+    }
+}
+
+/// The rule of texts.
+fn text_rule(alloc: Global, rule: FieldRule) -> Result<Option<TextRule>, NoMem>
+    ensures made { IfOk result (λ made. IfSome made (IsMadeFor rule)) }
+    ensures some { IfOk result (λ made. is_some made ≡ is_spellable rule) }
+{
+    match rule {
+        FieldRule::Integer(_) => Ok(number(NumRule::Int)),
+        FieldRule::IntegerDecimal(_) => Ok(number(NumRule::Decimal)),
+        FieldRule::SingleChar(_) => Ok(number(NumRule::Char)),
+        FieldRule::FixedDecimal(_, exponent) => Ok(Some(TextRule::Decimal(exponent))),
+        FieldRule::FloatingDecimal(mantissa, exponent) => {
+            Ok(Some(TextRule::Floating(mantissa, exponent)))
+        }
+        FieldRule::CharArray(_) => Ok(Some(TextRule::Passage)),
+        FieldRule::Enum(rule) => Ok(number(enum_rule(rule))),
+        FieldRule::ChoiceSet(codes) => Ok(choices(NumRule::Codes(codes))),
+        FieldRule::DayCount(_) => Ok(Some(TextRule::Day)),
+        FieldRule::Moment(epoch, _, unit) => Ok(Some(TextRule::Moment(epoch, unit))),
+        FieldRule::MonthYear(_) => Ok(Some(TextRule::Month)),
+        FieldRule::Const(rule) => constant(alloc, rule),
+        FieldRule::RawData(_) => Ok(None),
+        FieldRule::TextData(_) => Ok(None),
+    }
+}
+
+fn number(rule: NumRule) -> Option<TextRule>
     ensures same { IfSome result (λ row. row ≡ rows.Number rule) }
     ensures some { is_some result ≡ can_show rule }
 {
     match Spelling::new(rule) {
-        Some(spelling) => Some(ValueText::Number(spelling)),
+        Some(spelling) => Some(TextRule::Number(spelling)),
         None => None,
     }
 }
 
-fn choices(rule: NumRule) -> Option<ValueText>
+fn choices(rule: NumRule) -> Option<TextRule>
     ensures same { IfSome result (λ row. row ≡ rows.Choices rule) }
     ensures some { is_some result ≡ can_show rule }
 {
     match Spelling::new(rule) {
-        Some(spelling) => Some(ValueText::Choices(spelling)),
+        Some(spelling) => Some(TextRule::Choices(spelling)),
         None => None,
     }
 }
@@ -81,13 +133,13 @@ fn enum_rule(rule: EnumRule) -> NumRule
 }
 
 /// The row of a constant.
-fn constant(alloc: Global, rule: ConstRule) -> Result<Option<ValueText>, NoMem>
-    ensures spells { IfOk result (λ made. IfSome made (λ row. (names : List AnyNamed) → Spells row (const_with names rule))) }
+fn constant(alloc: Global, rule: ConstRule) -> Result<Option<TextRule>, NoMem>
+    ensures made { IfOk result (λ made. IfSome made (IsMadeFor (field_rules.Const rule))) }
     ensures some { IfOk result (λ made. is_some made ≡ is_spellable_const rule) }
 {
     match constant_text(alloc, rule)? {
         None => Ok(None),
-        Some(text) => Ok(Some(ValueText::Const(text))),
+        Some(text) => Ok(Some(TextRule::Const(text))),
     }
 }
 

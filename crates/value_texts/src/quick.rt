@@ -25,7 +25,7 @@ pub(crate) enum Quick<'a> {
     Room(usize),
     /// No field.
     Nothing,
-    /// The general rules tell.
+    /// The general rules decide.
     Other,
 }
 

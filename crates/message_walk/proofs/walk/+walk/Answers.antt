@@ -10,7 +10,7 @@ use Rattle.bridge_terms.specs.Blocks.{values_of, value_at, entries_of, nth_or}
 use Rattle.bridge_terms.specs.Places.{to_part, places_of, place_of, entries_places, run_places, slot_places}
 use Rattle.message_walk.specs.Ways.{pushed}
 use Rattle.bridge_terms.specs.Plans.{Each}
-use Rattle.message_walk.specs.Rows.{entries_shown, entry_places, run_inside, AreRows, FitsBlock}
+use Rattle.message_walk.specs.Rows.{entries_shown, entry_places, run_inside, size_of, AreRows, FitsBlock}
 use Rattle.message_walk.specs.States.{after, outcome, IsPut}
 use Rattle.message_walk.proofs.Steps.{step_on, step_off, in_on, in_off, entry_on, entry_off, run_in, run_on}
 use Rattle.message_walk.proofs.RowLemmas.{left_slot, left_group, left_none, at_front, each_fits, first_fits}
@@ -62,35 +62,129 @@ put_run-returns-clause-put g t c = λ lists p unpaired rows fits.
     run_on lists d e c.put_count.new.halt c.args.lead.now (entry_places p) es _ (omega (arith, many, c.if-count-eq0.false)) counted
     (c.put_entries.ensures.put lists p rows fits)
 
-pub put_rest-returns-then-not-put_row-clause-put : goal.put_rest-returns-then-not-put_row-clause-put
-put_rest-returns-then-not-put_row-clause-put g t c = λ lists p rows fits.
+pub put_left-returns-then-not-goes_on-clause-put : goal.put_left-returns-then-not-goes_on-clause-put
+put_left-returns-then-not-goes_on-clause-put g t c = λ lists p rows fits.
     let seen = c.args.block.now in
     let q = c.loop-left.invariant.put lists p rows fits in
-    let at = left_slot g.R.PutValue.spells lists q.0 c.loop-left.left.now c.first-row.result.now seen q.1 c.first-row.ensures (sym c.size_of.ensures ∙ c.in-None.is) q.2 in
+    let row = c.first-row.result.now in
+    let at = left_slot g.R.PutValue.spells lists q.0 c.loop-left.left.now row seen q.1 c.first-row.ensures (ap size_of c.in-Field.is) q.2 in
     let d = c.loop-left.out in
-    let e = c.put_row.new.out in
-    let slot = slot_places c.first-row.result.now.lead (text_by at.slot.rule (value_at at.slot.place seen.block)) in
-    step_off lists d e c.put_row.new.halt slot (places_of at.rest (values_of at.rest seen.block))
-    (subst (λ b. outcome b e c.put_row.new.halt ≡ after lists d slot) c.if-not-put_row.true (c.put_row.ensures.put lists at.slot at.is at.there))
+    let e = c.put_field-put.new.out in
+    let text = text_by at.slot.rule (value_at at.slot.place seen.block) in
+    let slot = slot_places row.lead text in
+    step_off lists d e c.goes_on.new.halt slot (places_of at.rest (values_of at.rest seen.block))
+    (subst (λ b. outcome b e c.goes_on.new.halt ≡ after lists d slot) c.if-not-goes_on.true (c.goes_on.ensures lists d e text (c.put_field-put.ensures.put lists at.slot at.is at.there)))
     ∙ ap (after lists d) (sym at.places) ∙ q.3
 
-pub put_rest-loop-left-preserved-in-None : goal.put_rest-loop-left-preserved-in-None
-put_rest-loop-left-preserved-in-None g t c = record {
-  shorter = omega (arith, c.loop-left.invariant.shorter, ap length c.rest_from-rest.ensures, length-drop 1 c.loop-left.left.now);
-  reached = c.put_row.ensures.reached;
-  begun = c.put_row.ensures.open;
+pub put_left-loop-left-preserved : goal.put_left-loop-left-preserved
+put_left-loop-left-preserved g t c = record {
+  shorter = omega (arith, c.loop-left.invariant.shorter, ap length c.rest_from-left.ensures, length-drop 1 c.loop-left.left.now);
+  begun = c.put_field-put.ensures.open;
   put = λ lists p rows fits.
       let seen = c.args.block.now in
       let q = c.loop-left.invariant.put lists p rows fits in
-      let at = left_slot g.R.PutValue.spells lists q.0 c.loop-left.left.now c.first-row.result.now seen q.1 c.first-row.ensures (sym c.size_of.ensures ∙ c.in-None.is) q.2 in
+      let row = c.first-row.result.now in
+      let at = left_slot g.R.PutValue.spells lists q.0 c.loop-left.left.now row seen q.1 c.first-row.ensures (ap size_of c.in-Field.is) q.2 in
       let d = c.loop-left.out in
-      let e = c.put_row.new.out in
-      let slot = slot_places c.first-row.result.now.lead (text_by at.slot.rule (value_at at.slot.place seen.block)) in (
+      let e = c.put_field-put.new.out in
+      let text = text_by at.slot.rule (value_at at.slot.place seen.block) in
+      let slot = slot_places row.lead text in (
+        at.rest,
+        subst (AreRows g.R.PutValue.spells lists at.rest) (sym c.rest_from-left.ensures) at.rows,
+        at.fits,
+        sym (step_on lists d e c.goes_on.new.halt slot (places_of at.rest (values_of at.rest seen.block))
+            (subst (λ b. outcome b e c.goes_on.new.halt ≡ after lists d slot) c.if-not-goes_on.false (c.goes_on.ensures lists d e text (c.put_field-put.ensures.put lists at.slot at.is at.there))))
+            ∙ ap (after lists d) (sym at.places) ∙ q.3,
+      );
+}
+
+pub put_left-returns-in-Data-clause-put : goal.put_left-returns-in-Data-clause-put
+put_left-returns-in-Data-clause-put g t c = λ lists p rows fits.
+    let q = c.loop-left.invariant.put lists p rows fits in
+    c.put_tail.ensures.put lists q.0 q.1 q.2 ∙ q.3
+
+pub put_left-returns-in-Group-clause-put : goal.put_left-returns-in-Group-clause-put
+put_left-returns-in-Group-clause-put g t c = λ lists p rows fits.
+    let q = c.loop-left.invariant.put lists p rows fits in
+    c.put_tail-in-Group.ensures.put lists q.0 q.1 q.2 ∙ q.3
+
+pub put_left-returns-clause-put : goal.put_left-returns-clause-put
+put_left-returns-clause-put g t c = λ lists p rows fits.
+    let seen = c.args.block.now in
+    let q = c.loop-left.invariant.put lists p rows fits in
+    let none = left_none g.R.PutValue.spells lists q.0 c.loop-left.left.now seen.block q.1 (omega (arith, c.loop-left-test.false)) in
+    sym (ap (after lists c.loop-left.out) none.0) ∙ q.3
+
+pub put_rest-returns-then-not-goes_on-clause-put : goal.put_rest-returns-then-not-goes_on-clause-put
+put_rest-returns-then-not-goes_on-clause-put g t c = λ lists p rows fits.
+    let seen = c.args.block.now in
+    let q = c.loop-left.invariant.put lists p rows fits in
+    let row = c.first-row.result.now in
+    let at = left_slot g.R.PutValue.spells lists q.0 c.loop-left.left.now row seen q.1 c.first-row.ensures (ap size_of c.in-Field.is) q.2 in
+    let d = c.loop-left.out in
+    let e = c.put_field-put.new.out in
+    let text = text_by at.slot.rule (value_at at.slot.place seen.block) in
+    let slot = slot_places row.lead text in
+    step_off lists d e c.goes_on.new.halt slot (places_of at.rest (values_of at.rest seen.block))
+    (subst (λ b. outcome b e c.goes_on.new.halt ≡ after lists d slot) c.if-not-goes_on.true (c.goes_on.ensures lists d e text (c.put_field-put.ensures.put lists at.slot at.is at.there)))
+    ∙ ap (after lists d) (sym at.places) ∙ q.3
+
+pub put_rest-loop-left-preserved-in-Field : goal.put_rest-loop-left-preserved-in-Field
+put_rest-loop-left-preserved-in-Field g t c = record {
+  shorter = omega (arith, c.loop-left.invariant.shorter, ap length c.rest_from-rest.ensures, length-drop 1 c.loop-left.left.now);
+  reached = c.loop-left.invariant.reached;
+  begun = c.put_field-put.ensures.open;
+  put = λ lists p rows fits.
+      let seen = c.args.block.now in
+      let q = c.loop-left.invariant.put lists p rows fits in
+      let row = c.first-row.result.now in
+      let at = left_slot g.R.PutValue.spells lists q.0 c.loop-left.left.now row seen q.1 c.first-row.ensures (ap size_of c.in-Field.is) q.2 in
+      let d = c.loop-left.out in
+      let e = c.put_field-put.new.out in
+      let text = text_by at.slot.rule (value_at at.slot.place seen.block) in
+      let slot = slot_places row.lead text in (
         at.rest,
         subst (AreRows g.R.PutValue.spells lists at.rest) (sym c.rest_from-rest.ensures) at.rows,
         at.fits,
-        sym (step_on lists d e c.put_row.new.halt slot (places_of at.rest (values_of at.rest seen.block))
-            (subst (λ b. outcome b e c.put_row.new.halt ≡ after lists d slot) c.if-not-put_row.false (c.put_row.ensures.put lists at.slot at.is at.there)))
+        sym (step_on lists d e c.goes_on.new.halt slot (places_of at.rest (values_of at.rest seen.block))
+            (subst (λ b. outcome b e c.goes_on.new.halt ≡ after lists d slot) c.if-not-goes_on.false (c.goes_on.ensures lists d e text (c.put_field-put.ensures.put lists at.slot at.is at.there))))
+            ∙ ap (after lists d) (sym at.places) ∙ q.3,
+      );
+}
+
+pub put_rest-returns-then-not-goes_on-2-clause-put : goal.put_rest-returns-then-not-goes_on-2-clause-put
+put_rest-returns-then-not-goes_on-2-clause-put g t c = λ lists p rows fits.
+    let seen = c.args.block.now in
+    let q = c.loop-left.invariant.put lists p rows fits in
+    let row = c.first-row.result.now in
+    let at = left_slot g.R.PutValue.spells lists q.0 c.loop-left.left.now row seen q.1 c.first-row.ensures (ap size_of c.in-Data.is) q.2 in
+    let d = c.loop-left.out in
+    let e = c.put_part-put.new.out in
+    let text = text_by at.slot.rule (value_at at.slot.place seen.block) in
+    let slot = slot_places row.lead text in
+    step_off lists d e c.goes_on-in-Data.new.halt slot (places_of at.rest (values_of at.rest seen.block))
+    (subst (λ b. outcome b e c.goes_on-in-Data.new.halt ≡ after lists d slot) c.if-not-goes_on-2.true (c.goes_on-in-Data.ensures lists d e text (c.put_part-put.ensures.put lists at.slot at.is at.there)))
+    ∙ ap (after lists d) (sym at.places) ∙ q.3
+
+pub put_rest-loop-left-preserved-in-Data : goal.put_rest-loop-left-preserved-in-Data
+put_rest-loop-left-preserved-in-Data g t c = record {
+  shorter = omega (arith, c.loop-left.invariant.shorter, ap length c.rest_from-rest.ensures, length-drop 1 c.loop-left.left.now);
+  reached = c.put_part-put.ensures.reached;
+  begun = c.put_part-put.ensures.open;
+  put = λ lists p rows fits.
+      let seen = c.args.block.now in
+      let q = c.loop-left.invariant.put lists p rows fits in
+      let row = c.first-row.result.now in
+      let at = left_slot g.R.PutValue.spells lists q.0 c.loop-left.left.now row seen q.1 c.first-row.ensures (ap size_of c.in-Data.is) q.2 in
+      let d = c.loop-left.out in
+      let e = c.put_part-put.new.out in
+      let text = text_by at.slot.rule (value_at at.slot.place seen.block) in
+      let slot = slot_places row.lead text in (
+        at.rest,
+        subst (AreRows g.R.PutValue.spells lists at.rest) (sym c.rest_from-rest.ensures) at.rows,
+        at.fits,
+        sym (step_on lists d e c.goes_on-in-Data.new.halt slot (places_of at.rest (values_of at.rest seen.block))
+            (subst (λ b. outcome b e c.goes_on-in-Data.new.halt ≡ after lists d slot) c.if-not-goes_on-2.false (c.goes_on-in-Data.ensures lists d e text (c.put_part-put.ensures.put lists at.slot at.is at.there))))
             ∙ ap (after lists d) (sym at.places) ∙ q.3,
       );
 }
@@ -100,8 +194,8 @@ put_rest-returns-then-not-put_group-clause-put g t c = λ lists p rows fits.
     let seen = c.args.block.now in
     let q = c.loop-left.invariant.put lists p rows fits in
     let row = c.first-row.result.now in
-    let size = c.in-Some.size in
-    let at = left_group g.R.PutValue.spells lists q.0 c.loop-left.left.now row size seen q.1 c.first-row.ensures (sym c.size_of.ensures ∙ c.in-Some.is) q.2 in
+    let size = c.in-Group.size in
+    let at = left_group g.R.PutValue.spells lists q.0 c.loop-left.left.now row size seen q.1 c.first-row.ensures (ap size_of c.in-Group.is) q.2 in
     let d = c.loop-left.out in
     let e = c.put_group.new.out in
     let level = (out-Group at.found).level in
@@ -126,8 +220,8 @@ put_rest-loop-left-preserved g t c = record {
       let seen = c.args.block.now in
       let q = c.loop-left.invariant.put lists p rows fits in
       let row = c.first-row.result.now in
-      let size = c.in-Some.size in
-      let at = left_group g.R.PutValue.spells lists q.0 c.loop-left.left.now row size seen q.1 c.first-row.ensures (sym c.size_of.ensures ∙ c.in-Some.is) q.2 in
+      let size = c.in-Group.size in
+      let at = left_group g.R.PutValue.spells lists q.0 c.loop-left.left.now row size seen q.1 c.first-row.ensures (ap size_of c.in-Group.is) q.2 in
       let d = c.loop-left.out in
       let e = c.put_group.new.out in
       let level = (out-Group at.found).level in
@@ -168,7 +262,7 @@ put_entry-returns-in-Written-clause-put g t c = λ lists p rows fits.
           entry_on_slot g.R.PutValue.spells lists d e h _ p row (drop 1 c.args.rows.now) seen at
           (subst (λ r. IsPut lists d row.lead (text_by at.slot.rule (value_at at.slot.place seen.block)) (record { put = r; draft = e; halt = h })) c.in-Written.is
           (c.put_slot.ensures.put lists at.slot at.is at.there))
-          (c.put_rest.ensures.put lists at.rest (subst (AreRows g.R.PutValue.spells lists at.rest) (sym c.rest_from.ensures) at.rows) at.fits)
+          (c.put_left.ensures.put lists at.rest (subst (AreRows g.R.PutValue.spells lists at.rest) (sym c.rest_from.ensures) at.rows) at.fits)
       | inr bare ↦ absurd (nothing_written (sym (c.put_slot.ensures.group bare.0 bare.1).0 ∙ c.in-Written.is))
     ]
 

@@ -1,7 +1,7 @@
-use Rattle.std.proofs.Common.{◌≡◌, ◌+◌, ◌-◌, true, false, take, drop, length, sym, ap, subst, ◌∙◌, arith, length-take, length-drop}
+use Rattle.std.proofs.Common.{◌≡◌, ◌+◌, ◌-◌, take, drop, length, sym, ap, subst, ◌∙◌, arith, length-take, length-drop}
 use Rattle.std.specs.Prelude.{Some}
 use Rattle.std.proofs.lemmas.Bool.Decides.{nat_tests}
-use Rattle.sbe_types.specs.Places.{begin_of, bytes_at, is_const, width}
+use Rattle.sbe_types.specs.Places.{begin_of, bytes_at, width}
 use Rattle.sbe_types.specs.Shows.{Shows}
 use Rattle.flyweight_view.proofs.SlotsTold.{member_order, placed_member, some_same}
 use Rattle.value_texts.proofs.FirstMembers.{const_mantissa, first_place, first_value, no_mantissa}

@@ -1,4 +1,4 @@
-use Rattle.std.proofs.Common.{subst, ap, refl, ◌∙◌}
+use Rattle.std.proofs.Common.{subst, ap, refl}
 use Rattle.std.specs.Prelude.{None}
 use Rattle.sbe_types.specs.Shows.{Shows}
 use Rattle.bridge_rules.specs.Members.{mantissa_in}

@@ -3,7 +3,7 @@ use Rattle.std.specs.Int.{w128}
 use Rattle.message_walk.specs.Rows.{field_of}
 use Rattle.message_walk.specs.States.{IsPut}
 use Rattle.value_texts.specs.Rows.{row_text, CanAskOf}
-use Rattle.value_texts.specs.declared.row.ValueText.TheVariants as row
+use Rattle.value_texts.specs.declared.row.TextRule.TheVariants as row
 use Rattle.value_texts.proofs.Leaving.{whole}
 use Rattle.value_texts.proofs.row.put_general.Goals as goal
 

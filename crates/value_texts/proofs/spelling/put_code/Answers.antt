@@ -1,6 +1,5 @@
-use Rattle.std.proofs.Common.{◌≡◌, ◌≤◌, List, [], drop, Result, Err, ap, subst, sym, ◌∙◌, ℕ, arith, length}
+use Rattle.std.proofs.Common.{◌≡◌, ◌≤◌, drop, Err, ap, subst, sym, ◌∙◌, arith, length}
 use Rattle.std.proofs.lemmas.List.{drop_all}
-use Rattle.fix_values.specs.declared.rule.V.{V}
 use Rattle.fix_values.specs.declared.rule.V.TheVariants.{UnknownCode}
 use Rattle.fix_values.specs.Codes.{code_text}
 use Rattle.bridge_rules.specs.Texts.{field_text}

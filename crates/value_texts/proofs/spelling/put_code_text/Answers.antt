@@ -2,7 +2,7 @@ use Rattle.std.proofs.Common.{ap, subst, ◌∙◌}
 use Rattle.fix_values.specs.Values.{text_shown}
 use Rattle.bridge_rules.specs.Texts.{field_text, judged_text}
 use Rattle.message_walk.specs.States.{IsPut}
-use Rattle.value_texts.proofs.Codes.{code_judged}
+use Rattle.value_texts.proofs.CodesJudged.{code_judged}
 use Rattle.value_texts.proofs.spelling.put_code_text.Goals as goal
 
 pub returns-clause-put : goal.returns-clause-put
