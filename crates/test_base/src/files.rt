@@ -8,7 +8,7 @@ use std::{env, fs};
 use test_tables::{Row, spelled};
 
 /// Loads like a caller that knows only the trait: a name and a limit, into a buffer that isn't empty.
-fn load_told<F: Files>(alloc: Global, files: &mut F, name: &str, limit: usize) -> Result<String> {
+fn load_answer<F: Files>(alloc: Global, files: &mut F, name: &str, limit: usize) -> Result<String> {
     let mut into = Vec::from_slice(alloc, b"before")?;
     let answer = files.load(alloc, name, limit, &mut into);
     let held = spelled(alloc, into.as_slice())?;
@@ -29,7 +29,7 @@ fn cut(text: &str) -> Result<(&str, &str)> {
 fn mem_step(alloc: Global, files: &mut MemFiles, word: &str, loads: bool) -> Result<String> {
     let (name, rest) = cut(word)?;
     if loads {
-        return load_told(alloc, files, name, rest.parse::<usize>()?);
+        return load_answer(alloc, files, name, rest.parse::<usize>()?);
     }
     files.put(name, rest.as_bytes())?;
     Ok(String::new(alloc))
@@ -50,7 +50,7 @@ fn mem_steps(alloc: Global, files: &mut MemFiles, row: &Row) -> Result<String> {
 }
 
 /// A row: the loads that fail, files with a space between name and bytes, `load`, and loads by name and limit.
-pub fn mem_told(alloc: Global, row: &Row) -> Result<String> {
+pub fn mem_answer(alloc: Global, row: &Row) -> Result<String> {
     let failing = numbers_of(alloc, row.text(0)?)?;
     let mut files = MemFiles::new(alloc, failing.as_slice())?;
     mem_steps(alloc, &mut files, row)
@@ -70,7 +70,7 @@ fn dir_load(rt: &HostRuntime, files: &mut DirFiles<HostRuntime>, word: &str) -> 
     let (name, limit) = cut(word)?;
     let limit = limit.parse::<usize>()?;
     let place = place_of(rt, name)?;
-    load_told(rt.alloc(), files, place.as_str(), limit)
+    load_answer(rt.alloc(), files, place.as_str(), limit)
 }
 
 fn dir_loads(rt: &HostRuntime, row: &Row) -> Result<String> {
@@ -83,7 +83,7 @@ fn dir_loads(rt: &HostRuntime, row: &Row) -> Result<String> {
 }
 
 /// A row: the bytes of the file `here`, and loads by name and limit.
-pub fn dir_told(rt: &HostRuntime, row: &Row) -> Result<String> {
+pub fn dir_answer(rt: &HostRuntime, row: &Row) -> Result<String> {
     let here = place_of(rt, "here")?;
     fs::write(rt, here.as_str(), row.text(0)?)?;
     let text = dir_loads(rt, row)?;

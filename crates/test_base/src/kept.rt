@@ -7,7 +7,7 @@ use std::alloc::Global;
 use test_tables::Row;
 
 /// A row: bytes, from which a list is made in each possible manner. Answers its contents.
-pub fn list_told(alloc: Global, row: &Row) -> Result<String> {
+pub fn list_answer(alloc: Global, row: &Row) -> Result<String> {
     let bytes = row.bytes(alloc, 0)?;
     let mut list = List::new(alloc);
     let empty = list.is_empty();
@@ -25,7 +25,7 @@ pub fn list_told(alloc: Global, row: &Row) -> Result<String> {
 }
 
 /// The code of each status.
-pub fn codes_told(alloc: Global) -> Result<String> {
+pub fn codes_answer(alloc: Global) -> Result<String> {
     let all = [
         Status::Done,
         Status::SomeRefused,

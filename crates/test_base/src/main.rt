@@ -18,17 +18,17 @@ impl Calls for AllCalls {
     fn answer(&self, rt: &HostRuntime, row: &Row) -> Result<String> {
         let alloc = rt.alloc();
         match row.call() {
-            "list" => kept::list_told(alloc, row),
-            "codes" => kept::codes_told(alloc),
-            "mem_source" => sources::mem_told(alloc, row),
-            "std_source" => sources::std_told(alloc, row),
-            "buffered_source" => sources::buffered_told(alloc, row),
-            "mem_sink" => sinks::mem_told(alloc, row),
-            "std_sink" => sinks::std_told(alloc, row),
-            "retried" => sinks::retried_told(alloc, row),
-            "shared" => shared::shared_told(alloc, row),
-            "mem_files" => files::mem_told(alloc, row),
-            "dir_files" => files::dir_told(rt, row),
+            "list" => kept::list_answer(alloc, row),
+            "codes" => kept::codes_answer(alloc),
+            "mem_source" => sources::mem_answer(alloc, row),
+            "std_source" => sources::std_answer(alloc, row),
+            "buffered_source" => sources::buffered_answer(alloc, row),
+            "mem_sink" => sinks::mem_answer(alloc, row),
+            "std_sink" => sinks::std_answer(alloc, row),
+            "retried" => sinks::retried_answer(alloc, row),
+            "shared" => shared::shared_answer(alloc, row),
+            "mem_files" => files::mem_answer(alloc, row),
+            "dir_files" => files::dir_answer(rt, row),
             _ => bail!("there is no such call"),
         }
     }

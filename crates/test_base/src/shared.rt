@@ -96,7 +96,7 @@ fn steps(
 
 /// A row: the course of a writer with a buffer of four bytes in front of it, and steps. Gives the answer of each, and
 /// what the writer was given in how many calls.
-pub fn shared_told(alloc: Global, row: &Row) -> Result<String> {
+pub fn shared_answer(alloc: Global, row: &Row) -> Result<String> {
     let taken = taken_of(alloc, row, 0)?;
     let shared = SharedWriter::new(alloc, 4, FakeWriter::new(&taken))?;
     steps(alloc, &shared, &taken, row)

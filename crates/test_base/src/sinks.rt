@@ -10,7 +10,7 @@ use test_tables::{Row, spelled};
 
 /// Writes once, like a caller that knows only the trait: after `all ` each byte of the text, otherwise what is accepted
 /// of it.
-fn write_told<O: Sink>(alloc: Global, sink: &mut O, text: &str) -> Result<String> {
+fn write_answer<O: Sink>(alloc: Global, sink: &mut O, text: &str) -> Result<String> {
     if let Some(all) = text.strip_prefix("all ") {
         let whole = write_all_to(sink, all.as_bytes()).is_ok();
         return Ok(format!(in alloc; "whole {whole}")?);
@@ -24,7 +24,7 @@ fn write_told<O: Sink>(alloc: Global, sink: &mut O, text: &str) -> Result<String
 fn mem_steps(alloc: Global, sink: &mut MemSink, row: &Row) -> Result<String> {
     let mut text = String::new(alloc);
     for i in 2..row.len() {
-        text.push_str(write_told(alloc, sink, row.text(i)?)?.as_str())?;
+        text.push_str(write_answer(alloc, sink, row.text(i)?)?.as_str())?;
         text.push_str(", holds ")?;
         text.push_str(spelled(alloc, sink.bytes())?.as_str())?;
         text.push_str("; ")?;
@@ -34,7 +34,7 @@ fn mem_steps(alloc: Global, sink: &mut MemSink, row: &Row) -> Result<String> {
 
 /// A row: how many bytes there is room for, the writes that fail, and what is written. Gives the answer, and the
 /// contents.
-pub fn mem_told(alloc: Global, row: &Row) -> Result<String> {
+pub fn mem_answer(alloc: Global, row: &Row) -> Result<String> {
     let room = row.size(0)?;
     let failing = numbers_of(alloc, row.text(1)?)?;
     let mut sink = MemSink::new(alloc, room, failing.as_slice())?;
@@ -69,7 +69,7 @@ fn std_steps<O: Sink>(
 ) -> Result<String> {
     let mut text = String::new(alloc);
     for i in 3..row.len() {
-        text.push_str(write_told(alloc, sink, row.text(i)?)?.as_str())?;
+        text.push_str(write_answer(alloc, sink, row.text(i)?)?.as_str())?;
         text.push_str(", holds ")?;
         text.push_str(taken_text(alloc, taken)?.as_str())?;
         text.push_str("; ")?;
@@ -79,7 +79,7 @@ fn std_steps<O: Sink>(
 
 /// A row: the course of the writer, and what is written. Gives the answer, and the writer's contents and number of
 /// calls.
-pub fn std_told(alloc: Global, row: &Row) -> Result<String> {
+pub fn std_answer(alloc: Global, row: &Row) -> Result<String> {
     let taken = taken_of(alloc, row, 0)?;
     let mut sink = StdSink::new(FakeWriter::new(&taken));
     std_steps(alloc, &mut sink, &taken, row)
@@ -116,7 +116,7 @@ fn written_text(alloc: Global, row: &Row) -> Result<String> {
 
 /// A row: the course of a reader, and of a writer. Gives what `read_retried` reads, what `write_retried` answers, and
 /// the contents afterwards.
-pub fn retried_told(alloc: Global, row: &Row) -> Result<String> {
+pub fn retried_answer(alloc: Global, row: &Row) -> Result<String> {
     let read = read_text(alloc, row)?;
     let written = written_text(alloc, row)?;
     Ok(format!(in alloc; "{}, {}", read.as_str(), written.as_str())?)

@@ -11,7 +11,7 @@ use test_tables::{Row, spelled};
 const MOST: usize = 16;
 
 /// Reads once, like a caller that knows only the trait.
-fn read_told<I: Source>(alloc: Global, source: &mut I, many: usize) -> Result<String> {
+fn read_answer<I: Source>(alloc: Global, source: &mut I, many: usize) -> Result<String> {
     let mut buf = [b'.'; MOST];
     let many = many.min(MOST);
     match source.read(&mut buf[..many]) {
@@ -26,7 +26,7 @@ fn read_told<I: Source>(alloc: Global, source: &mut I, many: usize) -> Result<St
 fn mem_reads(alloc: Global, source: &mut MemSource, sizes: &str) -> Result<String> {
     let mut text = String::new(alloc);
     for many in sizes.split(' ') {
-        text.push_str(read_told(alloc, source, many.parse::<usize>()?)?.as_str())?;
+        text.push_str(read_answer(alloc, source, many.parse::<usize>()?)?.as_str())?;
         text.push_str(", left ")?;
         text.push_str(spelled(alloc, source.left())?.as_str())?;
         text.push_str("; ")?;
@@ -36,7 +36,7 @@ fn mem_reads(alloc: Global, source: &mut MemSource, sizes: &str) -> Result<Strin
 
 /// A row: bytes, how many a read gives, the reads that fail, and how many bytes each read asks for. Gives what is read,
 /// and what is left.
-pub fn mem_told(alloc: Global, row: &Row) -> Result<String> {
+pub fn mem_answer(alloc: Global, row: &Row) -> Result<String> {
     let piece = row.size(1)?;
     let sizes = row.text(3)?;
     if piece == 0 {
@@ -51,14 +51,14 @@ pub fn mem_told(alloc: Global, row: &Row) -> Result<String> {
 fn reads<I: Source>(alloc: Global, source: &mut I, sizes: &str) -> Result<String> {
     let mut text = String::new(alloc);
     for many in sizes.split(' ') {
-        text.push_str(read_told(alloc, source, many.parse::<usize>()?)?.as_str())?;
+        text.push_str(read_answer(alloc, source, many.parse::<usize>()?)?.as_str())?;
         text.push_str("; ")?;
     }
     Ok(text)
 }
 
 /// A row: bytes, the course of the reader, and how many bytes each read asks for. Gives what is read.
-pub fn std_told(alloc: Global, row: &Row) -> Result<String> {
+pub fn std_answer(alloc: Global, row: &Row) -> Result<String> {
     let sizes = row.text(4)?;
     let bytes = row.bytes(alloc, 0)?;
     let course = course_of(alloc, row, 1)?;
@@ -70,11 +70,11 @@ pub fn std_told(alloc: Global, row: &Row) -> Result<String> {
 }
 
 /// What is lent ahead, whether `many` bytes of it are skipped, what is lent then, and one byte that is read.
-fn passed_told<I: Source>(alloc: Global, source: &mut I, many: usize) -> Result<String> {
+fn passed_answer<I: Source>(alloc: Global, source: &mut I, many: usize) -> Result<String> {
     let lent = spelled(alloc, source.ahead())?;
     let passed = source.pass(many);
     let rest = spelled(alloc, source.ahead())?;
-    let read = read_told(alloc, source, 1)?;
+    let read = read_answer(alloc, source, 1)?;
     Ok(format!(in alloc;
         "lends {}, passes {passed}, lends {}, reads {}; ",
         lent.as_str(),
@@ -86,13 +86,13 @@ fn passed_told<I: Source>(alloc: Global, source: &mut I, many: usize) -> Result<
 fn passes<I: Source>(alloc: Global, source: &mut I, sizes: &str) -> Result<String> {
     let mut text = String::new(alloc);
     for many in sizes.split(' ') {
-        text.push_str(passed_told(alloc, source, many.parse::<usize>()?)?.as_str())?;
+        text.push_str(passed_answer(alloc, source, many.parse::<usize>()?)?.as_str())?;
     }
     Ok(text)
 }
 
 /// A row: bytes, the size of the reader's buffer, and how many bytes are skipped before each read.
-pub fn buffered_told(alloc: Global, row: &Row) -> Result<String> {
+pub fn buffered_answer(alloc: Global, row: &Row) -> Result<String> {
     let size = row.size(1)?;
     let sizes = row.text(2)?;
     let bytes = row.bytes(alloc, 0)?;

@@ -48,6 +48,6 @@ fn expect_row(rt: &impl Abort, alloc: Global, row: &Row) -> Result<(), Fail> {
 }
 
 #[test]
-fn a_layout_tells_where_all_parts_stand(rt: HostRuntime) -> Result<(), Fail> {
+fn an_outline_has_the_place_of_each_part(rt: HostRuntime) -> Result<(), Fail> {
     expect_row(&rt, rt.alloc(), &ORDER)
 }

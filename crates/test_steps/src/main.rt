@@ -24,9 +24,9 @@ impl Calls for AllCalls {
             return Ok(answer);
         }
         match row.call() {
-            "read_words" => words::command_told(alloc, row),
-            "forms" => words::forms_told(alloc),
-            "step" => steps::steps_told(rt, row),
+            "read_words" => words::command_answer(alloc, row),
+            "forms" => words::forms_answer(alloc),
+            "step" => steps::steps_answer(rt, row),
             _ => bail!("there is no such call"),
         }
     }

@@ -94,7 +94,7 @@ fn steps_over(
 }
 
 /// A row: an input, the number of the read that fails, or 0, how many steps, and the arguments.
-pub fn steps_told(rt: &HostRuntime, row: &Row) -> Result<String> {
+pub fn steps_answer(rt: &HostRuntime, row: &Row) -> Result<String> {
     let alloc = rt.alloc();
     let many = row.size(2)?;
     let failing = row.text(1)?.parse::<u64>()?;

@@ -56,7 +56,7 @@ fn options_text(alloc: Global, command: &Command) -> Result<String> {
 }
 
 /// A row: arguments. Answers the command that they give, with its limits.
-pub fn command_told(alloc: Global, row: &Row) -> Result<String> {
+pub fn command_answer(alloc: Global, row: &Row) -> Result<String> {
     let words = words_of(alloc, row, 0)?;
     match read_words(alloc, words.as_slice()) {
         Ok(command) => command_text(alloc, &command),
@@ -66,7 +66,7 @@ pub fn command_told(alloc: Global, row: &Row) -> Result<String> {
 }
 
 /// The words of the forms, in their order.
-pub fn forms_told(alloc: Global) -> Result<String> {
+pub fn forms_answer(alloc: Global) -> Result<String> {
     let mut text = String::new(alloc);
     for (_, word, _, _, _) in FORMS {
         text.push_str(word)?;

@@ -9,7 +9,11 @@ use std::io::BufReader;
 use test_tables::Row;
 
 /// Takes once: the answer, the frame's body, and what is held of the next one.
-fn take_told<I: Source>(alloc: Global, stream: &mut FrameStream, source: &mut I) -> Result<String> {
+fn take_answer<I: Source>(
+    alloc: Global,
+    stream: &mut FrameStream,
+    source: &mut I,
+) -> Result<String> {
     let answer = stream.take(source);
     let body = hex::encode(alloc, stream.frame())?;
     let held = hex::encode(alloc, stream.held())?;
@@ -29,7 +33,7 @@ fn take_told<I: Source>(alloc: Global, stream: &mut FrameStream, source: &mut I)
 
 /// Takes several times from a source in memory: the answer to each, how many bytes the source then has left, and how
 /// many were taken.
-fn all_told(
+fn all_answer(
     alloc: Global,
     stream: &mut FrameStream,
     source: &mut MemSource,
@@ -37,7 +41,7 @@ fn all_told(
 ) -> Result<String> {
     let mut text = String::new(alloc);
     for _ in 0..takes {
-        text.push_str(take_told(alloc, stream, source)?.as_str())?;
+        text.push_str(take_answer(alloc, stream, source)?.as_str())?;
         let left = source.left().len();
         text.push_str(format!(in alloc; ", left {left}; ")?.as_str())?;
     }
@@ -50,7 +54,7 @@ fn all_told(
 fn in_piece(alloc: Global, row: &Row, piece: usize) -> Result<String> {
     let mut source = source_of(alloc, row, piece)?;
     let mut stream = FrameStream::open(alloc, limits_of(row, 3, 4)?)?;
-    all_told(alloc, &mut stream, &mut source, row.size(5)?)
+    all_answer(alloc, &mut stream, &mut source, row.size(5)?)
 }
 
 /// The row with pieces of each size: the answer of all, or the first one that differs from the required one.
@@ -67,9 +71,9 @@ pub fn in_pieces(alloc: Global, row: &Row) -> Result<String> {
 
 /// Takes, and takes again if a read failed.
 fn take_retried(alloc: Global, stream: &mut FrameStream, source: &mut MemSource) -> Result<String> {
-    let told = take_told(alloc, stream, source)?;
+    let told = take_answer(alloc, stream, source)?;
     if told.as_str().starts_with("ReadFault") {
-        return take_told(alloc, stream, source);
+        return take_answer(alloc, stream, source);
     }
     Ok(told)
 }
@@ -88,7 +92,7 @@ pub fn retried(alloc: Global, row: &Row) -> Result<String> {
 }
 
 /// Takes several times from any source.
-fn takes_told<I: Source>(
+fn takes_answer<I: Source>(
     alloc: Global,
     stream: &mut FrameStream,
     source: &mut I,
@@ -96,7 +100,7 @@ fn takes_told<I: Source>(
 ) -> Result<String> {
     let mut text = String::new(alloc);
     for _ in 0..takes {
-        text.push_str(take_told(alloc, stream, source)?.as_str())?;
+        text.push_str(take_answer(alloc, stream, source)?.as_str())?;
         text.push_str("; ")?;
     }
     let taken = stream.taken();
@@ -110,7 +114,7 @@ fn ahead_in(alloc: Global, row: &Row, capacity: usize) -> Result<String> {
     let reader = BufReader::with_capacity(alloc, capacity, bytes.as_slice())?;
     let mut source = BufferedSource::new(reader);
     let mut stream = FrameStream::open(alloc, limits_of(row, 2, 3)?)?;
-    takes_told(alloc, &mut stream, &mut source, row.size(4)?)
+    takes_answer(alloc, &mut stream, &mut source, row.size(4)?)
 }
 
 /// The row with buffers of each size: the answer of all, or the first one that differs from the required one.

@@ -12,7 +12,7 @@ use test_tables::{Row, spelled};
 const TOLD_WHOLE: usize = 64;
 
 /// A line as it is shown.
-fn line_told(alloc: Global, line: &[u8]) -> Result<String> {
+fn line_answer(alloc: Global, line: &[u8]) -> Result<String> {
     if line.len() > TOLD_WHOLE {
         let first = line[0];
         if line.iter().all(|byte| *byte == first) {
@@ -24,9 +24,9 @@ fn line_told(alloc: Global, line: &[u8]) -> Result<String> {
 }
 
 /// Takes once: the answer and the line.
-fn take_told(alloc: Global, stream: &mut LineStream, source: &mut MemSource) -> Result<String> {
+fn take_answer(alloc: Global, stream: &mut LineStream, source: &mut MemSource) -> Result<String> {
     let answer = stream.take(source);
-    let line = line_told(alloc, stream.line())?;
+    let line = line_answer(alloc, stream.line())?;
     let line = line.as_str();
     match answer {
         Ok(LineTaken::Line) => Ok(format!(in alloc; "line {line}; ")?),
@@ -36,7 +36,7 @@ fn take_told(alloc: Global, stream: &mut LineStream, source: &mut MemSource) -> 
 }
 
 /// Takes several times: the answer to each, and how many bytes were taken.
-fn all_told(
+fn all_answer(
     alloc: Global,
     stream: &mut LineStream,
     source: &mut MemSource,
@@ -44,7 +44,7 @@ fn all_told(
 ) -> Result<String> {
     let mut text = String::new(alloc);
     for _ in 0..takes {
-        text.push_str(take_told(alloc, stream, source)?.as_str())?;
+        text.push_str(take_answer(alloc, stream, source)?.as_str())?;
     }
     let taken = stream.taken();
     text.push_str(format!(in alloc; "taken {taken}")?.as_str())?;
@@ -60,7 +60,7 @@ fn in_piece(alloc: Global, row: &Row, piece: usize) -> Result<String> {
     };
     let mut source = source_of(alloc, row, piece)?;
     let mut stream = LineStream::open(alloc, limits)?;
-    all_told(alloc, &mut stream, &mut source, row.size(4)?)
+    all_answer(alloc, &mut stream, &mut source, row.size(4)?)
 }
 
 /// The row with pieces of each size: the answer of all, or the first one that differs from the required one.

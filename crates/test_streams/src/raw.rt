@@ -40,7 +40,7 @@ impl Space {
     }
 
     /// Takes once: the answer, the text, and how many fields the table holds.
-    fn take_told(
+    fn take_answer(
         &mut self,
         alloc: Global,
         stream: &mut RawStream,
@@ -67,9 +67,9 @@ impl Space {
         stream: &mut RawStream,
         source: &mut MemSource,
     ) -> Result<String> {
-        let told = self.take_told(alloc, stream, source)?;
+        let told = self.take_answer(alloc, stream, source)?;
         if told.as_str().starts_with("ReadFault , fields 0") {
-            return self.take_told(alloc, stream, source);
+            return self.take_answer(alloc, stream, source);
         }
         Ok(told)
     }
@@ -81,7 +81,7 @@ fn in_piece(alloc: Global, space: &mut Space, row: &Row, piece: usize) -> Result
     let mut stream = RawStream::open(alloc, raw_limits(row)?)?;
     let mut text = String::new(alloc);
     for _ in 0..row.size(5)? {
-        let told = space.take_told(alloc, &mut stream, &mut source)?;
+        let told = space.take_answer(alloc, &mut stream, &mut source)?;
         text.push_str(told.as_str())?;
     }
     let taken = stream.taken();

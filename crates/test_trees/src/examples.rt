@@ -37,7 +37,7 @@ fn body_text(alloc: Global, checked: &Checked, row: &Row) -> Result<String> {
 }
 
 /// A row: the schema, the limit, and a line. Answers its template and its body.
-pub fn body_told(alloc: Global, checked: &Checked, row: &Row) -> Result<String> {
+pub fn body_answer(alloc: Global, checked: &Checked, row: &Row) -> Result<String> {
     let body = body_text(alloc, checked, row)?;
     match template_of(alloc, checked, row.text(2)?.as_bytes()) {
         Ok(name) => {
@@ -58,7 +58,7 @@ fn legs_of(alloc: Global, words: &str) -> Result<Vec<i128>> {
     Ok(legs)
 }
 
-fn order_answer(alloc: Global, answer: std::result::Result<usize, OrderErr>) -> Result<String> {
+fn written_answer(alloc: Global, answer: std::result::Result<usize, OrderErr>) -> Result<String> {
     match answer {
         Ok(n) => Ok(format!(in alloc; "{n} bytes")?),
         Err(OrderErr::Schema) => Ok(format!(in alloc; "no order")?),
@@ -76,13 +76,13 @@ fn order_in(
     order: &Order<'_>,
     buf: &mut FrameBuf,
 ) -> Result<String> {
-    let answer = order_answer(alloc, write_order(layout, order, buf))?;
+    let answer = written_answer(alloc, write_order(layout, order, buf))?;
     with_bytes(alloc, answer.as_str(), buf.bytes())
 }
 
 /// A row: the schema, the limit, and an order: its number, its legs separated by spaces, and its note. Gives the
 /// answer, and the bytes in the buffer afterwards.
-pub fn order_told(alloc: Global, checked: &Checked, row: &Row) -> Result<String> {
+pub fn order_text(alloc: Global, checked: &Checked, row: &Row) -> Result<String> {
     let number = row.number(2)?;
     let note = row.text(4)?;
     let legs = legs_of(alloc, row.text(3)?)?;
@@ -111,7 +111,7 @@ fn sum_text(
 }
 
 /// A row: the schema, a body, the number of a group, and that of a field of its entries. Answers the sum of the field.
-pub fn sum_told(alloc: Global, checked: &Checked, row: &Row) -> Result<String> {
+pub fn sum_answer(alloc: Global, checked: &Checked, row: &Row) -> Result<String> {
     let group = row.size(2)?;
     let field = row.size(3)?;
     let body = row.bytes(alloc, 1)?;
@@ -120,7 +120,7 @@ pub fn sum_told(alloc: Global, checked: &Checked, row: &Row) -> Result<String> {
 }
 
 /// The part of a level that has a name: a field, a group or data, and its number.
-fn part_told(alloc: Global, names: &LayoutNames, level: usize, name: &str) -> Result<String> {
+fn part_answer(alloc: Global, names: &LayoutNames, level: usize, name: &str) -> Result<String> {
     let name = name.as_bytes();
     if let Some(i) = names.field(level, name) {
         return Ok(format!(in alloc; "field {i}")?);
@@ -135,12 +135,12 @@ fn part_told(alloc: Global, names: &LayoutNames, level: usize, name: &str) -> Re
 }
 
 /// A row: the schema, a message's name, and a name. The number of the message, and the part of its root that has the name.
-pub fn named_told(alloc: Global, checked: &Checked, row: &Row) -> Result<String> {
+pub fn named_answer(alloc: Global, checked: &Checked, row: &Row) -> Result<String> {
     let layout = layout_of(alloc, checked)?;
     let names = LayoutNames::new(alloc, &layout)?;
     match names.template(row.text(1)?.as_bytes()) {
         Some(template) if template < layout.templates() => {
-            let part = part_told(alloc, &names, layout.root(template), row.text(2)?)?;
+            let part = part_answer(alloc, &names, layout.root(template), row.text(2)?)?;
             Ok(format!(in alloc; "message {template}, {}", part.as_str())?)
         }
         _ => Ok(format!(in alloc; "no message")?),
@@ -157,7 +157,7 @@ fn price_text(alloc: Global, layout: &Layout, price: EntryField, body: &[u8]) ->
 
 /// A row: the schema, a body, and the names of a message, of one of its groups, and of a field of that one's entries. The last
 /// price of that field.
-pub fn price_told(alloc: Global, checked: &Checked, row: &Row) -> Result<String> {
+pub fn price_answer(alloc: Global, checked: &Checked, row: &Row) -> Result<String> {
     let body = row.bytes(alloc, 1)?;
     let layout = layout_of(alloc, checked)?;
     let names = LayoutNames::new(alloc, &layout)?;

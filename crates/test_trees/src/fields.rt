@@ -55,7 +55,7 @@ fn set_in(
 
 /// A row: the schema, the limit, a field of the first message, and a value. Answers whether it is set, and the body
 /// afterwards.
-pub fn set_told(alloc: Global, checked: &Checked, row: &Row) -> Result<String> {
+pub fn set_answer(alloc: Global, checked: &Checked, row: &Row) -> Result<String> {
     let field = row.size(2)?;
     let value = value_of(alloc, row.text(3)?)?;
     let mut buffer = FrameBuf::new(alloc, row.size(1)?)?;

@@ -32,7 +32,7 @@ fn put_text(
 
 /// A row: the schema, the number of a data part, an offset, and data, which are written there over six bytes. Answers
 /// the offset after them, or why there is none, and the bytes afterwards.
-pub fn put_told(alloc: Global, checked: &Checked, row: &Row) -> Result<String> {
+pub fn put_answer(alloc: Global, checked: &Checked, row: &Row) -> Result<String> {
     let part = row.size(1)?;
     let at = row.size(2)?;
     let bytes = row.text(3)?.as_bytes();
@@ -60,7 +60,7 @@ fn skip_text(
 
 /// A row: the schema, a level, a version, the length of a block, its offset, and bytes. Answers the offset after the
 /// entry.
-pub fn skip_told(alloc: Global, checked: &Checked, row: &Row) -> Result<String> {
+pub fn skip_answer(alloc: Global, checked: &Checked, row: &Row) -> Result<String> {
     let level = row.size(1)?;
     let version = row.text(2)?.parse::<u32>()?;
     let block = row.text(3)?.parse::<u32>()?;
@@ -102,7 +102,7 @@ fn kept_text(alloc: Global, lines: &LineLayout, value: usize, bytes: &str) -> Re
 }
 
 /// A row: the schema, a value of the first message's block, and bytes. Answers what is stored to print each byte.
-pub fn kept_told(alloc: Global, checked: &Checked, row: &Row) -> Result<String> {
+pub fn kept_answer(alloc: Global, checked: &Checked, row: &Row) -> Result<String> {
     let value = row.size(1)?;
     let bytes = row.text(2)?;
     let lines = LineLayout::new(alloc, layout_of(alloc, checked)?)?;

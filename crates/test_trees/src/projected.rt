@@ -60,7 +60,7 @@ fn body_text(alloc: Global, old: &Checked, new: &Checked, body: &[u8]) -> Result
 }
 
 /// A row: the newer schema, the older one, and a body, which the newer one reads.
-pub fn project_told(rt: &HostRuntime, new: &Checked, row: &Row) -> Result<String> {
+pub fn project_answer(rt: &HostRuntime, new: &Checked, row: &Row) -> Result<String> {
     let body = row.bytes(rt.alloc(), 2)?;
     let old = checked_of(rt, row.text(1)?)?;
     body_text(rt.alloc(), &old, new, body.as_slice())

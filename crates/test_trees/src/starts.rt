@@ -33,7 +33,7 @@ fn begin_in(
 
 /// A row: the schema, the limit, and the number of a message, which is begun. Gives the answer, and the bytes in the
 /// buffer afterwards.
-pub fn start_told(alloc: Global, checked: &Checked, row: &Row) -> Result<String> {
+pub fn start_answer(alloc: Global, checked: &Checked, row: &Row) -> Result<String> {
     let template = row.size(2)?;
     let mut buffer = FrameBuf::new(alloc, row.size(1)?)?;
     let layout = layout_of(alloc, checked)?;
@@ -57,7 +57,7 @@ fn way_in(alloc: Global, layout: &Layout, buffer: &mut FrameBuf, way: &str) -> R
 
 /// A row: the schema, the limit, and the path through the states of its messages. Gives their answers, and the bytes in
 /// the buffer afterwards.
-pub fn states_told(alloc: Global, checked: &Checked, row: &Row) -> Result<String> {
+pub fn states_answer(alloc: Global, checked: &Checked, row: &Row) -> Result<String> {
     let way = row.text(2)?;
     let mut buffer = FrameBuf::new(alloc, row.size(1)?)?;
     let layout = layout_of(alloc, checked)?;

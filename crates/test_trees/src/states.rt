@@ -6,7 +6,7 @@ use typed_writer::{FrameBuf, NextPart, start};
 
 /// The writer's answers in turn, and the length of the body.
 #[derive(Clone, Copy, Debug, PartialEq, Eq)]
-pub struct Told {
+pub struct FirstWrites {
     /// The field that `done` names before any is set.
     unset: usize,
     /// Whether a value beyond the range is refused.
@@ -17,7 +17,7 @@ pub struct Told {
 }
 
 /// Writes the first message, if it has a number as its first field, and no groups and data.
-pub fn write_first(layout: &Layout, buffer: &mut FrameBuf) -> Option<Told> {
+pub fn write_first(layout: &Layout, buffer: &mut FrameBuf) -> Option<FirstWrites> {
     if layout.templates() == 0 {
         return None;
     }
@@ -55,7 +55,7 @@ pub fn write_first(layout: &Layout, buffer: &mut FrameBuf) -> Option<Told> {
         Err(_) => return None,
     }
     match state.buf.done(layout) {
-        Ok(tail) => Some(Told {
+        Ok(tail) => Some(FirstWrites {
             unset,
             is_refused,
             unset_still,

@@ -106,14 +106,14 @@ fn same_text(alloc: Global, msg: &Msg, other: &Msg) -> Result<String> {
 }
 
 /// A row: the schema, and two trees. Answers whether the first one equals its copy, and the other one.
-pub fn same_told(alloc: Global, row: &Row) -> Result<String> {
+pub fn same_answer(alloc: Global, row: &Row) -> Result<String> {
     let msg = tree_of(alloc, row, 1)?;
     let other = tree_of(alloc, row, 4)?;
     same_text(alloc, &msg, &other)
 }
 
 /// A row: the schema, the limit, and a tree, which is written.
-pub fn tree_told(alloc: Global, checked: &Checked, row: &Row) -> Result<String> {
+pub fn tree_answer(alloc: Global, checked: &Checked, row: &Row) -> Result<String> {
     let limit = row.size(1)?;
     let msg = tree_of(alloc, row, 2)?;
     msg_in(alloc, checked, limit, &msg)
@@ -128,7 +128,7 @@ fn size_text(alloc: Global, checked: &Checked, limit: usize, msg: &Msg) -> Resul
 }
 
 /// A row: the schema, the limit, and a tree. Answers its size.
-pub fn size_told(alloc: Global, checked: &Checked, row: &Row) -> Result<String> {
+pub fn size_answer(alloc: Global, checked: &Checked, row: &Row) -> Result<String> {
     let limit = row.size(1)?;
     let msg = tree_of(alloc, row, 2)?;
     size_text(alloc, checked, limit, &msg)
@@ -206,7 +206,7 @@ fn decoded_text(alloc: Global, layout: &Layout, body: &[u8]) -> Result<String> {
 }
 
 /// A row: the schema, and a body. Answers the root of its message.
-pub fn decoded_told(alloc: Global, checked: &Checked, row: &Row) -> Result<String> {
+pub fn decoded_answer(alloc: Global, checked: &Checked, row: &Row) -> Result<String> {
     let body = row.bytes(alloc, 1)?;
     let layout = layout_of(alloc, checked)?;
     decoded_text(alloc, &layout, body.as_slice())

@@ -35,7 +35,7 @@ fn view_text(alloc: Global, layout: &Layout, version: u32, body: &[u8]) -> Resul
 
 /// A row: the schema, and a body. Answers what its view says of the message, or the template as far as a refusal names
 /// it.
-pub fn view_told(alloc: Global, checked: &Checked, row: &Row) -> Result<String> {
+pub fn view_answer(alloc: Global, checked: &Checked, row: &Row) -> Result<String> {
     let body = row.bytes(alloc, 1)?;
     let layout = layout_of(alloc, checked)?;
     view_text(alloc, &layout, checked.version(), body.as_slice())
@@ -84,7 +84,7 @@ fn both_text(
 }
 
 /// A row: the schema, the limit, and a line. Answers its body by both paths: `both` if they give the same.
-pub fn printed_told(alloc: Global, checked: &Checked, row: &Row) -> Result<String> {
+pub fn printed_answer(alloc: Global, checked: &Checked, row: &Row) -> Result<String> {
     let limit = row.size(1)?;
     let line = row.text(2)?;
     let lines = LineLayout::new(alloc, layout_of(alloc, checked)?)?;

@@ -20,7 +20,7 @@ fn message_of(alloc: Global, checked: &Checked, line: &str) -> Result<Msg> {
 }
 
 /// The answer for a message written to a buffer, whose limit doesn't change.
-fn msg_told(alloc: Global, layout: &Layout, msg: &Msg, buf: &mut FrameBuf) -> Result<String> {
+fn msg_answer(alloc: Global, layout: &Layout, msg: &Msg, buf: &mut FrameBuf) -> Result<String> {
     let limit = buf.limit();
     let answer = encode(layout, msg, buf);
     if buf.limit() != limit {
@@ -33,17 +33,17 @@ fn msg_told(alloc: Global, layout: &Layout, msg: &Msg, buf: &mut FrameBuf) -> Re
 pub fn msg_in(alloc: Global, checked: &Checked, limit: usize, msg: &Msg) -> Result<String> {
     let mut buf = FrameBuf::new(alloc, limit)?;
     let layout = layout_of(alloc, checked)?;
-    msg_told(alloc, &layout, msg, &mut buf)
+    msg_answer(alloc, &layout, msg, &mut buf)
 }
 
-fn text_told(alloc: Global, checked: &Checked, limit: usize, line: &str) -> Result<String> {
+fn text_answer(alloc: Global, checked: &Checked, limit: usize, line: &str) -> Result<String> {
     let msg = message_of(alloc, checked, line)?;
     msg_in(alloc, checked, limit, &msg)
 }
 
 /// A row: the schema, the limit, and the line.
-pub fn line_told(alloc: Global, checked: &Checked, row: &Row) -> Result<String> {
-    text_told(alloc, checked, row.size(1)?, row.text(2)?)
+pub fn line_answer(alloc: Global, checked: &Checked, row: &Row) -> Result<String> {
+    text_answer(alloc, checked, row.size(1)?, row.text(2)?)
 }
 
 /// The text in which the pairs from this index on are replaced: the first text of a pair by the second.
@@ -65,12 +65,12 @@ fn replaced(alloc: Global, text: String, row: &Row, first: usize) -> Result<Stri
 
 /// A row: the schema, the limit, a file in `lines`, and pairs of texts. The first text of a pair is replaced by the
 /// second.
-pub fn changed_told(rt: &HostRuntime, checked: &Checked, row: &Row) -> Result<String> {
+pub fn changed_answer(rt: &HostRuntime, checked: &Checked, row: &Row) -> Result<String> {
     let name = row.text(2)?;
     let path = format!(in rt.alloc(); "lines/{name}.json")?;
     let text = fs::read_to_string(rt, path.as_str())?;
     let line = replaced(rt.alloc(), text, row, 3)?;
-    text_told(rt.alloc(), checked, row.size(1)?, line.as_str())
+    text_answer(rt.alloc(), checked, row.size(1)?, line.as_str())
 }
 
 fn message_in(alloc: Global, checked: &Checked, body: &[u8]) -> Result<Msg> {
@@ -82,7 +82,7 @@ fn message_in(alloc: Global, checked: &Checked, body: &[u8]) -> Result<Msg> {
 }
 
 /// A row: the schema, the limit, and a body, whose message is written again.
-pub fn again_told(alloc: Global, checked: &Checked, row: &Row) -> Result<String> {
+pub fn again_answer(alloc: Global, checked: &Checked, row: &Row) -> Result<String> {
     let limit = row.size(1)?;
     let body = row.bytes(alloc, 2)?;
     let msg = message_in(alloc, checked, body.as_slice())?;
@@ -97,7 +97,7 @@ fn turn_text(
     line: &str,
 ) -> Result<String> {
     let msg = message_of(alloc, checked, line)?;
-    msg_told(alloc, layout, &msg, buf)
+    msg_answer(alloc, layout, &msg, buf)
 }
 
 fn turns_in(
@@ -116,7 +116,7 @@ fn turns_in(
 }
 
 /// A row: the schema, the limit, and lines, whose messages are written to one buffer in turn.
-pub fn turns_told(alloc: Global, checked: &Checked, row: &Row) -> Result<String> {
+pub fn turns_answer(alloc: Global, checked: &Checked, row: &Row) -> Result<String> {
     let mut buf = FrameBuf::new(alloc, row.size(1)?)?;
     let layout = layout_of(alloc, checked)?;
     turns_in(alloc, checked, &layout, &mut buf, row)

@@ -21,7 +21,7 @@ pub fn answer(alloc: Global, row: &Row) -> Result<Option<String>> {
         "read_time" => moment_read(alloc, read_time(row.bytes(alloc, 0)?.as_slice()))?,
         "show_stamp" => stamp_shown(alloc, row)?,
         "read_stamp" => moment_read(alloc, read_stamp(row.bytes(alloc, 0)?.as_slice()))?,
-        "fit_moment" => fit_told(alloc, row)?,
+        "fit_moment" => fit_answer(alloc, row)?,
         _ => return Ok(None),
     };
     Ok(Some(text))
@@ -62,7 +62,7 @@ fn moment_read(alloc: Global, answer: std::result::Result<Moment, V>) -> Result<
 }
 
 /// A moment in nanoseconds, counted in a unit.
-fn fit_told(alloc: Global, row: &Row) -> Result<String> {
+fn fit_answer(alloc: Global, row: &Row) -> Result<String> {
     let moment = Moment {
         nanos: row.number(0)?,
         digits: 9,

@@ -3,6 +3,7 @@
 ghost use Rattle.orchestra_map.specs.Headers.{IsKept};
 ghost use Rattle.bridge_cover.specs.Kinds.{HasKindsInOrder};
 
+use crate::schemas::read_checked;
 use anyhow::{Result, bail};
 use bridge_cover::laws::kinds_of_messages_are_in_order;
 use bridge_cover::{Tables, uncovered};
@@ -10,47 +11,36 @@ use bridge_mapping::MessageTable;
 use lists::{List, Text};
 use map_types::Repository;
 use orchestra_map::read_map;
-use sbe_schema::read_schema;
 use sbe_types::Level;
-use schema_check::{Checked, check};
+use schema_check::Checked;
 use std::alloc::Global;
 
 /// For each message of the schema its name, and `covered`, `no message`, or the path of the first part that isn't covered.
-pub fn coverage_told(alloc: Global, schema: &[u8], mapping: &[u8]) -> Result<String> {
-    let checked = checked_of(alloc, schema)?;
-    mapping_told(alloc, &checked, mapping)
+pub fn coverage_answer(alloc: Global, schema: &[u8], mapping: &[u8]) -> Result<String> {
+    let checked = read_checked(alloc, schema)?;
+    mapping_answer(alloc, &checked, mapping)
 }
 
-fn checked_of(alloc: Global, schema: &[u8]) -> Result<Checked> {
-    let Ok(schema) = read_schema(alloc, schema) else {
-        bail!("the schema isn't read");
-    };
-    match check(alloc, schema) {
-        Ok(checked) => Ok(checked),
-        Err(_) => bail!("the schema isn't in order"),
-    }
-}
-
-fn mapping_told(alloc: Global, checked: &Checked, mapping: &[u8]) -> Result<String> {
+fn mapping_answer(alloc: Global, checked: &Checked, mapping: &[u8]) -> Result<String> {
     match read_map(alloc, mapping) {
-        Ok(repository) => repository_told(alloc, checked, &repository),
+        Ok(repository) => repository_answer(alloc, checked, &repository),
         Err(_) => bail!("the mapping isn't read"),
     }
 }
 
-fn repository_told(alloc: Global, checked: &Checked, repository: &Repository) -> Result<String>
+fn repository_answer(alloc: Global, checked: &Checked, repository: &Repository) -> Result<String>
     requires kept { IsKept repository.now }
 {
     let tables = Tables::new(alloc, repository)?;
-    let told = structures_told(alloc, &tables, checked, repository);
+    let out = structures_answer(alloc, &tables, checked, repository);
     // Each is dropped by a call of its own, since the check of a function that drops both itself doesn't end.
     let Tables { tags, datatypes } = tables;
     drop(datatypes);
     drop(tags);
-    told
+    out
 }
 
-fn structures_told(
+fn structures_answer(
     alloc: Global,
     tables: &Tables,
     checked: &Checked,
@@ -59,30 +49,30 @@ fn structures_told(
     requires kept { IsKept repository.now }
 {
     let structures = MessageTable::new(alloc, repository)?;
-    messages_told(alloc, tables, &structures, checked)
+    messages_answer(alloc, tables, &structures, checked)
 }
 
-fn messages_told(
+fn messages_answer(
     alloc: Global,
     tables: &Tables,
     structures: &MessageTable,
     checked: &Checked,
 ) -> Result<String> {
-    let mut told = String::new(alloc);
+    let mut out = String::new(alloc);
     let schema = checked.schema();
     let messages = schema.messages.as_slice();
     kinds_of_messages_are_in_order();
     for level in messages {
-        push_name(alloc, &mut told, level.name.as_slice())?;
-        told.push_str(": ")?;
-        let path = message_told(alloc, tables, structures, level)?;
-        told.push_str(path.as_str())?;
-        told.push_str("; ")?;
+        push_name(alloc, &mut out, level.name.as_slice())?;
+        out.push_str(": ")?;
+        let path = message_answer(alloc, tables, structures, level)?;
+        out.push_str(path.as_str())?;
+        out.push_str("; ")?;
     }
-    Ok(told)
+    Ok(out)
 }
 
-fn message_told(
+fn message_answer(
     alloc: Global,
     tables: &Tables,
     structures: &MessageTable,
@@ -95,23 +85,23 @@ fn message_told(
     };
     match uncovered(alloc, tables, rows.as_slice(), level)? {
         None => Ok(String::from_str(alloc, "covered")?),
-        Some(path) => path_told(alloc, &path),
+        Some(path) => path_answer(alloc, &path),
     }
 }
 
 /// The names of a path, with dots between.
-fn path_told(alloc: Global, path: &List<Text>) -> Result<String> {
-    let mut told = String::new(alloc);
+fn path_answer(alloc: Global, path: &List<Text>) -> Result<String> {
+    let mut out = String::new(alloc);
     for name in path.as_slice() {
-        if !told.is_empty() {
-            told.push_str(".")?;
+        if !out.is_empty() {
+            out.push_str(".")?;
         }
-        push_name(alloc, &mut told, name.as_slice())?;
+        push_name(alloc, &mut out, name.as_slice())?;
     }
-    Ok(told)
+    Ok(out)
 }
 
-fn push_name(alloc: Global, told: &mut String, name: &[u8]) -> Result<()> {
-    told.push_str(String::from_utf8_lossy(alloc, name)?.as_str())?;
+fn push_name(alloc: Global, out: &mut String, name: &[u8]) -> Result<()> {
+    out.push_str(String::from_utf8_lossy(alloc, name)?.as_str())?;
     Ok(())
 }

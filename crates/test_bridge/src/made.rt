@@ -45,12 +45,15 @@ pub fn of_fields(alloc: Global, many: usize) -> Result<String> {
     Ok(text)
 }
 
-/// Components each of which refers twice to the previous one, and a message that refers to the last one.
-pub fn of_doubled(alloc: Global, many: usize) -> Result<String> {
+/// Components each of which refers twice to the previous one, and a message that refers to the last one. The first component has
+/// a field, or refers to the last one, so that a chain of references comes back.
+pub fn of_doubled(alloc: Global, many: usize, comes_back: bool) -> Result<String> {
     let mut text = String::from_str(
         alloc,
-        "{\"repository\":{\"content\":[{\"fields\":{\"content\":[{\"field\":{\"id\":1,\"name\":\"\",\"type\":\"int\"}}]}},{\"components\":{\"content\":[{\"component\":{\"id\":1,\"name\":\"\",\"content\":[{\"fieldRef\":{\"id\":1}}]}}",
+        "{\"repository\":{\"content\":[{\"fields\":{\"content\":[{\"field\":{\"id\":1,\"name\":\"\",\"type\":\"int\"}}]}},{\"components\":{\"content\":[{\"component\":{\"id\":1,\"name\":\"\",\"content\":[",
     )?;
+    text.push_str(first_reference(alloc, many, comes_back)?.as_str())?;
+    text.push_str("]}}")?;
     for i in 0..many {
         let below = i.saturating_add(1);
         let component = format!(in alloc;
@@ -65,6 +68,15 @@ pub fn of_doubled(alloc: Global, many: usize) -> Result<String> {
     )?;
     text.push_str(message.as_str())?;
     Ok(text)
+}
+
+/// What the first component refers to: a field, or the last component.
+fn first_reference(alloc: Global, many: usize, comes_back: bool) -> Result<String> {
+    if comes_back {
+        let last = many.saturating_add(1);
+        return Ok(format!(in alloc; "{{\"componentRef\":{{\"id\":{last}}}}}")?);
+    }
+    Ok(String::from_str(alloc, "{\"fieldRef\":{\"id\":1}}")?)
 }
 
 /// What precedes an item of a list.

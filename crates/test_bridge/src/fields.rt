@@ -1,5 +1,7 @@
 //! Rows of fields: a schema of one message with one field, a datatype of a mapping, and a body; the text that is written of it.
-#![tactic(auto)]
+
+ghost use Rattle.std.specs.Prelude.{◌≤◌};
+ghost use Rattle.tagvalue_codec.specs.declared.room.TheConstants.{TEXT_LIMIT};
 
 use anyhow::{Result, bail};
 use bridge_table::{CodeTable, Datatype, field_rule};
@@ -11,44 +13,32 @@ use map_types::CodeEl;
 use message_walk::{Cause, Halt, Lead, Put, PutValue};
 use std::alloc::Global;
 use tagvalue_codec::FixWriter;
-use test_tables::{Calls, Row, judge_tables, spelled};
+use test_tables::{Row, spelled};
 use value_texts::ValueText;
 
-/// The calls of all tables.
-struct AllCalls;
-
-impl Calls for AllCalls {
-    fn answer(&self, rt: &HostRuntime, row: &Row) -> Result<String> {
-        if row.call() != "field" {
-            bail!("there is no such call");
-        }
-        field_told(rt.alloc(), row)
-    }
-}
-
 /// A row: the schema, the datatype, and the body. The text of the message with the field of tag 58, or why there is none.
-fn field_told(alloc: Global, row: &Row) -> Result<String> {
+pub fn field_answer(alloc: Global, row: &Row) -> Result<String> {
     let Ok(layout) = load(alloc, row.text(0)?.as_bytes()) else {
         bail!("the schema is refused");
     };
     let body = row.bytes(alloc, 2)?;
-    block_told(alloc, &layout, row.text(1)?, body.as_slice())
+    block_answer(alloc, &layout, row.text(1)?, body.as_slice())
 }
 
-fn block_told(alloc: Global, layout: &Layout, datatype: &str, body: &[u8]) -> Result<String> {
+fn block_answer(alloc: Global, layout: &Layout, datatype: &str, body: &[u8]) -> Result<String> {
     match validate(layout, body) {
-        Ok(view) => root_told(alloc, &view.root(), datatype),
+        Ok(view) => root_answer(alloc, &view.root(), datatype),
         Err(_) => bail!("the body is refused"),
     }
 }
 
-fn root_told(alloc: Global, root: &BlockView<'_>, datatype: &str) -> Result<String> {
+fn root_answer(alloc: Global, root: &BlockView<'_>, datatype: &str) -> Result<String> {
     let (count, _, _) = root.counts();
     if count == 0 {
         bail!("the message has no field");
     }
     match row_of(alloc, root, datatype)? {
-        Some(text) => text_told(alloc, &text, root),
+        Some(text) => text_answer(alloc, &text, root),
         None => Ok(format!(in alloc; "no rule")?),
     }
 }
@@ -102,8 +92,26 @@ fn datatype_of<'a>(word: &str, table: CodeTable<'a>) -> Result<Datatype<'a>> {
     })
 }
 
-/// The text with the field of tag 58.
-fn text_told(alloc: Global, row: &ValueText, root: &BlockView<'_>) -> Result<String> {
+/// The text with the field of tag 58, which is the same by the rule and by the bytes at their place.
+fn text_answer(alloc: Global, row: &ValueText, root: &BlockView<'_>) -> Result<String> {
+    let by_rule = written(alloc, row, root, 100, false)?;
+    let by_bytes = written(alloc, row, root, 200, true)?;
+    if by_rule.as_str() != by_bytes.as_str() && !by_rule.as_str().ends_with(" bytes") {
+        bail!("the bytes tell another text");
+    }
+    Ok(by_rule)
+}
+
+/// The text of at most `limit` bytes with the field of tag 58, by the rule or by the bytes at their place.
+fn written(
+    alloc: Global,
+    row: &ValueText,
+    root: &BlockView<'_>,
+    limit: usize,
+    at_place: bool,
+) -> Result<String>
+    requires { limit ≤ TEXT_LIMIT }
+{
     let Some(lead) = Lead::new(58) else {
         bail!("there is no such tag");
     };
@@ -111,30 +119,31 @@ fn text_told(alloc: Global, row: &ValueText, root: &BlockView<'_>) -> Result<Str
     if count == 0 {
         bail!("the message has no field");
     }
-    let mut out = FixWriter::new(alloc, 100)?;
+    let mut out = FixWriter::new(alloc, limit)?;
     match out.start(b"FIX.4.4", b"T") {
         Ok(()) => {}
         Err(_) => bail!("there is no room"),
     }
     let mut halt = Halt::new();
-    match row.put(&lead, root, 0, &mut out, &mut halt) {
+    let put = if at_place {
+        row.put_at(&lead, root, &root.by_table(), 0, &mut out, &mut halt)
+    } else {
+        row.put(&lead, root, 0, &mut out, &mut halt)
+    };
+    match put {
         Put::Written => {
             out.finish();
             spelled(alloc, out.bytes())
         }
         Put::Nothing => Ok(format!(in alloc; "nothing")?),
-        Put::Refused => refusal_told(alloc, &halt),
+        Put::Refused => refusal_answer(alloc, &halt),
     }
 }
 
-fn refusal_told(alloc: Global, halt: &Halt) -> Result<String> {
+fn refusal_answer(alloc: Global, halt: &Halt) -> Result<String> {
     match halt.cause {
         Cause::NoText(why) => Ok(format!(in alloc; "{why}")?),
         Cause::NoDelimiter => Ok(format!(in alloc; "no delimiter")?),
         Cause::Full(needed) => Ok(format!(in alloc; "{needed} bytes")?),
     }
-}
-
-fn main(rt: HostRuntime) -> Result<()> {
-    judge_tables(&rt, &AllCalls)
 }

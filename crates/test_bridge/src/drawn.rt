@@ -1,13 +1,12 @@
 //! Messages that are drawn, shown by the bodies that they are written as.
 
+use crate::schemas::load_checked;
 use anyhow::{Result, bail};
 use layout_compile::compile;
 use layout_tables::Layout;
-use sbe_schema::read_schema;
 use sbe_types::Msg;
-use schema_check::{Checked, check};
+use schema_check::Checked;
 use std::alloc::Global;
-use std::fs;
 use test_tables::Row;
 use tree_codec::encode;
 use typed_writer::FrameBuf;
@@ -16,15 +15,10 @@ use vectors::{alter, generate};
 /// How many bytes a body may have.
 const LIMIT: usize = 4096;
 
-/// The schema of a file in `schemas`, which has a message.
+/// The schema of a file in `schemas`.
 fn checked_of(rt: &HostRuntime, name: &str) -> Result<Checked> {
     let path = format!(in rt.alloc(); "schemas/{name}.json")?;
-    let text = fs::read_to_string(rt, path.as_str())?;
-    let schema = read_schema(rt.alloc(), text.as_bytes())?;
-    match check(rt.alloc(), schema) {
-        Ok(checked) => Ok(checked),
-        Err(_) => bail!("the schema is refused"),
-    }
+    load_checked(rt, path.as_str())
 }
 
 /// The number of a message's template and its canonical body, or why it has none.
@@ -49,7 +43,7 @@ fn drawn(alloc: Global, checked: &Checked, seed: u64, index: u64) -> Result<Msg>
 }
 
 /// A row: the schema, the seed and the index.
-pub fn message_told(rt: &HostRuntime, row: &Row) -> Result<String> {
+pub fn message_answer(rt: &HostRuntime, row: &Row) -> Result<String> {
     let checked = checked_of(rt, row.text(0)?)?;
     let layout = compile(rt.alloc(), &checked)?;
     let seed = row.text(1)?.parse::<u64>()?;
@@ -59,7 +53,7 @@ pub fn message_told(rt: &HostRuntime, row: &Row) -> Result<String> {
 }
 
 /// A row: the body, and the index.
-pub fn altered_told(alloc: Global, row: &Row) -> Result<String> {
+pub fn altered_answer(alloc: Global, row: &Row) -> Result<String> {
     let mut body = row.bytes(alloc, 0)?;
     let index = row.text(1)?.parse::<u64>()?;
     alter(body.as_mut_slice(), index);

@@ -2,10 +2,10 @@ use Rattle.std.proofs.Common.{length, refl, sym, ap, arith, ◌∙◌}
 use Rattle.std.specs.Prelude.{slice_get}
 use Rattle.std.proofs.lemmas.Option.{slice_get_read}
 use Rattle.sbe_types.specs.declared.schema.WireSchema.{WireSchema}
-use Rattle.test_coverage.proofs.answers.messages_told.Goals as goal
+use Rattle.test_bridge.proofs.coverage.messages_answer.Goals as goal
 
-pub message_told-requires : goal.message_told-requires
-message_told-requires c =
+pub message_answer-requires : goal.message_answer-requires
+message_answer-requires c =
     let messages = c.as_slice-messages.result.now in
     let i = c.loop-level.level-index in
     record {
