@@ -15,8 +15,8 @@ use lists::NoMem;
 use std::alloc::Global;
 use tagvalue_codec::{FieldTable, FixField};
 
-/// The application fields of a text: those whose tags aren't of the header or of length fields. It needs a table that
-/// holds the fields of the text.
+/// The application fields of a text: those whose tags aren't of the header or of length fields. Requires a table
+/// that holds the fields of the text.
 ///
 /// # Errors
 ///
@@ -71,7 +71,7 @@ fn is_passed(tags: &TagTable, tag: u32) -> bool
     tags.is_length(tag)
 }
 
-/// The value of a field of a text. It needs one whose range is within the text.
+/// The value of a field of a text. Requires a range within the text.
 pub fn value_at<'a>(text: &'a [u8], field: &FixField) -> &'a [u8]
     requires order { field.now.from ≤ field.now.to }
     requires within { field.now.to ≤ length text.now }

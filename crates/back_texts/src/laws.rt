@@ -26,7 +26,7 @@ pub fn written_messages_are_those_of_their_texts()
     kinds_in_order_are_writable();
 }
 
-/// The plan of a level writes each value in one form, if the kinds of its fields have one, and so at each depth.
+/// The plan of a level writes each value in one form, if the kinds of its fields have one, at each depth.
 pub fn plans_of_one_form_are_exact()
     ensures { (m : Mapping) (s : Structure) (level : Level) → HaveOneForm level → EachGroup HasOneForm s level
         → EachRule IsExact (plan_of m s level) }

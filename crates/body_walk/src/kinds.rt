@@ -13,7 +13,7 @@ ghost use Rattle.body_walk.specs.inner.Kinds.{answered, kind_check, leaf_answer,
 use crate::found::Found;
 use crate::looks::{shows_at_once, shows_leaf};
 use crate::numbers::{set_number, shows_enum, shows_set};
-use flat_rows::{begin_of, end_behind};
+use flat_rows::{begin_of, end_after};
 use sbe_types::{
     Kind, Leaf, LeafCause, LeafFault, LeafShape, List, Member, NamedList, Order, Prim, Step,
     get_num, leaf_judge,
@@ -80,7 +80,7 @@ fn judge_members(
     let mut end = 0;
     let mut i = 0u32;
     for member in members.as_slice() {
-        let after = end_behind(end, member.offset, &member.kind);
+        let after = end_after(end, member.offset, &member.kind);
         if !judge_member(mode, member, i, end, after, at, bytes, out) {
             return false;
         }

@@ -71,7 +71,7 @@ pub fn a_block_has_its_values()
 {}
 
 /// The refusal found by checking parts in the order of the text is that of the first part at fault.
-pub fn the_first_wrong_part_is_told()
+pub fn the_first_wrong_part_is_reported()
     ensures told { (wrong : Part → Option Refusal) (parts : List Part) (refusal : Refusal)
         → wrong_in_order wrong [] parts ≡ Some refusal → IsFirstWrong wrong parts refusal }
     ensures only { (wrong : Part → Option Refusal) (parts : List Part) (refusal : Refusal)

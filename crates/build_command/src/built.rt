@@ -78,7 +78,7 @@ pub fn answer_built<O: Sink, N: Sink>(
 ///
 /// # Errors
 ///
-/// `WriteFault` where a write fails.
+/// `WriteFault` if a write fails.
 pub fn answer_message<O: Sink, N: Sink>(
     layout: &Layout,
     item: u64,

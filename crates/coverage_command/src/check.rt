@@ -44,7 +44,7 @@ impl Model for CoverageChecker {
     ghost invariant = { λ pair. IsKept pair.repository };
 }
 
-/// Loads and judges a schema, and then a mapping.
+/// Loads and checks a schema, and then a mapping.
 pub fn load_coverage<F: Files>(
     alloc: Global,
     schema: &str,
@@ -74,7 +74,7 @@ impl WholeCommand for CoverageChecker {
     }
 }
 
-/// Puts the lines of a schema by a mapping.
+/// Appends the lines of a checked schema, and what the mapping says of each message.
 fn put_checked(
     schema: &Checked,
     repository: &Repository,

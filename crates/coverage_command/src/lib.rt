@@ -1,5 +1,5 @@
-//! The command `check` over a schema and a mapping: a line for each message of the schema, and after it a line that tells whether
-//! the mapping covers it, or which part it doesn't cover first.
+//! The command `check` over a schema and a mapping: a line for each message of the schema, followed by a line that states whether
+//! the mapping covers it, or the first part that it doesn't cover.
 #![tactic(auto)]
 
 mod check;

@@ -10,7 +10,7 @@ ghost use Rattle.exact_plans.specs.Rows.{AreSmall, IsSmall};
 
 use message_walk::{Part, PlanRow, PutValue};
 
-/// Reads the tags of rows, which have 64 bits: so the end of each value that is written by the rows is found.
+/// Establishes that the end of each value written by the rows is found: it reads their tags, which have a bounded number of digits.
 pub fn are_clear<R: PutValue>(rows: &[PlanRow<R>])
     ensures { (lists : TagLists) (p : Plan) (fields : List Field) (groups : List Group) (parts : List DataField) → AreRows R.spells lists p rows.now
         → Fits p fields groups parts → IsClear lists p }

@@ -13,7 +13,7 @@ ghost use Rattle.exact_plans.specs.Exact.{is_exact as is_level_exact, is_exact_g
 use back_texts::laws::plans_of_one_form_are_exact;
 use sbe_types::{Field, Group, Kind, Level, Member};
 
-/// Whether the kinds of a level's fields have values in one form, and so in the entries of its groups. If so, each plan of the
+/// Whether the kinds of a level's fields have values in one form, also in the entries of its groups. If so, each plan of the
 /// level writes each value in one form. Linear in the fields of the level and of its groups.
 pub fn is_exact(level: &Level) -> bool
     ensures told { result ≡ is_level_exact level.now }

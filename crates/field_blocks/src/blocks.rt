@@ -23,7 +23,7 @@ use lists::{List, NoMem};
 use sbe_types::{Block, Group, GroupList, GroupVal, GroupValList, Level};
 use std::alloc::Global;
 
-/// The block to which fields are translated that aren't refused: the values of a level's fields, groups and data, by the
+/// The block to which fields that aren't refused are translated: the values of a level's fields, groups and data, by the
 /// level of the structure and those of its groups. Linear in the fields and in the parts of their levels.
 ///
 /// # Errors

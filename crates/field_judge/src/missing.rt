@@ -135,7 +135,7 @@ fn missing_count(group: &BackGroup, tag: u32) -> Option<Refused>
 ///
 /// # Errors
 ///
-/// Out of memory.
+/// If memory runs out.
 pub fn part_places(
     alloc: Global,
     level: &BackLevel,

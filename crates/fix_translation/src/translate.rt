@@ -26,8 +26,8 @@ pub enum ToFixErr<'a> {
     Unwritten(Halt),
 }
 
-/// Writes the text of a message: its head, and its fields in the order of the mapped structure. It takes no memory. It
-/// needs the plans of the message's schema.
+/// Writes the text of a message: its head, and its fields in the order of the mapped structure. Allocates nothing.
+/// Requires the plans of the message's schema.
 ///
 /// # Errors
 ///

@@ -15,7 +15,7 @@ mod worked;
 pub use judge::{fits, is_none, number_in, shows_all};
 pub use laws::{values_lie_in_the_block, values_that_show_are_a_block};
 pub use make::{flat_rows_of, row_of};
-pub use places::{begin_of, end_behind, end_of, width_of};
+pub use places::{begin_of, end_after, end_of, width_of};
 pub use rows::{FlatRow, FlatRows, Look, Quick};
 pub use runs::first_set;
 pub use worked::{no_fields_have_no_values, valid_bytes_of_worked_enums, values_of_worked_fields};

@@ -10,7 +10,7 @@ ghost use Rattle.flat_rows.specs.Scalars.{kind_scalars, scalar_at, scalars_of};
 ghost use Rattle.flat_rows.specs.Tables.{scalar_of, stands_for, Grows, IsRow, IsTable};
 
 use crate::bytes::valid_bytes;
-use crate::places::{begin_of, end_behind, width_of};
+use crate::places::{begin_of, end_after, width_of};
 use crate::quick::quick_of;
 use crate::rows::{FlatRow, FlatRows};
 use lists::NoMem;
@@ -30,7 +30,7 @@ pub fn flat_rows_of(alloc: Global, fields: &[Field]) -> Result<FlatRows, NoMem>
     };
     let mut end = 0;
     for field in fields {
-        let past = end_behind(end, field.offset, &field.kind);
+        let past = end_after(end, field.offset, &field.kind);
         let begin = begin_of(end, field.offset);
         add_kind(alloc, &mut table, &field.kind, 0, begin)?;
         end = past;
@@ -74,7 +74,7 @@ fn add_members(
 {
     let mut end = 0;
     for member in members.as_slice() {
-        let past = end_behind(end, member.offset, &member.kind);
+        let past = end_after(end, member.offset, &member.kind);
         add_kind(alloc, table, &member.kind, at, begin_of(end, member.offset))?;
         end = past;
     }

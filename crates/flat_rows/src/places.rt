@@ -31,7 +31,7 @@ pub fn end_of(members: &List<Member>) -> u32
 {
     let mut end = 0;
     for member in members.as_slice() {
-        end = end_behind(end, member.offset, &member.kind);
+        end = end_after(end, member.offset, &member.kind);
     }
     end
 }
@@ -39,7 +39,7 @@ pub fn end_of(members: &List<Member>) -> u32
 /// The end of the parts when one more is added, which is within 1,048,576 bytes.
 #[cycle(width)]
 #[inline(always)]
-pub fn end_behind(end: u32, offset: Option<u32>, kind: &Kind) -> u32
+pub fn end_after(end: u32, offset: Option<u32>, kind: &Kind) -> u32
     requires narrow { IsNarrow kind.now }
     requires within { EndsWithin end offset kind.now }
     ensures { result ≡ end_past end offset kind.now }

@@ -16,7 +16,7 @@ ghost use Rattle.json_fields.specs.Shown.{single_shown, enum_shown, text_shown, 
 ghost use Rattle.printers.specs.Prints.{Prints};
 
 use field_values::before_zero;
-use flat_rows::{begin_of, end_behind};
+use flat_rows::{begin_of, end_after};
 use json_values::{
     name_of, plain_front, put_comma, put_constant, put_key, put_null, put_number, put_plain_front,
     put_set, put_single, put_text,
@@ -67,7 +67,7 @@ fn put_members<O: Sink>(
     let mut later = false;
     for member in members.as_slice() {
         put_key(printer, later, member.name.as_slice());
-        let after = end_behind(end, member.offset, &member.kind);
+        let after = end_after(end, member.offset, &member.kind);
         let part = member_bytes(member, end, after, bytes);
         put_shown(printer, order, &member.kind, part);
         end = after;

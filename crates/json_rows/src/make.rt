@@ -13,7 +13,7 @@ ghost use Rattle.json_rows.specs.Tables.{Grows, HasPieces};
 use crate::codes::codes_of;
 use crate::rows::{TextRow, TextRows};
 use crate::texts::{put_constant, put_key};
-use flat_rows::{begin_of, end_behind, row_of};
+use flat_rows::{begin_of, end_after, row_of};
 use lists::NoMem;
 use sbe_types::{ConstValue, Field, Kind, List, Member};
 use std::alloc::Global;
@@ -40,7 +40,7 @@ pub fn text_rows_of(
     let mut later = false;
     for field in fields {
         add_key(&mut table, later, field.name.as_slice())?;
-        let past = end_behind(end, field.offset, &field.kind);
+        let past = end_after(end, field.offset, &field.kind);
         add_kind(
             alloc,
             &mut table,
@@ -95,7 +95,7 @@ fn add_members(
     let mut later = false;
     for member in members.as_slice() {
         add_key(table, later, member.name.as_slice())?;
-        let after = end_behind(end, member.offset, &member.kind);
+        let after = end_after(end, member.offset, &member.kind);
         add_kind(alloc, table, &member.kind, at, begin_of(end, member.offset))?;
         end = after;
         later = true;

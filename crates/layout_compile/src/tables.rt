@@ -15,7 +15,7 @@ ghost use Rattle.layout_tables.specs.Tables.{AreTables};
 use crate::flats::level_flat;
 use crate::numbers::{firsts_of, places_of};
 use crate::templates::ids_of;
-use flat_rows::{begin_of, end_behind, end_of};
+use flat_rows::{begin_of, end_after, end_of};
 use layout_tables::{
     DimRow, FieldRow, HeaderRow, Layout, LevelRow, PartRow, SpotRow, Tables, floor_of, of_tables,
 };
@@ -138,7 +138,7 @@ fn spot_of(members: &List<Member>, name: &[u8]) -> Option<SpotRow>
         if member.name.as_slice() == name {
             return number_at(begin_of(end, member.offset), &member.kind);
         }
-        end = end_behind(end, member.offset, &member.kind);
+        end = end_after(end, member.offset, &member.kind);
     }
     None
 }
@@ -175,7 +175,7 @@ fn field_row(end: u32, field: &Field) -> FieldRow
     FieldRow {
         since: field.since,
         place: begin_of(end, field.offset),
-        end: end_behind(end, field.offset, &field.kind),
+        end: end_after(end, field.offset, &field.kind),
         is_constant: is_constant(&field.kind),
     }
 }

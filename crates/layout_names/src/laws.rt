@@ -1,4 +1,4 @@
-//! Laws of look-ups by name: in a schema in order no two messages have one name, and no two parts of a level.
+//! Laws of look-ups by name: in a valid schema no two messages have the same name, and no two parts of a level.
 
 ghost use Rattle.std.specs.Prelude.{◌≡◌, ℕ, Some, slice_get};
 ghost use Rattle.sbe_types.specs.declared.schema.DataField.{DataField};

@@ -22,8 +22,8 @@ pub(crate) struct LevelNames {
 
 /// The names of a layout: those of its messages, and of the parts of each level.
 ///
-/// It is made once, and takes all its memory then. A look-up takes time in the length of the name, however many
-/// parts there are. Names are compared byte by byte.
+/// It is made once, and allocates all its memory then. The time of a look-up depends on the length of the name, and not
+/// on the number of parts. Names are compared byte by byte.
 #[derive(Drop)]
 pub struct LayoutNames {
     pub(crate) templates: NameTable,
@@ -44,7 +44,7 @@ impl LayoutNames {
         Ok(LayoutNames { templates, levels })
     }
 
-    /// The number of the first message of that name, or none exactly where no message has it.
+    /// The number of the first message with this name, or `None` exactly if no message has it.
     pub fn template(&self, name: &[u8]) -> Option<usize>
         ensures is { (schema : WireSchema) → AreNames schema self.now → result ≡ template_named name.now schema }
         ensures within { (schema : WireSchema) → AreNames schema self.now → IfSome result (λ t. t < length schema.messages) }
@@ -52,7 +52,7 @@ impl LayoutNames {
         self.templates.place(name)
     }
 
-    /// The number of a level's first field of that name, or none exactly where none of its fields has it.
+    /// The number of a level's first field with this name, or `None` exactly if none of its fields has it.
     pub fn field(&self, level: usize, name: &[u8]) -> Option<usize>
         ensures is { (schema : WireSchema) → AreNames schema self.now → result ≡ field_named name.now schema level }
         ensures within { (schema : WireSchema) → AreNames schema self.now → IfSome result (λ i. i < length (fields_at schema level)) }
@@ -63,7 +63,7 @@ impl LayoutNames {
         }
     }
 
-    /// The number of a level's first group of that name, or none exactly where none of its groups has it.
+    /// The number of a level's first group with this name, or `None` exactly if none of its groups has it.
     pub fn group(&self, level: usize, name: &[u8]) -> Option<usize>
         ensures is { (schema : WireSchema) → AreNames schema self.now → result ≡ group_named name.now schema level }
         ensures within { (schema : WireSchema) → AreNames schema self.now → IfSome result (λ i. i < length (groups_at schema level)) }
@@ -74,7 +74,7 @@ impl LayoutNames {
         }
     }
 
-    /// The number of a level's first data part of that name, or none exactly where none of its data has it.
+    /// The number of a level's first data part with this name, or `None` exactly if none of its data parts has it.
     pub fn data(&self, level: usize, name: &[u8]) -> Option<usize>
         ensures is { (schema : WireSchema) → AreNames schema self.now → result ≡ data_named name.now schema level }
         ensures within { (schema : WireSchema) → AreNames schema self.now → IfSome result (λ i. i < length (parts_at schema level)) }

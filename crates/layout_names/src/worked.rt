@@ -4,7 +4,7 @@ ghost use Rattle.std.specs.Prelude.{◌≡◌, Some, None, codes};
 ghost use Rattle.layout_tables.specs.Rows.{worked};
 ghost use Rattle.layout_names.specs.Names.{template_named, field_named, group_named, data_named};
 
-/// Messages are counted from 0, and so are the fields, the groups and the data of a level, each by themselves.
+/// Messages are counted from 0, and so are the fields, the groups and the data of a level, each separately.
 pub fn parts_are_found_by_their_names()
     ensures message { template_named (codes "Ping") worked ≡ Some 1 }
     ensures field { field_named (codes "price") worked 0 ≡ Some 2 }
@@ -18,7 +18,7 @@ pub fn parts_are_found_at_their_level()
     ensures around { field_named (codes "side") worked 2 ≡ None }
 {}
 
-/// No field has the name of a group, a name is found as a whole, and there is nothing at a level that isn't there.
+/// No field has the name of a group, a name is found as a whole, and a level that doesn't exist has no parts.
 pub fn nothing_else_is_found()
     ensures group { field_named (codes "legs") worked 0 ≡ None }
     ensures front { field_named (codes "pric") worked 0 ≡ None }

@@ -19,7 +19,7 @@ pub fn entry_that_lies_is_passed()
 
 /// If an entry of a level lies in the bytes, the offset after it is that of the byte after its last one, wherever it
 /// begins.
-pub fn entry_that_lies_ends_behind_its_bytes()
+pub fn entry_that_lies_ends_after_its_bytes()
     ensures { (mode : Mode) (level : Level) (k : ℕ) (entry : Block) (before front rest : List ℕ) → IsPlacedLevel level
         → EntryLays (λ e b. TailLays mode level e b) (form_of mode level) k entry front
         → offset_after (level_passed mode.order mode.version level k) (before ++ (front ++ rest)) (length before) ≡ Some (length before + length front) }

@@ -9,11 +9,11 @@ use flyweight_view::{BlockView, EntriesView, MsgView, Refusal, validate};
 use layout_tables::Layout;
 
 /// The last price in the message that lies in a body: the mantissa of the last entry that has one. A message of another
-/// template has none. It takes no memory.
+/// template has none. Allocates nothing.
 ///
 /// # Errors
 ///
-/// A `Refusal` exactly where no message of the schema lies in the body.
+/// A `Refusal` exactly if no message of the schema lies in the body.
 pub fn last_price(layout: &Layout, price: EntryField, body: &[u8]) -> Result<Option<i128>, Refusal>
     ensures price { IfOk result (IsLastPrice layout.now body.now price) }
     ensures refused { IfErr result (λ r. FirstFault layout.now (refused r) body.now) }

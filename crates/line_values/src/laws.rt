@@ -8,6 +8,6 @@ pub fn keys_are_read_in_order()
 {}
 
 /// Of the unknown keys of an object in order the least one is reported.
-pub fn the_least_unknown_key_is_told()
+pub fn the_least_unknown_key_is_reported()
     ensures { LeastIsTold }
 {}

@@ -11,6 +11,6 @@ pub fn verdicts_are_first_broken_rules()
 {}
 
 /// A refusal is that of a broken rule before which none is broken.
-pub fn the_first_broken_rule_is_told()
+pub fn the_first_broken_rule_is_reported()
     ensures { (asked : List Question) (refusal : Refusal) → (first_refusal asked ≡ Err refusal) ↔ IsFirst asked refusal }
 {}

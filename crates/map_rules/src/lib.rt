@@ -12,6 +12,6 @@ mod tables;
 mod verdict;
 
 pub use datatypes::is_standard;
-pub use laws::{the_first_broken_rule_is_told, verdicts_are_first_broken_rules};
+pub use laws::{the_first_broken_rule_is_reported, verdicts_are_first_broken_rules};
 pub use rule::{Rule, first_broken};
 pub use verdict::judge;

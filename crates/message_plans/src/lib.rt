@@ -1,5 +1,5 @@
-//! The plans of a schema's templates by a mapping: for each template the rows of its plan, or which of its parts the mapping
-//! doesn't cover first.
+//! The plans of a schema's templates by a mapping: for each template the rows of its plan, or the first of its parts that
+//! the mapping doesn't cover.
 #![tactic(auto)]
 
 mod kinds;

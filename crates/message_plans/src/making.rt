@@ -27,11 +27,11 @@ use structure_rows::PlaceRow;
 
 /// The plans of the templates of a checked schema by a mapping whose members keep their rules, as those of a file that was read
 /// do. Linear in the places of the messages that the templates have, and in the parts of the schema with the listed values of each
-/// part's kind, but for the MsgTypes, each of which is compared with those of later templates.
+/// part's kind, apart from the MsgTypes, each of which is compared with those of later templates.
 ///
 /// # Errors
 ///
-/// Out of memory. The same error is given where the row of a covered part can't be made: no mapping in order is known for which that
+/// Out of memory. The same error is given if the row of a covered part can't be made: no valid mapping is known for which that
 /// happens, but it isn't proved that there is none.
 pub fn make_plan<R: RuleRow>(
     alloc: Global,
@@ -163,7 +163,7 @@ fn mapped_cover<R: RuleRow>(
     }
 }
 
-/// The rows of a covered template. Where one can't be made there is no plan to hand out.
+/// The rows of a covered template. If one can't be made there is no plan.
 fn rows_cover<R: RuleRow>(
     alloc: Global,
     tables: &Tables,

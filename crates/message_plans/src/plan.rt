@@ -55,7 +55,7 @@ impl<R: RuleRow> Plan<R> {
         self.templates.len()
     }
 
-    /// What the mapping says of a template. It needs one in range.
+    /// What the mapping says of a template. Requires one in range.
     pub fn cover(&self, template: usize) -> &Cover<R>
         requires { template < templates self.now }
         ensures { (m : Mapping) (levels : List Level) (level : Level) → ArePlans R.follows_rule m levels self.now
@@ -64,7 +64,7 @@ impl<R: RuleRow> Plan<R> {
         &self.templates.at(template).cover
     }
 
-    /// The MsgType of a template, which is its semanticType. It needs one in range.
+    /// The MsgType of a template, which is its semanticType. Requires one in range.
     pub fn msg_type(&self, template: usize) -> &[u8]
         requires { template < templates self.now }
         ensures { (m : Mapping) (levels : List Level) (level : Level) → ArePlans R.follows_rule m levels self.now

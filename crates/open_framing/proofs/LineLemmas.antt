@@ -97,12 +97,12 @@ lines_more stream input line lines end is cut =
     }
 
 -- a line end stands after bytes that have none
-end_behind : (plain line back more : List ℕ) → AllByRecursion (λ b. b ≢ line_end) plain → plain ++ back ≡ line ++ line_end ∷ more → length plain ≤ length line
-end_behind [] line back more none e = omega arith
-end_behind (b ∷ plain) [] back more none e = let first : b ≡ line_end = cc in absurd (none.0 first)
-end_behind (b ∷ plain) (c ∷ line) back more none e =
+end_after : (plain line back more : List ℕ) → AllByRecursion (λ b. b ≢ line_end) plain → plain ++ back ≡ line ++ line_end ∷ more → length plain ≤ length line
+end_after [] line back more none e = omega arith
+end_after (b ∷ plain) [] back more none e = let first : b ≡ line_end = cc in absurd (none.0 first)
+end_after (b ∷ plain) (c ∷ line) back more none e =
     let later : plain ++ back ≡ line ++ line_end ∷ more = cc in
-    let shorter = end_behind plain line back more none.1 later in
+    let shorter = end_after plain line back more none.1 later in
     omega arith
 
 -- a stream that begins with too many bytes of a line has no line
@@ -122,7 +122,7 @@ line_over plain stream input none long =
         each = tt;
         longest = λ line more is e.
             let within : length line ≤ longest_line = is.within in
-            let after = end_behind plain line (take input stream) more none (sym front ∙ e ∙ append_assoc line (line_end ∷ []) more) in
+            let after = end_after plain line (take input stream) more none (sym front ∙ e ∙ append_assoc line (line_end ∷ []) more) in
             absurd (omega arith);
       };
       all = ap (λ last. last.0) (sym over);

@@ -14,7 +14,7 @@ use sbe_base::Files;
 use schema_files::{FileRole, JobStop};
 use std::alloc::Global;
 
-/// Loads and judges the mapping of a rawframe, which is that of a fixcheck.
+/// Loads and checks the mapping of a rawframe, which is that of a fixcheck.
 pub fn load_rawframe<F: Files>(
     alloc: Global,
     name: &str,
@@ -35,7 +35,7 @@ pub fn load_rawframe<F: Files>(
     }
 }
 
-/// Takes all memory that the answers to items need.
+/// Allocates all memory that the answers to items need.
 fn framer_of(alloc: Global, repository: &Repository) -> Result<RawFramer, NoMem>
     ensures { IfOk result (λ framer. framer ≡ pairs_of (members_of repository.now)) }
 {

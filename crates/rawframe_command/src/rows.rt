@@ -1,4 +1,4 @@
-//! The words of `rawframe`, computed.
+//! The arguments of `rawframe`, computed.
 
 ghost use Rattle.std.specs.Prelude.{◌≡◌, ◌∷◌, [], codes};
 ghost use Rattle.command_words.specs.Words.{rows_of};

@@ -27,11 +27,11 @@ use sbe_types::{Msg, Path};
 use tree_codec::{DecodeErr, decode};
 
 /// Writes the answer to a frame: that of its message in the other version to the output, or the line of a refused item to the
-/// notes. Where nothing has to change but the version, the body is copied, and no message is made of it.
+/// notes. If only the version has to change, the body is copied, and no message is made of it.
 ///
 /// # Errors
 ///
-/// `WriteFault` where a write fails; `NoMemory` when out of memory, and then nothing is written.
+/// `WriteFault` if a write fails; `NoMemory` if memory runs out, and then nothing is written.
 pub(crate) fn answer_frame<O: Sink, N: Sink>(
     pair: &SchemaPair,
     item: u64,
@@ -154,7 +154,7 @@ fn counted(answer: Result<Verdict, Status>, regraded: &Regraded) -> Result<Verdi
     }
 }
 
-/// Notes a message that lacks a part without an empty value, by the part's path in the schema that is written. It needs such a
+/// Notes a message that lacks a part without an empty value, by the part's path in the schema that is written. Requires such a
 /// message.
 fn note_lack<N: Sink>(
     pair: &SchemaPair,
@@ -174,7 +174,7 @@ fn note_lack<N: Sink>(
     }
 }
 
-/// What becomes of an item whose refusal is noted so.
+/// What becomes of an item whose refusal was noted.
 fn refused(noted: Result<(), WriteFault>) -> Result<Verdict, Status>
     ensures { result ≡ refused_so noted }
 {

@@ -20,8 +20,8 @@ pub fn what_is_written_is_read()
         → IsRegraded on number item reply → reply.verdict ≡ Regraded dropped filled → HoldsRewritten on.pair item reply.output }
 {}
 
-/// Downward: of a plain message of a later version, a run of the earlier schema answers the frame as it came, and that of the
-/// rewritten message, by lines that differ in the version alone.
+/// Downward: for a plain message of a later version, a run of the earlier schema answers the frame as it came and the frame of the
+/// rewritten message with lines that differ only in the version.
 pub fn lines_differ_in_the_version()
     ensures { (from to : WireSchema) → IsPlaced from → IsPlaced to → differ to from ≡ None → to.version < from.version
         → (m p n : Msg) (came written : Item) → IsSent from m came → to.version < m.version → projected to from m ≡ Some p

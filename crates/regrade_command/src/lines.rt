@@ -32,7 +32,7 @@ pub(crate) fn note_encoding<N: Sink>(
     printer.finish()
 }
 
-/// Notes a body that is no message. It needs a path of the message that the refusal names.
+/// Notes a body that isn't a message. Requires a path of the message that the refusal names.
 pub(crate) fn note_fault<N: Sink>(
     notes: &mut N,
     layout: &Layout,
@@ -67,7 +67,7 @@ fn put_no_template<N: Sink>(printer: &mut Printer<'_, N>, item: u64)
     put_refused_back(printer, b"");
 }
 
-/// Notes a message that lacks a part without an empty value, by the part's path in the other version. It needs a path of that
+/// Notes a message that lacks a part without an empty value, by the part's path in the other version. Requires a path of that
 /// template.
 pub(crate) fn note_no_fill<N: Sink>(
     notes: &mut N,

@@ -42,7 +42,7 @@ impl Model for SchemaPair {
 }
 
 impl SchemaPair {
-    /// A pair of schemas that have a way.
+    /// A pair of schemas, of which the later extends the earlier one.
     pub(crate) fn new(alloc: Global, from: Checked, to: Checked) -> Result<SchemaPair, NoMem>
         requires { HasWay from to }
         ensures { IfOk result (λ pair. pair ≡ record { from = from; to = to }) }

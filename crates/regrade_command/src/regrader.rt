@@ -46,7 +46,7 @@ impl Model for Regrader {
     ghost invariant = { λ it. IsRegradable it.pair × (it.frame ≤ 16_777_216) × (it.space.buffer.limit ≡ body_limit it.frame) };
 }
 
-/// Loads and judges two schemas: that of the messages that are read whole, and then that of those that are written, of which the
+/// Loads and checks two schemas: first that of the messages that are read, as a whole, and then that of those that are written. The
 /// later has to extend the earlier one.
 pub fn load_regrade<F: Files>(
     alloc: Global,
@@ -104,7 +104,7 @@ fn stop_of(why: WayErr) -> JobStop
 }
 
 impl Regrader {
-    /// Takes all memory that the answers keep. It needs schemas that have a way.
+    /// Allocates all memory that the answers need. Requires schemas of which the later extends the earlier one.
     fn new(alloc: Global, from: Checked, to: Checked, frame: usize) -> Result<Regrader, NoMem>
         requires way { HasWay from to }
         requires low { 64 ≤ frame }
@@ -127,7 +127,7 @@ impl FrameCommand for Regrader {
 
     ghost spares = { false };
 
-    /// A body that is longer than the frames that memory was taken for is not read. A step hands out no such body.
+    /// A body that is longer than the frames for which memory was allocated isn't read. A step hands out no such body.
     fn answer<O: Sink, N: Sink>(
         &mut self,
         kept: &Kept,

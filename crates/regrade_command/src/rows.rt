@@ -1,4 +1,4 @@
-//! The words of `regrade`, computed.
+//! The arguments of `regrade`, computed.
 
 ghost use Rattle.std.specs.Prelude.{◌≡◌, ◌∷◌, [], codes};
 ghost use Rattle.command_words.specs.Words.{rows_of};

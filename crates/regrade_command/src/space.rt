@@ -5,7 +5,7 @@ use lists::NoMem;
 use std::alloc::Global;
 use typed_writer::FrameBuf;
 
-/// What the answers to frames take memory from. It is lent from frame to frame.
+/// The working memory for the answers to frames. It is lent from frame to frame.
 #[derive(Drop)]
 pub(crate) struct FrameSpace {
     pub(crate) alloc: Global,
@@ -16,7 +16,7 @@ pub(crate) struct FrameSpace {
 }
 
 impl FrameSpace {
-    /// Takes the memory for bodies of at most `limit` bytes.
+    /// Allocates memory for bodies of at most `limit` bytes.
     pub(crate) fn new(alloc: Global, limit: usize) -> Result<FrameSpace, NoMem>
         ensures { IfOk result (λ space. space.buffer.limit ≡ limit) }
     {

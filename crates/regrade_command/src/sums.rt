@@ -9,7 +9,7 @@ use json_values::put_count;
 use printers::{Chunk, Printer};
 use sbe_base::{Sink, Status, WriteFault};
 
-/// Notes the last line of a run that read all of its input, and answers the status of the run.
+/// Notes the last line of a run that read all of its input, and returns the status of the run.
 pub(crate) fn tell_sums<N: Sink>(kept: &Kept, notes: &mut N) -> Status
     ensures { NotesLine (sums_line kept.now) (done_status kept.now.refused) (N.state notes.old) (N.state notes.new) result }
 {

@@ -14,7 +14,7 @@ ghost use Rattle.bridge_terms.specs.Plans.{Each, Plan, Tree};
 ghost use Rattle.same_texts.specs.Follow.{CanFollow, IsAlone, IsFramed, IsOwnPair};
 ghost use Rattle.same_texts.specs.Same.{ArePairsOf, EachField, IsClear, IsFound};
 
-/// A test that each field passes that may be written of the values of a message is passed by each of its fields.
+/// If each field that may be written of a message's values passes a test, each field of the message passes it.
 pub fn fields_are_those_of_values()
     ensures { (test : Field → Bool) (p : Plan) (t : Tree Value p) (fields : List Field)
         → EachField (λ f. test f ≡ true) p t → fields_of p t ≡ Ok fields → Each (λ f. test f ≡ true) fields }

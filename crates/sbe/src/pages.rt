@@ -19,9 +19,9 @@ Usage:
   sbe --help | -h
   sbe --version
 
-check judges a message schema, and prints a line of JSON for each of its messages. With a mapping it
-prints a second line after each: whether the mapping covers the message, and else the first part that
-it doesn't cover.
+check validates a message schema, and prints a line of JSON for each of its messages. With a mapping it
+prints a second line after each: whether the mapping covers the message, or the first part that it
+doesn't cover.
 compat prints whether a reader of OLD and a reader of NEW understand each other's messages: both ways,
 one way (NEW reads those of OLD), or not, with the first difference.
 dump reads SBE frames from standard input, and prints each message as a line of JSON.
@@ -36,13 +36,13 @@ selftest draws COUNT messages of a schema (1 to 10000) from SEED (0 to 184467440
 each in a frame of its own, and decodes its body with one byte altered. It prints a line of JSON: how
 many frames these are, how many messages were skipped because a frame has no room for them or a count
 or a length isn't admitted, the frames' bytes and their sum, and how many altered bodies still are
-messages. The same words give the same line.
+messages. The same arguments give the same line.
 regrade reads SBE frames of the schema FROM from standard input, and writes each message as a frame of
 TO, another version of it: parts that TO lacks are left out, and parts that the message lacks get an
-empty value. A line of standard error then says how many frames were written, and how many parts were
+empty value. A line on standard error then says how many frames were written, and how many parts were
 left out of these and filled in.
 rawframe reads FIX tag-value messages that follow one another without frames, and writes each as a
-frame; it passes over bytes that are none.
+frame; it notes and skips all other bytes.
 SCHEMA, OLD, NEW, FROM and TO are files of message schemas, MAP is a mapping file: a FIX Orchestra repository.
 Their names don't begin with `--`.
 
@@ -58,23 +58,23 @@ Options of dump, build, fixcheck, tofix, tosbe, selftest, regrade and rawframe, 
   --target TEXT      TargetCompID, for tofix
   --seq NUMBER       MsgSeqNum of the first text, for tofix (1 to 4000000000; each text has the next)
   --time TEXT        SendingTime of each text, for tofix
-                     (these texts have 1 to 64 printed ASCII bytes; each option at most once)
+                     (these texts have 1 to 64 printable ASCII bytes; each option at most once)
 
-Answers go to standard output, each before the next frame or line is waited for. Why a run
-ends early is noted on standard error, as a line of JSON; and why build refuses a line, fixcheck,
-tofix, tosbe or regrade a frame, and rawframe some bytes.
+Answers go to standard output, each before the program waits for the next frame or line. Why a run
+ends early is noted on standard error, as a line of JSON; and so is why build refuses a line,
+fixcheck, tofix, tosbe or regrade a frame, and rawframe some bytes.
 
 Exit status:
    0  the files are in order; the input, if any, was read to its end, and nothing was refused
    1  the input was read to its end, and at least one message was refused; or NEW doesn't extend OLD
-   2  the words are no command
+   2  the arguments are no command
    3  a schema was refused
    4  a mapping was refused
-   5  the input is no row of whole frames, or a frame or line is longer than its limit
+   5  the input isn't a sequence of whole frames, or a frame or line is longer than its limit
    6  a file could not be read
    7  standard input could not be read
    8  standard output or standard error could not be written
-   9  memory was wanting
+   9  out of memory
   10  the input is longer than its limit
   11  a file is absent
 

@@ -1,4 +1,4 @@
-//! The exports. `sbe.h` says of each what C may pass, and what it is given.
+//! The exports. `sbe.h` says for each what C may pass, and what it gets back.
 ghost use Rattle.std.specs.Prelude.{◌≡◌, None};
 ghost use Rattle.field_lookup.specs.Places.{message_data, message_text, spot_at};
 ghost use Rattle.sbe_c.specs.Exports.{Opens, Dumps, Finds, Reads, Validates, Builds, Names, Numbers, States, Texts};

@@ -2,7 +2,7 @@
 ghost use Rattle.std.specs.Prelude.{◌≡◌};
 ghost use Rattle.sbe_c.specs.Filling.{filled};
 
-/// Writes the first items into a buffer, as many as it has room for. The rest of the buffer stays.
+/// Writes the first items into a buffer, as many as it has room for. The rest of the buffer is unchanged.
 pub fn fill<T: Copy>(buffer: &mut [T], items: &[T])
     ensures { buffer.new ≡ filled items.now buffer.old }
 {

@@ -24,7 +24,7 @@ use schema_check::Checked;
 use std::alloc::Global;
 use tagvalue_codec::FieldTable;
 
-/// Why a text has no message, in the order in which it is asked.
+/// Why a text has no message, in the order in which it is tested.
 #[derive(Drop)]
 pub enum ToSbeErr<'a> {
     /// No template has the MsgType, or the mapping has no message for the only one that has it.
@@ -39,7 +39,7 @@ pub enum ToSbeErr<'a> {
     Memory,
 }
 
-/// The message that a text is translated to. It needs the plan of the schema's templates, and a table that holds the
+/// The message that a text is translated to. Requires the plan of the schema's templates, and a table that holds the
 /// fields of the text, read with the data tags of the plan's mapping. Linear in the fields and in the parts of their
 /// levels.
 ///

@@ -110,7 +110,7 @@ pub fn worked_types_stand_for_the_composite()
 {}
 
 /// A worked composite is in order; after a change to one of its facts it isn't.
-pub fn worked_kinds_are_told_apart()
+pub fn worked_kinds_in_order_are_recognised()
     ensures order { IsKindInOrder (Comp row.order_parts) }
     ensures number { IsKindInOrder (Comp row.number_twice) → ⊥ }
     ensures bit { IsKindInOrder (Comp row.bit_above) → ⊥ }

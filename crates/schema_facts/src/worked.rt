@@ -38,7 +38,7 @@ pub fn worked_levels_are_computed()
 
 /// Levels that break a rule don't have the facts: entries without bytes, two parts with the same name, a block that
 /// ends before its field, a field before its level, and a length number of eight bytes.
-pub fn levels_that_break_a_rule_are_told()
+pub fn levels_that_break_a_rule_lack_a_fact()
     ensures entries { TakesByte (node 0 (Some size16) (level (codes "g") 1 0 [] [] [])) → ⊥ }
     ensures names { HasNames (level (codes "M") 1 4 (field (codes "a") 1 uint16 ∷ (field (codes "a") 2 uint16 ∷ [])) [] []) → ⊥ }
     ensures block { HasBlock size16 (level (codes "M") 1 1 (field (codes "a") 1 uint16 ∷ []) [] []) → ⊥ }

@@ -9,7 +9,7 @@ use sbe_types::{DataField, Field, Group, Level, Order, WireSchema};
 use tagvalue_codec::FieldTable;
 use text_values::TextValue;
 
-/// The most data parts of a level. A level with more takes the general way.
+/// The most data parts of a level. A level with more takes the general path.
 const MOST_DATA: usize = 8;
 
 /// The number of the field of data that a text doesn't have: that of BeginString.

@@ -1,6 +1,6 @@
 // Numbers in texts, as their bits. No contract covers the result.
 
-/// The most digits that are read. Any number of so many has 64 bits.
+/// The most digits that are read. Any number of this many digits fits 64 bits.
 pub(crate) const MOST_DIGITS: usize = 18;
 
 /// The bits of an integer, or `None` if the text isn't one of at most 18 digits.
@@ -12,7 +12,7 @@ pub(crate) fn integer_in(text: &[u8]) -> Option<u64> {
     }
 }
 
-/// The number that digits are.
+/// The number that digits spell.
 #[inline(always)]
 fn natural_in(digits: &[u8]) -> Option<u64> {
     if digits.len() > MOST_DIGITS {
@@ -29,7 +29,7 @@ fn natural_in(digits: &[u8]) -> Option<u64> {
     Some(number)
 }
 
-/// The bits of the mantissa of a decimal with so many digits after the point, or `None` if the text isn't one of at most
+/// The bits of the mantissa of a decimal with `places` digits after the point, or `None` if the text isn't one of at most
 /// 18 digits, or has more after its point.
 #[inline(always)]
 pub(crate) fn decimal_in(text: &[u8], places: usize) -> Option<u64> {
@@ -64,7 +64,7 @@ fn mantissa_in(digits: &[u8], places: usize) -> Option<u64> {
     Some(with_zeros(number, left))
 }
 
-/// A number with so many zeros after its digits.
+/// A number with `zeros` zeros after its digits.
 #[inline(always)]
 fn with_zeros(number: u64, zeros: usize) -> u64 {
     let mut scaled = number;

@@ -23,7 +23,7 @@ pub(crate) enum FieldForm {
     Integer(Prim),
     /// The mantissa of a decimal, which has this number of digits after the point.
     Decimal(Prim, usize),
-    /// A text of at most so many bytes.
+    /// A text of at most this many bytes.
     Text(usize),
     /// A character.
     Character,

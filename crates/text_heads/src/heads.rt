@@ -71,7 +71,7 @@ fn given_number(known: bool, text: &[u8], table: &FieldTable, i: usize) -> Optio
     number_in(value)
 }
 
-/// The number that digits are. `None` if there are others, or if 64 bits can't hold it.
+/// The number that digits spell. `None` if a byte isn't a digit, or if 64 bits can't hold the number.
 fn number_in(digits: &[u8]) -> Option<u64>
     ensures { IfSome result (λ n. n < 2 ^ 64) }
 {

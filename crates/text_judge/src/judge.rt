@@ -51,7 +51,7 @@ pub struct TextJudge {
 }
 
 impl TextJudge {
-    /// The judge of a schema's templates by a mapping whose members keep their rules. It needs the mapping's tags and data fields.
+    /// The judge of a schema's templates by a mapping whose members keep their rules. Requires the mapping's tags and data fields.
     ///
     /// # Errors
     ///
@@ -144,7 +144,7 @@ fn exact_levels(alloc: Global, levels: &[Level]) -> Result<List<bool>, NoMem>
     Ok(marks)
 }
 
-/// The length of a text has 64 bits.
+/// The length of a text fits 64 bits.
 fn is_short(text: &[u8])
     ensures { length text.now < 2 ^ 64 }
 {

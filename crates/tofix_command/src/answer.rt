@@ -24,7 +24,7 @@ use tofix_replies::{
 };
 
 /// Writes the reply to a frame: the frame of its text to the output, or the line that says why it has none to the notes.
-/// It takes no memory.
+/// Allocates nothing.
 pub fn answer_frame<O: Sink, N: Sink>(
     schemas: &Translations,
     kept: &Kept,

@@ -1,4 +1,4 @@
-//! The files of the command, loaded and judged.
+//! The files of the command, loaded and checked.
 
 ghost use Rattle.std.specs.Prelude.{◌≡◌, ◌≤◌, ℕ, length, IfOk};
 ghost use Rattle.open_framing.specs.declared.head.TheConstants.{HEAD_BYTES};
@@ -42,8 +42,8 @@ pub struct ToFixWords<'a> {
     pub frame: usize,
 }
 
-/// Loads and judges the schema, the mapping and the further schemas, in this order, and takes all memory that the answers
-/// need.
+/// Loads and checks the schema, the mapping and the further schemas, in this order, and allocates all memory that the
+/// answers need.
 pub fn load_tofix<F: Files>(
     alloc: Global,
     words: &ToFixWords<'_>,

@@ -1,4 +1,4 @@
-//! The words of `tofix`, computed.
+//! The arguments of `tofix`, computed.
 
 ghost use Rattle.std.specs.Prelude.{◌≡◌, ◌∷◌, [], codes};
 ghost use Rattle.command_words.specs.Words.{rows_of};

@@ -59,7 +59,7 @@ impl Model for Translator {
 }
 
 impl Desk {
-    /// Takes all memory that the answers to frames need.
+    /// Allocates all memory that the answers to frames need.
     pub(crate) fn new(alloc: Global, words: &HeadWords, frame: usize) -> Result<Desk, NoMem>
         requires least { HEAD_BYTES ≤ frame }
         requires most { frame ≤ 16_777_216 }

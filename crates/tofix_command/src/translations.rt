@@ -18,7 +18,7 @@ pub struct Translation {
     pub plan: Plan<ValueText>,
 }
 
-/// The schemas of a run, in the order of its words.
+/// The schemas of a run, in the order of its arguments.
 #[derive(Drop)]
 pub struct Translations {
     pub first: Translation,
@@ -26,7 +26,7 @@ pub struct Translations {
 }
 
 impl Translations {
-    /// Adds one more; when out of memory all stays as it was.
+    /// Adds one more. If memory runs out, nothing changes.
     pub fn push(&mut self, translation: Translation) -> Result<(), NoMem>
         ensures added { OnOk result (self.new ≡ with_more self.old translation) }
         ensures kept { OnErr result (self.new ≡ self.old) }
@@ -47,7 +47,7 @@ impl Translations {
         }
     }
 
-    /// The schema that a body is read by: the one whose id its header says, and the first if none has it.
+    /// The schema by which a body is read: the one whose id is in its header, or the first one if none has that id.
     pub fn schema_for(&self, body: &[u8]) -> &Translation
         ensures schema { result.now.layout ≡ schema_for (schemas_of self.now) body.now }
         ensures planned { (m : Mapping) → ArePlannedBy m self.now → IsPlannedBy m result.now }
@@ -61,7 +61,7 @@ impl Translations {
         }
     }
 
-    /// The first schema of that id, and the first of all if none has it.
+    /// The first schema with this id, or the first of all if none has it.
     fn with_id(&self, id: u32) -> &Translation
         ensures schema { result.now.layout ≡ schema_with (schemas_of self.now) id }
         ensures planned { (m : Mapping) → ArePlannedBy m self.now → IsPlannedBy m result.now }
@@ -76,7 +76,7 @@ impl Translations {
     }
 }
 
-/// The first of these schemas that has the id.
+/// The first of these schemas with this id.
 #[tactic(auto, using(crate::proofs::Finding::found_there, crate::proofs::Finding::passed_there, crate::proofs::Finding::none_there))]
 fn find_id(translations: &[Translation], id: u32) -> Option<&Translation>
     ensures some { IfSome result (λ t. IsFoundIn id translations.now t.now) }

@@ -56,7 +56,7 @@ pub(crate) fn answer_frame<O: Sink, N: Sink>(
 }
 
 /// Writes the reply to a text whose fields the table holds: the frame of the body that is drafted, if that is judged to be the one of the
-/// text's message; else as the text is translated.
+/// text's message; otherwise the reply to the translated text.
 fn answer_text<O: Sink, N: Sink>(
     bridge: &Bridge,
     item: u64,

@@ -10,7 +10,7 @@ use tagvalue_codec::FieldTable;
 use text_drafts::{BackLevels, DraftTree, Drafting, draft_text, make_draft_tree};
 use text_judge::TextJudge;
 
-/// What the bodies of each template are drafted by, if they are.
+/// For each template what its bodies are drafted by, if they are drafted.
 #[derive(Drop)]
 pub(crate) struct Drafts {
     trees: List<Option<DraftTree>>,

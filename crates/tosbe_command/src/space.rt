@@ -7,7 +7,7 @@ use std::alloc::Global;
 use tagvalue_codec::{FieldTable, FixWriter};
 use typed_writer::FrameBuf;
 
-/// The most bytes of a text whose body is drafted. A longer one takes the general way.
+/// The most bytes of a text whose body is drafted. A longer one takes the general path.
 const DRAFTED_TEXT: usize = 32_768;
 
 /// The working memory for the replies to frames. It is lent from frame to frame.

@@ -46,7 +46,7 @@ impl Model for BackTranslator {
     ghost invariant = { λ it. HasRoom it.bridge.frame it.space.buffer.limit };
 }
 
-/// Loads and judges a schema, and then a mapping.
+/// Loads and checks a schema, and then a mapping.
 pub fn load_tosbe<F: Files>(
     alloc: Global,
     schema: &str,
@@ -70,7 +70,7 @@ pub fn load_tosbe<F: Files>(
     }
 }
 
-/// Loads and judges both files.
+/// Loads and checks both files.
 fn load_files<F: Files>(
     alloc: Global,
     schema: &str,

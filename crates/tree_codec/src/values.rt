@@ -11,7 +11,7 @@ ghost use Rattle.field_values.specs.Reports.{before_zero};
 ghost use Rattle.tree_codec.specs.TheValues.{number_value, enum_value, element_value, elements_from, IsLeafValue, IsTheValue};
 
 use field_values::before_zero;
-use flat_rows::{begin_of, end_behind};
+use flat_rows::{begin_of, end_after};
 use lists::{List, NoMem};
 use sbe_types::{
     Elem, ElemList, Kind, Leaf, LeafShape, Member, Order, Presence, Prim, Value, ValueList, get_num,
@@ -57,7 +57,7 @@ fn member_values(
     let mut values = List::new(alloc);
     let mut end = 0;
     for member in members.as_slice() {
-        let after = end_behind(end, member.offset, &member.kind);
+        let after = end_after(end, member.offset, &member.kind);
         let part = member_bytes(member, end, after, bytes);
         values.push(value_of(alloc, order, &member.kind, part)?)?;
         end = after;

@@ -12,7 +12,7 @@ ghost use Rattle.typed_writer.specs.Ready.{CanStand, FieldsStand};
 ghost use Rattle.std.specs.Prelude.{replicate};
 
 use crate::room::Room;
-use flat_rows::{begin_of, end_behind, width_of};
+use flat_rows::{begin_of, end_after, width_of};
 use sbe_types::{Field, Kind, Leaf, LeafShape, Order, Presence};
 
 impl Room {
@@ -42,7 +42,7 @@ impl Room {
         let mut end = 0u32;
         for field in fields {
             self.field(order, end, field);
-            end = end_behind(end, field.offset, &field.kind);
+            end = end_after(end, field.offset, &field.kind);
         }
     }
 

@@ -7,7 +7,7 @@ ghost use Rattle.var_data.specs.declared.data.DataErr.TheVariants.{Length, Trunc
 ghost use Rattle.var_data.specs.Ranges.{data_range};
 
 /// Two bytes after a byte; a length that is its null; data that are cut off.
-pub fn ranges_are_told()
+pub fn ranges_are_read()
     ensures read { data_range Little uint16 (9 ∷ 2 ∷ 0 ∷ 104 ∷ 105 ∷ []) 1 ≡ Ok (3, 5) }
     ensures null { data_range Little uint16 (255 ∷ 255 ∷ []) 0 ≡ Err (Length 65535) }
     ensures cut { data_range Little uint16 (3 ∷ 0 ∷ 104 ∷ []) 0 ≡ Err (Truncated 5) }

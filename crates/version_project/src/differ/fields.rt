@@ -8,7 +8,7 @@ use crate::differ::found::at_part;
 use crate::differ::kinds::is_same_kind;
 use crate::differ::leaves::is_same_name;
 use crate::differ::places::{are_same_places, is_same_place};
-use flat_rows::{begin_of, end_behind};
+use flat_rows::{begin_of, end_after};
 use lists::{List, NoMem};
 use sbe_types::Field;
 use std::alloc::Global;
@@ -39,10 +39,10 @@ pub(crate) fn fields_differ(
             if let Some(reason) = reason_of(more, end, old, other_end, new) {
                 return at_part(alloc, &old.name, reason);
             }
-            end = end_behind(end, old.offset, &old.kind);
+            end = end_after(end, old.offset, &old.kind);
             i += 1;
         }
-        other_end = end_behind(other_end, new.offset, &new.kind);
+        other_end = end_after(other_end, new.offset, &new.kind);
     }
     if i < olds.len() {
         return at_part(alloc, &olds.at(i).name, Reason::Part);

@@ -8,7 +8,7 @@ ghost use Rattle.version_project.specs.Pairwise.{ends_at, all_stay, member_stays
 
 use crate::differ::kinds::is_same_kind;
 use crate::differ::leaves::is_same_name;
-use flat_rows::{begin_of, end_behind};
+use flat_rows::{begin_of, end_after};
 use lists::List;
 use sbe_types::{Kind, Member};
 
@@ -62,8 +62,8 @@ fn do_stay(old: &List<Member>, new: &List<Member>) -> bool
         if !does_stay(end, member, other_end, other) {
             return false;
         }
-        end = end_behind(end, member.offset, &member.kind);
-        other_end = end_behind(other_end, other.offset, &other.kind);
+        end = end_after(end, member.offset, &member.kind);
+        other_end = end_after(other_end, other.offset, &other.kind);
     }
     true
 }
@@ -101,8 +101,8 @@ pub(crate) fn is_same_header(old: &List<Member>, new: &List<Member>) -> bool
         if !is_same_member(end, member, other_end, other) {
             return false;
         }
-        end = end_behind(end, member.offset, &member.kind);
-        other_end = end_behind(other_end, other.offset, &other.kind);
+        end = end_after(end, member.offset, &member.kind);
+        other_end = end_after(other_end, other.offset, &other.kind);
     }
     true
 }

@@ -30,8 +30,8 @@ add_members-loop-member-preserved t c =
     let on = goes_next (kind_scalars m.kind (at + begin_of end m.offset)) (listed_scalars at (end_past end m.offset m.kind) (drop (i + 1) all)) _ _
     (ap (listed_scalars at end) next) so_far.goes value in
     record {
-      fit = subst (λ e. AreFit w e (drop (i + 1) all)) (sym c.end_behind-past.ensures) fit.1;
-      goes = subst (λ e. GoesOn c.args.table.now c.add_kind.new.table (listed_scalars at e (drop (i + 1) all)) (listed_scalars at 0 all)) (sym c.end_behind-past.ensures) on;
+      fit = subst (λ e. AreFit w e (drop (i + 1) all)) (sym c.end_after-past.ensures) fit.1;
+      goes = subst (λ e. GoesOn c.args.table.now c.add_kind.new.table (listed_scalars at e (drop (i + 1) all)) (listed_scalars at 0 all)) (sym c.end_after-past.ensures) on;
     }
 
 pub add_members-returns : goal.add_members-returns

@@ -25,8 +25,8 @@ loop-field-preserved c =
     (ap (field_scalars end) next) so_far.goes value in
     record {
       order = (first_of _ all i f (omega arith) c.field-item.is so_far.order).1;
-      narrow = subst (λ e. AreNarrowFields e (drop (i + 1) all)) (sym c.end_behind-past.ensures) narrow.2;
-      goes = still_goes (ap (λ e. field_scalars e (drop (i + 1) all)) (sym c.end_behind-past.ensures)) on;
+      narrow = subst (λ e. AreNarrowFields e (drop (i + 1) all)) (sym c.end_after-past.ensures) narrow.2;
+      goes = still_goes (ap (λ e. field_scalars e (drop (i + 1) all)) (sym c.end_after-past.ensures)) on;
     }
 
 pub returns-clause-table : goal.returns-clause-table

@@ -58,8 +58,8 @@ put_members-loop-member-preserved g t c =
     let key = reprinted (ap (λ name. comma_if c.loop-member.later ++ key_text name) c.as_slice.ensures) c.put_key.ensures in
     let on = goes_next c.args.order all bytes c.loop-member.later c.loop-member.end m (drop (i + 1) all) c.member_bytes-part.result.now here key c.member_bytes-part.ensures c.put_shown.ensures in
     record {
-      fit = subst (λ e. AreFit (length bytes) e (drop (i + 1) all)) (sym c.end_behind-after.ensures) fit.1;
-      goes = subst (λ e. Goes c.args.order all bytes (prints c.put_shown.new.printer) true e (drop (i + 1) all)) (sym c.end_behind-after.ensures) on;
+      fit = subst (λ e. AreFit (length bytes) e (drop (i + 1) all)) (sym c.end_after-after.ensures) fit.1;
+      goes = subst (λ e. Goes c.args.order all bytes (prints c.put_shown.new.printer) true e (drop (i + 1) all)) (sym c.end_after-after.ensures) on;
     }
 
 pub put_members-returns : goal.put_members-returns

@@ -33,8 +33,8 @@ add_members-loop-member-preserved t c =
     let on = goes_next (literal (key_of c.loop-member.later m.name)) (kind_pieces m.kind (at + begin_of end m.offset)) (listed_pieces true at (end_past end m.offset m.kind) (drop (i + 1) all)) _ _
     (ap (listed_pieces c.loop-member.later at end) next) so_far.goes key value in
     record {
-      fit = subst (λ e. AreFit w e (drop (i + 1) all)) (sym c.end_behind-after.ensures) fit.1;
-      goes = subst (λ e. GoesOn c.add_bytes.new.table c.add_kind.new.table (listed_pieces true at e (drop (i + 1) all)) (listed_pieces false at 0 all)) (sym c.end_behind-after.ensures) on;
+      fit = subst (λ e. AreFit w e (drop (i + 1) all)) (sym c.end_after-after.ensures) fit.1;
+      goes = subst (λ e. GoesOn c.add_bytes.new.table c.add_kind.new.table (listed_pieces true at e (drop (i + 1) all)) (listed_pieces false at 0 all)) (sym c.end_after-after.ensures) on;
     }
 
 pub add_members-returns : goal.add_members-returns

@@ -28,8 +28,8 @@ loop-field-preserved c =
     (ap (field_pieces c.loop-field.later end) next) so_far.goes key value in
     record {
       order = (first_of _ all i f (omega arith) c.field-item.is so_far.order).1;
-      narrow = subst (λ e. AreNarrowFields e (drop (i + 1) all)) (sym c.end_behind-past.ensures) narrow.2;
-      goes = still_goes (ap (λ e. field_pieces true e (drop (i + 1) all)) (sym c.end_behind-past.ensures)) on;
+      narrow = subst (λ e. AreNarrowFields e (drop (i + 1) all)) (sym c.end_after-past.ensures) narrow.2;
+      goes = still_goes (ap (λ e. field_pieces true e (drop (i + 1) all)) (sym c.end_after-past.ensures)) on;
     }
 
 pub returns : goal.returns

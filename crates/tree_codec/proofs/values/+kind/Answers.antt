@@ -28,8 +28,8 @@ member_values-loop-member-preserved t c =
     let on = goes_next c.args.order all bytes done c.loop-member.end m (drop (i + 1) all) c.member_bytes-part.result.now c.in_ok-value_of.field-0 here c.member_bytes-part.ensures c.in_ok-value_of.ensures in
     let pushed = subst (λ vs. Goes c.args.order all bytes vs (end_past c.loop-member.end m.offset m.kind) (drop (i + 1) all)) (sym c.in_ok-push.ensures.ok) on in
     record {
-      fit = subst (λ e. AreFit (length bytes) e (drop (i + 1) all)) (sym c.end_behind-after.ensures) fit.1;
-      goes = subst (λ e. Goes c.args.order all bytes c.push.new.self e (drop (i + 1) all)) (sym c.end_behind-after.ensures) pushed;
+      fit = subst (λ e. AreFit (length bytes) e (drop (i + 1) all)) (sym c.end_after-after.ensures) fit.1;
+      goes = subst (λ e. Goes c.args.order all bytes c.push.new.self e (drop (i + 1) all)) (sym c.end_after-after.ensures) pushed;
     }
 
 pub member_values-returns : goal.member_values-returns

@@ -24,36 +24,36 @@ returns-in-Some c =
     c.reason_of.ensures c.in-Some.is c.loop-j.invariant.so_far)
     c.at_part-in-Some.ensures
 
-pub end_behind-end-requires-clause-narrow : goal.end_behind-end-requires-clause-narrow
-end_behind-end-requires-clause-narrow c = (field_next c.loop-j.end c.args.olds.now c.loop-j.i _ c.at-old.ensures c.loop-j.invariant.old).0
+pub end_after-end-requires-clause-narrow : goal.end_after-end-requires-clause-narrow
+end_after-end-requires-clause-narrow c = (field_next c.loop-j.end c.args.olds.now c.loop-j.i _ c.at-old.ensures c.loop-j.invariant.old).0
 
-pub end_behind-end-requires-clause-within : goal.end_behind-end-requires-clause-within
-end_behind-end-requires-clause-within c = (field_next c.loop-j.end c.args.olds.now c.loop-j.i _ c.at-old.ensures c.loop-j.invariant.old).1
+pub end_after-end-requires-clause-within : goal.end_after-end-requires-clause-within
+end_after-end-requires-clause-within c = (field_next c.loop-j.end c.args.olds.now c.loop-j.i _ c.at-old.ensures c.loop-j.invariant.old).1
 
-pub end_behind-other_end-requires-clause-narrow : goal.end_behind-other_end-requires-clause-narrow
-end_behind-other_end-requires-clause-narrow c = (field_next c.loop-j.other_end c.args.news.now c.loop-j.j _ c.at-new.ensures c.loop-j.invariant.new).0
+pub end_after-other_end-requires-clause-narrow : goal.end_after-other_end-requires-clause-narrow
+end_after-other_end-requires-clause-narrow c = (field_next c.loop-j.other_end c.args.news.now c.loop-j.j _ c.at-new.ensures c.loop-j.invariant.new).0
 
-pub end_behind-other_end-requires-clause-within : goal.end_behind-other_end-requires-clause-within
-end_behind-other_end-requires-clause-within c = (field_next c.loop-j.other_end c.args.news.now c.loop-j.j _ c.at-new.ensures c.loop-j.invariant.new).1
+pub end_after-other_end-requires-clause-within : goal.end_after-other_end-requires-clause-within
+end_after-other_end-requires-clause-within c = (field_next c.loop-j.other_end c.args.news.now c.loop-j.j _ c.at-new.ensures c.loop-j.invariant.new).1
 
 pub loop-j-preserved : goal.loop-j-preserved
 loop-j-preserved c = elim c.if-new-version.branch [
   | then-new-version+else-i-len+in_default w ↦
-      let end : c.if-new-version.end ≡ end_past c.loop-j.end w.at-old.result.now.offset w.at-old.result.now.kind = w.end-is ∙ w.end_behind-end.ensures in
+      let end : c.if-new-version.end ≡ end_past c.loop-j.end w.at-old.result.now.offset w.at-old.result.now.kind = w.end-is ∙ w.end_after-end.ensures in
       record {
         so_far =
             field_kept c.args.version c.args.more c.args.olds.now c.args.news.now _ c.loop-j.end c.loop-j.i c.loop-j.other_end c.loop-j.j _ _ _ _ _ _ w.at-old.ensures c.at-new.ensures w.if-new-version.true
-            w.reason_of.ensures w.in_default.is end w.i-is c.end_behind-other_end.ensures c.loop-j.invariant.so_far;
+            w.reason_of.ensures w.in_default.is end w.i-is c.end_after-other_end.ensures c.loop-j.invariant.so_far;
         old = field_goes c.loop-j.end _ c.args.olds.now c.loop-j.i _ _ w.at-old.ensures end w.i-is c.loop-j.invariant.old;
-        new = field_goes c.loop-j.other_end _ c.args.news.now c.loop-j.j _ _ c.at-new.ensures c.end_behind-other_end.ensures refl c.loop-j.invariant.new;
+        new = field_goes c.loop-j.other_end _ c.args.news.now c.loop-j.j _ _ c.at-new.ensures c.end_after-other_end.ensures refl c.loop-j.invariant.new;
       }
   | else-new-version w ↦
       record {
         so_far =
             field_added c.args.version c.args.more c.args.olds.now c.args.news.now _ c.loop-j.end c.loop-j.i c.loop-j.other_end c.loop-j.j _ _ _ _ c.at-new.ensures w.if-new-version.false
-            w.end-is w.i-is c.end_behind-other_end.ensures c.loop-j.invariant.so_far;
+            w.end-is w.i-is c.end_after-other_end.ensures c.loop-j.invariant.so_far;
         old = field_stands c.loop-j.end _ c.args.olds.now c.loop-j.i _ w.end-is w.i-is c.loop-j.invariant.old;
-        new = field_goes c.loop-j.other_end _ c.args.news.now c.loop-j.j _ _ c.at-new.ensures c.end_behind-other_end.ensures refl c.loop-j.invariant.new;
+        new = field_goes c.loop-j.other_end _ c.args.news.now c.loop-j.j _ _ c.at-new.ensures c.end_after-other_end.ensures refl c.loop-j.invariant.new;
       }
 ]
 

@@ -17,25 +17,25 @@ do_stay-loop-i-init t c = record {
   new = narrow_members _ c.requires.new;
 }
 
-pub do_stay-end_behind-end-requires-clause-narrow : goal.do_stay-end_behind-end-requires-clause-narrow
-do_stay-end_behind-end-requires-clause-narrow t c = (narrow_next c.loop-i.end c.args.old.now c.loop-i.i _ c.at-member.ensures c.loop-i.invariant.old).0
+pub do_stay-end_after-end-requires-clause-narrow : goal.do_stay-end_after-end-requires-clause-narrow
+do_stay-end_after-end-requires-clause-narrow t c = (narrow_next c.loop-i.end c.args.old.now c.loop-i.i _ c.at-member.ensures c.loop-i.invariant.old).0
 
-pub do_stay-end_behind-end-requires-clause-within : goal.do_stay-end_behind-end-requires-clause-within
-do_stay-end_behind-end-requires-clause-within t c = (narrow_next c.loop-i.end c.args.old.now c.loop-i.i _ c.at-member.ensures c.loop-i.invariant.old).1
+pub do_stay-end_after-end-requires-clause-within : goal.do_stay-end_after-end-requires-clause-within
+do_stay-end_after-end-requires-clause-within t c = (narrow_next c.loop-i.end c.args.old.now c.loop-i.i _ c.at-member.ensures c.loop-i.invariant.old).1
 
-pub do_stay-end_behind-other_end-requires-clause-narrow : goal.do_stay-end_behind-other_end-requires-clause-narrow
-do_stay-end_behind-other_end-requires-clause-narrow t c = (narrow_next c.loop-i.other_end c.args.new.now c.loop-i.i _ c.at-other.ensures c.loop-i.invariant.new).0
+pub do_stay-end_after-other_end-requires-clause-narrow : goal.do_stay-end_after-other_end-requires-clause-narrow
+do_stay-end_after-other_end-requires-clause-narrow t c = (narrow_next c.loop-i.other_end c.args.new.now c.loop-i.i _ c.at-other.ensures c.loop-i.invariant.new).0
 
-pub do_stay-end_behind-other_end-requires-clause-within : goal.do_stay-end_behind-other_end-requires-clause-within
-do_stay-end_behind-other_end-requires-clause-within t c = (narrow_next c.loop-i.other_end c.args.new.now c.loop-i.i _ c.at-other.ensures c.loop-i.invariant.new).1
+pub do_stay-end_after-other_end-requires-clause-within : goal.do_stay-end_after-other_end-requires-clause-within
+do_stay-end_after-other_end-requires-clause-within t c = (narrow_next c.loop-i.other_end c.args.new.now c.loop-i.i _ c.at-other.ensures c.loop-i.invariant.new).1
 
 pub do_stay-loop-i-preserved : goal.do_stay-loop-i-preserved
 do_stay-loop-i-preserved t c = record {
   so_far =
       stay_goes true member_stays c.loop-i.end c.loop-i.other_end _ _ c.loop-i.i c.args.old.now c.args.new.now _ _ _ _ c.at-member.ensures c.at-other.ensures
-      c.does_stay.ensures c.if-not-does_stay.false c.end_behind-end.ensures c.end_behind-other_end.ensures c.loop-i.invariant.so_far;
-  old = narrow_goes c.loop-i.end _ c.args.old.now c.loop-i.i _ c.at-member.ensures c.end_behind-end.ensures c.loop-i.invariant.old;
-  new = narrow_goes c.loop-i.other_end _ c.args.new.now c.loop-i.i _ c.at-other.ensures c.end_behind-other_end.ensures c.loop-i.invariant.new;
+      c.does_stay.ensures c.if-not-does_stay.false c.end_after-end.ensures c.end_after-other_end.ensures c.loop-i.invariant.so_far;
+  old = narrow_goes c.loop-i.end _ c.args.old.now c.loop-i.i _ c.at-member.ensures c.end_after-end.ensures c.loop-i.invariant.old;
+  new = narrow_goes c.loop-i.other_end _ c.args.new.now c.loop-i.i _ c.at-other.ensures c.end_after-other_end.ensures c.loop-i.invariant.new;
 }
 
 pub do_stay-does_stay-requires : goal.do_stay-does_stay-requires

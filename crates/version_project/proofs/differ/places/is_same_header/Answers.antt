@@ -13,25 +13,25 @@ loop-i-init c = record {
   new = narrow_members _ c.requires.new;
 }
 
-pub end_behind-end-requires-clause-narrow : goal.end_behind-end-requires-clause-narrow
-end_behind-end-requires-clause-narrow c = (narrow_next c.loop-i.end c.args.old.now c.loop-i.i _ c.at-member.ensures c.loop-i.invariant.old).0
+pub end_after-end-requires-clause-narrow : goal.end_after-end-requires-clause-narrow
+end_after-end-requires-clause-narrow c = (narrow_next c.loop-i.end c.args.old.now c.loop-i.i _ c.at-member.ensures c.loop-i.invariant.old).0
 
-pub end_behind-end-requires-clause-within : goal.end_behind-end-requires-clause-within
-end_behind-end-requires-clause-within c = (narrow_next c.loop-i.end c.args.old.now c.loop-i.i _ c.at-member.ensures c.loop-i.invariant.old).1
+pub end_after-end-requires-clause-within : goal.end_after-end-requires-clause-within
+end_after-end-requires-clause-within c = (narrow_next c.loop-i.end c.args.old.now c.loop-i.i _ c.at-member.ensures c.loop-i.invariant.old).1
 
-pub end_behind-other_end-requires-clause-narrow : goal.end_behind-other_end-requires-clause-narrow
-end_behind-other_end-requires-clause-narrow c = (narrow_next c.loop-i.other_end c.args.new.now c.loop-i.i _ c.at-other.ensures c.loop-i.invariant.new).0
+pub end_after-other_end-requires-clause-narrow : goal.end_after-other_end-requires-clause-narrow
+end_after-other_end-requires-clause-narrow c = (narrow_next c.loop-i.other_end c.args.new.now c.loop-i.i _ c.at-other.ensures c.loop-i.invariant.new).0
 
-pub end_behind-other_end-requires-clause-within : goal.end_behind-other_end-requires-clause-within
-end_behind-other_end-requires-clause-within c = (narrow_next c.loop-i.other_end c.args.new.now c.loop-i.i _ c.at-other.ensures c.loop-i.invariant.new).1
+pub end_after-other_end-requires-clause-within : goal.end_after-other_end-requires-clause-within
+end_after-other_end-requires-clause-within c = (narrow_next c.loop-i.other_end c.args.new.now c.loop-i.i _ c.at-other.ensures c.loop-i.invariant.new).1
 
 pub loop-i-preserved : goal.loop-i-preserved
 loop-i-preserved c = record {
   so_far =
       stay_goes false is_header_member c.loop-i.end c.loop-i.other_end _ _ c.loop-i.i c.args.old.now c.args.new.now _ _ _ _ c.at-member.ensures c.at-other.ensures
-      c.is_same_member.ensures c.if-not-is_same_member.false c.end_behind-end.ensures c.end_behind-other_end.ensures c.loop-i.invariant.so_far;
-  old = narrow_goes c.loop-i.end _ c.args.old.now c.loop-i.i _ c.at-member.ensures c.end_behind-end.ensures c.loop-i.invariant.old;
-  new = narrow_goes c.loop-i.other_end _ c.args.new.now c.loop-i.i _ c.at-other.ensures c.end_behind-other_end.ensures c.loop-i.invariant.new;
+      c.is_same_member.ensures c.if-not-is_same_member.false c.end_after-end.ensures c.end_after-other_end.ensures c.loop-i.invariant.so_far;
+  old = narrow_goes c.loop-i.end _ c.args.old.now c.loop-i.i _ c.at-member.ensures c.end_after-end.ensures c.loop-i.invariant.old;
+  new = narrow_goes c.loop-i.other_end _ c.args.new.now c.loop-i.i _ c.at-other.ensures c.end_after-other_end.ensures c.loop-i.invariant.new;
 }
 
 pub returns-then-len : goal.returns-then-len

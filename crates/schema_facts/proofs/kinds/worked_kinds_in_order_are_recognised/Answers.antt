@@ -1,5 +1,5 @@
 use Rattle.schema_facts.proofs.KindWorked.{order_is, number_twice_is_not, bit_above_is_not, name_twice_is_not}
-use Rattle.schema_facts.proofs.kinds.worked_kinds_are_told_apart.Goals as goal
+use Rattle.schema_facts.proofs.kinds.worked_kinds_in_order_are_recognised.Goals as goal
 
 pub returns-clause-order : goal.returns-clause-order
 returns-clause-order c = order_is

@@ -3,7 +3,7 @@ use Rattle.std.specs.Prelude.{[]}
 use denote.Hole.Carrier as carrier
 use Rattle.sbe_types.specs.declared.schema.Group.TheBlock as block
 use Rattle.sbe_types.specs.declared.schema.Level as level
-use Rattle.schema_facts.proofs.worked.levels_that_break_a_rule_are_told.Goals as goal
+use Rattle.schema_facts.proofs.worked.levels_that_break_a_rule_lack_a_fact.Goals as goal
 
 pub returns-clause-entries : goal.returns-clause-entries
 unfolding level.roll-Level level.out-Level carrier.out carrier.roll block.hidden-the_row-Group-0 block.shape-the_row-Group-0 carrier.hidden block.shown-the_row-Group-0 carrier.shown
