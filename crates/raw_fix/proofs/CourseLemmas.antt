@@ -178,7 +178,7 @@ module _ (texts : Texts) (old mid : ItemState) (a b : List ℕ) (c : Course text
       )
 
   pub fault_takes : TakesBy texts start (raw_shown 0 mid None) (record { stream = stream; left = b }) (Err err.ReadFault)
-  fault_takes = (c.gone, lets_here, omega (arith, room_left mid [] refl refl refl, append-nil c.gone, ap length (append-nil c.gone)), stream_parts)
+  fault_takes = (c.gone, lets_here, omega (arith, room_left mid [] refl refl refl, ap length (append-nil c.gone)), stream_parts)
 
 -- ---- the other answers
 

@@ -14,3 +14,5 @@ pub mod Computing
 pub mod ResumeLemmas
 pub mod ItemLemmas
 pub mod CourseLemmas
+pub mod NearLemmas
+pub mod KeptLemmas

@@ -24,6 +24,10 @@ pub record ItemState : Type 0 where
   pub begun : Option Run
   pub met : Bool
 
+-- what is held if at most so many bytes are
+abbrev pub held_in : ℕ → HeldState → HeldState
+held_in size h = record { bytes = h.bytes; size = size; taken = h.taken; limit = h.limit }
+
 -- the offset of the first byte
 abbrev pub item_place : ItemState → ℕ
 item_place s = s.held.taken - length s.held.bytes

@@ -8,3 +8,4 @@ pub mod Steps
 pub mod Taking
 pub mod Items
 pub mod Rows
+pub mod Kept

@@ -10,6 +10,11 @@ abbrev pub FindsSoh : List ℕ → Option ℕ → Type 0
 FindsSoh bytes (Some i) = (i < length bytes) × (before_soh bytes ≡ Some (take i bytes))
 FindsSoh bytes None = before_soh bytes ≡ None
 
+-- the position of the first SOH, if it is one of the first bytes
+abbrev pub FindsNear : ℕ → List ℕ → Option ℕ → Type 0
+FindsNear most bytes (Some i) = FindsSoh bytes (Some i)
+FindsNear most bytes None = before_soh (take most bytes) ≡ None
+
 -- no mark begins in the first n bytes, whatever follows all of them
 abbrev pub NoneBegins : List ℕ → ℕ → Type 0
 NoneBegins bytes n = (more f m : List ℕ) → bytes ++ more ≡ f ++ mark ++ m → n ≤ length f

@@ -1,7 +1,7 @@
 ghost use Rattle.std.specs.Prelude.{◌≡◌, ◌≤◌, ◌+◌, ◌<◌, ◌^◌, None, IfSome, length, take};
 ghost use Rattle.raw_fix.specs.Claims.{before_soh, claim_behind, claim_of, is_begun as begun_in, part_value, field_value, within as within_of};
 
-use crate::soh::find_soh;
+use crate::soh::{find_near, find_soh};
 
 /// What is at the front of some bytes, as far as fields 8 and 9 say.
 #[derive(Clone, Copy, Debug, PartialEq, Eq)]
@@ -21,6 +21,9 @@ const SIZE: u8 = b'9';
 
 /// The most digits of a length.
 const MOST_DIGITS: usize = 9;
+
+/// The most bytes of a field 9: `9=`, its digits, and SOH.
+const MOST_FIELD: usize = MOST_DIGITS + 3;
 
 /// What the bytes claim, given that a text has at most `most` bytes. The first `plain` bytes are known to contain no
 /// SOH, and aren't searched again.
@@ -53,7 +56,7 @@ fn claim_size(bytes: &[u8], most: usize, front: usize) -> Claim
     requires { front + length bytes.now < 2 ^ 63 }
     ensures { result ≡ claim_behind most front bytes.now (before_soh bytes.now) }
 {
-    match find_soh(bytes, 0) {
+    match find_near(bytes, MOST_FIELD) {
         None => match part_of_field(bytes) {
             Some(number) => within(most, front + bytes.len().max(3) + number + 8, Claim::Open),
             None => Claim::Never,

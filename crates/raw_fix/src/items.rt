@@ -6,6 +6,7 @@ ghost use Rattle.raw_fix.specs.Items.{item_place, Finishes, Nexts, Settles, Wait
 ghost use Rattle.raw_fix.specs.Raw.{IsRun, Texts};
 ghost use Rattle.raw_fix.specs.Taking.{RawCause, lefts_if};
 ghost use Rattle.raw_fix.specs.declared.items.TheConstants.{LEAST_FRAME};
+ghost use Rattle.frame_stream.specs.declared.stream.TheConstants.{LONGEST_FRAME};
 ghost use Rattle.open_framing.specs.declared.head.TheConstants.{HEAD_BYTES};
 ghost use Rattle.raw_fix.specs.Steps.{Steps};
 ghost use Rattle.frame_stream.specs.Window.{Reads, let_go_of, none_held};
@@ -17,6 +18,7 @@ use crate::step::{Known, Step, next_step};
 use crate::taken::{RawErr, Run};
 use frame_stream::{Dry, Window};
 use open_framing::HEAD_BYTES;
+use raw_walk::Recall;
 use sbe_base::{NoMem, Source};
 use std::alloc::Global;
 use std::marker::Model;
@@ -39,7 +41,13 @@ pub(crate) enum Settled {
 /// The bytes of a stream from the next item on, or from a place inside one that isn't a message and hasn't ended.
 #[derive(Drop)]
 pub(crate) struct Items {
+    /// There is room for twice as many bytes as are held at most: they are moved to its front only after at least as
+    /// many were released.
     bytes: Window,
+    /// The most bytes that are held.
+    size: usize,
+    /// What is remembered of the bytes, for texts that lie in one another's bytes.
+    recall: Recall,
     /// How many of the first bytes are known to contain no SOH.
     plain: usize,
     begun: Option<Run>,
@@ -48,23 +56,27 @@ pub(crate) struct Items {
 }
 
 impl Model for Items {
-    ghost use Rattle.raw_fix.specs.Items.{ItemState, AreItems};
+    ghost use Rattle.raw_fix.specs.Items.{ItemState, AreItems, held_in};
+    ghost use Rattle.raw_fix.specs.Kept.{IsKept};
 
     ghost Value = { ItemState };
 
-    ghost view = { λ s. record { held = s.bytes.held; begun = s.begun; met = s.met } };
+    ghost view = { λ s. record { held = held_in s.size s.bytes.held; begun = s.begun; met = s.met } };
 
-    ghost invariant = { λ s. AreItems s.plain s.bytes.held s.begun };
+    ghost invariant = { λ s. AreItems s.plain (held_in s.size s.bytes.held) s.begun × IsKept s.size s.bytes.held s.recall };
 }
 
 impl Items {
     /// Creates it empty, with room for `size` bytes.
     pub(crate) fn new(alloc: Global, size: usize, limit: u64) -> Result<Items, NoMem>
-        requires { LEAST_FRAME ≤ size }
+        requires low { LEAST_FRAME ≤ size }
+        requires high { size ≤ LONGEST_FRAME }
         ensures { IfOk result (λ items. items ≡ record { held = none_held size limit; begun = None; met = false }) }
     {
         Ok(Items {
-            bytes: Window::new(alloc, size, limit)?,
+            bytes: Window::new(alloc, 2 * size, limit)?,
+            size,
+            recall: Recall::new(alloc, size)?,
             plain: 0,
             begun: None,
             met: false,
@@ -112,7 +124,7 @@ impl Items {
             at: self.bytes.taken() - self.bytes.len() as u64,
             begun: self.begun,
             plain: self.plain,
-            most: self.bytes.size() - HEAD_BYTES,
+            most: self.size - HEAD_BYTES,
         }
     }
 
@@ -124,19 +136,19 @@ impl Items {
         ensures met { self.new.met ≡ self.old.met }
         ensures cause { DryCause (I.state input.old).faults (I.state input.new).faults result }
     {
-        let size = self.bytes.size();
-        self.bytes.more(input, size)
+        self.bytes.more(input, self.size)
     }
 
     /// What the bytes that are held decide. There is at least one.
-    fn step(&self, tags: &DataTags, table: &mut FieldTable) -> Step
-        requires some { 0 < length self.now.held.bytes }
+    fn step(&mut self, tags: &DataTags, table: &mut FieldTable) -> Step
+        requires some { 0 < length self.old.held.bytes }
         requires empty { table.old ≡ [] }
-        ensures steps { Steps (texts_of tags.now self.now) self.now.held.bytes (item_place self.now) self.now.begun result }
-        ensures fields { HasFields tags.now self.now.held.bytes (step_size result) table.new }
+        ensures same { self.new ≡ self.old }
+        ensures steps { Steps (texts_of tags.now self.old) self.old.held.bytes (item_place self.old) self.old.begun result }
+        ensures fields { HasFields tags.now self.old.held.bytes (step_size result) table.new }
     {
         let known = self.known();
-        next_step(self.bytes.as_slice(), known, tags, table)
+        next_step(self.bytes.as_slice(), known, tags, table, &mut self.recall)
     }
 
     /// Decides what is at the front of the bytes that are held, if they are enough. Bytes that aren't a message are
@@ -150,6 +162,7 @@ impl Items {
         if self.bytes.len() == 0 {
             return None;
         }
+        self.look();
         match self.step(tags, table) {
             Step::Message(n) => Some(Settled::Message(n)),
             Step::Ends(run, n) => {
@@ -160,10 +173,7 @@ impl Items {
                 self.go_on(run, n);
                 None
             }
-            Step::More => {
-                self.look();
-                None
-            }
+            Step::More => None,
         }
     }
 
@@ -187,11 +197,14 @@ impl Items {
         self.begun = Some(run);
     }
 
-    /// Records how many of the first bytes contain no SOH, so that they aren't searched again.
+    /// Records how many of the first bytes contain no SOH, so that they aren't searched again. Inside bytes that aren't a
+    /// message nothing is searched.
     fn look(&mut self)
         ensures { self.new ≡ self.old }
     {
-        self.plain = plain_front(self.bytes.as_slice(), self.plain);
+        if self.begun.is_none() {
+            self.plain = plain_front(self.bytes.as_slice(), self.plain);
+        }
     }
 
     /// Records that nothing follows the bytes, so that the source isn't read again.

@@ -1,11 +1,9 @@
 ghost use Rattle.std.specs.Prelude.{◌≡◌, ◌≤◌, None, length, take};
 ghost use Rattle.raw_fix.specs.Claims.{before_soh};
-ghost use Rattle.raw_fix.specs.Places.{FindsSoh};
+ghost use Rattle.raw_fix.specs.Places.{FindsNear, FindsSoh};
 
 use memchr::memchr;
-
-/// The byte that ends a field.
-pub(crate) const SOH: u8 = 1;
+use raw_walk::SOH;
 
 /// The position of the first SOH. The first `plain` bytes contain none.
 pub(crate) fn find_soh(bytes: &[u8], plain: usize) -> Option<usize>
@@ -17,4 +15,14 @@ pub(crate) fn find_soh(bytes: &[u8], plain: usize) -> Option<usize>
         Some(i) => Some(plain + i),
         None => None,
     }
+}
+
+/// The position of the first SOH among the first `most` bytes.
+pub(crate) fn find_near(bytes: &[u8], most: usize) -> Option<usize>
+    ensures { FindsNear most bytes.now result }
+{
+    if bytes.len() <= most {
+        return find_soh(bytes, 0);
+    }
+    find_soh(&bytes[..most], 0)
 }

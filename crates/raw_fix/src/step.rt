@@ -2,10 +2,12 @@ ghost use Rattle.std.specs.Prelude.{◌≡◌, ◌≤◌, ◌<◌, ◌+◌, ◌^
 ghost use Rattle.raw_fix.specs.Claims.{before_soh};
 ghost use Rattle.raw_fix.specs.Fields.{HasFields, fix_texts, step_size};
 ghost use Rattle.raw_fix.specs.Steps.{Steps, RunSteps};
+ghost use Rattle.raw_walk.specs.Recalled.{Recalls, held_at};
 
 use crate::mark::{Marked, next_mark};
 use crate::taken::Run;
 use crate::verdict::{Verdict, judge};
+use raw_walk::Recall;
 use tagvalue_codec::{DataTags, FieldTable};
 
 /// What the bytes that are held decide.
@@ -35,19 +37,27 @@ pub(crate) struct Known {
 }
 
 /// What the bytes that are held decide. The table then holds the fields of a message.
-pub(crate) fn next_step(held: &[u8], known: Known, tags: &DataTags, table: &mut FieldTable) -> Step
+pub(crate) fn next_step(
+    held: &[u8],
+    known: Known,
+    tags: &DataTags,
+    table: &mut FieldTable,
+    recall: &mut Recall,
+) -> Step
     requires some { 0 < length held.now }
     requires within { known.plain ≤ length held.now }
     requires none { before_soh (take known.plain held.now) ≡ None }
     requires room { known.at + length held.now < 2 ^ 64 }
     requires counts { IfSome known.begun (λ run. run.length ≤ known.at) }
     requires empty { table.old ≡ [] }
+    requires recalls { Recalls (held_at known.at held.now) recall.old }
     ensures steps { Steps (fix_texts tags.now known.most) held.now known.at known.begun result }
     ensures fields { HasFields tags.now held.now (step_size result) table.new }
+    ensures recalls { Recalls (held_at known.at held.now) recall.new }
 {
     match known.begun {
         Some(run) => run_on(held, 0, run),
-        None => match judge(held, known.most, known.plain, tags, table) {
+        None => match judge(held, known, tags, table, recall) {
             Some(Verdict::Says(n)) => Step::Message(n),
             Some(Verdict::Refuses(code)) => {
                 let run = Run {

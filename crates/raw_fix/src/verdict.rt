@@ -1,11 +1,14 @@
-ghost use Rattle.std.specs.Prelude.{◌≡◌, ◌≤◌, [], None, length, take, true, false, IsTrue};
+ghost use Rattle.std.specs.Prelude.{◌≡◌, ◌≤◌, ◌<◌, ◌+◌, ◌^◌, [], None, length, take, true, false, IsTrue};
 ghost use Rattle.tagvalue_codec.specs.Places.{Holds};
 ghost use Rattle.raw_fix.specs.Claims.{before_soh, claim_of};
 ghost use Rattle.raw_fix.specs.Fields.{HasFields, fix_texts, is_fix, verdict_size};
 ghost use Rattle.raw_fix.specs.Raw.{verdict_by};
+ghost use Rattle.raw_walk.specs.Recalled.{Recalls, held_at};
 
 use crate::claim::{Claim, read_claim};
 use crate::code::PCode;
+use crate::step::Known;
+use raw_walk::Recall;
 use tagvalue_codec::{DataTags, FieldTable, read_fix};
 
 /// What is at the front of some bytes.
@@ -21,21 +24,26 @@ pub(crate) enum Verdict {
 /// table then holds the fields of a message.
 pub(crate) fn judge(
     bytes: &[u8],
-    most: usize,
-    plain: usize,
+    known: Known,
     tags: &DataTags,
     table: &mut FieldTable,
+    recall: &mut Recall,
 ) -> Option<Verdict>
-    requires within { plain ≤ length bytes.now }
-    requires none { before_soh (take plain bytes.now) ≡ None }
+    requires within { known.plain ≤ length bytes.now }
+    requires none { before_soh (take known.plain bytes.now) ≡ None }
+    requires room { known.at + length bytes.now < 2 ^ 64 }
     requires empty { table.old ≡ [] }
-    ensures verdict { result ≡ verdict_by (fix_texts tags.now most) true bytes.now (claim_of most bytes.now) }
+    requires recalls { Recalls (held_at known.at bytes.now) recall.old }
+    ensures verdict { result ≡ verdict_by (fix_texts tags.now known.most) true bytes.now (claim_of known.most bytes.now) }
     ensures fields { HasFields tags.now bytes.now (verdict_size result) table.new }
+    ensures recalls { Recalls (held_at known.at bytes.now) recall.new }
 {
-    match read_claim(bytes, most, plain) {
+    match read_claim(bytes, known.most, known.plain) {
         Claim::Whole(n) => {
             if n > bytes.len() {
                 None
+            } else if recall.refuses(bytes, known.at, n, known.plain, tags) {
+                Some(Verdict::Refuses(PCode::Text))
             } else if is_text(&bytes[..n], tags, table) {
                 Some(Verdict::Says(n))
             } else {

@@ -49,8 +49,8 @@ returns-then-self-clause-nexts g c =
     let done : wait.met ≡ true = sym (ap (λ (x : ItemState). x.met) c.self.view_is) ∙ c.if-self.true in
     let met : s.met ≡ true = sym c.loop-settled.invariant.met ∙ sym c.in-None.ensures.settles.4 ∙ done in
     let held = ap (λ (x : ItemState). x.held) c.self.view_is in
-    let within = subst (λ (h : HeldState). h.taken ≤ h.limit) held c.self.invariant.within in
-    let fits = subst (λ (h : HeldState). length h.bytes ≤ h.size) held c.self.invariant.fits in
+    let within = subst (λ (h : HeldState). h.taken ≤ h.limit) held c.self.invariant.0.within in
+    let fits = subst (λ (h : HeldState). length h.bytes ≤ h.size) held c.self.invariant.0.fits in
     turn_last c.args.tags.now s c.loop-settled.self wait (left_if s.met (told c.args.input.now)) (left_if s.met (told c.loop-settled.input)) c.loop-settled.invariant.course c.loop-settled.invariant.met
     c.in-None.ensures.settles wait (left_if s.met (told c.loop-settled.input)) refl done (reads_none s.met wait.held (told c.loop-settled.input) met within fits) c.finish.new.self c.finish.result c.finish.ensures.finishes
 
@@ -62,8 +62,8 @@ returns-then-self-clause-fits g c =
     let done : wait.met ≡ true = sym (ap (λ (x : ItemState). x.met) c.self.view_is) ∙ c.if-self.true in
     let met : s.met ≡ true = sym c.loop-settled.invariant.met ∙ sym c.in-None.ensures.settles.4 ∙ done in
     let held = ap (λ (x : ItemState). x.held) c.self.view_is in
-    let within = subst (λ (h : HeldState). h.taken ≤ h.limit) held c.self.invariant.within in
-    let fits = subst (λ (h : HeldState). length h.bytes ≤ h.size) held c.self.invariant.fits in
+    let within = subst (λ (h : HeldState). h.taken ≤ h.limit) held c.self.invariant.0.within in
+    let fits = subst (λ (h : HeldState). length h.bytes ≤ h.size) held c.self.invariant.0.fits in
     turn_fits c.args.tags.now s c.loop-settled.self wait (left_if s.met (told c.args.input.now)) (left_if s.met (told c.loop-settled.input)) c.loop-settled.invariant.course c.loop-settled.invariant.met
     c.in-None.ensures.settles wait (left_if s.met (told c.loop-settled.input)) refl (reads_none s.met wait.held (told c.loop-settled.input) met within fits) c.finish.new.self c.finish.result c.finish.ensures.finishes
 

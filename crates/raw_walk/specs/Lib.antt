@@ -1,0 +1,3 @@
+pub mod Recalled
+pub mod Walks
+pub mod Openings
