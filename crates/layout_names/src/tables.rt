@@ -1,15 +1,15 @@
 ghost use Rattle.std.specs.Prelude.{◌≡◌, ◌<◌, length, IfOk, IfSome};
 ghost use Rattle.sbe_types.specs.declared.schema.Level.{out-Level};
 ghost use Rattle.sbe_types.specs.declared.schema.WireSchema.{WireSchema};
-ghost use Rattle.schema_facts.specs.Levels.{fields_at, groups_at, parts_at};
+ghost use Rattle.schema_facts.specs.Levels.{all_nodes, fields_at, groups_at, parts_at};
 ghost use Rattle.layout_names.specs.Names.{level_names, field_names, group_names, data_names, template_named, field_named, group_named, data_named};
-ghost use Rattle.layout_names.specs.Tables.{part_names, AreNames};
+ghost use Rattle.layout_names.specs.Tables.{part_names, parts_names, AreNames};
 
 use crate::name_lists::{data_names, field_names, group_names, level_names};
 use id_tables::NameTable;
 use layout_tables::Layout;
 use lists::NoMem;
-use sbe_types::Level;
+use sbe_types::{DataField, Field, Group, Level};
 use std::alloc::Global;
 
 /// The names of a level's parts.
@@ -35,12 +35,8 @@ impl LayoutNames {
     pub fn new(alloc: Global, layout: &Layout) -> Result<LayoutNames, NoMem>
         ensures { IfOk result (λ names. AreNames layout.now names) }
     {
-        let messages = layout.schema().messages.as_slice();
-        let templates = NameTable::new(alloc, level_names(alloc, messages)?)?;
-        let mut levels = Vec::with_capacity(alloc, layout.levels())?;
-        for n in 0..layout.levels() {
-            levels.push(names_of(alloc, layout.level(n))?)?;
-        }
+        let templates = template_table(alloc, layout.schema().messages.as_slice())?;
+        let levels = levels_of(alloc, layout)?;
         Ok(LayoutNames { templates, levels })
     }
 
@@ -86,16 +82,59 @@ impl LayoutNames {
     }
 }
 
+/// The names of messages.
+fn template_table(alloc: Global, messages: &[Level]) -> Result<NameTable, NoMem>
+    ensures { IfOk result (λ table. table ≡ level_names messages.now) }
+{
+    let names = level_names(alloc, messages)?;
+    NameTable::new(alloc, names)
+}
+
+/// The names of the parts of each level.
+fn levels_of(alloc: Global, layout: &Layout) -> Result<Vec<LevelNames>, NoMem>
+    ensures { IfOk result (λ levels. levels.items ≡ parts_names (all_nodes layout.now)) }
+{
+    let mut levels = Vec::with_capacity(alloc, layout.levels())?;
+    for n in 0..layout.levels() {
+        levels.push(names_of(alloc, layout.level(n))?)?;
+    }
+    Ok(levels)
+}
+
 /// The names of a level's parts.
 fn names_of(alloc: Global, level: &Level) -> Result<LevelNames, NoMem>
     ensures { IfOk result (λ names. names ≡ part_names level.now) }
 {
-    let fields = NameTable::new(alloc, field_names(alloc, level.fields.as_slice())?)?;
-    let groups = NameTable::new(alloc, group_names(alloc, level.groups.as_slice())?)?;
-    let parts = NameTable::new(alloc, data_names(alloc, level.parts.as_slice())?)?;
+    let fields = field_table(alloc, level.fields.as_slice())?;
+    let groups = group_table(alloc, level.groups.as_slice())?;
+    let parts = data_table(alloc, level.parts.as_slice())?;
     Ok(LevelNames {
         fields,
         groups,
         parts,
     })
+}
+
+/// The names of fields.
+fn field_table(alloc: Global, fields: &[Field]) -> Result<NameTable, NoMem>
+    ensures { IfOk result (λ table. table ≡ field_names fields.now) }
+{
+    let names = field_names(alloc, fields)?;
+    NameTable::new(alloc, names)
+}
+
+/// The names of groups.
+fn group_table(alloc: Global, groups: &[Group]) -> Result<NameTable, NoMem>
+    ensures { IfOk result (λ table. table ≡ group_names groups.now) }
+{
+    let names = group_names(alloc, groups)?;
+    NameTable::new(alloc, names)
+}
+
+/// The names of data parts.
+fn data_table(alloc: Global, parts: &[DataField]) -> Result<NameTable, NoMem>
+    ensures { IfOk result (λ table. table ≡ data_names parts.now) }
+{
+    let names = data_names(alloc, parts)?;
+    NameTable::new(alloc, names)
 }

@@ -91,7 +91,7 @@ impl Pump {
             (desk_of (F.state files.new) (F.load_count files.new) (N.state notes.new))
             result }
     {
-        match Work::open(alloc, command, files) {
+        match Work::open(alloc, &command, files) {
             Ok(work) => Ok(begin(work)),
             Err(JobStop::Refused(file)) => Err(tell(&Unopened::Refused(file), notes)),
             Err(JobStop::Fault(role)) => Err(tell(&Unopened::FileFault(role), notes)),
@@ -129,12 +129,12 @@ impl Pump {
 
 impl Work {
     /// The work of a command, whose files are loaded and checked. Nothing has been done yet.
-    fn open<F: Files>(alloc: Global, command: Command, files: &mut F) -> Result<Work, JobStop>
-        requires { HasLimits command }
+    fn open<F: Files>(alloc: Global, command: &Command, files: &mut F) -> Result<Work, JobStop>
+        requires { HasLimits command.now }
         ensures kept { (F.state files.new).told ≡ (F.state files.old).told }
-        ensures loads { LoadsJob (F.state files.old).told command (made_so job_of result) }
+        ensures loads { LoadsJob (F.state files.old).told command.now (made_so job_of result) }
         ensures cause { JobCause (F.state files.old).faults (F.state files.new).faults result }
-        ensures names { NamesLastBy (loads_of command) (F.load_count files.old) (F.load_count files.new) result }
+        ensures names { NamesLastBy (loads_of command.now) (F.load_count files.old) (F.load_count files.new) result }
         ensures opened { IfOk result (λ work. IsOpened work) }
     {
         match command.form {
@@ -171,7 +171,7 @@ impl Work {
                 },
                 Err(stop) => Err(stop),
             },
-            Form::ToFix => match load_tofix(alloc, &tofix_words(&command), files) {
+            Form::ToFix => match load_tofix(alloc, &tofix_words(command), files) {
                 Ok(translator) => match FrameWork::open(alloc, translator, command.limits) {
                     Ok(work) => Ok(Work::ToFix(work)),
                     Err(_) => Err(JobStop::NoMemory),
@@ -186,7 +186,7 @@ impl Work {
                 Err(stop) => Err(stop),
             },
             Form::SelfTest => {
-                let trial = trial_of(&command);
+                let trial = trial_of(command);
                 match load_selftest(alloc, command.file(0), trial, files) {
                     Ok(tester) => Ok(Work::SelfTest(WholeWork::open(alloc, tester))),
                     Err(stop) => Err(stop),

@@ -8,7 +8,7 @@ use sbe_types::Msg;
 use schema_check::Checked;
 use std::alloc::Global;
 use test_tables::Row;
-use tree_codec::encode;
+use tree_codec::{EncodeErr, encode};
 use typed_writer::FrameBuf;
 use vectors::{alter, generate};
 
@@ -24,14 +24,25 @@ fn checked_of(rt: &HostRuntime, name: &str) -> Result<Checked> {
 /// The number of a message's template and its canonical body, or why it has none.
 fn body_text(alloc: Global, layout: &Layout, msg: &Msg) -> Result<String> {
     let mut buf = FrameBuf::new(alloc, LIMIT)?;
+    written_text(alloc, layout, msg, &mut buf)
+}
+
+/// The same, where the body is written into a buffer.
+fn written_text(alloc: Global, layout: &Layout, msg: &Msg, buf: &mut FrameBuf) -> Result<String> {
     let template = msg.template;
-    match encode(layout, msg, &mut buf) {
-        Ok(_) => {
-            let digits = hex::encode(alloc, buf.bytes())?;
-            Ok(format!(in alloc; "{template} {}", digits.as_str())?)
-        }
-        Err(e) => Ok(format!(in alloc; "{template} {:?} {}", e.code, e.detail)?),
+    match encode(layout, msg, buf) {
+        Ok(_) => shown_text(alloc, template, buf.bytes()),
+        Err(e) => refused_text(alloc, template, &e),
     }
+}
+
+fn shown_text(alloc: Global, template: usize, body: &[u8]) -> Result<String> {
+    let digits = hex::encode(alloc, body)?;
+    Ok(format!(in alloc; "{template} {}", digits.as_str())?)
+}
+
+fn refused_text(alloc: Global, template: usize, e: &EncodeErr) -> Result<String> {
+    Ok(format!(in alloc; "{template} {:?} {}", e.code, e.detail)?)
 }
 
 /// The message of a schema for a seed and an index.
@@ -46,10 +57,15 @@ fn drawn(alloc: Global, checked: &Checked, seed: u64, index: u64) -> Result<Msg>
 pub fn message_answer(rt: &HostRuntime, row: &Row) -> Result<String> {
     let checked = checked_of(rt, row.text(0)?)?;
     let layout = compile(rt.alloc(), &checked)?;
+    drawn_text(rt.alloc(), &checked, &layout, row)
+}
+
+/// The same, given the schema and its layout.
+fn drawn_text(alloc: Global, checked: &Checked, layout: &Layout, row: &Row) -> Result<String> {
     let seed = row.text(1)?.parse::<u64>()?;
     let index = row.text(2)?.parse::<u64>()?;
-    let msg = drawn(rt.alloc(), &checked, seed, index)?;
-    body_text(rt.alloc(), &layout, &msg)
+    let msg = drawn(alloc, checked, seed, index)?;
+    body_text(alloc, layout, &msg)
 }
 
 /// A row: the body, and the index.

@@ -49,10 +49,15 @@ fn put(alloc: Global, row: &Row, printer: &mut Printer<'_, MemSink>) -> Result<(
 
 fn put_listed(alloc: Global, row: &Row, printer: &mut Printer<'_, MemSink>) -> Result<()> {
     let names = names_of(alloc, row.text(0)?)?;
+    put_named(row, names.as_slice(), printer)
+}
+
+/// The same, given the names.
+fn put_named(row: &Row, names: &[Named], printer: &mut Printer<'_, MemSink>) -> Result<()> {
     if row.call() == "put_enum" {
-        put_enum(printer, names.as_slice(), &row.number(1)?);
+        put_enum(printer, names, &row.number(1)?);
     } else {
-        put_set(printer, names.as_slice(), row.text(1)?.parse::<u64>()?);
+        put_set(printer, names, row.text(1)?.parse::<u64>()?);
     }
     Ok(())
 }
@@ -86,16 +91,27 @@ fn one_put(alloc: Global, row: &Row) -> Result<String> {
 /// A number printed after `many` bytes, of which the chunk gathers what it can.
 fn digits_behind(alloc: Global, many: usize, number: &str) -> Result<String> {
     let before = vec![in alloc; b'x'; many]?;
+    digits_after(alloc, before.as_slice(), number)
+}
+
+/// The same, given those bytes.
+fn digits_after(alloc: Global, before: &[u8], number: &str) -> Result<String> {
     let mut out = MemSink::new(alloc, ROOM, &[])?;
-    let mut chunk = Chunk::new();
-    let mut printer = Printer::new(&mut out, &mut chunk);
-    printer.put(before.as_slice());
-    put_number(&mut printer, &number.parse::<i128>()?);
-    printer.finish()?;
-    match out.bytes().strip_prefix(before.as_slice()) {
+    put_after(&mut out, before, number)?;
+    match out.bytes().strip_prefix(before) {
         Some(digits) => spelled(alloc, digits),
         None => bail!("what was before is gone"),
     }
+}
+
+/// Prints these bytes, and then a number.
+fn put_after(out: &mut MemSink, before: &[u8], number: &str) -> Result<()> {
+    let mut chunk = Chunk::new();
+    let mut printer = Printer::new(out, &mut chunk);
+    printer.put(before);
+    put_number(&mut printer, &number.parse::<i128>()?);
+    printer.finish()?;
+    Ok(())
 }
 
 /// Each of these numbers printed after that many bytes, each followed by a space.
@@ -135,20 +151,41 @@ fn all_digits(alloc: Global, numbers: &str) -> Result<String> {
 
 /// Two pieces of these sizes with a bar between them.
 fn pieces_put(alloc: Global, row: &Row) -> Result<String> {
-    let first = vec![in alloc; b'x'; row.size(0)?]?;
-    let second = vec![in alloc; b'y'; row.size(1)?]?;
+    let first = piece_of(alloc, b'x', row.size(0)?)?;
+    let second = piece_of(alloc, b'y', row.size(1)?)?;
+    both_put(alloc, first.as_slice(), second.as_slice())
+}
+
+/// A piece of this size.
+fn piece_of(alloc: Global, byte: u8, many: usize) -> Result<Vec<u8>> {
+    Ok(vec![in alloc; byte; many]?)
+}
+
+/// The two pieces with a bar between them.
+fn both_put(alloc: Global, first: &[u8], second: &[u8]) -> Result<String> {
     let mut out = MemSink::new(alloc, ROOM, &[])?;
-    let mut chunk = Chunk::new();
-    let mut printer = Printer::new(&mut out, &mut chunk);
-    printer.put(first.as_slice());
-    printer.put(b"|");
-    printer.put(second.as_slice());
-    printer.finish()?;
-    let wanted = [first.as_slice(), b"|", second.as_slice()].concat(alloc)?;
-    if out.bytes() == wanted.as_slice() {
+    put_both(&mut out, first, second)?;
+    if are_both(alloc, out.bytes(), first, second)? {
         return Ok(format!(in alloc; "whole")?);
     }
     bail!("the pieces differ")
+}
+
+/// Prints the two pieces with a bar between them.
+fn put_both(out: &mut MemSink, first: &[u8], second: &[u8]) -> Result<()> {
+    let mut chunk = Chunk::new();
+    let mut printer = Printer::new(out, &mut chunk);
+    printer.put(first);
+    printer.put(b"|");
+    printer.put(second);
+    printer.finish()?;
+    Ok(())
+}
+
+/// Whether these bytes are the two pieces with a bar between them.
+fn are_both(alloc: Global, bytes: &[u8], first: &[u8], second: &[u8]) -> Result<bool> {
+    let wanted = [first, b"|", second].concat(alloc)?;
+    Ok(bytes == wanted.as_slice())
 }
 
 /// Whether `many` pieces of ten bytes were written.

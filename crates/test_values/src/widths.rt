@@ -129,19 +129,34 @@ fn value_fits(alloc: Global, kind: &Kind, v: &Value) -> Result<String>
 /// A kind and a value. The kind is that of a leaf, of an enum with a leaf, or of a set with a primitive.
 fn kind_judged(alloc: Global, row: &Row) -> Result<String> {
     let value = value_of(alloc, row.text(2)?)?;
+    value_judged(alloc, row, &value)
+}
+
+/// The same, given the value.
+fn value_judged(alloc: Global, row: &Row, v: &Value) -> Result<String> {
     match row.text(0)? {
-        "leaf" => value_fits(alloc, &Kind::Leaf(leaf_of(alloc, row.text(1)?)?), &value),
-        "enum" => {
-            let leaf = leaf_of(alloc, row.text(1)?)?;
-            let names = names_of(alloc, row.text(3)?)?;
-            value_fits(alloc, &Kind::Enum(leaf, names), &value)
-        }
-        "set" => {
-            let names = names_of(alloc, row.text(3)?)?;
-            value_fits(alloc, &Kind::Set(prim_of(row.text(1)?)?, names), &value)
-        }
+        "leaf" => leaf_judged(alloc, row, v),
+        "enum" => enum_judged(alloc, row, v),
+        "set" => set_judged(alloc, row, v),
         _ => bail!("no kind"),
     }
+}
+
+fn leaf_judged(alloc: Global, row: &Row, v: &Value) -> Result<String> {
+    let leaf = leaf_of(alloc, row.text(1)?)?;
+    value_fits(alloc, &Kind::Leaf(leaf), v)
+}
+
+fn enum_judged(alloc: Global, row: &Row, v: &Value) -> Result<String> {
+    let leaf = leaf_of(alloc, row.text(1)?)?;
+    let names = names_of(alloc, row.text(3)?)?;
+    value_fits(alloc, &Kind::Enum(leaf, names), v)
+}
+
+fn set_judged(alloc: Global, row: &Row, v: &Value) -> Result<String> {
+    let names = names_of(alloc, row.text(3)?)?;
+    let prim = prim_of(row.text(1)?)?;
+    value_fits(alloc, &Kind::Set(prim, names), v)
 }
 
 /// A text of four bytes, which may be null.

@@ -3,7 +3,7 @@ use Rattle.schema_facts.specs.Levels.{all_nodes}
 use Rattle.layout_names.specs.declared.tables.LevelNames.{LevelNames}
 use Rattle.layout_names.specs.Tables.{parts_names}
 use Rattle.layout_names.proofs.Grows.{names_more}
-use Rattle.layout_names.proofs.tables.LayoutNames.new.Goals as goal
+use Rattle.layout_names.proofs.tables.levels_of.Goals as goal
 
 pub loop-n-preserved : goal.loop-n-preserved
 loop-n-preserved c =
