@@ -1,3 +1,5 @@
-pub mod Fronts
+pub mod Passing
+pub mod Texts
+pub mod Following
 pub mod Written
 pub mod Forms

@@ -1,3 +1,4 @@
 pub mod ClearRows
 pub mod Exact
+pub mod TaggedRows
 pub mod Taking

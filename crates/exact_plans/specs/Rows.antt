@@ -1,6 +1,7 @@
 -- The tags of rows. Own profile.
 use Rattle.std.specs.Prelude.{◌<◌, ◌^◌, List, Some, None, ⊤}
 use Rattle.std.specs.List.{AllByRecursion}
+use Rattle.tagvalue_codec.specs.Fields.{IsTag}
 use Rattle.message_walk.specs.declared.plan.Part.{Part}
 use Rattle.message_walk.specs.declared.plan.Part.TheVariants as part
 use Rattle.message_walk.specs.declared.plan.PlanRow.{PlanRow}
@@ -20,3 +21,7 @@ pub record IsSmall {R : Type 0} (r : PlanRow R) : Type 0 where
 -- the same for each row
 abbrev pub AreSmall : {R : Type 0} → List (PlanRow R) → Type 0
 AreSmall {R} rows = AllByRecursion (λ (r : PlanRow R). IsSmall r) rows
+
+-- each row's tag has one to nine digits
+abbrev pub AreTagged : {R : Type 0} → List (PlanRow R) → Type 0
+AreTagged {R} rows = AllByRecursion (λ (r : PlanRow R). IsTag r.lead) rows

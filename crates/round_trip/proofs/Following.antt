@@ -1,23 +1,18 @@
--- The fields of a message, and those that are given for a head, can follow one another.
-use Rattle.std.proofs.Common.{◌≡◌, ◌<◌, ◌^◌, ℕ, true, false, List, [], ◌∷◌, ◌++◌, decimal, Option, Some, None, Ok, refl, sym, subst, arith, lit<}
+-- The fields that are given for a head stand alone.
+use Rattle.std.proofs.Common.{◌≡◌, ◌<◌, ◌^◌, ℕ, true, false, List, [], ◌∷◌, ◌++◌, decimal, Option, Some, None, refl, arith, lit<}
 use Rattle.std.specs.Option.{option_map}
 use Rattle.std.proofs.lemmas.Fmt.{decimal_nonempty}
-use Rattle.sbe_types.specs.declared.message.Value.{Value}
 use Rattle.tagvalue_codec.specs.declared.data_tags.Pair.{Pair}
 use Rattle.tagvalue_codec.specs.Fields.{Field, IsTag, soh}
 use Rattle.tagvalue_codec.specs.Texts.{IsOrdinary, is_locked}
-use Rattle.bridge_terms.specs.MessageFields.{fields_of, message_parts}
 use Rattle.bridge_terms.specs.Parts.{TagLists}
-use Rattle.bridge_terms.specs.Plans.{Each, Plan, Tree, all_tags, is_in}
-use Rattle.bridge_terms.proofs.Writing.{each_more, fields_among, fields_is}
+use Rattle.bridge_terms.specs.Plans.{Each, is_in}
 use Rattle.fix_messages.specs.Heads.{Head, IsGivenValue, IsHeadReady, given, given_fields}
 use Rattle.tofix_replies.specs.ToFix.{head_after, number_after}
 use Rattle.same_texts.specs.Follow.{IsAlone}
 use Rattle.same_texts.proofs.Splits.{decimal_without}
 use Rattle.same_texts.proofs.Values.{each_append}
 use Rattle.round_trip.specs.Returns.{IsGiven}
-
--- ---- the head
 
 given_ordinary : (tag : ℕ) (o : Option (List ℕ)) → IsTag tag → is_locked tag ≡ false → IsGivenValue o → Each IsOrdinary (given tag o)
 given_ordinary tag None tagged unlocked is = tt
@@ -53,11 +48,3 @@ head_alone tags lists translated head ready is = each_alone tags lists (given_fi
 pub given_headed : (tags : List Pair) (lists : TagLists) (fs : List Field) → Each (IsGiven tags lists) fs → Each (λ f. is_in f.tag lists.header ≡ true) fs
 given_headed tags lists [] is = tt
 given_headed tags lists (f ∷ fs) is = (is.0.header, given_headed tags lists fs is.1)
-
--- ---- the message
-
--- what holds of the tags of a plan holds of those of a message's fields
-pub fields_tagged : (P : ℕ → Type 0) (p : Plan) (t : Tree Value p) (own : List Field) → ((tag : ℕ) → is_in tag (all_tags p) ≡ true → P tag) → fields_of p t ≡ Ok own → Each (λ f. P f.tag) own
-fields_tagged P p t own all h =
-    let is = fields_is (message_parts p t) own h in
-    subst (Each (λ f. P f.tag)) (sym is.2) (each_more (λ f. is_in f.tag (all_tags p) ≡ true) (λ f. P f.tag) (λ f among. all f.tag among) _ (fields_among p t is.0 is.1))

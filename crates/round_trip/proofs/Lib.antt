@@ -1,5 +1,3 @@
-pub mod Passing
-pub mod Texts
 pub mod Following
 pub mod Sending
 pub mod Returning

@@ -14,15 +14,15 @@ use Rattle.open_framing.specs.Frames.{Item}
 use Rattle.open_framing.specs.declared.head.TheConstants.{HEAD_BYTES}
 use Rattle.map_types.specs.Trees.{members_of}
 use Rattle.tagvalue_codec.specs.Drafts.{typed}
-use Rattle.tagvalue_codec.specs.Fields.{Field, IsTag, bytes_of}
+use Rattle.tagvalue_codec.specs.Fields.{Field, bytes_of}
 use Rattle.tagvalue_codec.specs.Texts.{Body, FixText, Free, fields_over}
 use Rattle.tagvalue_codec.proofs.Whole.{not_both, one_text}
 use Rattle.reference_graph.specs.Expansion.{Structure}
 use Rattle.bridge_rules.proofs.OptionLemmas.{some_is}
 use Rattle.bridge_terms.specs.Blocks.{IsBackBlock, values_of}
 use Rattle.bridge_terms.specs.Gathering.{message_application_items}
-use Rattle.bridge_terms.specs.MessageFields.{fields_of, with_lengths}
-use Rattle.bridge_terms.specs.Parts.{application_fields, is_application}
+use Rattle.bridge_terms.specs.MessageFields.{fields_of}
+use Rattle.bridge_terms.specs.Parts.{application_fields}
 use Rattle.bridge_terms.specs.Places.{places_of}
 use Rattle.bridge_terms.specs.Plans.{Each, Plan, Tree, is_in}
 use Rattle.bridge_terms.specs.WayBack.{Refusal, back_refused}
@@ -33,7 +33,6 @@ use Rattle.bridge_plan.specs.Mappings.{Mapping, structure_for}
 use Rattle.bridge_plan.specs.Translation.{ComesBack as MessageComesBack, Draft, IsMessageOf, whole_text}
 use Rattle.bridge_plan.proofs.BackFits.{KindsAreWritable, back_fits}
 use Rattle.bridge_plan.proofs.FittingMessages.{fits_come_back}
-use Rattle.bridge_plan.proofs.Passing.{passed_over}
 use Rattle.bridge_plan.proofs.SchemaGives.{checked_kinds}
 use Rattle.bridge_plan.proofs.Translating.{back_application, message_unrefused, one_message}
 use Rattle.bridge_mapping.proofs.Lawful.{kept_distinct}
@@ -53,14 +52,12 @@ use Rattle.tosbe_command.specs.ToSbe.{IsItemReply, IsTextMessage, IsTextReply, R
 use Rattle.tosbe_command.proofs.TextBodies.{frames_of}
 use Rattle.same_texts.specs.Follow.{IsFramed}
 use Rattle.same_texts.specs.Same.{ArePairsOf}
-use Rattle.same_texts.proofs.Ends.{own_follow}
-use Rattle.same_texts.proofs.Following.{all_follow, alone_follow}
-use Rattle.same_texts.proofs.Passing.{each_kept}
+use Rattle.back_texts.proofs.Following.{given_follow}
+use Rattle.back_texts.proofs.Passing.{front_fields, front_headed, text_fields}
+use Rattle.back_texts.proofs.Texts.{body_bytes, fields_short, sent_text}
 use Rattle.round_trip.specs.Returns.{fields_between, fields_by, items_by, plan_by, text_item, values_by, AreOfOne, CanReturn, IsReturned, IsOfMessage, IsReplyWith, MayFollow}
-use Rattle.round_trip.proofs.Following.{fields_tagged, given_headed, head_alone}
-use Rattle.round_trip.proofs.Passing.{front_fields, front_headed, text_fields}
+use Rattle.round_trip.proofs.Following.{given_headed, head_alone}
 use Rattle.round_trip.proofs.Sending.{IsSent, frame_sent}
-use Rattle.round_trip.proofs.Texts.{body_bytes, fields_short, sent_text}
 
 -- ---- a text of a covered template
 
@@ -84,7 +81,7 @@ module _ (writable : KindsAreWritable) (back : BackBridge) (good : IsBackBridge 
   module _ (head : Head) (fields : List Field) (values : Tree Value p) (only : templates_of kind back.schema.messages ≡ level ∷ [])
       (headed : Each (λ f. is_in f.tag m.lists.header ≡ true) (given_fields head)) (written : fields_of p values ≡ Ok fields) (can : CanReturn p values) where
     abbrev body : List ℕ
-    body = body_bytes (tags_in back) m.lists kind head fields
+    body = body_bytes m.lists kind head fields
 
     -- the fields of the text, and the same as a draft
     abbrev all : List Field
@@ -146,6 +143,9 @@ module _ (writable : KindsAreWritable) (back : BackBridge) (good : IsBackBridge 
 room_left : (n limit frame : ℕ) → limit ≡ frame - HEAD_BYTES → n ≤ limit → HEAD_BYTES ≤ frame → n + HEAD_BYTES ≤ frame
 room_left n limit frame is within low = omega arith
 
+below : (n limit : ℕ) → limit < 1000000000 → n ≤ limit → n < 1000000000
+below n limit small within = omega arith
+
 -- what the law says of a bridge
 module _ (back : BackBridge) (kept : Kept) (item : Item) (s : Structure) (level : Level) (m : Msg) (reply : Reply) where
   abbrev Returns : Bridge → Type 0
@@ -175,19 +175,15 @@ module _ (writable : KindsAreWritable) (schemas : Schemas) (first : Head) (frame
       let within : length text ≤ limit = text_within lists limit kind head (places_of p values) sends.unrefused in
       let written : fields_of p values ≡ Ok fields = told_fields p values (none_refused lists limit kind head (places_of p values) sends.unrefused) in
       let few : limit < 1000000000 = omega (arith, high) in
+      let small : length text < 1000000000 = below (length text) limit few within in
       let tags = tags_in back in
       let pairs : ArePairsOf tags lists = refl in
       let its : IsCovered (mapping_in back) s level = covered writable back good s level m.template is.there is.mapped sends.covered in
-      let application : Each (λ f. is_application lists f ≡ true) fields =
-      subst (Each (λ f. is_application lists f ≡ true)) (passed_over (mapping_in back) s level its.distinct its.covered [] tt values fields written) (each_kept lists (with_lengths lists fields)) in
-      let tagged : Each (λ f. IsTag f.tag) fields = fields_tagged IsTag p values fields follow.tags.each written in
-      let short = fields_short tags lists kind head fields limit few within in
-      let can_follow = own_follow lists tags pairs p values fields (frames_of (members_of back.repository)) follow.clear can.shown can.counted written application tagged short in
       let body : Body tags Free (fields_between lists head fields) (bytes_of (fields_between lists head fields)) =
-      alone_follow tags lists pairs (given_fields head) (with_lengths lists fields) (head_alone tags lists kept.translated first ready follow.given)
-      (all_follow tags lists pairs follow.tags.pairs fields can_follow) in
-      let own : FixText tags (fields_over head.begin (typed kind) (fields_between lists head fields) (body_bytes tags lists kind head fields)) text =
-      sent_text tags lists kind head fields limit ready.begin (kinds kind s is.mapped) few within body follow.few in
+      given_follow (mapping_in back) s level values fields tags (given_fields head) pairs follow.tags (frames_of (members_of back.repository))
+      (head_alone tags lists kept.translated first ready follow.given) its follow.clear can.shown can.counted written (fields_short lists kind head fields 1000000000 small) in
+      let own : FixText tags (fields_over head.begin (typed kind) (fields_between lists head fields) (body_bytes lists kind head fields)) text =
+      sent_text lists kind head fields tags ready.begin (kinds kind s is.mapped) small body follow.few in
       record {
         text = text;
         is = sends.is;

@@ -1,5 +1,5 @@
 -- The body of a message that was read and written as its text.
-use Rattle.std.proofs.Common.{◌≡◌, ◌<◌, ◌^◌, ℕ, List, Some, length, sym, ap, ◌∙◌, subst}
+use Rattle.std.proofs.Common.{◌≡◌, ◌<◌, ℕ, List, Some, length, sym, ap, ◌∙◌, subst}
 use Rattle.std.specs.Prelude.{slice_get}
 use Rattle.byte_digits.specs.Digits.{IsBytes}
 use Rattle.sbe_types.specs.declared.message.Msg.{Msg}
@@ -17,23 +17,17 @@ use Rattle.bridge_terms.specs.Places.{places_of}
 use Rattle.bridge_terms.specs.Plans.{Plan}
 use Rattle.bridge_terms.specs.Parts.{TagLists}
 use Rattle.bridge_plan.specs.Covers.{plan_of}
-use Rattle.bridge_plan.specs.Mappings.{Mapping}
-use Rattle.bridge_plan.specs.Translation.{IsMessageOf}
-use Rattle.reference_graph.specs.Expansion.{Structure}
-use Rattle.tagvalue_codec.specs.declared.data_tags.Pair.{Pair}
-use Rattle.tagvalue_codec.specs.Fields.{Field}
 use Rattle.flyweight_view.specs.TypedBlocks.{TypedBlock, TypedMessage, typed_level}
 use Rattle.message_walk.specs.Rows.{AreRows, FitsBlock}
 use Rattle.fix_messages.specs.declared.text.MessageRows.{MessageRows}
 use Rattle.fix_messages.specs.Heads.{Head}
-use Rattle.back_texts.specs.Backs.{IsOwnMessage, IsTextOf, IsWrittenAs}
-use Rattle.text_bodies.specs.Bodies.{IsBodyOfText, IsPlannedBy, IsReadWith, Reading}
+use Rattle.back_texts.specs.Backs.{HasFewFields, IsOwnMessage, IsReadBack, IsTextOf, IsWrittenAs, Writing}
+use Rattle.text_bodies.specs.Bodies.{IsBodyOfText, IsHeadFor, IsPlannedBy, Reading, kind_read}
 
 -- the law of messages and their texts
 abbrev pub AreOfTheirTexts : Type 0
 AreOfTheirTexts =
-    (schema : WireSchema) (m : Mapping) (s : Structure) (level : Level) (tags : List Pair) (message : Msg) (fields : List Field) (text body : List ℕ)
-    → IsOwnMessage schema level message body → IsWrittenAs m s level tags message fields text → IsMessageOf m s level fields message.block
+    (schema : WireSchema) (by : Writing) (message : Msg) (text body : List ℕ) → IsOwnMessage schema by.level message body → IsWrittenAs by message text → IsReadBack by message text
 
 -- what is known of a view of a body: a message of the template and of the schema's own version lies there
 pub record IsViewOf (schema : WireSchema) (template : ℕ) (body : List ℕ) (seen : TypedMessage) : Type 0 where
@@ -53,7 +47,7 @@ IsWrittenBy spells own limit head text root =
 
 module _ {R : Type 0} (spells : R → Rule → Type 0) (law : AreOfTheirTexts) (schema : WireSchema) (template limit : ℕ) (own : MessageRows R) (head : Head)
     (text body : List ℕ) (seen : TypedMessage) (is : IsViewOf schema template body seen) (put : IsWrittenBy spells own limit head text (typed_level seen.level seen.message.block))
-    (r : Reading) (by : IsPlannedBy spells schema template own r) (reads : IsReadWith head text r) where
+    (few : HasFewFields text) (short : length text < 1000000000) (r : Reading) (by : IsPlannedBy spells schema template own r) (good : IsHeadFor head r) where
   level_is : seen.level ≡ r.level
   level_is = some_is (sym is.there ∙ ap (slice_get schema.messages) is.template_is ∙ by.there)
 
@@ -63,16 +57,17 @@ module _ {R : Type 0} (spells : R → Rule → Type 0) (law : AreOfTheirTexts) (
   abbrev p : Plan
   p = plan_of r.m r.s r.level
 
-  message_written : IsWrittenAs r.m r.s r.level r.tags seen.message r.fields text
+  abbrev writing : Writing
+  writing = record { m = r.m; s = r.s; level = r.level; tags = r.tags; head = head }
+
+  message_written : IsWrittenAs writing seen.message text
   message_written = record {
-    pairs = by.pairs;
     plan = by.plan;
-    head = head;
-    good = reads.good;
+    good = good;
     limit = limit;
     written = subst (λ (kind : List ℕ). IsTextOf r.m.lists limit kind head (places_of p (values_of p seen.message.block)) text) by.kind (here r.m.lists p by.rows by.fits);
-    read = reads.read;
-    short = reads.short;
+    few = few;
+    short = short;
   }
 
   own_message : IsOwnMessage schema r.level seen.message body
@@ -84,12 +79,16 @@ module _ {R : Type 0} (spells : R → Rule → Type 0) (law : AreOfTheirTexts) (
     lies = is.lies;
   }
 
-  pub body_is : IsBodyOfText schema template r body
-  body_is = record {
-    message = seen.message;
-    template_is = is.template_is;
-    version = is.version;
-    is = law schema r.m r.s r.level r.tags seen.message r.fields text body own_message message_written;
-    fits = lies_fits schema is.checked.placed (schema_writable schema is.checked) seen.message body is.bytes is.version is.lies;
-    written = is.clean seen.message is.template_is is.version is.lies;
-  }
+  pub body_is : IsBodyOfText schema template r text body
+  body_is =
+      let back : IsReadBack writing seen.message text = law schema writing seen.message text body own_message message_written in
+      record {
+        fields = back.fields;
+        read = back.read;
+        message = seen.message;
+        template_is = is.template_is;
+        version = is.version;
+        is = back.is;
+        fits = lies_fits schema is.checked.placed (schema_writable schema is.checked) seen.message body is.bytes is.version is.lies;
+        written = is.clean seen.message is.template_is is.version is.lies;
+      }

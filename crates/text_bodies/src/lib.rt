@@ -1,6 +1,8 @@
 //! Whether a body is the one of the message that a text is translated to.
 #![tactic(auto)]
 
+mod few;
 mod judging;
 
+pub use few::is_few;
 pub use judging::is_body_of_text;

@@ -1,19 +1,18 @@
 // Blocks of a text's fields, taken on trust. No contract covers the result.
 use crate::digits::{decimal_in, integer_in};
-use crate::fields::Fields;
+use crate::fields::{Fields, Range};
 use crate::level::{BackLevels, DraftLevel, DraftPart, DraftRow, DraftTree, FieldForm};
 use crate::values::put_value;
 use field_judge::{BackLevel, BackPart, level_at};
 use line_draft::BodyDraft;
 use sbe_types::{DataField, Field, Group, Level, Order, WireSchema};
-use tagvalue_codec::FieldTable;
 use text_values::TextValue;
 
 /// The most data parts of a level. A level with more takes the general path.
 const MOST_DATA: usize = 8;
 
-/// The number of the field of data that a text doesn't have: that of BeginString.
-const NO_DATA: usize = 0;
+/// The tag of CheckSum, after which nothing follows.
+const CHECK_SUM: u32 = 10;
 
 /// What a template's bodies are drafted by: its schema, its levels, and those by which its texts are read.
 #[derive(Clone, Copy)]
@@ -30,13 +29,13 @@ struct LevelRows<'a> {
     back: &'a BackLevel,
 }
 
-/// A block that is drafted: its offset in the draft, how many of its groups were, and for each of its data the number of its
-/// field.
+/// A block that is drafted: its offset in the draft, how many of its groups were, and for each of its data the offsets of its
+/// value.
 #[derive(Drop)]
 struct Block {
     at: usize,
     groups: usize,
-    data: [usize; MOST_DATA],
+    data: [Range; MOST_DATA],
 }
 
 impl Block {
@@ -54,14 +53,13 @@ impl Block {
     }
 }
 
-/// Writes the body of the message that a text seems to be translated to, if its fields are in the order of the template's
-/// structure. Returns false if they aren't, or if the draft is full. Neither answer is guaranteed: a caller has to verify
-/// it. Allocates nothing.
+/// Writes the body of the message that a text seems to be translated to, if its fields from an offset on are in the order of
+/// the template's structure. Returns false if they aren't, or if the draft is full. Neither answer is guaranteed: a caller has
+/// to verify it. Allocates nothing.
 pub fn draft_text(
     by: Drafting<'_>,
     level: &Level,
-    text: &[u8],
-    table: &FieldTable,
+    text: (&[u8], usize),
     draft: &mut BodyDraft,
 ) -> bool {
     draft.clear();
@@ -72,8 +70,8 @@ pub fn draft_text(
         own: &by.tree.root,
         back: by.back.root,
     };
-    let mut fields = Fields::after_head(text, table);
-    block_in(by, rows, level, &mut fields, draft) && fields.at_sum()
+    let mut fields = Fields::from(text.0, text.1);
+    block_in(by, rows, level, &mut fields, draft) && fields.is_next(CHECK_SUM)
 }
 
 /// The block of a root or of an entry, its groups and its data.
@@ -91,7 +89,7 @@ fn block_in(
     let mut block = Block {
         at,
         groups: 0,
-        data: [NO_DATA; MOST_DATA],
+        data: [(0, 0); MOST_DATA],
     };
     for (k, row) in rows.own.rows.as_slice().iter().enumerate() {
         if !put_part(by, rows, level, (k, row), &mut block, fields, draft) {
@@ -194,19 +192,27 @@ fn field_at(level: &Level, i: usize) -> Option<&Field> {
     Some(level.fields.at(i))
 }
 
-/// Data and its length field, if they come next: the number of the data's field is kept, since data follow the groups.
-fn data_in(tag: u32, i: usize, lead: u32, fields: &mut Fields<'_>, data: &mut [usize]) -> bool {
+/// Data and its length field, if they come next: the offsets of the value are kept, since data follow the groups.
+fn data_in(tag: u32, i: usize, lead: u32, fields: &mut Fields<'_>, data: &mut [Range]) -> bool {
     if i >= data.len() {
         return false;
     }
-    if lead != 0 {
-        fields.takes(lead);
-    }
-    let at = fields.at();
-    if fields.takes(tag).is_some() {
-        data[i] = at;
+    let many = match length_before(lead, fields) {
+        Some(digits) => integer_in(digits),
+        None => None,
+    };
+    if let Some(range) = fields.takes_data(tag, many) {
+        data[i] = range;
     }
     true
+}
+
+/// The digits of a length field with this tag, if it comes next. No length field has the tag 0.
+fn length_before<'a>(lead: u32, fields: &mut Fields<'a>) -> Option<&'a [u8]> {
+    if lead == 0 {
+        return None;
+    }
+    fields.takes(lead)
 }
 
 /// The dimension and the entries of a group; none if its count doesn't come next.
@@ -290,31 +296,20 @@ fn count_in(text: Option<&[u8]>) -> Option<u64> {
     }
 }
 
-/// The data of a level, by the numbers of their fields.
+/// The data of a level, by the offsets of their values.
 fn put_all_data(
     order: Order,
     parts: &[DataField],
-    data: &[usize],
+    data: &[Range],
     fields: &Fields<'_>,
     draft: &mut BodyDraft,
 ) -> bool {
     for (i, part) in parts.iter().enumerate() {
-        if i >= data.len() || !put_data(order, part, data_at(fields, data[i]), draft) {
+        if i >= data.len() || !put_data(order, part, fields.bytes(data[i]), draft) {
             return false;
         }
     }
     true
-}
-
-/// The value of a field of data, which is empty without a field.
-fn data_at<'a>(fields: &Fields<'a>, i: usize) -> &'a [u8] {
-    if i == NO_DATA {
-        return &[];
-    }
-    match fields.value(i) {
-        Some(value) => value,
-        None => &[],
-    }
 }
 
 /// Appends data: their length, and then their bytes.

@@ -1,69 +1,125 @@
 // The fields of a text, one after another. What is read here is a guess, and no contract covers it.
-use tagvalue_codec::FieldTable;
 
-/// The number of the first field after BeginString, BodyLength and MsgType.
-const AFTER_TYPE: usize = 3;
+/// The byte that ends a field.
+const SOH: u8 = 1;
 
-/// A text, its fields, and how many of them were passed.
+/// No field: a tag that no field has.
+const NO_TAG: u32 = 0;
+
+/// The offsets of a value: where it begins, and where it ends.
+pub(crate) type Range = (usize, usize);
+
+/// A text and its next field: its tag, or 0 if there is none, and the offsets of its value.
 #[derive(Drop)]
 pub(crate) struct Fields<'a> {
     text: &'a [u8],
-    table: &'a FieldTable,
-    at: usize,
+    tag: u32,
+    value: Range,
 }
 
 impl<'a> Fields<'a> {
-    /// The fields after the head, which has SenderCompID, TargetCompID, MsgSeqNum and SendingTime, or some of them.
-    pub(crate) fn after_head(text: &'a [u8], table: &'a FieldTable) -> Fields<'a> {
+    /// The fields of a text from an offset on.
+    pub(crate) fn from(text: &'a [u8], at: usize) -> Fields<'a> {
         let mut fields = Fields {
             text,
-            table,
-            at: AFTER_TYPE,
+            tag: NO_TAG,
+            value: (0, 0),
         };
-        fields.takes(49);
-        fields.takes(56);
-        fields.takes(34);
-        fields.takes(52);
+        fields.go_to(at);
         fields
     }
 
-    /// How many fields were passed.
-    pub(crate) fn at(&self) -> usize {
-        self.at
+    /// Reads the field at an offset, which is the next one from here on.
+    #[inline(always)]
+    fn go_to(&mut self, at: usize) {
+        match field_at(self.text, at) {
+            Some((tag, value)) => {
+                self.tag = tag;
+                self.value = value;
+            }
+            None => self.tag = NO_TAG,
+        }
     }
 
     /// Whether the next field has this tag.
     #[inline(always)]
     pub(crate) fn is_next(&self, tag: u32) -> bool {
-        self.at < self.table.len() && self.table.field(self.at).tag == tag
+        self.tag == tag
     }
 
     /// The value of the next field, which is passed, if it has this tag.
     #[inline(always)]
     pub(crate) fn takes(&mut self, tag: u32) -> Option<&'a [u8]> {
-        if !self.is_next(tag) {
+        if self.tag != tag {
             return None;
         }
-        let value = self.value(self.at)?;
-        self.at = self.at.saturating_add(1);
+        let value = self.bytes(self.value);
+        self.go_to(self.value.1.saturating_add(1));
         Some(value)
     }
 
-    /// The value of field `i`.
-    #[inline(always)]
-    pub(crate) fn value(&self, i: usize) -> Option<&'a [u8]> {
-        if i >= self.table.len() {
+    /// The offsets of the next field's value, which is passed, if it has this tag. `many` is how many bytes the value has, or `None`
+    /// if it ends at the next SOH.
+    pub(crate) fn takes_data(&mut self, tag: u32, many: Option<u64>) -> Option<Range> {
+        if self.tag != tag {
             return None;
         }
-        let field = self.table.field(i);
-        if field.from > field.to || field.to > self.text.len() {
-            return None;
-        }
-        Some(&self.text[field.from..field.to])
+        let (from, next) = self.value;
+        let end = match many {
+            Some(many) => from.saturating_add(usize::try_from(many).ok()?),
+            None => next,
+        };
+        self.go_to(end.saturating_add(1));
+        Some((from, end))
     }
 
-    /// Whether all fields but the last, which is the sum, were passed.
-    pub(crate) fn at_sum(&self) -> bool {
-        self.at < self.table.len() && self.table.len() - self.at == 1
+    /// The bytes at these offsets; none if they aren't within the text.
+    #[inline(always)]
+    pub(crate) fn bytes(&self, range: Range) -> &'a [u8] {
+        let (from, to) = range;
+        if from > to || to > self.text.len() {
+            return &[];
+        }
+        &self.text[from..to]
     }
+}
+
+/// The field at an offset of a text: its tag, and the offsets of its value, which ends at the next SOH.
+#[inline(always)]
+fn field_at(text: &[u8], at: usize) -> Option<(u32, Range)> {
+    if at > text.len() {
+        return None;
+    }
+    let (tag, digits) = tag_in(&text[at..])?;
+    let from = at.saturating_add(digits).saturating_add(1);
+    if from > text.len() {
+        return None;
+    }
+    let many = length_in(&text[from..])?;
+    Some((tag, (from, from.saturating_add(many))))
+}
+
+/// The number that the digits before the first `=` spell, and how many they are.
+#[inline(always)]
+fn tag_in(bytes: &[u8]) -> Option<(u32, usize)> {
+    let mut tag = 0u32;
+    for (i, byte) in bytes.iter().enumerate() {
+        let digit = byte.wrapping_sub(b'0');
+        if digit > 9 {
+            return if *byte == b'=' { Some((tag, i)) } else { None };
+        }
+        tag = tag.wrapping_mul(10).wrapping_add(digit as u32);
+    }
+    None
+}
+
+/// How many bytes are before the first SOH.
+#[inline(always)]
+fn length_in(bytes: &[u8]) -> Option<usize> {
+    for (i, byte) in bytes.iter().enumerate() {
+        if *byte == SOH {
+            return Some(i);
+        }
+    }
+    None
 }

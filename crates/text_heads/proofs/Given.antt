@@ -1,21 +1,21 @@
 -- The fields of a head that is read.
-use Rattle.std.proofs.Common.{◌≡◌, ◌<◌, ◌≤◌, ◌^◌, ◌==◌, inl, inr, ℕ, zero, suc, Bool, true, false, List, [], ◌∷◌, ◌++◌, length, decimal, map, Option, Some, None, refl, sym, ap, ◌∙◌, subst, arith}
-use Rattle.std.specs.Prelude.{IfSome, not, ◌&&◌, if◌then◌else◌}
-use Rattle.std.specs.List.{AllByRecursion, list_all}
+use Rattle.std.proofs.Common.{◌≡◌, ◌<◌, ◌≤◌, ◌^◌, ◌==◌, inl, inr, ℕ, Bool, true, false, List, [], ◌∷◌, ◌++◌, length, decimal, map, Option, Some, None, refl, sym, ap, ◌∙◌, subst, arith, lit<}
+use Rattle.std.specs.Prelude.{if◌then◌else◌}
 use Rattle.std.specs.Option.{option_map}
-use Rattle.std.proofs.lemmas.Bool.{eq-eqb}
 use Rattle.std.proofs.lemmas.Fmt.{length-decimal-le}
 use Rattle.tagvalue_codec.specs.declared.data_tags.Pair.{Pair}
 use Rattle.tagvalue_codec.specs.declared.data_tags.Role.{Role}
 use Rattle.tagvalue_codec.specs.declared.data_tags.Role.TheVariants as role
-use Rattle.tagvalue_codec.specs.Fields.{soh}
+use Rattle.tagvalue_codec.specs.Fields.{IsTag}
 use Rattle.tagvalue_codec.specs.Pairs.{role_of}
-use Rattle.bridge_rules.proofs.BoolLemmas.{either, if_false, if_true, none_of, not_true, true_false}
+use Rattle.tagvalue_codec.specs.Texts.{is_locked}
+use Rattle.bridge_rules.proofs.BoolLemmas.{either, if_false, if_true, none_of}
 use Rattle.bridge_terms.specs.MessageFields.{length_in}
 use Rattle.bridge_terms.specs.Parts.{TagLists}
 use Rattle.bridge_terms.specs.Plans.{Each}
 use Rattle.message_walk.proofs.Values.{count_value}
 use Rattle.fix_messages.specs.Heads.{Head, IsGivenValue, given, given_fields}
+use Rattle.same_texts.specs.Follow.{IsAlone}
 use Rattle.same_texts.specs.Same.{ArePairsOf, IsDelimited, is_length}
 use Rattle.same_texts.proofs.Values.{each_append}
 use Rattle.back_texts.specs.Backs.{IsHeader}
@@ -24,36 +24,16 @@ use Rattle.text_heads.specs.declared.own.HeadTags.{HeadTags}
 
 -- ---- values
 
-abbrev pub IsPlainRow : List ℕ → Type 0
-IsPlainRow bs = AllByRecursion (λ b. b ≡ soh → ⊥) bs
-
-first_plain : (b : ℕ) (bs : List ℕ) (t : Bool) → not (b == 1) ≡ t → (list_all (λ b. not (b == 1)) bs ≡ true → IsPlainRow bs)
-    → (t && list_all (λ b. not (b == 1)) bs) ≡ true → IsPlainRow (b ∷ bs)
-first_plain b bs true is rest h = ((λ same. true_false (eq-eqb b 1 same) (not_true (b == 1) is)), rest h)
-first_plain b bs false is rest h = true_false h refl
-
-pub plain_bytes : (bs : List ℕ) → list_all (λ b. not (b == 1)) bs ≡ true → IsPlainRow bs
-plain_bytes [] h = tt
-plain_bytes (b ∷ bs) h = first_plain b bs (not (b == 1)) refl (plain_bytes bs) h
-
-pub above_zero : (n : ℕ) → (n == 0) ≡ false → 0 < n
-above_zero zero h = true_false refl h
-above_zero (suc n) h = omega arith
-
 -- a value that is given
 pub given_ready : (known : Bool) (o : Option (List ℕ)) → IsGivenOf known o → IsGivenValue o
 given_ready known None is = tt
 given_ready known (Some v) is = is.1
 
 -- a number that is given
-number_given : (known : Bool) (n : ℕ) → n < 2 ^ 64 → known ≡ true → IsGivenOf known (Some (decimal n))
+pub number_given : (known : Bool) (n : ℕ) → n < 2 ^ 64 → known ≡ true → IsGivenOf known (Some (decimal n))
 number_given known n small own =
     let few : length (decimal n) ≤ 20 = length-decimal-le 20 n (omega arith) (omega (arith, small)) (omega (arith, small)) in
     (own, count_value n small, omega (arith, few))
-
-pub number_of : (known : Bool) (o : Option ℕ) → IfSome o (λ n. n < 2 ^ 64) → known ≡ true → IsGivenOf known (option_map decimal o)
-number_of known None fits own = tt
-number_of known (Some n) fits own = number_given known n fits own
 
 -- ---- tags
 
@@ -107,3 +87,26 @@ module _ (pairs : List Pair) (lists : TagLists) (same : ArePairsOf pairs lists) 
       (each_append (IsHeader pairs lists) (given 56 head.target) (given 34 number ++ given 52 head.time) (given_header own.target 56 head.target (omega arith) target are.target)
       (each_append (IsHeader pairs lists) (given 34 number) (given 52 head.time) (given_header own.seq 34 number (omega arith) seq are.seq)
       (given_header own.time 52 head.time (omega arith) time are.time)))
+
+module _ (pairs : List Pair) (lists : TagLists) where
+  given_alone : (known : Bool) (tag : ℕ) (o : Option (List ℕ)) → IsTag tag → is_locked tag ≡ false → IsGivenOf known o → (known ≡ true → IsHeaderTag pairs lists tag) → Each (IsAlone pairs) (given tag o)
+  given_alone known tag None tagged unlocked is tags = tt
+  given_alone known tag (Some v) tagged unlocked is tags = (
+    record {
+      ordinary = record { plain = record { tagged = tagged; some = is.1.some; plain = is.1.plain }; unlocked = unlocked };
+      plain = (tags is.0).plain;
+    },
+    tt,
+  )
+
+  pub head_alone : (own : HeadTags) (head : Head) → AreHeadTags pairs lists own → IsGivenOf own.sender head.sender → IsGivenOf own.target head.target
+      → IsGivenOf own.seq (option_map decimal head.seq) → IsGivenOf own.time head.time → Each (IsAlone pairs) (given_fields head)
+  head_alone own head are sender target seq time =
+      let number = option_map decimal head.seq in
+      each_append (IsAlone pairs) (given 49 head.sender) (given 56 head.target ++ (given 34 number ++ given 52 head.time))
+      (given_alone own.sender 49 head.sender (record { above = lit< tt; below = lit< tt }) refl sender are.sender)
+      (each_append (IsAlone pairs) (given 56 head.target) (given 34 number ++ given 52 head.time)
+      (given_alone own.target 56 head.target (record { above = lit< tt; below = lit< tt }) refl target are.target)
+      (each_append (IsAlone pairs) (given 34 number) (given 52 head.time)
+      (given_alone own.seq 34 number (record { above = lit< tt; below = lit< tt }) refl seq are.seq)
+      (given_alone own.time 52 head.time (record { above = lit< tt; below = lit< tt }) refl time are.time)))

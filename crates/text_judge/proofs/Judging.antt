@@ -1,5 +1,5 @@
 -- The body of a text of the only template that has its MsgType.
-use Rattle.std.proofs.Common.{◌≡◌, ◌<◌, ◌^◌, ℕ, zero, suc, Bool, true, List, [], ◌∷◌, Option, Some, length, map, refl, sym, ap, ◌∙◌, subst}
+use Rattle.std.proofs.Common.{◌≡◌, ℕ, zero, suc, Bool, true, List, [], ◌∷◌, Option, Some, map, refl, sym, ap, ◌∙◌, subst}
 use Rattle.std.specs.Prelude.{bytes_eq, slice_get}
 use Rattle.std.specs.List.{All}
 use Rattle.std.proofs.lemmas.List.Elements.{All-head, filter_passes}
@@ -7,11 +7,11 @@ use Rattle.std.proofs.lemmas.Slice.Eq.{bytes_eq-Decides}
 use Rattle.sbe_types.specs.declared.schema.Level.{Level, out-Level}
 use Rattle.sbe_types.specs.declared.schema.WireSchema.{WireSchema}
 use Rattle.tagvalue_codec.specs.Drafts.{IsValue}
-use Rattle.tagvalue_codec.specs.Texts.{FixText}
+use Rattle.tagvalue_codec.specs.Fields.{IsTag}
 use Rattle.reference_graph.specs.Expansion.{Structure}
 use Rattle.bridge_rules.proofs.OptionLemmas.{none_some, some_is}
 use Rattle.bridge_terms.specs.PlanFacts.{EachRule}
-use Rattle.bridge_terms.specs.Plans.{Each}
+use Rattle.bridge_terms.specs.Plans.{all_tags, is_in}
 use Rattle.bridge_plan.specs.CheckedLevels.{IsCovered}
 use Rattle.bridge_plan.specs.Covers.{plan_of, templates_of}
 use Rattle.bridge_plan.specs.Mappings.{Mapping}
@@ -21,15 +21,16 @@ use Rattle.message_walk.specs.Rows.{AreRows}
 use Rattle.value_texts.specs.declared.row.ValueText.{ValueText}
 use Rattle.value_texts.specs.Rows.{Spells}
 use Rattle.fix_messages.specs.declared.text.MessageRows.{MessageRows}
-use Rattle.fix_messages.specs.Heads.{Head, IsHeadReady, given_fields}
+use Rattle.fix_messages.specs.Heads.{Head, head_of}
 use Rattle.same_texts.specs.Same.{IsClear}
-use Rattle.back_texts.specs.Backs.{IsExact, IsHeader}
+use Rattle.back_texts.specs.Backs.{IsExact}
 use Rattle.back_texts.proofs.Forms.{plan_exact}
 use Rattle.exact_plans.specs.Exact.{is_exact}
 use Rattle.exact_plans.proofs.Exact.{of_one_form}
-use Rattle.text_bodies.specs.Bodies.{IsBodyOfText, IsPlannedBy, IsReadWith, Reading}
+use Rattle.text_heads.specs.declared.heads.TextFront.{TextFront}
+use Rattle.text_bodies.specs.Bodies.{IsBodyOfText, IsHeadFor, IsPlannedBy, Reading}
 use Rattle.text_judge.specs.declared.judge.TextJudge.{TextJudge}
-use Rattle.text_judge.specs.Judges.{HasBodyOf, IsJudgeFor, TextBody, reading_of}
+use Rattle.text_judge.specs.Judges.{HasBodyOf, IsFront, IsJudgeFor, TextBody, reading_of}
 
 -- ---- the template
 
@@ -55,19 +56,21 @@ marked_exact levels marks i level are there marked m s =
 
 -- ---- the body
 
--- what the code finds for a text: the rows of its template, and its head
+-- what the code finds for a text: the rows of its template
 pub record IsFoundFor (m : Mapping) (template : ℕ) (level : Level) (judge : TextJudge) (rows : List (PlanRow ValueText)) : Type 0 where
   pub mapped : IsMapped Spells m level rows
   pub clear : IsClear m.lists (plan_of m mapped.structure level)
+  pub tagged : (tag : ℕ) → is_in tag (all_tags (plan_of m mapped.structure level)) ≡ true → IsTag tag
+  pub paired : judge.own_pairs ≡ true
   pub marked : slice_get judge.exact template ≡ Some true
 
-module _ (m : Mapping) (schema : WireSchema) (template : ℕ) (judge : TextJudge) (of : TextBody) (kind text : List ℕ) (head : Head) (rows : List (PlanRow ValueText))
+module _ (m : Mapping) (schema : WireSchema) (template : ℕ) (judge : TextJudge) (of : TextBody) (kind : List ℕ) (rows : List (PlanRow ValueText))
     (is : IsJudgeFor m schema of.tags judge) (only : IsOnly kind schema.messages template) (found : IsFoundFor m template only.level judge rows) where
   abbrev s : Structure
   s = found.mapped.structure
 
   abbrev r : Reading
-  r = reading_of m s only.level of
+  r = reading_of m s only.level of.tags
 
   covered : IsCovered m s only.level
   covered = is.covers template only.level s only.there found.mapped.mapped found.mapped.covered
@@ -75,11 +78,13 @@ module _ (m : Mapping) (schema : WireSchema) (template : ℕ) (judge : TextJudge
   same_kind : (out-Level only.level).semantic ≡ kind
   same_kind = kind_of_only kind schema.messages only.level only.only
 
-  pub read_with : IsValue kind → IsHeadReady head → Each (IsHeader of.tags m.lists) (given_fields head) → FixText of.tags of.fields text → length text < 2 ^ 64 → IsReadWith head text r
-  read_with value ready given read short = record {
-    good = record { framed = is.framed; begin = ready.begin; typed = subst IsValue (sym same_kind) value; given = given };
-    read = read;
-    short = short;
+  pub head_good : (front : TextFront) → front.kind.now ≡ kind → IsFront judge.head front → IsHeadFor (head_of front.head) r
+  head_good front its own = record {
+    framed = is.framed;
+    begin = own.ready.begin;
+    typed = subst IsValue (its ∙ sym same_kind) own.kind;
+    given = own.header of.tags m.lists is.pairs is.own.head;
+    alone = own.alone of.tags m.lists is.pairs is.own.head;
   }
 
   -- rows by which a text of the template is written
@@ -90,14 +95,17 @@ module _ (m : Mapping) (schema : WireSchema) (template : ℕ) (judge : TextJudge
       kind = typed ∙ sym same_kind;
       rows = subst (AreRows Spells m.lists (plan_of m s only.level)) (sym placed) found.mapped.rows;
       fits = found.mapped.fits;
-      pairs = is.pairs;
       plan = record {
-        covered = covered;
-        clear = found.clear;
-        exact = marked_exact schema.messages judge.exact template only.level is.own.exact only.there found.marked m s;
+        pairs = is.pairs;
+        tagged = record { pairs = is.own.own_pairs found.paired; each = found.tagged };
+        plan = record {
+          covered = covered;
+          clear = found.clear;
+          exact = marked_exact schema.messages judge.exact template only.level is.own.exact only.there found.marked m s;
+        };
       };
     }
 
-    pub has_body : IsReadWith head text r → ((its : Reading) → IsPlannedBy Spells schema template own its → IsReadWith head text its → IsBodyOfText schema template its of.body)
+    pub has_body : (head : Head) → IsHeadFor head r → ((its : Reading) → IsPlannedBy Spells schema template own its → IsHeadFor head its → IsBodyOfText schema template its of.text of.body)
         → HasBodyOf m schema template only.level of
-    has_body reads judged = record { structure = s; mapped = found.mapped.mapped; covered = covered; cover = found.mapped.cover; own = judged r planned reads }
+    has_body head good judged = record { structure = s; mapped = found.mapped.mapped; covered = covered; cover = found.mapped.cover; own = judged r planned good }

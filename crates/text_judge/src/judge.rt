@@ -1,20 +1,19 @@
-ghost use Rattle.std.specs.Prelude.{◌≡◌, ◌<◌, ◌^◌, ℕ, List, length, map, slice_get, true, Some, IfOk, IfSome};
+ghost use Rattle.std.specs.Prelude.{◌≡◌, List, map, slice_get, true, Some, IfOk, IfSome};
 ghost use Rattle.sbe_types.specs.declared.schema.Level.{Level as AnyLevel};
 ghost use Rattle.map_types.specs.Trees.{members_of};
 ghost use Rattle.orchestra_map.specs.Headers.{IsKept};
 ghost use Rattle.tagvalue_codec.specs.declared.data_tags.Pair.{Pair};
-ghost use Rattle.tagvalue_codec.specs.Drafts.{IsValue};
-ghost use Rattle.tagvalue_codec.specs.Fields.{Field};
-ghost use Rattle.tagvalue_codec.specs.Texts.{FixText};
 ghost use Rattle.bridge_plan.specs.Mappings.{Mapping};
+ghost use Rattle.orchestra_map.specs.DataFields.{pairs_of};
 ghost use Rattle.bridge_mapping.specs.Mapped.{mapping_of};
 ghost use Rattle.bridge_mapping.specs.Tables.{HaveSameTags};
 ghost use Rattle.message_plans.specs.Plans.{IsOnly};
 ghost use Rattle.exact_plans.specs.Exact.{is_exact as is_level_exact};
-ghost use Rattle.text_judge.specs.Judges.{HasBodyOf, IsJudge, IsJudgeFor};
+ghost use Rattle.text_judge.specs.Judges.{HasBodyOf, IsFront, IsJudge, IsJudgeFor};
 
+use crate::pairs::are_own_pairs;
 use bridge_mapping::TagTable;
-use exact_plans::{are_clear, is_exact};
+use exact_plans::{are_clear, are_tagged, is_exact};
 use fix_messages::MessageRows;
 use layout_tables::Layout;
 use lists::{List, NoMem};
@@ -23,31 +22,30 @@ use message_plans::{Cover, Plan, Template, make_plan};
 use sbe_types::Level;
 use schema_check::Checked;
 use std::alloc::Global;
-use tagvalue_codec::{DataTags, FieldTable, FixWriter};
+use tagvalue_codec::{DataTags, FixWriter};
 use text_bodies::is_body_of_text;
-use text_heads::{HeadTags, head_in};
+use text_heads::{HeadTags, TextFront, front_in};
 use value_texts::ValueText;
 
-/// A text with its fields, and the template that alone has its MsgType.
+/// Bytes that may be a text, and the template that alone has its MsgType.
 #[derive(Clone, Copy)]
 pub struct TypedText<'a> {
     /// The number of the template.
     pub template: usize,
-    /// The MsgType.
-    pub kind: &'a [u8],
-    /// The bytes of the text.
+    /// The MsgType and the head.
+    pub front: TextFront<'a>,
+    /// The bytes.
     pub text: &'a [u8],
-    /// Its fields.
-    pub table: &'a FieldTable,
 }
 
 /// What the bodies of texts are judged by: the plans of a schema's templates by a mapping, which of them write each value in one form,
-/// and which fields of a head belong to the mapping's header.
+/// which fields of a head belong to the mapping's header, and whether each length field belongs to one data field.
 #[derive(Drop)]
 pub struct TextJudge {
     pub(crate) plan: Plan<ValueText>,
     pub(crate) exact: List<bool>,
     pub(crate) head: HeadTags,
+    pub(crate) own_pairs: bool,
 }
 
 impl TextJudge {
@@ -65,14 +63,17 @@ impl TextJudge {
     ) -> Result<TextJudge, NoMem>
         requires { IsKept repository.now }
         ensures { IfOk result (λ judge. HaveSameTags table.now (mapping_of (members_of repository.now)).lists
+            → tags.now ≡ pairs_of (members_of repository.now)
             → IsJudge (mapping_of (members_of repository.now)) checked.now.messages tags.now judge) }
     {
+        let own_pairs = are_own_pairs(alloc, repository, tags)?;
         let exact = exact_levels(alloc, checked.schema().messages.as_slice())?;
         let plan = make_plan(alloc, checked, repository)?;
         Ok(TextJudge {
             plan,
             exact,
             head: HeadTags::new(table, tags),
+            own_pairs,
         })
     }
 
@@ -87,6 +88,13 @@ impl TextJudge {
         }
     }
 
+    /// The MsgType and the head of bytes that may be a text. `None` if there are none.
+    pub fn front_in<'a>(&self, text: &'a [u8]) -> Option<TextFront<'a>>
+        ensures { IfSome result (IsFront self.now.head) }
+    {
+        front_in(self.head, text)
+    }
+
     /// Whether each plan of a template writes each value in one form. `false` if there is no such template.
     pub fn is_exact(&self, template: usize) -> bool
         ensures { result ≡ true → slice_get self.now.exact template ≡ Some true }
@@ -97,7 +105,8 @@ impl TextJudge {
         *self.exact.at(template)
     }
 
-    /// Whether a body is the canonical one of the message that a text is translated to. `false` is inconclusive. Allocates nothing.
+    /// Whether the bytes are a text, and a body is the canonical one of the message that it is translated to. `false` is
+    /// inconclusive. Allocates nothing.
     pub fn is_message_of(
         &self,
         layout: &Layout,
@@ -105,11 +114,14 @@ impl TextJudge {
         body: &[u8],
         out: &mut FixWriter,
     ) -> bool
-        requires { IsValue text.now.kind.now }
-        ensures { result ≡ true → (m : Mapping) (tags : List Pair) (fields : List Field) (only : IsOnly text.now.kind.now layout.now.messages text.now.template)
-            → IsJudgeFor m layout.now tags self.now → FixText tags fields text.now.text.now
-            → HasBodyOf m layout.now text.now.template only.level (record { tags = tags; fields = fields; body = body.now }) }
+        requires { IsFront self.now.head text.now.front }
+        ensures { result ≡ true → (m : Mapping) (tags : List Pair) (only : IsOnly text.now.front.kind.now layout.now.messages text.now.template)
+            → IsJudgeFor m layout.now tags self.now
+            → HasBodyOf m layout.now text.now.template only.level (record { tags = tags; text = text.now.text.now; body = body.now }) }
     {
+        if !self.own_pairs {
+            return false;
+        }
         if !self.is_exact(text.template) {
             return false;
         }
@@ -121,15 +133,20 @@ impl TextJudge {
         };
         let rows = mapped.as_slice();
         are_clear(rows);
-        is_short(text.text);
-        let Some(head) = head_in(self.head, text.text, text.table) else {
-            return false;
-        };
+        are_tagged(rows);
         let own = MessageRows {
-            msg_type: text.kind,
+            msg_type: text.front.kind,
             rows,
         };
-        is_body_of_text(layout, text.template, &own, &head, text.text, body, out)
+        is_body_of_text(
+            layout,
+            text.template,
+            &own,
+            &text.front.head,
+            text.text,
+            body,
+            out,
+        )
     }
 }
 
@@ -142,11 +159,4 @@ fn exact_levels(alloc: Global, levels: &[Level]) -> Result<List<bool>, NoMem>
         marks.push(is_exact(level))?;
     }
     Ok(marks)
-}
-
-/// The length of a text fits 64 bits.
-fn is_short(text: &[u8])
-    ensures { length text.now < 2 ^ 64 }
-{
-    let _length = text.len();
 }

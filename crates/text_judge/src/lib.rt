@@ -2,5 +2,6 @@
 #![tactic(auto)]
 
 mod judge;
+mod pairs;
 
 pub use judge::{TextJudge, TypedText};

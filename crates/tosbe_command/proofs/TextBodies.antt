@@ -1,7 +1,10 @@
 -- The reply to a text whose body was drafted and judged.
 use Rattle.std.proofs.Common.{◌≡◌, ◌≤◌, ℕ, List, Some, None, Result, length, refl, sym, ap, ◌∙◌, subst}
 use Rattle.sbe_types.specs.declared.message.Msg.{Msg}
+use Rattle.sbe_types.specs.declared.schema.Level.{out-Level}
 use Rattle.sbe_types.specs.declared.schema.WireSchema.{WireSchema}
+use Rattle.open_framing.specs.Frames.{Item}
+use Rattle.open_framing.specs.declared.head.TheConstants.{TAG_VALUE}
 use Rattle.sbe_wire.specs.Canonical.{canonical}
 use Rattle.sbe_wire.specs.Misfit.{misfit}
 use Rattle.sbe_base.specs.declared.status.Status.{Status}
@@ -10,10 +13,7 @@ use Rattle.writing_laws.proofs.MessageMisfit.{fits_none}
 use Rattle.writable_schemas.proofs.CheckedSchemas.{schema_writable}
 use Rattle.map_types.specs.Trees.{Members, members_of}
 use Rattle.tagvalue_codec.specs.declared.data_tags.Pair.{Pair}
-use Rattle.tagvalue_codec.specs.declared.table.FixField.{FixField}
-use Rattle.tagvalue_codec.specs.Drafts.{IsValue}
 use Rattle.tagvalue_codec.specs.Fields.{Field}
-use Rattle.tagvalue_codec.specs.Places.{Holds}
 use Rattle.tagvalue_codec.specs.Texts.{FixText}
 use Rattle.bridge_plan.specs.Mappings.{Mapping}
 use Rattle.bridge_plan.specs.Translation.{IsMessageOf}
@@ -25,6 +25,7 @@ use Rattle.sbe_translation.specs.Translations.{IsMappedTo}
 use Rattle.sbe_translation.proofs.Planning.{covers_all}
 use Rattle.text_judge.specs.declared.judge.TextJudge.{TextJudge}
 use Rattle.text_judge.specs.Judges.{HasBodyOf, IsJudge, IsJudgeFor, TextBody}
+use Rattle.text_judge.proofs.Judging.{kind_of_only}
 use Rattle.replies.specs.Drafts.{DeliversDraft}
 use Rattle.replies.specs.Outside.{Sinks}
 use Rattle.replies.specs.declared.verdict.Verdict.{Verdict}
@@ -32,9 +33,9 @@ use Rattle.command_steps.specs.Replies.{Replied}
 use Rattle.build_command.specs.Build.{body_limit, frame_reply}
 use Rattle.build_command.proofs.Answering.{frame_is}
 use Rattle.fixcheck_command.specs.FixCheck.{type_of}
-use Rattle.tosbe_command.specs.Bodies.{IsTextBody}
+use Rattle.tosbe_command.specs.Bodies.{IsTextBody, IsTextWithBody}
 use Rattle.tosbe_command.specs.Bridges.{mapping_in, tags_in, BackBridge, IsBackBridge}
-use Rattle.tosbe_command.specs.ToSbe.{IsTextReply}
+use Rattle.tosbe_command.specs.ToSbe.{a_text, IsItemReply, IsTextReply}
 use Rattle.tosbe_command.proofs.Told.{message_replied}
 
 -- the tags that frame a text are among those of a mapping's header
@@ -52,32 +53,34 @@ judge_for b judge good judged = record {
   covers = λ i level s there. covers_all b.schema (mapping_in b) i level good.checked good.short (λ k t h. kept_distinct (members_of b.repository) k t good.kept h) there s;
 }
 
--- the MsgType of a text may be the value of a field
-pub type_value : (tags : List Pair) (fields : List Field) (text : List ℕ) → FixText tags fields text → IsValue (type_of fields)
-type_value tags fields text is =
-    subst IsValue (sym (ap type_of is.fields_are)) (record { some = is.typed.third.plain.some; plain = is.typed.third.plain.plain })
-
 -- ---- the body
 
 -- a message, and the only template that has its MsgType
 abbrev IsBy : Mapping → WireSchema → List ℕ → List Field → Msg → ℕ → Type 0
 IsBy m schema kind fields message i = (to : IsMappedTo m schema.messages kind i) × IsMessageOf m to.structure to.only.level fields message.block
 
--- a body that was judged is that of the text's message
-pub text_body : (b : BackBridge) (kind : List ℕ) (i : ℕ) (only : IsOnly kind b.schema.messages i) (of : TextBody) → kind ≡ type_of of.fields → HasBodyOf (mapping_in b) b.schema i only.level of
-    → IsTextBody b of.fields of.body
-text_body b kind i only of same has =
+-- bytes and a body that were judged are a text and the body of its message
+pub text_with_body : (b : BackBridge) (kind : List ℕ) (i : ℕ) (only : IsOnly kind b.schema.messages i) (of : TextBody) → HasBodyOf (mapping_in b) b.schema i only.level of → of.tags ≡ tags_in b
+    → IsTextWithBody b of.text of.body
+text_with_body b kind i only of has tagged =
     let m = mapping_in b in
     let message : Msg = has.own.message in
-    let at : IsBy m b.schema kind of.fields message i =
+    let fields = has.own.fields in
+    let typed : type_of fields ≡ (out-Level only.level).semantic = ap type_of has.own.read.are in
+    let same : kind ≡ type_of fields = sym (typed ∙ kind_of_only kind b.schema.messages only.level only.only) in
+    let at : IsBy m b.schema kind fields message i =
     (record { only = only; structure = has.structure; mapped = has.mapped; covered = has.covered; cover = has.cover }, has.own.is) in
-    let own : IsBy m b.schema (type_of of.fields) of.fields message message.template =
-    subst (λ k. IsBy m b.schema k of.fields message message.template) same (subst (IsBy m b.schema kind of.fields message) (sym has.own.template_is) at) in
+    let own : IsBy m b.schema (type_of fields) fields message message.template =
+    subst (λ k. IsBy m b.schema k fields message message.template) same (subst (IsBy m b.schema kind fields message) (sym has.own.template_is) at) in
     record {
-      message = message;
-      is = record { template = own.0; version = has.own.version; block = own.1 };
-      fits = has.own.fits;
-      written = has.own.written;
+      fields = fields;
+      read = subst (λ tags. FixText tags fields of.text) tagged has.own.read.read;
+      own = record {
+        message = message;
+        is = record { template = own.0; version = has.own.version; block = own.1 };
+        fits = has.own.fits;
+        written = has.own.written;
+      };
     }
 
 -- ---- the reply
@@ -95,9 +98,10 @@ body_replied b number bytes limit fields layout body shown old new result laid_o
     message_replied b number bytes limit fields m layout old new result laid_out size is.is
     (subst (λ r. DeliversDraft r old new result) (frame_is layout number m (misfit layout m limit) body shown none written same) delivered)
 
--- the reply to a text that another table holds too
-pub replied_kept : (b : BackBridge) (number bytes : ℕ) (tags : List Pair) (text : List ℕ) (old new : Sinks) (result : Result Verdict Status) (one other : List FixField) → other ≡ one
-    → ((held : Holds tags text other) → Replied bytes (IsTextReply b number held.fields) old new result)
-    → (held : Holds tags text one) → Replied bytes (IsTextReply b number held.fields) old new result
-replied_kept b number bytes tags text old new result one other same told =
-    subst (λ (t : List FixField). (held : Holds tags text t) → Replied bytes (IsTextReply b number held.fields) old new result) same told
+-- the same for an item with the text
+pub text_replied : (b : BackBridge) (number limit : ℕ) (item : Item) (layout : WireSchema) (body shown : List ℕ) (old new : Sinks) (result : Result Verdict Status) → layout ≡ b.schema
+    → limit ≡ body_limit b.frame → IsChecked b.schema → item.encoding ≡ TAG_VALUE → IsTextWithBody b item.body body → shown ≡ body → length body ≤ limit
+    → DeliversDraft (frame_reply layout shown) old new result → Replied (length item.body) (IsItemReply b number item) old new result
+text_replied b number limit item layout body shown old new result laid_out size checked encoded is same within delivered =
+    let own = body_replied b number (length item.body) limit is.fields layout body shown old new result laid_out size checked is.own same within delivered in
+    (own.0, a_text encoded is.fields is.read own.1, own.2, own.3)

@@ -1,5 +1,6 @@
-ghost use Rattle.std.specs.Prelude.{IfOk};
+ghost use Rattle.std.specs.Prelude.{◌≡◌, IfOk};
 ghost use Rattle.map_types.specs.Trees.{members_of};
+ghost use Rattle.orchestra_map.specs.DataFields.{pairs_of};
 ghost use Rattle.orchestra_map.specs.Headers.{IsKept};
 ghost use Rattle.bridge_mapping.specs.Mapped.{mapping_of};
 ghost use Rattle.sbe_translation.specs.Plans.{AreBackPlans};
@@ -28,6 +29,7 @@ impl DirectWay {
     ) -> Result<DirectWay, NoMem>
         requires kept { IsKept files.now.repository }
         ensures { IfOk result (λ way. AreBackPlans (mapping_of (members_of files.now.repository)) files.now.checked.messages parts.now.planned.plan
+            → parts.now.planned.tags ≡ pairs_of (members_of files.now.repository)
             → IsJudge (mapping_of (members_of files.now.repository)) files.now.checked.messages parts.now.planned.tags way.judge) }
     {
         let judge = TextJudge::new(

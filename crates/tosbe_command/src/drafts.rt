@@ -6,9 +6,8 @@ use line_draft::BodyDraft;
 use lists::{List, NoMem};
 use sbe_types::{Level, WireSchema};
 use std::alloc::Global;
-use tagvalue_codec::FieldTable;
 use text_drafts::{BackLevels, DraftTree, Drafting, draft_text, make_draft_tree};
-use text_judge::TextJudge;
+use text_judge::{TextJudge, TypedText};
 
 /// For each template what its bodies are drafted by, if they are drafted.
 #[derive(Drop)]
@@ -38,16 +37,15 @@ impl Drafts {
         Ok(Drafts { trees })
     }
 
-    /// Drafts the body of a text of a template. `false` if there is none.
+    /// Drafts the body of what may be a text of a template. `false` if there is none.
     pub(crate) fn draft_text(
         &self,
         parts: &BridgeParts,
-        template: usize,
-        text: &[u8],
-        table: &FieldTable,
+        typed: &TypedText<'_>,
         draft: &mut BodyDraft,
     ) -> bool {
         let schema = parts.layout.schema();
+        let template = typed.template;
         if template >= self.trees.len() || template >= schema.messages.len() {
             return false;
         }
@@ -62,7 +60,12 @@ impl Drafts {
             tree,
             back: levels_of(back),
         };
-        draft_text(by, schema.messages.at(template), text, table, draft)
+        draft_text(
+            by,
+            schema.messages.at(template),
+            (typed.text, typed.front.at),
+            draft,
+        )
     }
 }
 

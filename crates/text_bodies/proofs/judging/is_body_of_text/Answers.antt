@@ -5,7 +5,7 @@ use Rattle.text_bodies.proofs.Judged.{IsWrittenBy, body_is}
 use Rattle.text_bodies.proofs.judging.is_body_of_text.Goals as goal
 
 pub returns : goal.returns
-returns g c = λ yes r by reads.
+returns g c = λ yes r by good.
     let schema = c.args.layout.now in
     let seen = c.in-Ok.view in
     let limit = c.args.out.now.limit in
@@ -22,4 +22,4 @@ returns g c = λ yes r by reads.
       clean = c.is_clean_body.ensures yes;
     })
     (subst (IsWrittenBy g.R.PutValue.spells c.args.rows.now limit (head_of c.args.head.now) c.args.text.now) c.root-root.ensures (c.if-not-has_text.ensures refl))
-    r by reads
+    (c.if-not-is_few.ensures refl) (c.if-not-is_short.ensures refl) r by good

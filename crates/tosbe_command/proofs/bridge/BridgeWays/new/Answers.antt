@@ -9,4 +9,4 @@ pub returns-clause-judge : goal.returns-clause-judge
 returns-clause-judge c =
     let files = c.args.files.now in
     subst (λ (tags : List Pair). IsJudge (mapping_of (members_of files.repository)) files.checked.messages tags c.in_ok-direct.direct.judge) c.in_ok-parts.ensures.tags
-    (c.in_ok-direct.ensures c.in_ok-parts.ensures.plan)
+    (c.in_ok-direct.ensures c.in_ok-parts.ensures.plan c.in_ok-parts.ensures.tags)

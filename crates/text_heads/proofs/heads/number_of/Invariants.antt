@@ -1,5 +1,5 @@
 use Rattle.std.proofs.Common.{◌<◌, ◌^◌}
-use Rattle.text_heads.proofs.heads.number_in.Given as goal
+use Rattle.text_heads.proofs.heads.number_of.Given as goal
 
 abbrev pub invariant-loop-digit : goal.invariant-loop-digit
 invariant-loop-digit l = l.number < 2 ^ 64

@@ -9,7 +9,6 @@ use Rattle.bridge_terms.specs.Plans.{Each, is_in}
 use Rattle.fix_messages.specs.Heads.{Head, given_fields}
 use Rattle.same_texts.specs.Follow.{IsFramed}
 use Rattle.same_texts.proofs.Passing.{header_passed, last_passed}
-use Rattle.round_trip.specs.Returns.{fields_between}
 
 module _ (lists : TagLists) (frames : IsFramed lists) (kind : List ℕ) (head : Head) (fields : List Field) (body : List ℕ) where
   -- the fields of a text before those of its message
@@ -20,7 +19,7 @@ module _ (lists : TagLists) (frames : IsFramed lists) (kind : List ℕ) (head : 
   front_headed given = (frames.begin, (frames.size, (frames.kind, given)))
 
   -- the last field of a text is passed over
-  pub text_fields : application_fields lists (fields_over head.begin (typed kind) (fields_between lists head fields) body) ≡ application_fields lists (front_fields ++ with_lengths lists fields)
+  pub text_fields : application_fields lists (fields_over head.begin (typed kind) (given_fields head ++ with_lengths lists fields) body) ≡ application_fields lists (front_fields ++ with_lengths lists fields)
   text_fields =
       let last = sum_field (sized head.begin body) in
       last_passed lists (front_fields ++ with_lengths lists fields) last (header_passed lists last frames.last)

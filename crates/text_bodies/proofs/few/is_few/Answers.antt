@@ -1,0 +1,9 @@
+use Rattle.std.proofs.Common.{◌≤◌, ℕ, subst, arith}
+use Rattle.std.proofs.lemmas.Bool.Decides.{nat_tests}
+use Rattle.text_bodies.proofs.FewFields.{few_by_ends}
+use Rattle.text_bodies.proofs.few.is_few.Goals as goal
+
+pub returns : goal.returns
+returns c = λ yes.
+    let low : c.ends_in.result ≤ 4092 = grind (arith, nat_tests) in
+    few_by_ends c.args.text.now (subst (λ (n : ℕ). n ≤ 4092) c.ends_in.ensures low)
