@@ -70,11 +70,30 @@ fn level_of(
         → IsLevel levels.new.items (plan_of m s level.now) own)) }
 {
     let ids = LevelIds::new(alloc, level)?;
+    level_by(alloc, tables, &ids, places, level, levels)
+}
+
+/// The same, given the tables of the level's ids.
+#[cycle(levels)]
+fn level_by(
+    alloc: Global,
+    tables: &Tables,
+    ids: &LevelIds,
+    places: &[PlaceRow],
+    level: &Level,
+    levels: &mut Vec<BackLevel>,
+) -> Result<Option<BackLevel>, NoMem>
+    requires order { HasKindsInOrder level.now }
+    requires ids { HasIds level.now ids.now }
+    ensures kept { OnOk result (AreKept levels.old.items levels.new.items) }
+    ensures level { IfOk result (λ made. IfSome made (λ own. (m : Mapping) (s : Structure) → AreTables m tables.now → places.now ≡ rows_of s
+        → IsLevel levels.new.items (plan_of m s level.now) own)) }
+{
     let mut rows = List::new(alloc);
     let mut left = places;
     'places: while let [row, rest @ ..] = left {
         let (own, after) = first_place(*row, rest);
-        let found = place_row(alloc, tables, &ids, level, row.tag, own, levels)?;
+        let found = place_row(alloc, tables, ids, level, row.tag, own, levels)?;
         if !put_found(&mut rows, found)? {
             return Ok(None);
         }

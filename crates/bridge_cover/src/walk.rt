@@ -62,7 +62,20 @@ fn level_uncovered(
     ensures { IfOk result (λ path. (m : Mapping) (s : Structure) → AreTables m tables.now → rows.now ≡ rows_of s
         → outermost_first path ≡ uncovered m s level.now) }
 {
-    let mut here = LevelMap::new(alloc, tables, rows)?;
+    let mut here = LevelMap::new(alloc, &*tables, &*rows)?;
+    parts_uncovered(alloc, &mut here, level)
+}
+
+/// The same, given the state before the level's first part.
+#[cycle(walk)]
+fn parts_uncovered(
+    alloc: Global,
+    here: &mut LevelMap,
+    level: &Level,
+) -> Result<Option<List<Text>>, NoMem>
+    requires order { HasKindsInOrder level.now }
+    ensures { IfOk result (λ path. (m : Mapping) (s : Structure) → Sees m s [] here.old → outermost_first path ≡ uncovered m s level.now) }
+{
     let fields = level.fields.as_slice();
     for field in fields {
         let covered = here.covers_field(alloc, field)?;
@@ -73,7 +86,7 @@ fn level_uncovered(
     }
     let groups = groups_of(level);
     let parts = level.parts.as_slice();
-    groups_uncovered(alloc, &mut here, groups, parts)
+    groups_uncovered(alloc, here, groups, parts)
 }
 
 /// The groups of a level.

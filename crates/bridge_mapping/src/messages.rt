@@ -2,7 +2,7 @@ ghost use Rattle.std.specs.Prelude.{◌≡◌, ◌+◌, ◌-◌, ◌≤◌, ◌<
 ghost use Rattle.map_types.specs.Trees.{members_of};
 ghost use Rattle.map_members.specs.Lent.{lent_members};
 ghost use Rattle.map_links.specs.Links.{linked};
-ghost use Rattle.orchestra_map.specs.Headers.{IsKept};
+ghost use Rattle.orchestra_map.specs.Headers.{graph_of, IsKept};
 ghost use Rattle.orchestra_map.specs.Structures.{message_structures};
 ghost use Rattle.structure_rows.specs.Rows.{rows_of};
 ghost use Rattle.bridge_plan.specs.Mappings.{Mapping, structure_for};
@@ -98,20 +98,40 @@ fn table_of(
     requires whole { HasWhole (lent_members fields.now) (linked components.now groups.now messages.now) }
     ensures { IfOk result (λ table. structures_in table ≡ structures_of (lent_members fields.now) (linked components.now groups.now messages.now)) }
 {
-    if components.len().checked_add(groups.len()).is_none() {
-        return Err(NoMem);
-    }
-    let ids = Ids::new(alloc, fields, components, groups, messages)?;
-    let nodes = nodes_of(alloc, &ids, components, groups, messages)?;
-    let structures = Structures::new(alloc, nodes)?;
-    let names = kinds_of(alloc, messages)?;
-    let kinds = NameTable::new(alloc, names)?;
+    let structures = all_structures(alloc, fields, components, groups, messages)?;
+    let kinds = kind_table(alloc, messages)?;
     let count = messages.len();
     Ok(MessageTable {
         kinds,
         count,
         structures,
     })
+}
+
+/// The structures of components, groups and messages.
+fn all_structures(
+    alloc: Global,
+    fields: &[&FieldEl],
+    components: &[&ComponentEl],
+    groups: &[&GroupEl],
+    messages: &[&MessageEl],
+) -> Result<Structures, NoMem>
+    ensures { IfOk result (λ structures. structures ≡ graph_of (lent_members fields.now) (linked components.now groups.now messages.now)) }
+{
+    if components.len().checked_add(groups.len()).is_none() {
+        return Err(NoMem);
+    }
+    let ids = Ids::new(alloc, fields, components, groups, messages)?;
+    let nodes = nodes_of(alloc, &ids, components, groups, messages)?;
+    Structures::new(alloc, nodes)
+}
+
+/// The MsgTypes of messages.
+fn kind_table(alloc: Global, messages: &[&MessageEl]) -> Result<NameTable, NoMem>
+    ensures { IfOk result (λ kinds. kinds ≡ map (λ m. m.msg_type) (lent_members messages.now)) }
+{
+    let names = kinds_of(alloc, messages)?;
+    NameTable::new(alloc, names)
 }
 
 fn kinds_of(alloc: Global, messages: &[&MessageEl]) -> Result<List<Text>, NoMem>

@@ -1,5 +1,5 @@
 // The tables are built level by level, in the order of the schema's tree.
-ghost use Rattle.std.specs.Prelude.{◌≡◌, true, ℕ, ◌++◌, ◌∷◌, [], length, map, flat_map, None, Some, IfSome, IfOk, OnOk};
+ghost use Rattle.std.specs.Prelude.{◌≡◌, true, ℕ, ◌++◌, ◌∷◌, [], length, map, flat_map, None, Some, IfSome, IfOk, MatchOption, OnOk};
 ghost use Rattle.std.specs.Option.{option_map};
 ghost use Rattle.sbe_types.specs.declared.schema.Level.{out-Level};
 ghost use Rattle.sbe_wire.specs.Named.{spot_named, spot_of as spot_in};
@@ -133,10 +133,21 @@ fn spot_of(members: &List<Member>, name: &[u8]) -> Option<SpotRow>
     requires { IsNarrow (Comp members.now) }
     ensures { option_map as_spot result ≡ spot_named 0 name.now members.now }
 {
+    match kind_of(members, name) {
+        Some((place, kind)) => number_at(place, kind),
+        None => None,
+    }
+}
+
+/// The offset and the kind of the first member with this name.
+fn kind_of<'a>(members: &'a List<Member>, name: &[u8]) -> Option<(u32, &'a Kind)>
+    requires { IsNarrow (Comp members.now) }
+    ensures { MatchOption result (spot_named 0 name.now members.now ≡ None) (λ found. spot_named 0 name.now members.now ≡ spot_in found.0 found.1.now) }
+{
     let mut end = 0;
     for member in members.as_slice() {
         if member.name.as_slice() == name {
-            return number_at(begin_of(end, member.offset), &member.kind);
+            return Some((begin_of(end, member.offset), &member.kind));
         }
         end = end_after(end, member.offset, &member.kind);
     }

@@ -1,2 +1,3 @@
 pub mod Regrade
 pub mod Regrades
+pub mod Pairs

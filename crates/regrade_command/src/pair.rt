@@ -1,6 +1,7 @@
 ghost use Rattle.std.specs.Prelude.{◌≡◌, ◌≤◌, length, IfOk, IfSome, Ok};
 ghost use Rattle.regrade.specs.Regrades.{HasWay};
 ghost use Rattle.version_copies.specs.Copies.{IsCopied, copy_bytes};
+ghost use Rattle.regrade_command.specs.Pairs.{ArePaired};
 
 use flyweight_view::LastRefusal;
 use layout_compile::compile;
@@ -47,18 +48,8 @@ impl SchemaPair {
         requires { HasWay from to }
         ensures { IfOk result (λ pair. pair ≡ record { from = from; to = to }) }
     {
-        let _from = from.schema();
-        let _to = to.schema();
-        let read = compile(alloc, &from)?;
-        let written = compile(alloc, &to)?;
-        let twins = twins_of(alloc, &read, &written)?;
-        Ok(SchemaPair {
-            from,
-            to,
-            read,
-            written,
-            twins,
-        })
+        let tables = PairTables::new(alloc, &from, &to)?;
+        Ok(paired(from, to, tables))
     }
 
     /// The copy of a body in the other version, if it has one of at most `limit` bytes. Allocates nothing.
@@ -77,5 +68,50 @@ impl SchemaPair {
             return None;
         }
         Some(copy)
+    }
+}
+
+/// The layouts of a pair, and its twins.
+#[derive(Drop)]
+struct PairTables {
+    read: Layout,
+    written: Layout,
+    twins: List<Twin>,
+}
+
+impl PairTables {
+    fn new(alloc: Global, from: &Checked, to: &Checked) -> Result<PairTables, NoMem>
+        ensures { IfOk result (λ tables. ArePaired from.now to.now tables) }
+    {
+        let read = compile(alloc, from)?;
+        let written = compile(alloc, to)?;
+        let twins = twins_of(alloc, &read, &written)?;
+        Ok(PairTables {
+            read,
+            written,
+            twins,
+        })
+    }
+}
+
+/// A pair, given its tables.
+fn paired(from: Checked, to: Checked, tables: PairTables) -> SchemaPair
+    requires way { HasWay from to }
+    requires tables { ArePaired from to tables }
+    ensures { result ≡ record { from = from; to = to } }
+{
+    let _from = from.schema();
+    let _to = to.schema();
+    let PairTables {
+        read,
+        written,
+        twins,
+    } = tables;
+    SchemaPair {
+        from,
+        to,
+        read,
+        written,
+        twins,
     }
 }

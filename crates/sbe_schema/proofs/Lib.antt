@@ -2,3 +2,4 @@ pub mod Children
 pub mod InForm
 pub mod TypesInForm
 pub mod SchemaInForm
+mod TypeParts

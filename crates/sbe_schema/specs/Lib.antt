@@ -1,4 +1,5 @@
 pub mod Forms
 pub mod Types
+pub mod TypeParts
 pub mod Messages
 pub mod Schemas

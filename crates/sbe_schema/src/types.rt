@@ -1,7 +1,8 @@
 ghost use Rattle.std.specs.Prelude.{◌≡◌};
 ghost use Rattle.json_data.specs.Trees.{data_of, items_of};
-ghost use Rattle.json_elements.specs.Reading.{Gives, at_child};
+ghost use Rattle.json_elements.specs.Reading.{Gives, GivesAs, at_child};
 ghost use Rattle.json_elements.specs.Elements.{each, branches};
+ghost use Rattle.sbe_schema.specs.TypeParts.{type_named, numbered_from, referred_from, placed_from};
 ghost use Rattle.sbe_schema.specs.Types.{offset_from, since_from, type_from, ref_from, valid_value_from, enum_child, valid_value, enum_from, choice_from, set_child, choice, set_from, composite_from, composite_child, by_member, member_of};
 
 use crate::element_name::ElementName;
@@ -11,10 +12,10 @@ use json_elements::{
     Cause, ElementErr, IdNumber, JsonText, TextOrNumber, WholeNumber, at_child, content_of, inside,
     limit_children, lone_of, needed, optional, refuse, refuse_children, with_default,
 };
-use lists::List;
+use lists::{List, Text};
 use sbe_types::{
-    ChoiceEl, CompositeEl, EnumEl, MEMBER_LIMIT, MemberItem, RefEl, SetEl, TypeEl, VALUE_LIMIT,
-    ValidValueEl,
+    ChoiceEl, CompositeEl, EnumEl, MEMBER_LIMIT, MemberItem, Presence, PrimitiveType, RefEl, SetEl,
+    TypeEl, VALUE_LIMIT, ValidValueEl, ValueRef,
 };
 use std::alloc::Global;
 
@@ -36,19 +37,58 @@ pub fn read_type(
 {
     let children = content_of(alloc, element)?;
     let name = needed::<Name>(alloc, element, "name")?;
-    let primitive_type = needed::<PrimitiveWord>(alloc, element, "primitiveType")?;
-    let length = with_default::<ArrayLength>(alloc, element, "length", 1)?;
-    let presence = optional::<PresenceWord>(alloc, element, "presence")?;
-    let null_value = optional::<WholeNumber>(alloc, element, "nullValue")?;
-    let min_value = optional::<WholeNumber>(alloc, element, "minValue")?;
-    let max_value = optional::<WholeNumber>(alloc, element, "maxValue")?;
-    let character_encoding = optional::<JsonText>(alloc, element, "characterEncoding")?;
-    let value_ref = optional::<DottedName>(alloc, element, "valueRef")?;
-    let text = optional::<TextOrNumber>(alloc, element, "text")?;
-    let offset = read_offset(alloc, standing, element)?;
-    let since_version = read_since(alloc, standing, element)?;
-    refuse_children(alloc, children)?;
-    Ok(TypeEl {
+    let numbered = read_numbered(alloc, standing, element, children)?;
+    Ok(named_type(name, numbered))
+}
+
+/// A type without its name.
+#[derive(Drop)]
+struct NumberedType {
+    primitive_type: PrimitiveType,
+    length: u32,
+    presence: Option<Presence>,
+    null_value: Option<i128>,
+    min_value: Option<i128>,
+    max_value: Option<i128>,
+    character_encoding: Option<Text>,
+    referred: ReferredType,
+}
+
+/// A type's `valueRef` and what comes after it.
+#[derive(Drop)]
+struct ReferredType {
+    value_ref: Option<ValueRef>,
+    placed: PlacedType,
+}
+
+/// A type's `text` and what comes after it.
+#[derive(Drop)]
+struct PlacedType {
+    text: Option<Text>,
+    offset: Option<u32>,
+    since_version: u32,
+}
+
+fn named_type(name: Text, numbered: NumberedType) -> TypeEl
+    ensures { result ≡ type_named name numbered }
+{
+    let NumberedType {
+        primitive_type,
+        length,
+        presence,
+        null_value,
+        min_value,
+        max_value,
+        character_encoding,
+        referred,
+    } = numbered;
+    let ReferredType { value_ref, placed } = referred;
+    let PlacedType {
+        text,
+        offset,
+        since_version,
+    } = placed;
+    TypeEl {
         name,
         primitive_type,
         length,
@@ -58,6 +98,66 @@ pub fn read_type(
         max_value,
         character_encoding,
         value_ref,
+        text,
+        offset,
+        since_version,
+    }
+}
+
+fn read_numbered(
+    alloc: Global,
+    standing: Standing,
+    element: &Json<'_>,
+    children: &[Json<'_>],
+) -> Result<NumberedType, ElementErr>
+    ensures { (made : NumberedType → TypeEl) → GivesAs made result (numbered_from made standing (items_of children.now) (data_of element.now)) }
+{
+    let primitive_type = needed::<PrimitiveWord>(alloc, element, "primitiveType")?;
+    let length = with_default::<ArrayLength>(alloc, element, "length", 1)?;
+    let presence = optional::<PresenceWord>(alloc, element, "presence")?;
+    let null_value = optional::<WholeNumber>(alloc, element, "nullValue")?;
+    let min_value = optional::<WholeNumber>(alloc, element, "minValue")?;
+    let max_value = optional::<WholeNumber>(alloc, element, "maxValue")?;
+    let character_encoding = optional::<JsonText>(alloc, element, "characterEncoding")?;
+    let referred = read_referred(alloc, standing, element, children)?;
+    Ok(NumberedType {
+        primitive_type,
+        length,
+        presence,
+        null_value,
+        min_value,
+        max_value,
+        character_encoding,
+        referred,
+    })
+}
+
+fn read_referred(
+    alloc: Global,
+    standing: Standing,
+    element: &Json<'_>,
+    children: &[Json<'_>],
+) -> Result<ReferredType, ElementErr>
+    ensures { (made : ReferredType → TypeEl) → GivesAs made result (referred_from made standing (items_of children.now) (data_of element.now)) }
+{
+    let value_ref = optional::<DottedName>(alloc, element, "valueRef")?;
+    let placed = read_placed(alloc, standing, element, children)?;
+    Ok(ReferredType { value_ref, placed })
+}
+
+fn read_placed(
+    alloc: Global,
+    standing: Standing,
+    element: &Json<'_>,
+    children: &[Json<'_>],
+) -> Result<PlacedType, ElementErr>
+    ensures { (made : PlacedType → TypeEl) → GivesAs made result (placed_from made standing (items_of children.now) (data_of element.now)) }
+{
+    let text = optional::<TextOrNumber>(alloc, element, "text")?;
+    let offset = read_offset(alloc, standing, element)?;
+    let since_version = read_since(alloc, standing, element)?;
+    refuse_children(alloc, children)?;
+    Ok(PlacedType {
         text,
         offset,
         since_version,

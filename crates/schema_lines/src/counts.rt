@@ -4,7 +4,7 @@ ghost use Rattle.schema_lines.specs.Counts.{groups_in, groups_with, parts_in, pa
 use sbe_types::{Group, Level};
 
 /// The numbers of groups and of data parts, at all levels.
-#[derive(Clone, Copy, Debug, PartialEq, Eq)]
+#[derive(Clone, Copy)]
 pub(crate) struct Counts {
     pub groups: u64,
     pub parts: u64,

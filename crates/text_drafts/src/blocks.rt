@@ -164,9 +164,22 @@ fn other_in(
     draft: &mut BodyDraft,
     at: usize,
 ) -> bool {
-    let (Some(value), Some(field)) = part else {
-        return false;
-    };
+    match part {
+        (Some(value), Some(field)) => read_in(order, (value, field), text, draft, at),
+        _ => false,
+    }
+}
+
+/// The same, where both are there.
+#[inline(always)]
+fn read_in(
+    order: Order,
+    part: (&TextValue, &Field),
+    text: &[u8],
+    draft: &mut BodyDraft,
+    at: usize,
+) -> bool {
+    let (value, field) = part;
     match value.read(text) {
         Ok(read) => put_value(order, &field.kind, read, draft, at),
         Err(_) => false,

@@ -25,8 +25,8 @@ use Rattle.back_levels.proofs.Grouped.{count_told, tags_of_rows}
 use Rattle.back_levels.proofs.Fronts.{on_ok_kept, at_end, goes_on, no_rows, group_there, kept_all, kept_more, kept_on, leads_group, leads_slot, no_count, no_delimiter, no_group, no_repeat, rows_kept, slot_front, whole_level}
 use Rattle.back_levels.proofs.level.+levels.Goals as goal
 
-pub level_of-places-init : goal.level_of-places-init
-level_of-places-init t c = record {
+pub level_by-places-init : goal.level_by-places-init
+level_by-places-init t c = record {
   shorter = omega arith;
   kept = kept_all c.args.levels.now.items;
   rows = λ m s h k.
@@ -34,8 +34,8 @@ level_of-places-init t c = record {
       (s, k, subst (Goes c.args.levels.now.items p p) (sym c.new-rows.ensures) (no_rows c.args.levels.now.items p));
 }
 
-pub level_of-places-preserved : goal.level_of-places-preserved
-level_of-places-preserved t c =
+pub level_by-places-preserved : goal.level_by-places-preserved
+level_by-places-preserved t c =
     let level = c.args.level.now in
     let none : PlaceRow = record { tag = 0; entries = None } in
     let left = c.places.left.now in
@@ -56,8 +56,8 @@ level_of-places-preserved t c =
           );
     }
 
-pub level_of-returns-clause-level : goal.level_of-returns-clause-level
-level_of-returns-clause-level t c = λ m s h k.
+pub level_by-returns-clause-level : goal.level_by-returns-clause-level
+level_by-returns-clause-level t c = λ m s h k.
     let q = c.places.invariant.rows m s h k in
     whole_level c.places.levels.items m c.args.level.now (plan_of m s c.args.level.now) q.0 _ c.places.rows
     (subst (λ (rows : List PlaceRow). length rows < 1) q.1 c.in_default.len_below)
@@ -149,11 +149,11 @@ group_row-returns-in_default-delimiter_of-clause-kept t c = kept_all c.args.leve
 pub group_row-returns-in_default-count_of-clause-kept : goal.group_row-returns-in_default-count_of-clause-kept
 group_row-returns-in_default-count_of-clause-kept t c = kept_all c.args.levels.now.items
 
-pub level_of-returns-clause-kept : goal.level_of-returns-clause-kept
-level_of-returns-clause-kept t c = c.places.invariant.kept
+pub level_by-returns-clause-kept : goal.level_by-returns-clause-kept
+level_by-returns-clause-kept t c = c.places.invariant.kept
 
-pub level_of-returns-then-not-branch-clause-kept : goal.level_of-returns-then-not-branch-clause-kept
-level_of-returns-then-not-branch-clause-kept t c =
+pub level_by-returns-then-not-branch-clause-kept : goal.level_by-returns-then-not-branch-clause-kept
+level_by-returns-then-not-branch-clause-kept t c =
     kept_on c.args.levels.now.items c.places.levels.items c.place_row.new.levels.items c.places.invariant.kept c.in_ok-found.ensures.kept
 
 pub place_row-returns-in-None-clause-kept : goal.place_row-returns-in-None-clause-kept

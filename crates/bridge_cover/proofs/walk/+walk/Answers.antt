@@ -14,44 +14,51 @@ use Rattle.bridge_cover.proofs.walk.+walk.Goals as goal
 
 -- ---- the fields of a level
 
-pub level_uncovered-loop-field-init : goal.level_uncovered-loop-field-init
-level_uncovered-loop-field-init t c = λ m s tables is. fields_begin m s c.in_ok-here.here c.as_slice-fields.result.now
-    (c.in_ok-here.ensures m s tables is)
+pub level_uncovered-returns : goal.level_uncovered-returns
+level_uncovered-returns t c =
+    let Path : Type 0 = Option (List (List ℕ)) in
+    if_told (λ (path : Path). (m : Mapping) (s : Structure) → Sees m s [] c.in_ok-here.here → outermost_first path ≡ uncovered m s c.args.level.now)
+    (λ (path : Path). (m : Mapping) (s : Structure) → AreTables m c.args.tables.now → c.args.rows.now ≡ rows_of s →
+    outermost_first path ≡ uncovered m s c.args.level.now)
+    (λ path left m s tables is. left m s (c.in_ok-here.ensures m s tables is))
+    c.parts_uncovered.result c.parts_uncovered.ensures
 
-pub level_uncovered-covers_field-requires : goal.level_uncovered-covers_field-requires
-level_uncovered-covers_field-requires t c = record {
+pub parts_uncovered-loop-field-init : goal.parts_uncovered-loop-field-init
+parts_uncovered-loop-field-init t c = λ m s sees. fields_begin m s c.args.here.now c.as_slice-fields.result.now sees
+
+pub parts_uncovered-covers_field-requires : goal.parts_uncovered-covers_field-requires
+parts_uncovered-covers_field-requires t c = record {
   order =
       all_at HasKind c.as_slice-fields.result.now (out-Level c.args.level.now).fields c.loop-field.field-index c.field-item.result
       (field_kinds c.args.level.now c.requires.order) c.as_slice-fields.ensures (omega arith) c.field-item.is;
 }
 
-pub level_uncovered-returns-then-not-covered : goal.level_uncovered-returns-then-not-covered
-level_uncovered-returns-then-not-covered t c = λ m s tables is.
-    let p = c.loop-field.invariant m s tables is in
+pub parts_uncovered-returns-then-not-covered : goal.parts_uncovered-returns-then-not-covered
+parts_uncovered-returns-then-not-covered t c = λ m s sees.
+    let p = c.loop-field.invariant m s sees in
     field_missed m s c.loop-field.here c.as_slice-fields.result.now c.loop-field.field-index p c.field-item.result (omega arith)
     c.field-item.is
     c.in_ok-covered.covered (c.in_ok-covered.ensures m s p.earlier p.sees) c.if-not-covered.true
     c.in_ok-path_to.field-0 (c.in_ok-path_to.ensures ∙ ap (λ n. n ∷ []) c.as_slice.ensures) c.args.level.now c.as_slice-fields.ensures
 
-pub level_uncovered-loop-field-preserved : goal.level_uncovered-loop-field-preserved
-level_uncovered-loop-field-preserved t c = λ m s tables is.
-    let p = c.loop-field.invariant m s tables is in
+pub parts_uncovered-loop-field-preserved : goal.parts_uncovered-loop-field-preserved
+parts_uncovered-loop-field-preserved t c = λ m s sees.
+    let p = c.loop-field.invariant m s sees in
     field_passed m s c.loop-field.here c.as_slice-fields.result.now c.loop-field.field-index p c.field-item.result
     c.pass.new.self (omega arith) c.field-item.is
     c.in_ok-covered.covered (c.in_ok-covered.ensures m s p.earlier p.sees) c.if-not-covered.false
     (c.in_ok-pass.ensures m s p.earlier p.sees)
 
-pub level_uncovered-returns : goal.level_uncovered-returns
-level_uncovered-returns t c =
+pub parts_uncovered-returns : goal.parts_uncovered-returns
+parts_uncovered-returns t c =
     let fields = c.as_slice-fields.result.now in
     let i = c.loop-field.field-index in
     let Path : Type 0 = Option (List (List ℕ)) in
     if_told (λ (path : Path). (m : Mapping) (s : Structure) (before : List ℕ) → Sees m s before c.loop-field.here
     → outermost_first path ≡ groups_left m s before c.groups_of-groups.result.now c.as_slice-parts.result.now)
-    (λ (path : Path). (m : Mapping) (s : Structure) → AreTables m c.args.tables.now → c.args.rows.now ≡ rows_of s →
-    outermost_first path ≡ uncovered m s c.args.level.now)
-    (λ path left m s tables is.
-    let p = c.loop-field.invariant m s tables is in
+    (λ (path : Path). (m : Mapping) (s : Structure) → Sees m s [] c.args.here.now → outermost_first path ≡ uncovered m s c.args.level.now)
+    (λ path left m s sees.
+    let p = c.loop-field.invariant m s sees in
     groups_told m s c.loop-field.here fields i p (omega arith) c.args.level.now c.as_slice-fields.ensures
     c.groups_of-groups.result.now c.groups_of-groups.ensures.groups
     c.as_slice-parts.result.now c.as_slice-parts.ensures path

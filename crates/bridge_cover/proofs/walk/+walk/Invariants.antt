@@ -1,15 +1,12 @@
-use Rattle.std.proofs.Common.{◌≡◌, ℕ, List, drop}
+use Rattle.std.proofs.Common.{◌≡◌, ℕ, List, [], drop}
 use Rattle.reference_graph.specs.Expansion.{Structure}
-use Rattle.structure_rows.specs.Rows.{rows_of}
 use Rattle.bridge_plan.specs.Mappings.{Mapping}
 use Rattle.bridge_cover.specs.Parts.{groups_left, Passes, PassesFields, Sees}
-use Rattle.bridge_cover.specs.Tables.{AreTables}
 use Rattle.bridge_cover.proofs.walk.+walk.Given as goal
 
-abbrev pub invariant-level_uncovered-loop-field : goal.invariant-level_uncovered-loop-field
-invariant-level_uncovered-loop-field l =
-    (m : Mapping) (s : Structure) → AreTables m l.tables → l.rows ≡ rows_of s → PassesFields m s l.here
-    (drop l.field-index l.fields) l.fields
+abbrev pub invariant-parts_uncovered-loop-field : goal.invariant-parts_uncovered-loop-field
+invariant-parts_uncovered-loop-field l =
+    (m : Mapping) (s : Structure) → Sees m s [] l.fn.here → PassesFields m s l.here (drop l.field-index l.fields) l.fields
 
 abbrev pub invariant-groups_uncovered-loop-group : goal.invariant-groups_uncovered-loop-group
 invariant-groups_uncovered-loop-group l =

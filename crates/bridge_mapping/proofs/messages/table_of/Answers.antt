@@ -1,10 +1,7 @@
-use Rattle.std.proofs.Common.{◌≡◌, map, length, sym, ◌∙◌}
-use Rattle.map_types.specs.declared.tree.MessageEl.{MessageEl}
+use Rattle.std.proofs.Common.{◌≡◌, length, sym}
 use Rattle.map_members.specs.Lent.{lent_members}
 use Rattle.map_members.proofs.Lent.{as_many}
 use Rattle.map_links.specs.Links.{linked}
-use Rattle.orchestra_map.specs.Headers.{graph_of}
-use Rattle.orchestra_map.proofs.Gathered.{graph_is}
 use Rattle.bridge_mapping.proofs.MessageTables.{table_is, as_many_kinds, nodes_are_there, nodes_are_whole}
 use Rattle.bridge_mapping.proofs.messages.table_of.Goals as goal
 
@@ -12,11 +9,9 @@ pub invariant_of-result : goal.invariant_of-result
 invariant_of-result c =
     let fields = lent_members c.args.fields.now in
     let members = linked c.args.components.now c.args.groups.now c.args.messages.now in
-    let graph : c.in_ok-structures.structures ≡ graph_of fields members =
-    c.in_ok-structures.ensures ∙ (c.in_ok-nodes.ensures
-    ∙ graph_is c.args.fields.now c.args.components.now c.args.groups.now c.args.messages.now c.in_ok-ids.ids c.in_ok-ids.ensures) in
+    let graph = c.in_ok-structures.ensures in
     let many : length c.args.messages.now ≡ length (lent_members c.args.messages.now) = sym (as_many c.args.messages.now) in
-    let kinds : c.in_ok-kinds.kinds ≡ map (λ (m : MessageEl). m.msg_type) (lent_members c.args.messages.now) = c.in_ok-kinds.ensures ∙ c.in_ok-names.ensures in (
+    let kinds = c.in_ok-kinds.ensures in (
       as_many_kinds fields members c.in_ok-structures.structures (length c.args.messages.now) c.in_ok-kinds.kinds graph many kinds,
       nodes_are_there fields members c.in_ok-structures.structures (length c.args.messages.now) c.in_ok-kinds.kinds graph many kinds,
       nodes_are_whole fields members c.in_ok-structures.structures (length c.args.messages.now) c.in_ok-kinds.kinds graph many kinds c.requires.whole,
@@ -26,9 +21,5 @@ pub returns : goal.returns
 returns c =
     let fields = lent_members c.args.fields.now in
     let members = linked c.args.components.now c.args.groups.now c.args.messages.now in
-    let graph : c.in_ok-structures.structures ≡ graph_of fields members =
-    c.in_ok-structures.ensures ∙ (c.in_ok-nodes.ensures
-    ∙ graph_is c.args.fields.now c.args.components.now c.args.groups.now c.args.messages.now c.in_ok-ids.ids c.in_ok-ids.ensures) in
     let many : length c.args.messages.now ≡ length (lent_members c.args.messages.now) = sym (as_many c.args.messages.now) in
-    let kinds : c.in_ok-kinds.kinds ≡ map (λ (m : MessageEl). m.msg_type) (lent_members c.args.messages.now) = c.in_ok-kinds.ensures ∙ c.in_ok-names.ensures in
-    table_is fields members c.in_ok-structures.structures (length c.args.messages.now) c.in_ok-kinds.kinds graph many kinds
+    table_is fields members c.in_ok-structures.structures (length c.args.messages.now) c.in_ok-kinds.kinds c.in_ok-structures.ensures many c.in_ok-kinds.ensures

@@ -1,6 +1,6 @@
 use Rattle.std.proofs.Common.{refl}
 use Rattle.schema_facts.proofs.KindLists.{narrow_members}
-use Rattle.layout_compile.proofs.tables.spot_of.Goals as goal
+use Rattle.layout_compile.proofs.tables.kind_of.Goals as goal
 
 pub loop-member-init : goal.loop-member-init
 loop-member-init c = record {

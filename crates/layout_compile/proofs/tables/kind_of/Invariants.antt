@@ -1,7 +1,7 @@
 use Rattle.std.proofs.Common.{◌≡◌, drop}
 use Rattle.sbe_wire.specs.Named.{spot_named}
 use Rattle.schema_facts.proofs.KindLists.{NarrowList}
-use Rattle.layout_compile.proofs.tables.spot_of.Given as goal
+use Rattle.layout_compile.proofs.tables.kind_of.Given as goal
 
 abbrev pub invariant-loop-member : goal.invariant-loop-member
 invariant-loop-member l = record {
