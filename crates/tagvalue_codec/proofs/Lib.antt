@@ -10,4 +10,5 @@ pub mod Written
 pub mod Marks
 pub mod Roles
 pub mod Walking
+pub mod Summing
 pub mod Whole
