@@ -1,11 +1,11 @@
 -- Zeros, and what follows the first.
-use Rattle.std.proofs.Common.{◌≡◌, ℕ, suc, ◌+◌, Bool, true, false, cond, List, [], ◌∷◌, ◌++◌, length, take, drop, refl, ap, ◌∙◌, subst, arith}
-use Rattle.std.specs.Prelude.{◌==◌, not}
-use Rattle.std.specs.List.{list_all, prefix_len}
+use Rattle.std.proofs.Common.{◌≡◌, ℕ, Bool, true, false, List, [], ◌∷◌, ◌++◌, refl, ap, ◌∙◌, subst}
+use Rattle.std.specs.Prelude.{◌==◌, if◌then◌else◌}
+use Rattle.std.specs.List.{list_all}
 use Rattle.std.proofs.lemmas.Bool.{and_parts}
 use Rattle.std.proofs.lemmas.Bool.Decides.{Decides-eqb}
-use Rattle.field_values.specs.Reports.{before_zero}
 use Rattle.clean_bodies.specs.Clean.{AreZeros, IsCleanText}
+use Rattle.clean_walk.specs.inner.Zeros.{stays_zero}
 
 pub zeros_are : (bytes : List ℕ) → list_all (λ b. b == 0) bytes ≡ true → AreZeros bytes
 zeros_are [] h = refl
@@ -20,22 +20,28 @@ last_zeros : (text after : List ℕ) → AreZeros (text ++ 0 ∷ after) → AreZ
 last_zeros [] after h = tail_zeros 0 after h
 last_zeros (x ∷ text) after h = last_zeros text after (tail_zeros x (text ++ 0 ∷ after) h)
 
-by_zero : (t : Bool) (x n : ℕ) (text after : List ℕ)
-    → (AreZeros (drop (length (take n (text ++ 0 ∷ after))) (text ++ 0 ∷ after)) → AreZeros after)
-    → AreZeros (drop (length (take (cond (not t) (1 + n) 0) (x ∷ (text ++ 0 ∷ after)))) (x ∷ (text ++ 0 ∷ after)))
-    → AreZeros after
-by_zero true x n text after go k = last_zeros (x ∷ text) after k
-by_zero false x n text after go k =
-    let more : 1 + n ≡ suc n = omega arith in
-    go (subst (λ j. AreZeros (drop (length (take j (x ∷ (text ++ 0 ∷ after)))) (x ∷ (text ++ 0 ∷ after)))) more k)
+false_true : ◌≡◌ {A = Bool} false true → ⊥
+false_true h = cc
 
--- what follows some 00 of a text, where zeros alone stand from its first on
-behind_zero : (text after : List ℕ) → AreZeros (drop (length (before_zero (text ++ 0 ∷ after))) (text ++ 0 ∷ after))
-    → AreZeros after
-behind_zero [] after h = tail_zeros 0 after h
-behind_zero (x ∷ text) after h = by_zero (x == 0) x (prefix_len (λ b. not (b == 0)) (text ++ 0 ∷ after)) text after (λ k. behind_zero text after k) h
+zero_by : (t : Bool) (b : ℕ) (bs : List ℕ) → b == 0 ≡ t → (stays_zero true bs ≡ true → AreZeros bs)
+    → (if t then stays_zero true bs else (if true then false else stays_zero false bs)) ≡ true → AreZeros (b ∷ bs)
+zero_by true b bs is go h = ap (λ x. x ∷ bs) ((Decides-eqb b 0).0 is) ∙ ap (λ xs. 0 ∷ xs) (go h)
+zero_by false b bs is go h = absurd (false_true h)
 
--- the text of a field, with what follows its first 00
-pub text_clean : (bytes text : List ℕ) → text ≡ before_zero bytes → AreZeros (drop (length text) bytes) → IsCleanText bytes
-text_clean bytes text is zeros front after whole =
-    behind_zero front after (subst (λ b. AreZeros (drop (length (before_zero b)) b)) whole (subst (λ t. AreZeros (drop (length t) bytes)) is zeros))
+ended_zeros : (bs : List ℕ) → stays_zero true bs ≡ true → AreZeros bs
+ended_zeros [] h = refl
+ended_zeros (b ∷ bs) h = zero_by (b == 0) b bs refl (ended_zeros bs) h
+
+behind_by : (t : Bool) (text after : List ℕ) → (stays_zero false (text ++ 0 ∷ after) ≡ true → AreZeros after)
+    → (if t then stays_zero true (text ++ 0 ∷ after) else (if false then false else stays_zero false (text ++ 0 ∷ after))) ≡ true → AreZeros after
+behind_by true text after go h = last_zeros text after (ended_zeros (text ++ 0 ∷ after) h)
+behind_by false text after go h = go h
+
+-- what follows some 00 of a text
+behind_zero : (text after : List ℕ) → stays_zero false (text ++ 0 ∷ after) ≡ true → AreZeros after
+behind_zero [] after h = ended_zeros after h
+behind_zero (x ∷ text) after h = behind_by (x == 0) text after (behind_zero text after) h
+
+-- a text in which no byte is other than 00 after the first
+pub text_clean : (bytes : List ℕ) → stays_zero false bytes ≡ true → IsCleanText bytes
+text_clean bytes h text after whole = behind_zero text after (subst (λ b. stays_zero false b ≡ true) whole h)

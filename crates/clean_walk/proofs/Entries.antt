@@ -1,7 +1,8 @@
 -- An entry, a group and a root that were walked.
-use Rattle.std.proofs.Common.{◌≡◌, ◌<◌, ℕ, ◌+◌, ◌-◌, List, length, take, drop, get_or, Option, Some, None, IfSome, sym, ap, ◌∙◌, subst, arith}
-use Rattle.std.specs.Prelude.{codes, slice_get}
+use Rattle.std.proofs.Common.{◌≡◌, ◌<◌, ℕ, ◌+◌, ◌-◌, true, List, [], ◌∷◌, length, take, drop, get_or, Option, Some, None, IfSome, refl, sym, ap, ◌∙◌, subst, arith}
+use Rattle.std.specs.Prelude.{◌==◌, codes, slice_get}
 use Rattle.std.specs.List.{All}
+use Rattle.std.proofs.lemmas.Bool.Decides.{nat_tests}
 use Rattle.std.proofs.lemmas.List.Elements.{All-get_or}
 use Rattle.std.proofs.lemmas.Option.{slice_get-get_or}
 use Rattle.byte_digits.specs.Digits.{IsBytes}
@@ -53,6 +54,21 @@ entry_walked place level ps at size mid next is parts good bytes clean first sec
     entry_whole place level good bytes at next
     (subst (λ n. IsCleanBlock fields (take n (drop at place.body))) long clean)
     (tail_whole place level (at + wide) mid next (subst (λ n. Chain Group (GroupStep place) groups (at + n) mid) is first) (subst (λ l. Chain DataField (PartStep place) l mid next) parts second))
+
+none_in : {X : Type 0} (xs : List X) → length xs == 0 ≡ true → xs ≡ []
+none_in [] h = refl
+none_in (x ∷ xs) h = absurd (grind (arith, nat_tests, h))
+
+-- an entry with neither groups nor data
+pub plain_walked : (place : Place) (level : Level) (gs : List Group) (ps : List DataField) (at size : ℕ) → size ≡ (out-Level level).block_length
+    → gs ≡ (out-Level level).groups → ps ≡ (out-Level level).parts → IsGoodLevel place.version level → IsBytes place.body
+    → IsCleanBlock (out-Level level).fields (take (at + size - at) (drop at place.body))
+    → length gs == 0 ≡ true → length ps == 0 ≡ true → EntryStep place level at (at + size)
+plain_walked place level gs ps at size is groups parts good bytes clean no_groups no_parts =
+    let end = at + size in
+    entry_walked place level ps at size end end is parts good bytes clean
+    (subst (λ l. Chain Group (GroupStep place) l end end) (sym (none_in gs no_groups) ∙ groups) refl)
+    (subst (λ l. Chain DataField (PartStep place) l end end) (sym (none_in ps no_parts)) refl)
 
 -- a group of a level, by its place
 pub group_good : (version : ℕ) (level : Level) (gs : List Group) (i : ℕ) (g : Group) → gs ≡ (out-Level level).groups → i < length gs → g ≡ get_or gs i g

@@ -5,3 +5,4 @@ pub mod Saying
 pub mod Parts
 pub mod Entries
 pub mod Words
+pub mod ZeroBits

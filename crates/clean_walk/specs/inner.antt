@@ -2,3 +2,4 @@
 pub mod Heads
 pub mod Places
 pub mod Values
+pub mod Zeros

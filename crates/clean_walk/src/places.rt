@@ -17,12 +17,25 @@ pub(crate) fn begin_of(end: usize, offset: Option<u32>) -> usize
 }
 
 /// The number in the bytes of a primitive, or `None` if it doesn't fit 32 bits without a sign.
+#[inline(always)]
 pub(crate) fn natural_at(order: Order, prim: Prim, bytes: &[u8]) -> Option<u32>
     requires { length bytes.now ≡ prim_width prim }
     ensures { IfSome result (λ n. number_of order prim bytes.now ≡ pos n) }
 {
-    match u32::try_from(get_num(order, prim, bytes)) {
-        Ok(number) => Some(number),
+    // The most frequent primitive has a test of its own, since a `match` over all jumps through a table.
+    if prim == Prim::U16 {
+        return natural(get_num(order, Prim::U16, bytes));
+    }
+    natural(get_num(order, prim, bytes))
+}
+
+/// A number of 32 bits without a sign, or `None` if it isn't one.
+#[inline(always)]
+fn natural(number: i128) -> Option<u32>
+    ensures { IfSome result (λ n. number ≡ pos n) }
+{
+    match u32::try_from(number) {
+        Ok(natural) => Some(natural),
         Err(_) => None,
     }
 }

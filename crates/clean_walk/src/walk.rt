@@ -80,8 +80,12 @@ fn entry_end(layout: &Layout, n: usize, level: &Level, body: &[u8], at: usize) -
     if !is_clean_block(&row.flat, &body[at..after]) {
         return None;
     }
+    let parts = level.parts.as_slice();
+    if level.groups.as_slice().is_empty() && parts.is_empty() {
+        return Some(after);
+    }
     let next = groups_end(layout, n, level, body, after)?;
-    parts_end(layout, level.parts.as_slice(), body, next)
+    parts_end(layout, parts, body, next)
 }
 
 /// The end of the groups of a level.

@@ -1,11 +1,15 @@
 ghost use Rattle.std.specs.Prelude.{◌≡◌, []};
 
 use crate::bits::{big, little};
+use byteorder::{ByteOrder, LittleEndian};
 use sbe_types::{Order, Prim};
 use std::marker::Model;
 
 /// The size of a draft in bytes. A longer body takes the general path.
 pub const DRAFT_BYTES: usize = 4096;
+
+/// How many bytes a word has.
+const WORD: usize = 8;
 
 /// Bytes that are written as a body. It allocates nothing.
 #[derive(Drop)]
@@ -88,6 +92,18 @@ impl BodyDraft {
             return false;
         }
         self.room[at..at + bytes.len()].copy_from_slice(bytes);
+        true
+    }
+
+    /// Writes the bytes of a word that a mask has, at an offset, and leaves the others; false if there is no room for eight bytes.
+    #[inline(always)]
+    pub fn put_masked(&mut self, at: usize, word: u64, mask: u64) -> bool {
+        if at > DRAFT_BYTES - WORD {
+            return false;
+        }
+        let place = &mut self.room[at..at + WORD];
+        let old = LittleEndian::read_u64(place);
+        LittleEndian::write_u64(place, old & !mask | word & mask);
         true
     }
 

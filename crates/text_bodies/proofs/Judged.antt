@@ -3,7 +3,7 @@ use Rattle.std.proofs.Common.{◌≡◌, ◌<◌, ℕ, List, Some, length, sym, 
 use Rattle.std.specs.Prelude.{slice_get}
 use Rattle.byte_digits.specs.Digits.{IsBytes}
 use Rattle.sbe_types.specs.declared.message.Msg.{Msg}
-use Rattle.sbe_types.specs.declared.schema.Level.{Level, out-Level}
+use Rattle.sbe_types.specs.declared.schema.Level.{Level}
 use Rattle.sbe_types.specs.declared.schema.WireSchema.{WireSchema}
 use Rattle.sbe_wire.specs.Lays.{Lays}
 use Rattle.schema_facts.specs.IsChecked.{IsChecked}
@@ -22,7 +22,7 @@ use Rattle.message_walk.specs.Rows.{AreRows, FitsBlock}
 use Rattle.fix_messages.specs.declared.text.MessageRows.{MessageRows}
 use Rattle.fix_messages.specs.Heads.{Head}
 use Rattle.back_texts.specs.Backs.{HasFewFields, IsOwnMessage, IsReadBack, IsTextOf, IsWrittenAs, Writing}
-use Rattle.text_bodies.specs.Bodies.{IsBodyOfText, IsHeadFor, IsPlannedBy, Reading, kind_read}
+use Rattle.text_bodies.specs.Bodies.{IsBodyOfText, IsHeadFor, IsPlannedBy, Reading}
 
 -- the law of messages and their texts
 abbrev pub AreOfTheirTexts : Type 0

@@ -10,7 +10,7 @@ use clean_walk::is_clean_body;
 use fix_messages::{FixHead, MessageRows};
 use flyweight_view::validate;
 use layout_tables::Layout;
-use message_walk::PutValue;
+use message_walk::{Halt, PutValue};
 use tagvalue_codec::FixWriter;
 use text_match::has_text;
 
@@ -25,6 +25,7 @@ pub fn is_body_of_text<R: PutValue>(
     text: &[u8],
     body: &[u8],
     out: &mut FixWriter,
+    halt: &mut Halt,
 ) -> bool
     requires head { IsHeadReady (head_of head.now) }
     requires kind { IsValue rows.now.msg_type.now }
@@ -50,7 +51,7 @@ pub fn is_body_of_text<R: PutValue>(
         return false;
     }
     let root = view.root();
-    if !has_text(rows, &root, head, text, out) {
+    if !has_text(rows, &root, head, text, out, halt) {
         return false;
     }
     is_clean_body(layout, template, body)

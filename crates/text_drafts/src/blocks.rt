@@ -1,8 +1,10 @@
 // Blocks of a text's fields, taken on trust. No contract covers the result.
 use crate::digits::{decimal_in, integer_in};
 use crate::fields::{Fields, Range};
+use crate::lead::TagLead;
 use crate::level::{BackLevels, DraftLevel, DraftPart, DraftRow, DraftTree, FieldForm};
 use crate::values::put_value;
+use crate::words::{SOH, short_text_at};
 use field_judge::{BackLevel, BackPart, level_at};
 use line_draft::BodyDraft;
 use sbe_types::{DataField, Field, Group, Level, Order, WireSchema};
@@ -10,9 +12,6 @@ use text_values::TextValue;
 
 /// The most data parts of a level. A level with more takes the general path.
 const MOST_DATA: usize = 8;
-
-/// The tag of CheckSum, after which nothing follows.
-const CHECK_SUM: u32 = 10;
 
 /// What a template's bodies are drafted by: its schema, its levels, and those by which its texts are read.
 #[derive(Clone, Copy)]
@@ -32,17 +31,17 @@ struct LevelRows<'a> {
 /// A block that is drafted: its offset in the draft, how many of its groups were, and for each of its data the offsets of its
 /// value.
 #[derive(Drop)]
-struct Block {
+struct Block<'a> {
     at: usize,
     groups: usize,
-    data: [Range; MOST_DATA],
+    data: &'a mut [Range],
 }
 
-impl Block {
+impl Block<'_> {
     /// The place of a field with this offset in the block.
     #[inline(always)]
     fn place(&self, begin: usize) -> usize {
-        self.at.saturating_add(begin)
+        self.at.wrapping_add(begin)
     }
 
     /// Counts group `i`, and says whether it is the next one.
@@ -71,7 +70,7 @@ pub fn draft_text(
         back: by.back.root,
     };
     let mut fields = Fields::from(text.0, text.1);
-    block_in(by, rows, level, &mut fields, draft) && fields.is_next(CHECK_SUM)
+    block_in(by, rows, level, &mut fields, draft) && fields.are_over()
 }
 
 /// The block of a root or of an entry, its groups and its data.
@@ -83,13 +82,37 @@ fn block_in(
     fields: &mut Fields<'_>,
     draft: &mut BodyDraft,
 ) -> bool {
+    if level.parts.is_empty() {
+        return parts_in(by, rows, level, &mut [], fields, draft);
+    }
+    let mut data = [(0, 0); MOST_DATA];
+    parts_in(by, rows, level, &mut data, fields, draft)
+        && put_all_data(
+            by.schema.order,
+            level.parts.as_slice(),
+            &data,
+            fields,
+            draft,
+        )
+}
+
+/// The block and its groups. The offsets of the values of its data are kept.
+#[cycle(level)]
+fn parts_in(
+    by: Drafting<'_>,
+    rows: LevelRows<'_>,
+    level: &Level,
+    data: &mut [Range],
+    fields: &mut Fields<'_>,
+    draft: &mut BodyDraft,
+) -> bool {
     let Some(at) = draft.append(rows.own.empty.as_slice()) else {
         return false;
     };
     let mut block = Block {
         at,
         groups: 0,
-        data: [(0, 0); MOST_DATA],
+        data,
     };
     for (k, row) in rows.own.rows.as_slice().iter().enumerate() {
         if !put_part(by, rows, level, (k, row), &mut block, fields, draft) {
@@ -97,13 +120,6 @@ fn block_in(
         }
     }
     block.groups == level.groups.len()
-        && put_all_data(
-            by.schema.order,
-            level.parts.as_slice(),
-            &block.data,
-            fields,
-            draft,
-        )
 }
 
 /// What is at place `k` of a level, if it comes next.
@@ -113,46 +129,95 @@ fn put_part(
     rows: LevelRows<'_>,
     level: &Level,
     place: (usize, &DraftRow),
-    block: &mut Block,
+    block: &mut Block<'_>,
     fields: &mut Fields<'_>,
     draft: &mut BodyDraft,
 ) -> bool {
     let (k, row) = place;
     let order = by.schema.order;
-    match row.part {
-        DraftPart::Field(begin, form) => match fields.takes(row.tag) {
-            None => true,
-            Some(text) => field_in(order, form, text, draft, block.place(begin)),
-        },
-        DraftPart::Other(begin, i) => match fields.takes(row.tag) {
+    match &row.part {
+        DraftPart::Field(begin, form) => {
+            field_in(&row.lead, form, fields, draft, block.place(*begin))
+        }
+        DraftPart::Other(begin, i) => match fields.takes(&row.lead) {
             None => true,
             Some(text) => {
-                let part = (value_at(rows.back, k), field_at(level, i));
-                other_in(order, part, text, draft, block.place(begin))
+                let part = (value_at(rows.back, k), field_at(level, *i));
+                other_in(order, part, text, draft, block.place(*begin))
             }
         },
-        DraftPart::Data(i, lead) => data_in(row.tag, i, lead, fields, &mut block.data),
+        DraftPart::Data(i, lead) => data_in(&row.lead, *i, lead, fields, block.data),
         DraftPart::Group(i, delimiter) => {
-            block.has_next(i) && group_in(by, rows, level, (k, i, delimiter), fields, draft)
+            block.has_next(*i) && group_in(by, rows, level, (k, *i, row), delimiter, fields, draft)
         }
     }
 }
 
-/// The value of a field's text, from an offset of the draft on.
-#[inline(always)]
-fn field_in(order: Order, form: FieldForm, text: &[u8], draft: &mut BodyDraft, at: usize) -> bool {
+/// The value of a field, from an offset of the draft on, if the field comes next.
+#[inline(never)]
+fn field_in(
+    lead: &TagLead,
+    form: &FieldForm,
+    fields: &mut Fields<'_>,
+    draft: &mut BodyDraft,
+    at: usize,
+) -> bool {
+    let Some(from) = fields.value_of(lead) else {
+        return true;
+    };
     match form {
-        FieldForm::Integer(prim) => match integer_in(text) {
-            Some(bits) => draft.put_bits(order, prim, bits, at),
+        FieldForm::Integer(place) => match integer_in(fields.from_offset(from)) {
+            Some((bits, many)) => {
+                fields.pass(from.wrapping_add(many));
+                place.put(bits, draft, at)
+            }
             None => false,
         },
-        FieldForm::Decimal(prim, places) => match decimal_in(text, places) {
-            Some(bits) => draft.put_bits(order, prim, bits, at),
+        FieldForm::Decimal(place, places) => match decimal_in(fields.from_offset(from), *places) {
+            Some((bits, many)) => {
+                fields.pass(from.wrapping_add(many));
+                place.put(bits, draft, at)
+            }
             None => false,
         },
-        FieldForm::Text(most) => text.len() <= most && draft.put(at, text),
-        FieldForm::Character => text.len() == 1 && draft.put(at, text),
+        FieldForm::Word => match short_text_at(fields.text(), from) {
+            Some((word, end)) => {
+                fields.pass(end);
+                draft.put_masked(at, word, u64::MAX)
+            }
+            None => false,
+        },
+        FieldForm::Character => character_in(from, fields, draft, at),
+        FieldForm::Text(most) => text_in(*most, from, fields, draft, at),
     }
+}
+
+/// A character.
+#[inline(always)]
+fn character_in(from: usize, fields: &mut Fields<'_>, draft: &mut BodyDraft, at: usize) -> bool {
+    let text = fields.from_offset(from);
+    let [byte, SOH, ..] = text else {
+        return false;
+    };
+    fields.pass(from.wrapping_add(1));
+    draft.put_masked(at, u64::from(*byte), 0xFF)
+}
+
+/// A text of at most so many bytes.
+#[inline(never)]
+fn text_in(
+    most: usize,
+    from: usize,
+    fields: &mut Fields<'_>,
+    draft: &mut BodyDraft,
+    at: usize,
+) -> bool {
+    let Some(end) = fields.end_of(from) else {
+        return false;
+    };
+    let text = fields.bytes((from, end));
+    fields.pass(end);
+    text.len() <= most && draft.put(at, text)
 }
 
 /// The same for any value, as its text is read.
@@ -206,26 +271,24 @@ fn field_at(level: &Level, i: usize) -> Option<&Field> {
 }
 
 /// Data and its length field, if they come next: the offsets of the value are kept, since data follow the groups.
-fn data_in(tag: u32, i: usize, lead: u32, fields: &mut Fields<'_>, data: &mut [Range]) -> bool {
+fn data_in(
+    lead: &TagLead,
+    i: usize,
+    length: &TagLead,
+    fields: &mut Fields<'_>,
+    data: &mut [Range],
+) -> bool {
     if i >= data.len() {
         return false;
     }
-    let many = match length_before(lead, fields) {
-        Some(digits) => integer_in(digits),
+    let many = match fields.takes(length) {
+        Some(digits) => number_of(digits),
         None => None,
     };
-    if let Some(range) = fields.takes_data(tag, many) {
+    if let Some(range) = fields.takes_data(lead, many) {
         data[i] = range;
     }
     true
-}
-
-/// The digits of a length field with this tag, if it comes next. No length field has the tag 0.
-fn length_before<'a>(lead: u32, fields: &mut Fields<'a>) -> Option<&'a [u8]> {
-    if lead == 0 {
-        return None;
-    }
-    fields.takes(lead)
 }
 
 /// The dimension and the entries of a group; none if its count doesn't come next.
@@ -234,22 +297,23 @@ fn group_in(
     by: Drafting<'_>,
     rows: LevelRows<'_>,
     level: &Level,
-    place: (usize, usize, u32),
+    place: (usize, usize, &DraftRow),
+    delimiter: &TagLead,
     fields: &mut Fields<'_>,
     draft: &mut BodyDraft,
 ) -> bool {
-    let (k, i, delimiter) = place;
+    let (k, i, row) = place;
     if i >= level.groups.len() || i >= rows.own.groups.len() {
         return false;
     }
     let own = rows.own.groups.at(i);
-    let Some((tag, entries)) = entries_rows(by, rows.back, k, own.level) else {
+    let Some(entries) = entries_rows(by, rows.back, k, own.level) else {
         return false;
     };
     let Some(at) = draft.append(own.dim.as_slice()) else {
         return false;
     };
-    let Some(count) = count_in(fields.takes(tag)) else {
+    let Some(count) = count_in(row, fields) else {
         return false;
     };
     draft.put_bits(by.schema.order, own.count, count, at.saturating_add(own.at))
@@ -263,23 +327,22 @@ fn group_in(
         )
 }
 
-/// The tag of the group of row `k`, and the level of its entries, which has this number.
+/// The level of the entries of the group of row `k`, which has this number.
 fn entries_rows<'a>(
     by: Drafting<'a>,
     back: &BackLevel,
     k: usize,
     number: usize,
-) -> Option<(u32, LevelRows<'a>)> {
+) -> Option<LevelRows<'a>> {
     if k >= back.rows.len() || number >= by.tree.levels.len() {
         return None;
     }
-    let row = back.rows.at(k);
-    let BackPart::Group(group) = &row.part else {
+    let BackPart::Group(group) = &back.rows.at(k).part else {
         return None;
     };
     let back = level_at(by.back.levels, group.level)?;
     let own = by.tree.levels.at(number);
-    Some((row.tag, LevelRows { own, back }))
+    Some(LevelRows { own, back })
 }
 
 /// The entries of a group.
@@ -288,11 +351,14 @@ fn entries_in(
     by: Drafting<'_>,
     rows: LevelRows<'_>,
     group: &Group,
-    run: (u64, u32),
+    run: (u64, &TagLead),
     fields: &mut Fields<'_>,
     draft: &mut BodyDraft,
 ) -> bool {
     let (count, delimiter) = run;
+    if rows.own.is_flat {
+        return flat_entries_in(rows.own, run, fields, draft);
+    }
     for _ in 0..count {
         if !fields.is_next(delimiter) || !block_in(by, rows, &group.level, fields, draft) {
             return false;
@@ -301,12 +367,59 @@ fn entries_in(
     true
 }
 
-/// The number of entries, or 0 without a text.
-fn count_in(text: Option<&[u8]>) -> Option<u64> {
-    match text {
-        None => Some(0),
-        Some(digits) => integer_in(digits),
+/// The same, of a level with nothing but fields that have a form.
+fn flat_entries_in(
+    level: &DraftLevel,
+    run: (u64, &TagLead),
+    fields: &mut Fields<'_>,
+    draft: &mut BodyDraft,
+) -> bool {
+    let (count, delimiter) = run;
+    for _ in 0..count {
+        if !fields.is_next(delimiter) || !flat_block_in(level, fields, draft) {
+            return false;
+        }
     }
+    true
+}
+
+/// The block of such a level.
+#[inline(always)]
+fn flat_block_in(level: &DraftLevel, fields: &mut Fields<'_>, draft: &mut BodyDraft) -> bool {
+    let Some(at) = draft.append(level.empty.as_slice()) else {
+        return false;
+    };
+    for row in level.rows.as_slice() {
+        if let DraftPart::Field(begin, form) = &row.part
+            && !field_in(&row.lead, form, fields, draft, at.wrapping_add(*begin))
+        {
+            return false;
+        }
+    }
+    true
+}
+
+/// The number of entries, or 0 if the field of the count doesn't come next.
+fn count_in(row: &DraftRow, fields: &mut Fields<'_>) -> Option<u64> {
+    let Some(from) = fields.value_of(&row.lead) else {
+        return Some(0);
+    };
+    let (count, many) = integer_in(fields.from_offset(from))?;
+    fields.pass(from.wrapping_add(many));
+    Some(count)
+}
+
+/// The number that digits spell, if nothing follows them.
+fn number_of(digits: &[u8]) -> Option<u64> {
+    let mut number = 0u64;
+    for byte in digits {
+        let digit = byte.wrapping_sub(b'0');
+        if digit > 9 {
+            return None;
+        }
+        number = number.wrapping_mul(10).wrapping_add(u64::from(digit));
+    }
+    Some(number)
 }
 
 /// The data of a level, by the offsets of their values.

@@ -1,75 +1,116 @@
-// Numbers in texts, as their bits. No contract covers the result.
+// Numbers in texts, as their bits, and where they end. No contract covers the result.
+use crate::words::SOH;
 
-/// The most digits that are read. Any number of this many digits fits 64 bits.
-pub(crate) const MOST_DIGITS: usize = 18;
+/// The most digits after a point.
+pub(crate) const MOST_PLACES: usize = 18;
 
-/// The bits of an integer, or `None` if the text isn't one of at most 18 digits.
+/// The powers of ten.
+const POWERS: [u64; MOST_PLACES + 1] = [
+    1,
+    10,
+    100,
+    1_000,
+    10_000,
+    100_000,
+    1_000_000,
+    10_000_000,
+    100_000_000,
+    1_000_000_000,
+    10_000_000_000,
+    100_000_000_000,
+    1_000_000_000_000,
+    10_000_000_000_000,
+    100_000_000_000_000,
+    1_000_000_000_000_000,
+    10_000_000_000_000_000,
+    100_000_000_000_000_000,
+    1_000_000_000_000_000_000,
+];
+
+/// The bits of an integer that SOH ends, and how many bytes it has. `None` if there is none.
 #[inline(always)]
-pub(crate) fn integer_in(text: &[u8]) -> Option<u64> {
+pub(crate) fn integer_in(text: &[u8]) -> Option<(u64, usize)> {
     match text {
-        [b'-', digits @ ..] => Some(natural_in(digits)?.wrapping_neg()),
-        digits => natural_in(digits),
-    }
-}
-
-/// The number that digits spell.
-#[inline(always)]
-fn natural_in(digits: &[u8]) -> Option<u64> {
-    if digits.len() > MOST_DIGITS {
-        return None;
-    }
-    let mut number = 0u64;
-    for digit in digits {
-        let more = digit.wrapping_sub(b'0');
-        if more > 9 {
-            return None;
+        [b'-', rest @ ..] => {
+            let (number, many) = natural_in(rest)?;
+            Some((number.wrapping_neg(), many.wrapping_add(1)))
         }
-        number = number.wrapping_mul(10).wrapping_add(more as u64);
-    }
-    Some(number)
-}
-
-/// The bits of the mantissa of a decimal with `places` digits after the point, or `None` if the text isn't one of at most
-/// 18 digits, or has more after its point.
-#[inline(always)]
-pub(crate) fn decimal_in(text: &[u8], places: usize) -> Option<u64> {
-    match text {
-        [b'-', digits @ ..] => Some(mantissa_in(digits, places)?.wrapping_neg()),
-        digits => mantissa_in(digits, places),
+        rest => natural_in(rest),
     }
 }
 
 /// The same without a sign.
 #[inline(always)]
-fn mantissa_in(digits: &[u8], places: usize) -> Option<u64> {
-    if digits.len() > MOST_DIGITS {
+fn natural_in(text: &[u8]) -> Option<(u64, usize)> {
+    let (number, many) = digits_after(0, text);
+    if !ends_at(text, many) {
         return None;
     }
-    let mut number = 0u64;
-    let mut left = places;
-    let mut is_fraction = false;
-    for byte in digits {
-        let more = byte.wrapping_sub(b'0');
-        if more <= 9 {
-            if is_fraction {
-                left = left.checked_sub(1)?;
-            }
-            number = number.wrapping_mul(10).wrapping_add(more as u64);
-        } else if *byte == b'.' && !is_fraction {
-            is_fraction = true;
-        } else {
-            return None;
+    Some((number, many))
+}
+
+/// The bits of the mantissa of a decimal with at most `places` digits after its point, which SOH ends, and how many bytes it has.
+/// `None` if there is none.
+#[inline(always)]
+pub(crate) fn decimal_in(text: &[u8], places: usize) -> Option<(u64, usize)> {
+    match text {
+        [b'-', rest @ ..] => {
+            let (mantissa, many) = mantissa_in(rest, places)?;
+            Some((mantissa.wrapping_neg(), many.wrapping_add(1)))
         }
+        rest => mantissa_in(rest, places),
     }
-    Some(with_zeros(number, left))
+}
+
+/// The same without a sign.
+#[inline(always)]
+fn mantissa_in(text: &[u8], places: usize) -> Option<(u64, usize)> {
+    let (whole, many) = digits_after(0, text);
+    if ends_at(text, many) {
+        return Some((with_zeros(whole, places), many));
+    }
+    if many >= text.len() || text[many] != b'.' {
+        return None;
+    }
+    let rest = &text[many + 1..];
+    let (number, more) = digits_after(whole, rest);
+    if !ends_at(rest, more) {
+        return None;
+    }
+    let left = places.checked_sub(more)?;
+    Some((
+        with_zeros(number, left),
+        many.wrapping_add(more).wrapping_add(1),
+    ))
+}
+
+/// The number that digits spell after those of another number, and how many they are.
+#[inline(always)]
+fn digits_after(number: u64, text: &[u8]) -> (u64, usize) {
+    let mut longer = number;
+    let mut many = 0usize;
+    for byte in text {
+        let digit = byte.wrapping_sub(b'0');
+        if digit > 9 {
+            break;
+        }
+        longer = longer.wrapping_mul(10).wrapping_add(u64::from(digit));
+        many = many.wrapping_add(1);
+    }
+    (longer, many)
+}
+
+/// Whether there is SOH after so many bytes.
+#[inline(always)]
+fn ends_at(text: &[u8], many: usize) -> bool {
+    many < text.len() && text[many] == SOH
 }
 
 /// A number with `zeros` zeros after its digits.
 #[inline(always)]
 fn with_zeros(number: u64, zeros: usize) -> u64 {
-    let mut scaled = number;
-    for _ in 0..zeros {
-        scaled = scaled.wrapping_mul(10);
+    if zeros > MOST_PLACES {
+        return 0;
     }
-    scaled
+    number.wrapping_mul(POWERS[zeros])
 }

@@ -1,30 +1,38 @@
 // How the values of fields are put, found out once. No contract covers the result.
-use crate::digits::MOST_DIGITS;
-use crate::level::FieldForm;
-use sbe_types::{Kind, Leaf, Member, Named, Prim};
+use crate::digits::MOST_PLACES;
+use crate::level::{FieldForm, NumberPlace};
+use sbe_types::{Kind, Leaf, Member, Named, Order, Prim};
 use text_values::{ReadValue, TextValue};
 
 /// How the value of a field is put. `None` if it is read as the structure says.
-pub(crate) fn form_of(value: &TextValue, kind: &Kind) -> Option<FieldForm> {
+pub(crate) fn form_of(order: Order, value: &TextValue, kind: &Kind) -> Option<FieldForm> {
     match value {
-        TextValue::Number(_, leaf) => Some(number_form(leaf)),
-        TextValue::Decimal(leaf, exponent) => decimal_form(leaf, *exponent, kind),
-        TextValue::Passage(leaf) => Some(FieldForm::Text(leaf.length as usize)),
+        TextValue::Number(_, leaf) => Some(number_form(order, leaf)),
+        TextValue::Decimal(leaf, exponent) => decimal_form(order, leaf, *exponent, kind),
+        TextValue::Passage(leaf) => Some(text_form(leaf)),
         TextValue::Listed(_, leaf) => character_form(value, leaf, kind),
         _ => None,
     }
 }
 
 /// How a number is put: a char is one byte.
-fn number_form(leaf: &Leaf) -> FieldForm {
+fn number_form(order: Order, leaf: &Leaf) -> FieldForm {
     match leaf.prim {
         Prim::Char => FieldForm::Character,
-        prim => FieldForm::Integer(prim),
+        prim => FieldForm::Integer(NumberPlace::new(order, prim)),
     }
 }
 
+/// How a text is put.
+fn text_form(leaf: &Leaf) -> FieldForm {
+    if leaf.length == 8 {
+        return FieldForm::Word;
+    }
+    FieldForm::Text(leaf.length as usize)
+}
+
 /// How a decimal is put, if its mantissa is the first member and is at the place of the composite.
-fn decimal_form(leaf: &Leaf, exponent: i128, kind: &Kind) -> Option<FieldForm> {
+fn decimal_form(order: Order, leaf: &Leaf, exponent: i128, kind: &Kind) -> Option<FieldForm> {
     let Kind::Comp(members) = kind else {
         return None;
     };
@@ -32,10 +40,10 @@ fn decimal_form(leaf: &Leaf, exponent: i128, kind: &Kind) -> Option<FieldForm> {
         return None;
     }
     let places = usize::try_from(exponent.checked_neg()?).ok()?;
-    if places > MOST_DIGITS {
+    if places > MOST_PLACES {
         return None;
     }
-    Some(FieldForm::Decimal(leaf.prim, places))
+    Some(FieldForm::Decimal(NumberPlace::new(order, leaf.prim), places))
 }
 
 /// Whether the first member is at the place of its composite and isn't a constant.

@@ -1,7 +1,9 @@
 // The levels of a template, as its bodies are drafted.
+use crate::lead::TagLead;
 use field_judge::BackLevel;
+use line_draft::BodyDraft;
 use lists::List;
-use sbe_types::Prim;
+use sbe_types::{Order, Prim};
 
 /// What is at a place of a level.
 #[derive(Clone, Copy)]
@@ -10,29 +12,68 @@ pub(crate) enum DraftPart {
     Field(usize, FieldForm),
     /// A field whose text is read as the structure says: its offset, and its number.
     Other(usize, usize),
-    /// Data: its number, and the tag of its length field, or 0.
-    Data(usize, u32),
-    /// A group: its number, and the tag that begins each entry.
-    Group(usize, u32),
+    /// Data: its number, and what begins its length field.
+    Data(usize, TagLead),
+    /// A group: its number, and what begins each entry.
+    Group(usize, TagLead),
 }
 
 /// How the value of a field is put.
 #[derive(Clone, Copy)]
 pub(crate) enum FieldForm {
     /// An integer.
-    Integer(Prim),
+    Integer(NumberPlace),
     /// The mantissa of a decimal, which has this number of digits after the point.
-    Decimal(Prim, usize),
+    Decimal(NumberPlace, usize),
     /// A text of at most this many bytes.
     Text(usize),
+    /// A text in a field of eight bytes.
+    Word,
     /// A character.
     Character,
 }
 
-/// A place of a level, in the order of the structure.
+/// How the bits of a number are laid in bytes: which of a word's bytes they take, and how far they are moved up before the bytes are
+/// reversed, if they are.
+#[derive(Clone, Copy)]
+pub(crate) struct NumberPlace {
+    mask: u64,
+    up: u32,
+    is_reversed: bool,
+}
+
+impl NumberPlace {
+    /// That of a primitive.
+    pub(crate) fn new(order: Order, prim: Prim) -> NumberPlace {
+        let up = match prim.width() {
+            1 => 56,
+            2 => 48,
+            4 => 32,
+            _ => 0u32,
+        };
+        NumberPlace {
+            mask: u64::MAX.wrapping_shr(up),
+            up,
+            is_reversed: order == Order::Big,
+        }
+    }
+
+    /// Writes a number's bits at an offset of a draft; false if there is no room.
+    #[inline(always)]
+    pub(crate) fn put(&self, bits: u64, draft: &mut BodyDraft, at: usize) -> bool {
+        let word = if self.is_reversed {
+            bits.wrapping_shl(self.up).swap_bytes()
+        } else {
+            bits
+        };
+        draft.put_masked(at, word, self.mask)
+    }
+}
+
+/// A place of a level, in the order of the structure: what begins its field, and what is there.
 #[derive(Clone, Copy)]
 pub(crate) struct DraftRow {
-    pub tag: u32,
+    pub lead: TagLead,
     pub part: DraftPart,
 }
 
@@ -45,12 +86,14 @@ pub(crate) struct DraftGroup {
     pub level: usize,
 }
 
-/// A level: a block in which each field has the value that it has without a text, the places, and the groups.
+/// A level: a block in which each field has the value that it has without a text, the places, the groups, and whether all places
+/// are those of fields with a form.
 #[derive(Drop)]
 pub(crate) struct DraftLevel {
     pub empty: Vec<u8>,
     pub rows: Vec<DraftRow>,
     pub groups: List<DraftGroup>,
+    pub is_flat: bool,
 }
 
 /// The levels of a template's structure, by which its texts are read: its root, and those of its groups' entries.

@@ -7,10 +7,12 @@ mod digits;
 mod empty;
 mod fields;
 mod forms;
+mod lead;
 mod level;
 mod making;
 mod rows;
 mod values;
+mod words;
 
 pub use blocks::{Drafting, draft_text};
 pub use level::{BackLevels, DraftTree};

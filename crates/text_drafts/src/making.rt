@@ -1,6 +1,6 @@
 // The levels of a template, made once. No contract covers the result.
 use crate::empty::{copy_of, empty_block};
-use crate::level::{BackLevels, DraftGroup, DraftLevel, DraftTree};
+use crate::level::{BackLevels, DraftGroup, DraftLevel, DraftPart, DraftRow, DraftTree};
 use crate::rows::{NO_PART, make_rows};
 use bridge_mapping::TagTable;
 use field_judge::{BackLevel, BackPart, level_at, place_in};
@@ -59,12 +59,22 @@ fn make_level(
     draft: &mut BodyDraft,
 ) -> Result<DraftLevel, NoMem> {
     let groups = make_groups(alloc, by, level.groups.as_slice(), own, levels, draft)?;
-    let rows = make_rows(alloc, by.tags, level, own)?;
+    let rows = make_rows(alloc, by.order, by.tags, level, own)?;
     let empty = empty_block(alloc, by.order, level, own, draft)?;
+    let is_flat = level.groups.is_empty() && level.parts.is_empty() && have_forms(&rows);
     Ok(DraftLevel {
         empty,
         rows,
         groups,
+        is_flat,
+    })
+}
+
+/// Whether each place is that of a field with a form.
+fn have_forms(rows: &[DraftRow]) -> bool {
+    rows.iter().all(|row| match row.part {
+        DraftPart::Field(_, _) => true,
+        _ => false,
     })
 }
 

@@ -1,11 +1,12 @@
 // The rows of a level, made once. No contract covers the result.
 use crate::forms::form_of;
+use crate::lead::TagLead;
 use crate::level::{DraftPart, DraftRow};
 use bridge_mapping::TagTable;
 use field_judge::{BackLevel, BackPart, place_in};
 use line_draft::{begin_of, past};
 use lists::NoMem;
-use sbe_types::{DataField, Field, Group, Kind, Level};
+use sbe_types::{DataField, Field, Group, Kind, Level, Order};
 use std::alloc::Global;
 
 /// The number of a part that no level has.
@@ -14,26 +15,27 @@ pub(crate) const NO_PART: usize = usize::MAX;
 /// The rows of a level, one for each place of the structure.
 pub(crate) fn make_rows(
     alloc: Global,
+    order: Order,
     tags: &TagTable,
     level: &Level,
     own: &BackLevel,
 ) -> Result<Vec<DraftRow>, NoMem> {
     let none = DraftRow {
-        tag: 0,
+        lead: TagLead::NONE,
         part: DraftPart::Other(0, NO_PART),
     };
     let mut rows = Vec::new(alloc);
     rows.resize(own.rows.len(), none)?;
     set_data(&mut rows, tags, level.parts.as_slice(), own);
     set_groups(&mut rows, level.groups.as_slice(), own);
-    set_fields(&mut rows, level.fields.as_slice(), own);
+    set_fields(&mut rows, order, level.fields.as_slice(), own);
     Ok(rows)
 }
 
 /// The rows of data.
 fn set_data(rows: &mut [DraftRow], tags: &TagTable, parts: &[DataField], own: &BackLevel) {
     for (i, part) in parts.iter().enumerate() {
-        let lead = tags.length_of(part.id).unwrap_or(0);
+        let lead = TagLead::new(tags.length_of(part.id).unwrap_or(0));
         set_row(rows, own, part.id, DraftPart::Data(i, lead));
     }
 }
@@ -46,34 +48,36 @@ fn set_groups(rows: &mut [DraftRow], groups: &[Group], own: &BackLevel) {
     }
 }
 
-/// The tag that begins each entry of the group with this tag, or 0 if the structure has no such group.
-fn delimiter_of(own: &BackLevel, tag: u32) -> u32 {
+/// What begins each entry of the group with this tag; nothing does if the structure has no such group.
+fn delimiter_of(own: &BackLevel, tag: u32) -> TagLead {
     let Some(k) = place_in(own, tag) else {
-        return 0;
+        return TagLead::NONE;
     };
     match &own.rows.at(k).part {
-        BackPart::Group(group) => group.delimiter,
-        BackPart::Value(_) => 0,
+        BackPart::Group(group) => TagLead::new(group.delimiter),
+        BackPart::Value(_) => TagLead::NONE,
     }
 }
 
 /// The rows of fields.
-fn set_fields(rows: &mut [DraftRow], fields: &[Field], own: &BackLevel) {
+fn set_fields(rows: &mut [DraftRow], order: Order, fields: &[Field], own: &BackLevel) {
     let mut end = 0usize;
     for (i, field) in fields.iter().enumerate() {
         let begin = begin_of(end, field.offset);
-        set_row(
-            rows,
-            own,
-            field.id,
-            field_part(own, field.id, &field.kind, (begin, i)),
-        );
+        let part = field_part(order, own, (field.id, &field.kind), (begin, i));
+        set_row(rows, own, field.id, part);
         end = past(end, begin, &field.kind);
     }
 }
 
-/// The part of the field with this tag, which has an offset and a number.
-fn field_part(own: &BackLevel, tag: u32, kind: &Kind, place: (usize, usize)) -> DraftPart {
+/// The part of the field with this tag and kind, which has an offset and a number.
+fn field_part(
+    order: Order,
+    own: &BackLevel,
+    field: (u32, &Kind),
+    place: (usize, usize),
+) -> DraftPart {
+    let (tag, kind) = field;
     let (begin, i) = place;
     let other = DraftPart::Other(begin, i);
     let Some(k) = place_in(own, tag) else {
@@ -82,7 +86,7 @@ fn field_part(own: &BackLevel, tag: u32, kind: &Kind, place: (usize, usize)) -> 
     let BackPart::Value(value) = &own.rows.at(k).part else {
         return other;
     };
-    match form_of(value, kind) {
+    match form_of(order, value, kind) {
         Some(form) => DraftPart::Field(begin, form),
         None => other,
     }
@@ -93,6 +97,9 @@ fn set_row(rows: &mut [DraftRow], own: &BackLevel, tag: u32, part: DraftPart) {
     if let Some(k) = place_in(own, tag)
         && k < rows.len()
     {
-        rows[k] = DraftRow { tag, part };
+        rows[k] = DraftRow {
+            lead: TagLead::new(tag),
+            part,
+        };
     }
 }

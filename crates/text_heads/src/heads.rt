@@ -111,17 +111,17 @@ fn number_in<'a>(known: bool, bytes: &'a [u8], lead: &[u8]) -> GivenNumber<'a>
     }
 }
 
-/// The number that digits spell. `None` if a byte isn't a digit, or if 64 bits can't hold the number.
+/// The number that digits spell, modulo the 64 bits that hold it. `None` if a byte isn't a digit.
 fn number_of(digits: &[u8]) -> Option<u64>
     ensures { IfSome result (λ n. n < 2 ^ 64) }
 {
     let mut number = 0u64;
     for digit in digits {
-        let more = digit.checked_sub(b'0')?;
+        let more = digit.wrapping_sub(b'0');
         if more > 9 {
             return None;
         }
-        number = number.checked_mul(10)?.checked_add(u64::from(more))?;
+        number = number.wrapping_mul(10).wrapping_add(u64::from(more));
     }
     Some(number)
 }

@@ -1,5 +1,5 @@
 -- The body of a text of the only template that has its MsgType.
-use Rattle.std.proofs.Common.{◌≡◌, ℕ, zero, suc, Bool, true, List, [], ◌∷◌, Option, Some, map, refl, sym, ap, ◌∙◌, subst}
+use Rattle.std.proofs.Common.{◌≡◌, ℕ, zero, suc, Bool, true, List, [], ◌∷◌, Some, map, length, ◌<◌, refl, sym, ap, ◌∙◌, subst, arith}
 use Rattle.std.specs.Prelude.{bytes_eq, slice_get}
 use Rattle.std.specs.List.{All}
 use Rattle.std.proofs.lemmas.List.Elements.{All-head, filter_passes}
@@ -40,6 +40,12 @@ kind_of_only kind levels level only =
     (bytes_eq-Decides (out-Level level).semantic kind).0
     (All-head (λ (l : Level). bytes_eq (out-Level l).semantic kind ≡ true) level []
     (subst (All (λ (l : Level). bytes_eq (out-Level l).semantic kind ≡ true)) only (filter_passes (λ (l : Level). bytes_eq (out-Level l).semantic kind) levels)))
+
+-- the item at a place of a list
+pub item_at : {X : Type 0} (xs : List X) (i : ℕ) → i < length xs → (x : X) × (slice_get xs i ≡ Some x)
+item_at [] i h = absurd (omega (arith, h))
+item_at (y ∷ ys) zero h = (y, refl)
+item_at (y ∷ ys) (suc i) h = item_at ys i (omega (arith, h))
 
 -- what is made of the items of a list
 got_map : {X Y : Type 0} (f : X → Y) (xs : List X) (i : ℕ) (x : X) → slice_get xs i ≡ Some x → slice_get (map f xs) i ≡ Some (f x)

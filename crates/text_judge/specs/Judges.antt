@@ -1,5 +1,5 @@
 -- What the bodies of texts are judged by, and the body of the message that a text is translated to. Own profile.
-use Rattle.std.specs.Prelude.{◌≡◌, ℕ, true, List, map, slice_get, Some, None}
+use Rattle.std.specs.Prelude.{◌≡◌, ℕ, Bool, true, List, map, slice_get, Some, None}
 use Rattle.std.specs.List.{AllByRecursion}
 use Rattle.sbe_types.specs.declared.schema.Level.{Level, out-Level}
 use Rattle.sbe_types.specs.declared.schema.WireSchema.{WireSchema}
@@ -8,7 +8,7 @@ use Rattle.reference_graph.specs.Expansion.{Structure}
 use Rattle.bridge_plan.specs.CheckedLevels.{IsCovered}
 use Rattle.bridge_plan.specs.Covers.{cover_of, covered_by, plan_of, uncovered}
 use Rattle.bridge_plan.specs.Mappings.{Mapping, structure_for}
-use Rattle.message_plans.specs.Plans.{ArePlans}
+use Rattle.message_plans.specs.Plans.{ArePlans, IsOnly}
 use Rattle.value_texts.specs.Rows.{Spells}
 use Rattle.bridge_terms.specs.Parts.{TagLists}
 use Rattle.bridge_terms.specs.Plans.{Each}
@@ -24,10 +24,16 @@ use Rattle.text_heads.specs.declared.heads.TextFront.{TextFront}
 use Rattle.text_bodies.specs.Bodies.{IsBodyOfText, Reading}
 use Rattle.text_judge.specs.declared.judge.TextJudge.{TextJudge}
 
+-- a marked template is the only one with its MsgType
+abbrev pub MarkOnly : List Level → List Bool → Type 0
+MarkOnly levels marks =
+    (i : ℕ) (level : Level) → slice_get marks i ≡ Some true → slice_get levels i ≡ Some level → IsOnly (out-Level level).semantic levels i
+
 -- What the judge has is of the templates with these levels, by this mapping and these pairs of tags.
 pub record IsJudge (m : Mapping) (levels : List Level) (tags : List Pair) (judge : TextJudge) : Type 0 where
   pub plans : ArePlans Spells m levels judge.plan
   pub exact : judge.exact ≡ map is_exact levels
+  pub only : MarkOnly levels judge.only
   pub head : AreHeadTags tags m.lists judge.head
   pub own_pairs : judge.own_pairs ≡ true → AllByRecursion (IsOwnPair tags) tags
 

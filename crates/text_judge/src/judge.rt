@@ -1,5 +1,5 @@
-ghost use Rattle.std.specs.Prelude.{◌≡◌, List, map, slice_get, true, Some, IfOk, IfSome};
-ghost use Rattle.sbe_types.specs.declared.schema.Level.{Level as AnyLevel};
+ghost use Rattle.std.specs.Prelude.{◌≡◌, ◌<◌, List, map, slice_get, true, Some, IfOk, IfSome};
+ghost use Rattle.sbe_types.specs.declared.schema.Level.{Level as AnyLevel, out-Level};
 ghost use Rattle.map_types.specs.Trees.{members_of};
 ghost use Rattle.orchestra_map.specs.Headers.{IsKept};
 ghost use Rattle.tagvalue_codec.specs.declared.data_tags.Pair.{Pair};
@@ -7,9 +7,10 @@ ghost use Rattle.bridge_plan.specs.Mappings.{Mapping};
 ghost use Rattle.orchestra_map.specs.DataFields.{pairs_of};
 ghost use Rattle.bridge_mapping.specs.Mapped.{mapping_of};
 ghost use Rattle.bridge_mapping.specs.Tables.{HaveSameTags};
-ghost use Rattle.message_plans.specs.Plans.{IsOnly};
+ghost use Rattle.message_plans.specs.Plans.{ArePlans, IsOnly, templates};
+ghost use Rattle.value_texts.specs.Rows.{Spells};
 ghost use Rattle.exact_plans.specs.Exact.{is_exact as is_level_exact};
-ghost use Rattle.text_judge.specs.Judges.{HasBodyOf, IsFront, IsJudge, IsJudgeFor};
+ghost use Rattle.text_judge.specs.Judges.{HasBodyOf, IsFront, IsJudge, IsJudgeFor, MarkOnly};
 
 use crate::pairs::are_own_pairs;
 use bridge_mapping::TagTable;
@@ -19,6 +20,7 @@ use layout_tables::Layout;
 use lists::{List, NoMem};
 use map_types::Repository;
 use message_plans::{Cover, Plan, Template, make_plan};
+use message_walk::Halt;
 use sbe_types::Level;
 use schema_check::Checked;
 use std::alloc::Global;
@@ -44,6 +46,8 @@ pub struct TypedText<'a> {
 pub struct TextJudge {
     pub(crate) plan: Plan<ValueText>,
     pub(crate) exact: List<bool>,
+    /// Whether each template is the only one with its MsgType.
+    pub(crate) only: List<bool>,
     pub(crate) head: HeadTags,
     pub(crate) own_pairs: bool,
 }
@@ -69,23 +73,44 @@ impl TextJudge {
         let own_pairs = are_own_pairs(alloc, repository, tags)?;
         let exact = exact_levels(alloc, checked.schema().messages.as_slice())?;
         let plan = make_plan(alloc, checked, repository)?;
+        let only = only_templates(alloc, &plan)?;
         Ok(TextJudge {
             plan,
             exact,
+            only,
             head: HeadTags::new(table, tags),
             own_pairs,
         })
     }
 
-    /// The only template that has a MsgType. `None` if there is none, or if several have it.
-    pub fn template_for(&self, kind: &[u8]) -> Option<usize>
+    /// The only template that has a MsgType. `None` if there is none, or if several have it. `likely` is the template that is looked
+    /// at first.
+    pub fn template_for(&self, kind: &[u8], likely: usize) -> Option<usize>
         ensures { IfSome result (λ template. (m : Mapping) (levels : List AnyLevel) (tags : List Pair) → IsJudge m levels tags self.now
             → IsOnly kind.now levels template) }
     {
+        if self.is_only(kind, likely) {
+            return Some(likely);
+        }
         match self.plan.template_for(kind) {
             Template::One(template) => Some(template),
             Template::Unknown | Template::Several => None,
         }
+    }
+
+    /// Whether a template has a MsgType, and no other has it.
+    #[inline(always)]
+    fn is_only(&self, kind: &[u8], template: usize) -> bool
+        ensures { result ≡ true → (m : Mapping) (levels : List AnyLevel) (tags : List Pair) → IsJudge m levels tags self.now
+            → IsOnly kind.now levels template }
+    {
+        if template >= self.plan.templates() || template >= self.only.len() {
+            return false;
+        }
+        if !*self.only.at(template) {
+            return false;
+        }
+        self.plan.msg_type(template) == kind
     }
 
     /// The MsgType and the head of bytes that may be a text. `None` if there are none.
@@ -113,6 +138,7 @@ impl TextJudge {
         text: &TypedText<'_>,
         body: &[u8],
         out: &mut FixWriter,
+        halt: &mut Halt,
     ) -> bool
         requires { IsFront self.now.head text.now.front }
         ensures { result ≡ true → (m : Mapping) (tags : List Pair) (only : IsOnly text.now.front.kind.now layout.now.messages text.now.template)
@@ -146,7 +172,31 @@ impl TextJudge {
             text.text,
             body,
             out,
+            halt,
         )
+    }
+}
+
+/// Whether each template is the only one with its MsgType.
+fn only_templates(alloc: Global, plan: &Plan<ValueText>) -> Result<List<bool>, NoMem>
+    ensures { IfOk result (λ marks. (m : Mapping) (levels : List AnyLevel) → ArePlans Spells m levels plan.now → MarkOnly levels marks) }
+{
+    let mut marks = List::new(alloc);
+    for template in 0..plan.templates() {
+        marks.push(is_only_one(plan, template))?;
+    }
+    Ok(marks)
+}
+
+/// Whether a template is the only one with its MsgType.
+fn is_only_one(plan: &Plan<ValueText>, template: usize) -> bool
+    requires { template < templates plan.now }
+    ensures { (m : Mapping) (levels : List AnyLevel) (level : AnyLevel) → ArePlans Spells m levels plan.now → result ≡ true
+        → slice_get levels template ≡ Some level → IsOnly (out-Level level).semantic levels template }
+{
+    match plan.template_for(plan.msg_type(template)) {
+        Template::One(found) => found == template,
+        Template::Unknown | Template::Several => false,
     }
 }
 

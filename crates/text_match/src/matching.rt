@@ -20,14 +20,14 @@ pub fn has_text<R: PutValue>(
     head: &FixHead<'_>,
     text: &[u8],
     out: &mut FixWriter,
+    halt: &mut Halt,
 ) -> bool
     requires head { IsHeadReady (head_of head.now) }
     requires kind { IsValue template.now.msg_type.now }
     ensures { result ≡ true → (lists : TagLists) (p : Plan) → AreRows R.spells lists p template.now.rows.now → FitsBlock p root.now
         → IsTextOf lists out.old.limit template.now.msg_type.now (head_of head.now) (places_of p (values_of p root.now.block)) text.now }
 {
-    let mut halt = Halt::new();
-    if !write_text(template, root, head, out, &mut halt) {
+    if !write_text(template, root, head, out, halt) {
         return false;
     }
     out.bytes() == text

@@ -72,9 +72,10 @@ fn has_drafted(bridge: &Bridge, text: &[u8], space: &mut MessageSpace) -> bool
     let Some(front) = direct.judge.front_in(text) else {
         return false;
     };
-    let Some(template) = direct.judge.template_for(front.kind) else {
+    let Some(template) = direct.judge.template_for(front.kind, space.template) else {
         return false;
     };
+    space.template = template;
     let typed = TypedText {
         template,
         front,
@@ -104,9 +105,13 @@ fn has_drafted_typed(
     if body.len() > space.buffer.limit() {
         return false;
     }
-    direct
-        .judge
-        .is_message_of(&parts.layout, typed, body, &mut space.writer)
+    direct.judge.is_message_of(
+        &parts.layout,
+        typed,
+        body,
+        &mut space.writer,
+        &mut space.halt,
+    )
 }
 
 /// Reads bytes that may be a text, and writes the reply to its fields or to its first fault.

@@ -2,6 +2,7 @@ ghost use Rattle.std.specs.Prelude.{◌≡◌, IfOk};
 
 use line_draft::BodyDraft;
 use lists::NoMem;
+use message_walk::Halt;
 use printers::Chunk;
 use std::alloc::Global;
 use tagvalue_codec::{FieldTable, FixWriter};
@@ -16,10 +17,14 @@ pub(crate) struct MessageSpace {
     pub(crate) alloc: Global,
     /// The fields of a text.
     pub(crate) table: FieldTable,
-    /// The body that it seems to have.
+    /// The template of the last text.
+    pub(crate) template: usize,
+    /// The body that a text seems to have.
     pub(crate) draft: BodyDraft,
     /// The text of that body's message.
     pub(crate) writer: FixWriter,
+    /// Why it has none.
+    pub(crate) halt: Halt,
     /// The body of its message.
     pub(crate) buffer: FrameBuf,
     /// What lines are printed through.
@@ -37,8 +42,10 @@ impl MessageSpace {
         Ok(MessageSpace {
             alloc,
             table,
+            template: 0,
             draft: BodyDraft::new(),
             writer,
+            halt: Halt::new(),
             buffer,
             chunk: Chunk::new(),
         })

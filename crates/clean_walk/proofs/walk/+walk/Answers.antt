@@ -1,4 +1,4 @@
-use Rattle.std.proofs.Common.{◌<◌, ℕ, length, refl, sym, ap, subst, arith}
+use Rattle.std.proofs.Common.{◌<◌, ℕ, length, refl, sym, ap, ◌∙◌, subst, arith}
 use Rattle.sbe_types.specs.declared.schema.DataField.{DataField}
 use Rattle.sbe_types.specs.declared.schema.Group.{Group, out-Group}
 use Rattle.sbe_types.specs.declared.schema.Level.{out-Level}
@@ -9,7 +9,7 @@ use Rattle.clean_bodies.specs.Whole.{Chain, Times}
 use Rattle.clean_bodies.proofs.Chains.{chain_done, chain_more, times_more}
 use Rattle.clean_walk.specs.inner.Heads.{GroupSays}
 use Rattle.clean_walk.specs.inner.Places.{place_in}
-use Rattle.clean_walk.proofs.Entries.{if_more, parts_good, group_good, entry_walked, group_walked}
+use Rattle.clean_walk.proofs.Entries.{if_more, parts_good, group_good, entry_walked, group_walked, plain_walked}
 use Rattle.clean_walk.proofs.Rows.{table_there, block_size, block_there, child_of}
 use Rattle.clean_walk.proofs.walk.+walk.Goals as goal
 
@@ -23,7 +23,7 @@ entry_end-is_clean_block-requires t c = table_there c.args.layout.now c.args.n c
 
 pub entry_end-parts_end-requires-clause-good : goal.entry_end-parts_end-requires-clause-good
 entry_end-parts_end-requires-clause-good t c =
-    parts_good c.args.layout.now.version c.args.level.now c.as_slice.result.now c.as_slice.ensures c.requires.good
+    parts_good c.args.layout.now.version c.args.level.now c.as_slice-parts.result.now c.as_slice-parts.ensures c.requires.good
 
 pub entry_end-returns-clause-whole : goal.entry_end-returns-clause-whole
 entry_end-returns-clause-whole t c =
@@ -31,10 +31,20 @@ entry_end-returns-clause-whole t c =
     let place = place_in schema c.args.body.now in
     let level = c.args.level.now in
     let row = c.row-row.result.now in
-    if_more (Chain DataField (PartStep place) c.as_slice.result.now c.in_ok-next.next) (EntryStep place level c.args.at)
+    if_more (Chain DataField (PartStep place) c.as_slice-parts.result.now c.in_ok-next.next) (EntryStep place level c.args.at)
     (λ (n : ℕ) parts.
-    entry_walked place level c.as_slice.result.now c.args.at row.block c.in_ok-next.next n (block_size schema c.args.n row level c.row-row.ensures c.requires.level) c.as_slice.ensures c.requires.good c.requires.bytes
+    entry_walked place level c.as_slice-parts.result.now c.args.at row.block c.in_ok-next.next n (block_size schema c.args.n row level c.row-row.ensures c.requires.level) c.as_slice-parts.ensures c.requires.good c.requires.bytes
     (block_there schema c.args.n row level c.row-row.ensures c.requires.level _ c.requires.good.placed (c.if-not-is_clean_block.ensures refl)) c.in_ok-next.ensures.whole parts) c.parts_end.result c.parts_end.ensures.whole
+
+pub entry_end-returns-then-is_empty-2-clause-whole : goal.entry_end-returns-then-is_empty-2-clause-whole
+entry_end-returns-then-is_empty-2-clause-whole t c =
+    let schema = c.args.layout.now in
+    let level = c.args.level.now in
+    let row = c.row-row.result.now in
+    plain_walked (place_in schema c.args.body.now) level c.as_slice.result.now c.as_slice-parts.result.now c.args.at row.block
+    (block_size schema c.args.n row level c.row-row.ensures c.requires.level) c.as_slice.ensures c.as_slice-parts.ensures c.requires.good c.requires.bytes
+    (block_there schema c.args.n row level c.row-row.ensures c.requires.level _ c.requires.good.placed (c.if-not-is_clean_block.ensures refl))
+    (sym c.is_empty.ensures ∙ c.if-is_empty.true) (sym c.is_empty-then-is_empty.ensures ∙ c.if-is_empty-2.true)
 
 -- ---- groups
 

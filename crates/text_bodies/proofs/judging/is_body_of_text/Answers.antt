@@ -1,5 +1,4 @@
-use Rattle.std.proofs.Common.{rules, ◌≡◌, refl, sym, ap, ◌∙◌, subst}
-use Rattle.flyweight_view.specs.TypedBlocks.{TypedBlock, typed_level}
+use Rattle.std.proofs.Common.{rules, ◌≡◌, refl, sym, ◌∙◌, subst}
 use Rattle.fix_messages.specs.Heads.{head_of}
 use Rattle.text_bodies.proofs.Judged.{IsWrittenBy, body_is}
 use Rattle.text_bodies.proofs.judging.is_body_of_text.Goals as goal

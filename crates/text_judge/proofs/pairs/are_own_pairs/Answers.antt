@@ -1,10 +1,7 @@
-use Rattle.std.proofs.Common.{List, filter_map, ap, sym, ◌∙◌, subst, flat_map}
-use Rattle.std.specs.Borrow.{Bor}
+use Rattle.std.proofs.Common.{filter_map, ap, sym, ◌∙◌, subst, flat_map}
 use Rattle.std.specs.List.{AllByRecursion, list_any}
-use Rattle.map_types.specs.declared.tree.FieldEl.{FieldEl}
 use Rattle.map_types.specs.Trees.{fields_of, members_of}
 use Rattle.orchestra_map.specs.DataFields.{data_pair, hides_data}
-use Rattle.tagvalue_codec.specs.declared.data_tags.Pair.{Pair}
 use Rattle.same_texts.specs.Follow.{IsOwnPair}
 use Rattle.text_judge.specs.OwnPairs.{HaveOwnPairs}
 use Rattle.text_judge.proofs.PairFields.{pairs_listed}
