@@ -60,10 +60,18 @@ pub fn answer_built<O: Sink, N: Sink>(
         space.buffer.limit(),
         &mut space.draft,
     ) {
-        return answer_body(layout, space.draft.bytes(), output);
+        return answer_body(layout, space.draft.bytes(), &mut space.chunk, output);
     }
-    match msg_of_line_with(alloc, &target.checked, line, &mut space.json) {
-        Ok(message) => answer_message(layout, item, &message, &mut space.buffer, output, notes),
+    match msg_of_line_with(alloc, &target.checked, line, &mut *space.json) {
+        Ok(message) => answer_message(
+            layout,
+            item,
+            &message,
+            &mut space.buffer,
+            &mut space.chunk,
+            output,
+            notes,
+        ),
         Err(LineFault::Refused(code, place)) => {
             match put_unread(notes, item, code, place.as_slice()) {
                 Ok(()) => Ok(Verdict::Refused),
@@ -84,6 +92,7 @@ pub fn answer_message<O: Sink, N: Sink>(
     item: u64,
     message: &Msg,
     buffer: &mut FrameBuf,
+    chunk: &mut Chunk,
     output: &mut O,
     notes: &mut N,
 ) -> Result<Verdict, Status>
@@ -97,7 +106,7 @@ pub fn answer_message<O: Sink, N: Sink>(
 {
     let _schema = layout.schema();
     match encode(layout, message, buffer) {
-        Ok(_) => answer_body(layout, buffer.bytes(), output),
+        Ok(_) => answer_body(layout, buffer.bytes(), chunk, output),
         Err(why) => match put_misfit(notes, layout, item, message.template, &why) {
             Ok(()) => Ok(Verdict::Refused),
             Err(WriteFault) => Err(Status::WriteFault),
@@ -110,26 +119,36 @@ pub fn answer_message<O: Sink, N: Sink>(
 /// # Errors
 ///
 /// `WriteFault` if a write fails.
-pub fn answer_body<O: Sink>(layout: &Layout, body: &[u8], output: &mut O) -> Result<Verdict, Status>
+#[inline(always)]
+pub fn answer_body<O: Sink>(
+    layout: &Layout,
+    body: &[u8],
+    chunk: &mut Chunk,
+    output: &mut O,
+) -> Result<Verdict, Status>
     requires { length body.now < 2 ^ 24 }
     ensures { (notes : Object (List ℕ)) → DeliversDraft (frame_reply layout.now body.now)
         (sinks_of (O.state output.old) notes)
         (sinks_of (O.state output.new) notes)
         result }
 {
-    match write_frame(output, encoding_of(layout.order()), body) {
+    match write_frame(output, encoding_of(layout.order()), body, chunk) {
         Ok(()) => Ok(Verdict::Answered),
         Err(WriteFault) => Err(Status::WriteFault),
     }
 }
 
 /// Writes the frame of a body.
-fn write_frame<O: Sink>(sink: &mut O, encoding: u16, body: &[u8]) -> Result<(), WriteFault>
+fn write_frame<O: Sink>(
+    sink: &mut O,
+    encoding: u16,
+    body: &[u8],
+    chunk: &mut Chunk,
+) -> Result<(), WriteFault>
     requires { length body.now < 2 ^ 24 }
     ensures { Writes (O.state sink.old) (O.state sink.new) (frame encoding body.now) result }
 {
-    let mut chunk = Chunk::new();
-    let mut printer = Printer::new(sink, &mut chunk);
+    let mut printer = Printer::new(sink, chunk);
     put_frame(&mut printer, encoding, body);
     printer.finish()
 }

@@ -3,6 +3,7 @@ ghost use Rattle.std.specs.Prelude.{◌≡◌, IfOk};
 use json_data::JsonSpace;
 use line_draft::BodyDraft;
 use lists::NoMem;
+use printers::Chunk;
 use std::alloc::Global;
 use typed_writer::FrameBuf;
 
@@ -14,7 +15,9 @@ pub struct LineSpace {
     /// The body of a message.
     pub buffer: FrameBuf,
     /// What reading JSON needs.
-    pub json: JsonSpace,
+    pub json: Box<JsonSpace>,
+    /// What frames are printed through.
+    pub chunk: Chunk,
 }
 
 impl LineSpace {
@@ -26,7 +29,8 @@ impl LineSpace {
         Ok(LineSpace {
             draft: BodyDraft::new(),
             buffer,
-            json: JsonSpace::new(alloc),
+            json: Box::new(alloc, JsonSpace::new(alloc))?,
+            chunk: Chunk::new(),
         })
     }
 }

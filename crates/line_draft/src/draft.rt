@@ -1,6 +1,7 @@
 ghost use Rattle.std.specs.Prelude.{◌≡◌, []};
 
 use crate::bits::{big, little};
+use byte_places::place;
 use byteorder::{ByteOrder, LittleEndian};
 use sbe_types::{Order, Prim};
 use std::marker::Model;
@@ -71,8 +72,7 @@ impl BodyDraft {
         if bytes.len() > DRAFT_BYTES - at {
             return None;
         }
-        self.room[at..at + bytes.len()].copy_from_slice(bytes);
-        self.len = at + bytes.len();
+        self.len = place(&mut self.room, at, bytes);
         Some(at)
     }
 

@@ -1,5 +1,5 @@
 -- Texts that a writer takes as the value of a field.
-use Rattle.std.proofs.Common.{◌≡◌, ◌≢◌, ◌<◌, ◌≤◌, ℕ, ◌^◌, true, false, Bool, List, [], ◌∷◌, length, Result, Ok, Err, refl, arith}
+use Rattle.std.proofs.Common.{◌≡◌, ◌≢◌, ◌<◌, ◌≤◌, ℕ, ◌^◌, true, false, Bool, List, [], ◌∷◌, length, Result, Ok, Err, refl, ◌+◌, arith}
 use Rattle.std.specs.Prelude.{decimal, ◌==◌, ◌||◌, cond}
 use Rattle.std.specs.List.{AllByRecursion}
 use Rattle.std.specs.Char.{is_ascii_digit}
@@ -27,6 +27,10 @@ count_value n small = record {
   some = decimal_nonempty n small;
   plain = digits_plain (decimal n) (digits_decimal (numerals_by_value _ tells_all_ascii_digits) n (omega (arith, small)));
 }
+
+-- a number of one digit
+pub digit_value : (n : ℕ) → n < 10 → IsValue ((48 + n) ∷ [])
+digit_value n small = record { some = omega arith; plain = (λ e. omega (arith, e), tt) }
 
 not_soh : (b : ℕ) → (b == soh) ≡ false → b ≢ soh
 not_soh b h e = grind (arith, nat_tests, h, e)

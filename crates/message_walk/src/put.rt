@@ -161,18 +161,55 @@ pub(crate) fn put_data_text(
 }
 
 /// Writes the field of a count.
-#[tactic(auto, using(crate::proofs::Values::count_value, crate::proofs::Steps::put_on, crate::proofs::Steps::put_off))]
+#[tactic(auto, using(crate::proofs::Steps::put_on, crate::proofs::Steps::put_off))]
 pub(crate) fn put_count(lead: &Lead, count: usize, out: &mut FixWriter, halt: &mut Halt) -> bool
     requires { out.old.phase ≡ Open }
     ensures open { out.new.phase ≡ Open }
     ensures put { (lists : TagLists) → length_in lead.now lists.lengths ≡ None
         → outcome result out.new halt.new ≡ after lists out.old (place_of lead.now (decimal count)) }
 {
-    let mut buffer = Buffer::new();
-    let digits = buffer.format(count).as_bytes();
-    match put_text(lead, digits, out, halt) {
+    match put_number(lead, count, out, halt) {
         Put::Written => true,
         Put::Nothing => true,
         Put::Refused => false,
     }
+}
+
+/// Writes the field of a number.
+#[inline(always)]
+fn put_number(lead: &Lead, number: usize, out: &mut FixWriter, halt: &mut Halt) -> Put
+    requires open { out.old.phase ≡ Open }
+    ensures open { out.new.phase ≡ Open }
+    ensures put { (lists : TagLists) → length_in lead.now lists.lengths ≡ None
+        → IsPut lists out.old lead.now (Ok (Some (decimal number))) (record { put = result; draft = out.new; halt = halt.new }) }
+{
+    if number < 10 {
+        return put_digit(lead, number as u8, out, halt);
+    }
+    put_digits(lead, number, out, halt)
+}
+
+/// Writes the field of a number of one digit.
+#[inline(always)]
+fn put_digit(lead: &Lead, digit: u8, out: &mut FixWriter, halt: &mut Halt) -> Put
+    requires open { out.old.phase ≡ Open }
+    requires digit { digit < 10 }
+    ensures open { out.new.phase ≡ Open }
+    ensures put { (lists : TagLists) → length_in lead.now lists.lengths ≡ None
+        → IsPut lists out.old lead.now (Ok (Some (decimal digit))) (record { put = result; draft = out.new; halt = halt.new }) }
+{
+    put_text(lead, &[b'0' + digit], out, halt)
+}
+
+/// Writes the field of a number of any digits.
+#[inline(never)]
+#[tactic(auto, using(crate::proofs::Values::count_value))]
+fn put_digits(lead: &Lead, number: usize, out: &mut FixWriter, halt: &mut Halt) -> Put
+    requires open { out.old.phase ≡ Open }
+    ensures open { out.new.phase ≡ Open }
+    ensures put { (lists : TagLists) → length_in lead.now lists.lengths ≡ None
+        → IsPut lists out.old lead.now (Ok (Some (decimal number))) (record { put = result; draft = out.new; halt = halt.new }) }
+{
+    let mut buffer = Buffer::new();
+    put_text(lead, buffer.format(number).as_bytes(), out, halt)
 }

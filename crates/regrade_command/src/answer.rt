@@ -135,6 +135,7 @@ fn answer_regraded<O: Sink, N: Sink>(
         item,
         &regraded.msg,
         &mut space.buffer,
+        &mut space.chunk,
         output,
         notes,
     );

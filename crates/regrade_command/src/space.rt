@@ -2,6 +2,7 @@ ghost use Rattle.std.specs.Prelude.{◌≡◌, IfOk};
 
 use flyweight_view::LastRefusal;
 use lists::NoMem;
+use printers::Chunk;
 use std::alloc::Global;
 use typed_writer::FrameBuf;
 
@@ -13,6 +14,8 @@ pub(crate) struct FrameSpace {
     pub(crate) buffer: FrameBuf,
     /// The place of the refusal of a body.
     pub(crate) last: LastRefusal,
+    /// What frames are printed through.
+    pub(crate) chunk: Chunk,
 }
 
 impl FrameSpace {
@@ -25,6 +28,7 @@ impl FrameSpace {
             alloc,
             buffer,
             last: LastRefusal::new(),
+            chunk: Chunk::new(),
         })
     }
 }

@@ -15,10 +15,10 @@ use std::process::ExitCode;
 
 /// The most bytes of input that one read asks for. Before each such read the kept output is written, so with fewer
 /// reads fewer writes are short.
-const READ_AT_ONCE: usize = 262_144;
+const READ_AT_ONCE: usize = 65_536;
 
 /// The most bytes of output that are kept.
-const KEPT_AT_MOST: usize = 131_072;
+const KEPT_AT_MOST: usize = 65_536;
 
 fn main(rt: HostRuntime) -> ExitCode {
     ExitCode::from(answer(&rt).code())

@@ -5,13 +5,13 @@ ghost use Rattle.fix_messages.specs.Heads.{head_of, IsHeadReady};
 ghost use Rattle.text_bodies.specs.Bodies.{IsBodyOfText, IsHeadFor, IsPlannedBy, Reading};
 
 use crate::few::is_few;
+use crate::space::JudgeSpace;
 use back_texts::laws::written_messages_are_those_of_their_texts;
 use clean_walk::is_clean_body;
 use fix_messages::{FixHead, MessageRows};
-use flyweight_view::validate;
+use flyweight_view::look;
 use layout_tables::Layout;
-use message_walk::{Halt, PutValue};
-use tagvalue_codec::FixWriter;
+use message_walk::PutValue;
 use text_match::has_text;
 
 /// Whether a body is the canonical one of a message of this template, and the bytes are the text that the message is written as
@@ -24,8 +24,7 @@ pub fn is_body_of_text<R: PutValue>(
     head: &FixHead<'_>,
     text: &[u8],
     body: &[u8],
-    out: &mut FixWriter,
-    halt: &mut Halt,
+    space: &mut JudgeSpace,
 ) -> bool
     requires head { IsHeadReady (head_of head.now) }
     requires kind { IsValue rows.now.msg_type.now }
@@ -41,7 +40,7 @@ pub fn is_body_of_text<R: PutValue>(
     if !is_few(text) {
         return false;
     }
-    let Ok(view) = validate(layout, body) else {
+    let Some(view) = look(layout, body, &mut space.last) else {
         return false;
     };
     if view.template() != template {
@@ -51,7 +50,7 @@ pub fn is_body_of_text<R: PutValue>(
         return false;
     }
     let root = view.root();
-    if !has_text(rows, &root, head, text, out, halt) {
+    if !has_text(rows, &root, head, text, &mut space.out, &mut space.halt) {
         return false;
     }
     is_clean_body(layout, template, body)

@@ -3,6 +3,8 @@
 
 mod few;
 mod judging;
+mod space;
 
 pub use few::is_few;
 pub use judging::is_body_of_text;
+pub use space::JudgeSpace;

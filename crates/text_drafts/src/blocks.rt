@@ -1,8 +1,8 @@
 // Blocks of a text's fields, taken on trust. No contract covers the result.
-use crate::digits::{decimal_in, integer_in};
+use crate::digits::{long_decimal_at, short_decimal_at, short_natural_at};
 use crate::fields::{Fields, Range};
 use crate::lead::TagLead;
-use crate::level::{BackLevels, DraftLevel, DraftPart, DraftRow, DraftTree, FieldForm};
+use crate::level::{BackLevels, DraftGroup, DraftLevel, DraftPart, DraftRow, DraftTree, FieldForm};
 use crate::values::put_value;
 use crate::words::{SOH, short_text_at};
 use field_judge::{BackLevel, BackPart, level_at};
@@ -154,7 +154,7 @@ fn put_part(
 }
 
 /// The value of a field, from an offset of the draft on, if the field comes next.
-#[inline(never)]
+#[inline(always)]
 fn field_in(
     lead: &TagLead,
     form: &FieldForm,
@@ -166,20 +166,7 @@ fn field_in(
         return true;
     };
     match form {
-        FieldForm::Integer(place) => match integer_in(fields.from_offset(from)) {
-            Some((bits, many)) => {
-                fields.pass(from.wrapping_add(many));
-                place.put(bits, draft, at)
-            }
-            None => false,
-        },
-        FieldForm::Decimal(place, places) => match decimal_in(fields.from_offset(from), *places) {
-            Some((bits, many)) => {
-                fields.pass(from.wrapping_add(many));
-                place.put(bits, draft, at)
-            }
-            None => false,
-        },
+        FieldForm::Number(_, _) => number_in(form, from, fields, draft, at),
         FieldForm::Word => match short_text_at(fields.text(), from) {
             Some((word, end)) => {
                 fields.pass(end);
@@ -190,6 +177,30 @@ fn field_in(
         FieldForm::Character => character_in(from, fields, draft, at),
         FieldForm::Text(most) => text_in(*most, from, fields, draft, at),
     }
+}
+
+/// A number, with its sign and its point.
+#[inline(never)]
+fn number_in(
+    form: &FieldForm,
+    from: usize,
+    fields: &mut Fields<'_>,
+    draft: &mut BodyDraft,
+    at: usize,
+) -> bool {
+    let FieldForm::Number(place, places) = form else {
+        return false;
+    };
+    let text = fields.text();
+    let read = match short_decimal_at(text, from, *places) {
+        Some(read) => Some(read),
+        None => long_decimal_at(text, from, *places),
+    };
+    let Some((bits, end)) = read else {
+        return false;
+    };
+    fields.pass(end);
+    place.put(bits, draft, at)
 }
 
 /// A character.
@@ -307,42 +318,49 @@ fn group_in(
         return false;
     }
     let own = rows.own.groups.at(i);
-    let Some(entries) = entries_rows(by, rows.back, k, own.level) else {
+    let Some(count) = dimension_in(own, row, fields, draft) else {
         return false;
     };
-    let Some(at) = draft.append(own.dim.as_slice()) else {
+    if own.level >= by.tree.levels.len() {
+        return false;
+    }
+    let entries = by.tree.levels.at(own.level);
+    let run = (count, delimiter);
+    if entries.is_flat {
+        return flat_entries_in(entries, run, fields, draft);
+    }
+    let Some(back) = entries_level(by.back, rows.back, k) else {
         return false;
     };
-    let Some(count) = count_in(row, fields) else {
-        return false;
-    };
-    draft.put_bits(by.schema.order, own.count, count, at.saturating_add(own.at))
-        && entries_in(
-            by,
-            entries,
-            level.groups.at(i),
-            (count, delimiter),
-            fields,
-            draft,
-        )
+    let inner = LevelRows { own: entries, back };
+    entries_in(by, inner, level.groups.at(i), run, fields, draft)
 }
 
-/// The level of the entries of the group of row `k`, which has this number.
-fn entries_rows<'a>(
-    by: Drafting<'a>,
-    back: &BackLevel,
-    k: usize,
-    number: usize,
-) -> Option<LevelRows<'a>> {
-    if k >= back.rows.len() || number >= by.tree.levels.len() {
+/// The dimension of a group. Returns its count.
+#[inline(always)]
+fn dimension_in(
+    group: &DraftGroup,
+    row: &DraftRow,
+    fields: &mut Fields<'_>,
+    draft: &mut BodyDraft,
+) -> Option<u64> {
+    let at = draft.append(group.dim.as_slice())?;
+    let count = count_in(row, fields)?;
+    if !group.count.put(count, draft, at.wrapping_add(group.at)) {
         return None;
     }
-    let BackPart::Group(group) = &back.rows.at(k).part else {
+    Some(count)
+}
+
+/// How the texts of the entries of the group of row `k` are read.
+fn entries_level<'a>(levels: BackLevels<'a>, back: &BackLevel, k: usize) -> Option<&'a BackLevel> {
+    if k >= back.rows.len() {
         return None;
-    };
-    let back = level_at(by.back.levels, group.level)?;
-    let own = by.tree.levels.at(number);
-    Some(LevelRows { own, back })
+    }
+    match &back.rows.at(k).part {
+        BackPart::Group(group) => level_at(levels.levels, group.level),
+        BackPart::Value(_) => None,
+    }
 }
 
 /// The entries of a group.
@@ -356,9 +374,6 @@ fn entries_in(
     draft: &mut BodyDraft,
 ) -> bool {
     let (count, delimiter) = run;
-    if rows.own.is_flat {
-        return flat_entries_in(rows.own, run, fields, draft);
-    }
     for _ in 0..count {
         if !fields.is_next(delimiter) || !block_in(by, rows, &group.level, fields, draft) {
             return false;
@@ -368,6 +383,7 @@ fn entries_in(
 }
 
 /// The same, of a level with nothing but fields that have a form.
+#[inline(always)]
 fn flat_entries_in(
     level: &DraftLevel,
     run: (u64, &TagLead),
@@ -399,13 +415,14 @@ fn flat_block_in(level: &DraftLevel, fields: &mut Fields<'_>, draft: &mut BodyDr
     true
 }
 
-/// The number of entries, or 0 if the field of the count doesn't come next.
+/// The number of entries, or 0 if the field of the count doesn't come next. `None` if that isn't a number.
+#[inline(always)]
 fn count_in(row: &DraftRow, fields: &mut Fields<'_>) -> Option<u64> {
     let Some(from) = fields.value_of(&row.lead) else {
         return Some(0);
     };
-    let (count, many) = integer_in(fields.from_offset(from))?;
-    fields.pass(from.wrapping_add(many));
+    let (count, end) = short_natural_at(fields.text(), from)?;
+    fields.pass(end);
     Some(count)
 }
 

@@ -1,5 +1,5 @@
 // Numbers in texts, as their bits, and where they end. No contract covers the result.
-use crate::words::SOH;
+use crate::words::{is_end, number_in, short_text_at, without_point};
 
 /// The most digits after a point.
 pub(crate) const MOST_PLACES: usize = 18;
@@ -27,46 +27,56 @@ const POWERS: [u64; MOST_PLACES + 1] = [
     1_000_000_000_000_000_000,
 ];
 
-/// The bits of an integer that SOH ends, and how many bytes it has. `None` if there is none.
+/// The natural number of at most eight digits that begins at an offset and that SOH ends, and where it ends. `None` if there is none.
 #[inline(always)]
-pub(crate) fn integer_in(text: &[u8]) -> Option<(u64, usize)> {
-    match text {
-        [b'-', rest @ ..] => {
-            let (number, many) = natural_in(rest)?;
-            Some((number.wrapping_neg(), many.wrapping_add(1)))
-        }
-        rest => natural_in(rest),
-    }
+pub(crate) fn short_natural_at(text: &[u8], from: usize) -> Option<(u64, usize)> {
+    let (word, end) = short_text_at(text, from)?;
+    Some((number_in(word, end.wrapping_sub(from))?, end))
 }
 
-/// The same without a sign.
+/// The bits of the mantissa of a decimal that begins at an offset and that SOH ends, and where it ends. `None` if there is none, or if
+/// it has a sign, more than eight bytes, or more than `places` digits after its point.
 #[inline(always)]
-fn natural_in(text: &[u8]) -> Option<(u64, usize)> {
-    let (number, many) = digits_after(0, text);
-    if !ends_at(text, many) {
+pub(crate) fn short_decimal_at(text: &[u8], from: usize, places: usize) -> Option<(u64, usize)> {
+    let (word, end) = short_text_at(text, from)?;
+    let many = end.wrapping_sub(from);
+    let (number, left) = match without_point(word) {
+        None => (number_in(word, many)?, places),
+        Some((digits, before)) => {
+            let count = many.wrapping_sub(1);
+            let left = places.checked_sub(count.wrapping_sub(before))?;
+            (number_in(digits, count)?, left)
+        }
+    };
+    Some((with_zeros(number, left), end))
+}
+
+/// The same of any length, with a sign or without.
+#[inline(never)]
+pub(crate) fn long_decimal_at(text: &[u8], from: usize, places: usize) -> Option<(u64, usize)> {
+    if from > text.len() {
         return None;
     }
-    Some((number, many))
-}
-
-/// The bits of the mantissa of a decimal with at most `places` digits after its point, which SOH ends, and how many bytes it has.
-/// `None` if there is none.
-#[inline(always)]
-pub(crate) fn decimal_in(text: &[u8], places: usize) -> Option<(u64, usize)> {
-    match text {
+    match &text[from..] {
         [b'-', rest @ ..] => {
             let (mantissa, many) = mantissa_in(rest, places)?;
-            Some((mantissa.wrapping_neg(), many.wrapping_add(1)))
+            Some((
+                mantissa.wrapping_neg(),
+                from.wrapping_add(many).wrapping_add(1),
+            ))
         }
-        rest => mantissa_in(rest, places),
+        rest => {
+            let (mantissa, many) = mantissa_in(rest, places)?;
+            Some((mantissa, from.wrapping_add(many)))
+        }
     }
 }
 
-/// The same without a sign.
+/// The bits of the mantissa of a decimal without a sign, and how many bytes it has.
 #[inline(always)]
 fn mantissa_in(text: &[u8], places: usize) -> Option<(u64, usize)> {
     let (whole, many) = digits_after(0, text);
-    if ends_at(text, many) {
+    if is_end(text, many) {
         return Some((with_zeros(whole, places), many));
     }
     if many >= text.len() || text[many] != b'.' {
@@ -74,7 +84,7 @@ fn mantissa_in(text: &[u8], places: usize) -> Option<(u64, usize)> {
     }
     let rest = &text[many + 1..];
     let (number, more) = digits_after(whole, rest);
-    if !ends_at(rest, more) {
+    if !is_end(rest, more) {
         return None;
     }
     let left = places.checked_sub(more)?;
@@ -98,12 +108,6 @@ fn digits_after(number: u64, text: &[u8]) -> (u64, usize) {
         many = many.wrapping_add(1);
     }
     (longer, many)
-}
-
-/// Whether there is SOH after so many bytes.
-#[inline(always)]
-fn ends_at(text: &[u8], many: usize) -> bool {
-    many < text.len() && text[many] == SOH
 }
 
 /// A number with `zeros` zeros after its digits.

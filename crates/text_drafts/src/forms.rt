@@ -19,7 +19,7 @@ pub(crate) fn form_of(order: Order, value: &TextValue, kind: &Kind) -> Option<Fi
 fn number_form(order: Order, leaf: &Leaf) -> FieldForm {
     match leaf.prim {
         Prim::Char => FieldForm::Character,
-        prim => FieldForm::Integer(NumberPlace::new(order, prim)),
+        prim => FieldForm::Number(NumberPlace::new(order, prim), 0),
     }
 }
 
@@ -43,7 +43,7 @@ fn decimal_form(order: Order, leaf: &Leaf, exponent: i128, kind: &Kind) -> Optio
     if places > MOST_PLACES {
         return None;
     }
-    Some(FieldForm::Decimal(NumberPlace::new(order, leaf.prim), places))
+    Some(FieldForm::Number(NumberPlace::new(order, leaf.prim), places))
 }
 
 /// Whether the first member is at the place of its composite and isn't a constant.

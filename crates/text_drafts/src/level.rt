@@ -21,10 +21,8 @@ pub(crate) enum DraftPart {
 /// How the value of a field is put.
 #[derive(Clone, Copy)]
 pub(crate) enum FieldForm {
-    /// An integer.
-    Integer(NumberPlace),
-    /// The mantissa of a decimal, which has this number of digits after the point.
-    Decimal(NumberPlace, usize),
+    /// An integer, or the mantissa of a decimal, which has this number of digits after the point.
+    Number(NumberPlace, usize),
     /// A text of at most this many bytes.
     Text(usize),
     /// A text in a field of eight bytes.
@@ -77,11 +75,11 @@ pub(crate) struct DraftRow {
     pub part: DraftPart,
 }
 
-/// A group: its dimension without a count, the type and the place of its count in it, and the number of its entries' level.
+/// A group: its dimension without a count, how its count is laid in it and where, and the number of its entries' level.
 #[derive(Drop)]
 pub(crate) struct DraftGroup {
     pub dim: Vec<u8>,
-    pub count: Prim,
+    pub count: NumberPlace,
     pub at: usize,
     pub level: usize,
 }

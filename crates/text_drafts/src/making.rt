@@ -1,6 +1,8 @@
 // The levels of a template, made once. No contract covers the result.
 use crate::empty::{copy_of, empty_block};
-use crate::level::{BackLevels, DraftGroup, DraftLevel, DraftPart, DraftRow, DraftTree};
+use crate::level::{
+    BackLevels, DraftGroup, DraftLevel, DraftPart, DraftRow, DraftTree, NumberPlace,
+};
 use crate::rows::{NO_PART, make_rows};
 use bridge_mapping::TagTable;
 use field_judge::{BackLevel, BackPart, level_at, place_in};
@@ -129,7 +131,7 @@ fn make_group(
     let (count, at) = count_place(members);
     Ok(DraftGroup {
         dim: copy_of(alloc, draft)?,
-        count,
+        count: NumberPlace::new(order, count),
         at,
         level,
     })

@@ -20,12 +20,11 @@ use layout_tables::Layout;
 use lists::{List, NoMem};
 use map_types::Repository;
 use message_plans::{Cover, Plan, Template, make_plan};
-use message_walk::Halt;
 use sbe_types::Level;
 use schema_check::Checked;
 use std::alloc::Global;
-use tagvalue_codec::{DataTags, FixWriter};
-use text_bodies::is_body_of_text;
+use tagvalue_codec::DataTags;
+use text_bodies::{JudgeSpace, is_body_of_text};
 use text_heads::{HeadTags, TextFront, front_in};
 use value_texts::ValueText;
 
@@ -137,8 +136,7 @@ impl TextJudge {
         layout: &Layout,
         text: &TypedText<'_>,
         body: &[u8],
-        out: &mut FixWriter,
-        halt: &mut Halt,
+        space: &mut JudgeSpace,
     ) -> bool
         requires { IsFront self.now.head text.now.front }
         ensures { result ≡ true → (m : Mapping) (tags : List Pair) (only : IsOnly text.now.front.kind.now layout.now.messages text.now.template)
@@ -171,8 +169,7 @@ impl TextJudge {
             &text.front.head,
             text.text,
             body,
-            out,
-            halt,
+            space,
         )
     }
 }

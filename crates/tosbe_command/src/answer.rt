@@ -56,7 +56,12 @@ pub(crate) fn answer_frame<O: Sink, N: Sink>(
         return refused(note_encoding(notes, item, encoding, &mut space.chunk));
     }
     if has_drafted(bridge, body, space) {
-        return answer_body(&bridge.ways.parts.layout, space.draft.bytes(), output);
+        return answer_body(
+            &bridge.ways.parts.layout,
+            space.draft.bytes(),
+            &mut space.chunk,
+            output,
+        );
     }
     answer_read(bridge, item, body, space, output, notes)
 }
@@ -105,13 +110,9 @@ fn has_drafted_typed(
     if body.len() > space.buffer.limit() {
         return false;
     }
-    direct.judge.is_message_of(
-        &parts.layout,
-        typed,
-        body,
-        &mut space.writer,
-        &mut space.halt,
-    )
+    direct
+        .judge
+        .is_message_of(&parts.layout, typed, body, &mut space.judging)
 }
 
 /// Reads bytes that may be a text, and writes the reply to its fields or to its first fault.
@@ -168,6 +169,7 @@ fn answer_translated<O: Sink, N: Sink>(
             item,
             &message,
             &mut space.buffer,
+            &mut space.chunk,
             output,
             notes,
         ),

@@ -2,10 +2,10 @@ ghost use Rattle.std.specs.Prelude.{◌≡◌, IfOk};
 
 use line_draft::BodyDraft;
 use lists::NoMem;
-use message_walk::Halt;
 use printers::Chunk;
 use std::alloc::Global;
-use tagvalue_codec::{FieldTable, FixWriter};
+use tagvalue_codec::FieldTable;
+use text_bodies::JudgeSpace;
 use typed_writer::FrameBuf;
 
 /// The most bytes of a text whose body is drafted. A longer one takes the general path.
@@ -21,10 +21,8 @@ pub(crate) struct MessageSpace {
     pub(crate) template: usize,
     /// The body that a text seems to have.
     pub(crate) draft: BodyDraft,
-    /// The text of that body's message.
-    pub(crate) writer: FixWriter,
-    /// Why it has none.
-    pub(crate) halt: Halt,
+    /// What that body is judged with.
+    pub(crate) judging: JudgeSpace,
     /// The body of its message.
     pub(crate) buffer: FrameBuf,
     /// What lines are printed through.
@@ -37,15 +35,14 @@ impl MessageSpace {
         ensures { IfOk result (λ space. space.buffer.limit ≡ limit) }
     {
         let table = FieldTable::new(alloc)?;
-        let writer = FixWriter::new(alloc, DRAFTED_TEXT)?;
+        let judging = JudgeSpace::new(alloc, DRAFTED_TEXT)?;
         let buffer = FrameBuf::new(alloc, limit)?;
         Ok(MessageSpace {
             alloc,
             table,
             template: 0,
             draft: BodyDraft::new(),
-            writer,
-            halt: Halt::new(),
+            judging,
             buffer,
             chunk: Chunk::new(),
         })

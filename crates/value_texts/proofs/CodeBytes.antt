@@ -1,15 +1,18 @@
--- Codes of one byte.
-use Rattle.std.proofs.Common.{◌≡◌, ◌<◌, ◌≤◌, ◌+◌, ℕ, zero, suc, List, [], ◌∷◌, length, take, drop, get_or, set, inl, inr, refl, sym, ap, subst, ◌∙◌, arith}
-use Rattle.std.specs.Prelude.{slice_index}
-use Rattle.std.proofs.lemmas.Bool.{cases_eq}
-use Rattle.std.proofs.lemmas.List.{get_or-set_same, get_or-set_other}
+-- Texts of one byte.
+use Rattle.std.proofs.Common.{◌≡◌, ◌∷◌, ◌++◌, ℕ, zero, suc, List, [], length, take, Option, Some, None, Ok, refl, sym, ap, ◌∙◌, subst, arith}
+use Rattle.std.specs.Prelude.{slice_get, slice_index, IfSome}
+use Rattle.sbe_types.specs.declared.message.Value.{Value}
+use Rattle.bridge_rules.proofs.OptionLemmas.{none_some, some_is}
+use Rattle.bridge_rules.specs.Texts.{text_if_any}
 use Rattle.fix_values.specs.declared.rule.NumRule.{NumRule}
+use Rattle.fix_values.specs.Values.{text_of}
 use Rattle.value_texts.specs.declared.face.NumberFace.{NumberFace}
-use Rattle.value_texts.specs.Coded.{IsCodeByte}
-use Rattle.tagvalue_codec.specs.Drafts.{IsValue}
-
-pub code_value : (c : ℕ) → 2 ≤ c → IsValue (c ∷ [])
-code_value c high = record { some = omega arith; plain = (λ same. omega (arith, high, same), tt) }
+use Rattle.value_texts.specs.declared.fronts.FrontText.{FrontText}
+use Rattle.value_texts.specs.declared.row.TextRule.TheVariants as row
+use Rattle.value_texts.specs.Coded.{AreCodesOf, IsByteText, IsCodeFront}
+use Rattle.value_texts.specs.Faces.{number_by, IsRead}
+use Rattle.value_texts.specs.Fronts.{IsFrontText}
+use Rattle.value_texts.specs.Rows.{row_text, Reads}
 
 -- the byte of a value of one byte
 pub one_byte : (bytes : List ℕ) → length bytes ≡ 1 → bytes ≡ slice_index bytes 0 ∷ []
@@ -17,18 +20,35 @@ one_byte [] one = absurd (omega (arith, one))
 one_byte (b ∷ []) one = refl
 one_byte (b ∷ d ∷ bs) one = absurd (omega (arith, one))
 
--- eight bytes of a table begin with the one at their place
-pub front_is : (codes : List ℕ) (at : ℕ) → at + 8 ≤ length codes → take 1 (take 8 (drop at codes)) ≡ get_or codes at 0 ∷ []
-front_is [] at within = absurd (omega (arith, within))
-front_is (c ∷ codes) zero within = refl
-front_is (c ∷ codes) (suc at) within = front_is codes at (omega (arith, within))
+-- what holds of each item at its place, and of one more
+more_at : (P : ℕ → List ℕ → Type 0) (xs : List (List ℕ)) (x : List ℕ) → ((b : ℕ) (t : List ℕ) → slice_get xs b ≡ Some t → P b t) → P (length xs) x
+    → (b : ℕ) (t : List ℕ) → slice_get (xs ++ x ∷ []) b ≡ Some t → P b t
+more_at P [] x all own zero t there = subst (P zero) (some_is there) own
+more_at P [] x all own (suc b) t there = none_some there
+more_at P (y ∷ ys) x all own zero t there = all zero t there
+more_at P (y ∷ ys) x all own (suc b) t there = more_at (λ b. P (suc b)) ys x (λ b t there. all (suc b) t there) own b t there
 
--- one more code in a table
-pub one_more : (rule : NumRule) (q : NumberFace) (codes : List ℕ) (at c : ℕ) → at < length codes → IsCodeByte rule q at c → ((b : ℕ) → b < at → IsCodeByte rule q b (get_or codes b 0))
-    → (b : ℕ) → b < at + 1 → IsCodeByte rule q b (get_or (set codes at c) b 0)
-one_more rule q codes at c within is before b less = elim (cases_eq b at) [
-  | inl same ↦
-      let here : get_or (set codes at c) b 0 ≡ c = ap (λ k. get_or (set codes at c) k 0) same ∙ get_or-set_same codes at c 0 within in
-      subst (λ x. IsCodeByte rule q b x) (sym here) (subst (λ k. IsCodeByte rule q k c) (sym same) is)
-  | inr other ↦ subst (λ x. IsCodeByte rule q b x) (sym (get_or-set_other codes at b c 0 other)) (before b (omega (arith, less, other)))
-]
+-- one more text in a table
+pub one_more : (rule : NumRule) (q : NumberFace) (codes new : List (List ℕ)) (at : ℕ) (text : List ℕ) → new ≡ codes ++ text ∷ [] → length codes ≡ at → AreCodesOf rule q codes → IsByteText rule q at text
+    → AreCodesOf rule q new
+one_more rule q codes new at text is long all own =
+    subst (AreCodesOf rule q) (sym is) (more_at (IsByteText rule q) codes text all (subst (λ k. IsByteText rule q k text) (sym long) own))
+
+-- the text at a place of a table, as it is found
+pub found_there : (o : Option FrontText) (bytes : List ℕ) (codes : List (List ℕ)) (b : ℕ) (text : List ℕ) → bytes ≡ b ∷ [] → slice_get codes b ≡ Some text → IfSome o IsFrontText
+    → IfSome o (λ f. take f.count f.bytes.now ≡ text) → IfSome o (λ f. IsCodeFront f bytes codes)
+found_there None bytes codes b text one there value same = tt
+found_there (Some f) bytes codes b text one there value same = record { value = value; byte = b; one = one; there = there ∙ ap Some (sym same) }
+
+pub found_ready : (o : Option FrontText) (bytes : List ℕ) (codes : List (List ℕ)) → IfSome o (λ f. IsCodeFront f bytes codes) → IfSome o IsFrontText
+found_ready None bytes codes found = tt
+found_ready (Some f) bytes codes found = found.value
+
+-- it is the text of each value that the byte shows
+pub found_told : (o : Option FrontText) (rule : NumRule) (q : NumberFace) (bytes : List ℕ) (codes : List (List ℕ)) → IfSome o (λ f. IsCodeFront f bytes codes)
+    → IfSome o (λ f. (v : Value) → Reads (row.Number rule) q v bytes → AreCodesOf rule q codes → row_text (row.Number rule) v ≡ Ok (Some (take f.count f.bytes.now)))
+found_told None rule q bytes codes found = tt
+found_told (Some f) rule q bytes codes found = λ v reads all.
+    let own = all found.byte (take f.count f.bytes.now) found.there found.value.value.some in
+    let number = reads (subst (IsRead q) (sym found.one) own.read) ∙ ap (number_by q) found.one ∙ own.shown in
+    ap (λ o. text_if_any o (λ n. text_of rule n)) number ∙ own.text_is

@@ -199,7 +199,7 @@ spells_enum (listed.Code leaf codes) names = spells_code leaf names codes
 spells_enum (listed.Number leaf codes) names = spells_number leaf names codes
 spells_enum (listed.Boolean leaf own) names = spells_boolean leaf own
 
-made_by : (own : ValueText) (text : TextRule) (rule : Rule) → own.rule ≡ text → SpellsText text rule → ReadsBy text own.face rule → AreCodes own.rule own.face own.codes.items → Spells own rule
+made_by : (own : ValueText) (text : TextRule) (rule : Rule) → own.rule ≡ text → SpellsText text rule → ReadsBy text own.face rule → AreCodes own.rule own.face own.codes → Spells own rule
 made_by own text rule is texts reads codes = record {
   texts = subst (λ t. SpellsText t rule) (sym is) texts;
   reads = subst (λ t. ReadsBy t own.face rule) (sym is) reads;

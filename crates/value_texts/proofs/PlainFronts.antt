@@ -70,7 +70,7 @@ front_made run bytes eight run_is zero_after =
     }
 
 -- the text of a passage, where the rule is that of passages
-pub passage_told : (o : Option FrontText) (rule : TextRule) (q : NumberFace) (codes bytes : List ℕ) → rule ≡ row.Passage
+pub passage_told : (o : Option FrontText) (rule : TextRule) (q : NumberFace) (codes : List (List ℕ)) (bytes : List ℕ) → rule ≡ row.Passage
     → IfSome o (λ front. (face : NumberFace) (v : Value) → Reads row.Passage face v bytes → row_text row.Passage v ≡ Ok (Some (take front.count front.bytes.now)))
     → IfSome o (λ front. (v : Value) → Reads rule q v bytes → AreCodes rule q codes → row_text rule v ≡ Ok (Some (take front.count front.bytes.now)))
 passage_told None rule q codes bytes is told = tt

@@ -70,4 +70,4 @@ is_spellable (rule.MonthYear leaves) = true
 
 -- a row of this rule of texts, with a face of the rule's numbers and their codes, spells the rule
 abbrev pub IsMadeFor : FieldRule → TextRule → Type 0
-IsMadeFor own text = (names : List Named) (row : ValueText) → row.rule ≡ text → IsRuleFace row.face own → AreCodes row.rule row.face row.codes.items → Spells row (rule_with names own)
+IsMadeFor own text = (names : List Named) (row : ValueText) → row.rule ≡ text → IsRuleFace row.face own → AreCodes row.rule row.face row.codes → Spells row (rule_with names own)

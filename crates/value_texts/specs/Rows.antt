@@ -106,7 +106,7 @@ ReadsBy text q rule = (k : Kind) (v : Value) (known : Bool) (bytes : List ℕ) �
 pub record Spells (own : ValueText) (rule : Rule) : Type 0 where
   pub texts : SpellsText own.rule rule
   pub reads : ReadsBy own.rule own.face rule
-  pub codes : AreCodes own.rule own.face own.codes.items
+  pub codes : AreCodes own.rule own.face own.codes
 
 -- the result is a value
 abbrev pub is_ok_of : {X : Type 0} → Result X V → Bool

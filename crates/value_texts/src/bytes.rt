@@ -8,19 +8,20 @@ ghost use Rattle.value_texts.specs.Fronts.{IsFrontText};
 ghost use Rattle.value_texts.specs.Quick.{HasValue, IsQuick};
 ghost use Rattle.value_texts.specs.Rows.{row_text, Reads};
 
-use crate::codes::code_front;
+use crate::codes::{ByteText, code_front};
 use crate::face::{Found, NumberFace};
 use crate::fronts::{FrontText, plain_front};
 use crate::quick::{Quick, quick_decimal};
 use crate::row::{TextRule, ValueText};
 use crate::small::SMALL_ROOM;
 use crate::spelling::Spelling;
+use lists::List;
 
 /// The text of most texts and codes, at the front of eight bytes. `None` is inconclusive.
 #[inline(always)]
 pub(crate) fn front_of_value<'a>(row: &'a ValueText, bytes: &'a [u8]) -> Option<FrontText<'a>>
     ensures value { IfSome result IsFrontText }
-    ensures told { IfSome result (λ front. (v : Value) → Reads row.now.rule row.now.face v bytes.now → AreCodes row.now.rule row.now.face row.now.codes.items
+    ensures told { IfSome result (λ front. (v : Value) → Reads row.now.rule row.now.face v bytes.now → AreCodes row.now.rule row.now.face row.now.codes
         → row_text row.now.rule v ≡ Ok (Some (take front.count front.bytes.now))) }
 {
     match &row.rule {
@@ -36,25 +37,19 @@ pub(crate) fn front_of_value<'a>(row: &'a ValueText, bytes: &'a [u8]) -> Option<
     }
 }
 
-/// The code of a value of one byte.
+/// The text of a number of one byte.
 #[inline(always)]
 fn front_of_code<'a>(
     rule: &Spelling,
     face: &NumberFace,
-    codes: &'a Vec<u8>,
+    codes: &'a List<ByteText>,
     bytes: &[u8],
 ) -> Option<FrontText<'a>>
     ensures value { IfSome result IsFrontText }
-    ensures told { IfSome result (λ front. (v : Value) → Reads (rows.Number rule.now) face.now v bytes.now → AreCodesOf rule.now face.now codes.now.items
+    ensures told { IfSome result (λ front. (v : Value) → Reads (rows.Number rule.now) face.now v bytes.now → AreCodesOf rule.now face.now codes.now
         → row_text (rows.Number rule.now) v ≡ Ok (Some (take front.count front.bytes.now))) }
 {
-    match code_front(codes, bytes) {
-        Some(front) => Some(FrontText {
-            bytes: front,
-            count: 1,
-        }),
-        None => None,
-    }
+    code_front(codes, bytes)
 }
 
 /// The text of eight bytes.

@@ -1,106 +1,160 @@
-// The codes of one byte of an enum of one byte, looked up by its byte.
-ghost use Rattle.std.specs.Prelude.{◌≡◌, ◌≤◌, ◌∷◌, [], Ok, Some, IfOk, IfSome};
-ghost use Rattle.fix_values.specs.Values.{text_of};
-ghost use Rattle.bridge_rules.specs.Texts.{field_text};
-ghost use Rattle.value_texts.specs.Coded.{AreCodes, AreCodesOf, IsCodeByte, IsCodeFront};
+// The texts of numbers of one byte, looked up by their byte.
+ghost use Rattle.std.specs.Prelude.{◌≡◌, ◌<◌, [], length, take, IfOk, IfSome};
+ghost use Rattle.tagvalue_codec.specs.Drafts.{IsValue};
+ghost use Rattle.value_texts.specs.Coded.{AreCodes, AreCodesOf, IsByteText, IsCodeFront, IsNumberText};
+ghost use Rattle.value_texts.specs.Fronts.{IsFrontText};
 
 use crate::face::{Found, NumberFace};
+use crate::fronts::FrontText;
 use crate::quick::Quick;
 use crate::row::TextRule;
 use crate::small::SMALL_ROOM;
 use crate::spelling::Spelling;
-use lists::NoMem;
+use byte_places::place;
+use lists::{List, NoMem};
 use std::alloc::Global;
+use std::marker::Model;
 
 /// The number of values of a byte.
 const BYTES: usize = 256;
 
-/// A table has a place for each byte, and eight bytes can be copied from each place.
-const CODES_ROOM: usize = 264;
+/// The most bytes of a text in a table.
+const TEXT_BYTES: usize = 8;
 
-/// The code of a value of one byte, at the front of eight bytes. `None` if the table has none.
+/// The text of the number that a byte shows; empty if there is none.
+#[derive(Drop)]
+pub(crate) struct ByteText {
+    bytes: [u8; TEXT_BYTES],
+    count: usize,
+}
+
+impl Model for ByteText {
+    ghost use Rattle.std.specs.Prelude.{◌≡◌, ◌≤◌, ◌<◌, ℕ, List, length, take};
+    ghost use Rattle.tagvalue_codec.specs.Drafts.{IsValue};
+    ghost use Rattle.value_texts.specs.declared.codes.TheConstants.{TEXT_BYTES};
+
+    ghost Value = { List ℕ };
+
+    ghost view = { λ text. take text.count text.bytes };
+
+    ghost invariant = { λ text. (length text.bytes ≡ TEXT_BYTES) × (text.count ≤ TEXT_BYTES) × (0 < text.count → IsValue (take text.count text.bytes)) };
+}
+
+impl ByteText {
+    /// No text.
+    fn none() -> ByteText
+        ensures { result ≡ [] }
+    {
+        ByteText {
+            bytes: [0; TEXT_BYTES],
+            count: 0,
+        }
+    }
+
+    /// The same text, or none if it has more than eight bytes.
+    fn new(text: &[u8]) -> ByteText
+        requires { IsValue text.now }
+        ensures { 0 < length result → result ≡ text.now }
+    {
+        if text.len() > TEXT_BYTES {
+            return ByteText::none();
+        }
+        let mut bytes = [0; TEXT_BYTES];
+        let count = place(&mut bytes, 0, text);
+        ByteText { bytes, count }
+    }
+
+    /// The text at the front of eight bytes. `None` if there is none.
+    #[inline(always)]
+    fn front(&self) -> Option<FrontText<'_>>
+        ensures value { IfSome result IsFrontText }
+        ensures same { IfSome result (λ front. take front.count front.bytes.now ≡ self.now) }
+    {
+        if self.count == 0 {
+            return None;
+        }
+        Some(FrontText {
+            bytes: &self.bytes,
+            count: self.count,
+        })
+    }
+}
+
+/// The text of a number of one byte, at the front of eight bytes. `None` if the table has none.
 #[inline(always)]
-pub(crate) fn code_front<'a>(codes: &'a Vec<u8>, bytes: &[u8]) -> Option<&'a [u8]>
-    ensures { IfSome result (λ front. IsCodeFront front.now bytes.now codes.now.items) }
+pub(crate) fn code_front<'a>(codes: &'a List<ByteText>, bytes: &[u8]) -> Option<FrontText<'a>>
+    ensures { IfSome result (λ front. IsCodeFront front bytes.now codes.now) }
 {
     if bytes.len() != 1 {
         return None;
     }
     let at = bytes[0] as usize;
-    if at + 8 > codes.len() {
+    if at >= codes.len() {
         return None;
     }
-    if codes[at] < 2 {
-        return None;
-    }
-    let front = &codes[at..at + 8];
-    Some(front)
+    codes.at(at).front()
 }
 
-/// For each byte the code of the number that it shows, if the code has one byte other than SOH, and otherwise 0. Empty
-/// for rules without numbers.
-pub(crate) fn codes_of(alloc: Global, rule: &TextRule, face: &NumberFace) -> Result<Vec<u8>, NoMem>
-    ensures { IfOk result (λ codes. AreCodes rule.now face.now codes.items) }
+/// For each byte the text of the number that it shows, if it is found without the general rules and has at most eight bytes. Empty
+/// for rules without numbers, and for numbers of several bytes.
+pub(crate) fn codes_of(
+    alloc: Global,
+    rule: &TextRule,
+    face: &NumberFace,
+) -> Result<List<ByteText>, NoMem>
+    ensures { IfOk result (λ codes. AreCodes rule.now face.now codes) }
 {
+    if face.prim.width() != 1 {
+        return Ok(List::new(alloc));
+    }
     match rule {
-        TextRule::Number(spelling) => spelled_codes(alloc, spelling, face),
-        TextRule::Choices(_) => Ok(Vec::new(alloc)),
-        TextRule::Decimal(_) => Ok(Vec::new(alloc)),
-        TextRule::Floating(_, _) => Ok(Vec::new(alloc)),
-        TextRule::Passage => Ok(Vec::new(alloc)),
-        TextRule::Day => Ok(Vec::new(alloc)),
-        TextRule::Moment(_, _) => Ok(Vec::new(alloc)),
-        TextRule::Month => Ok(Vec::new(alloc)),
-        TextRule::Const(_) => Ok(Vec::new(alloc)),
+        TextRule::Number(spelling) => texts_of_bytes(alloc, spelling, face),
+        TextRule::Choices(_) => Ok(List::new(alloc)),
+        TextRule::Decimal(_) => Ok(List::new(alloc)),
+        TextRule::Floating(_, _) => Ok(List::new(alloc)),
+        TextRule::Passage => Ok(List::new(alloc)),
+        TextRule::Day => Ok(List::new(alloc)),
+        TextRule::Moment(_, _) => Ok(List::new(alloc)),
+        TextRule::Month => Ok(List::new(alloc)),
+        TextRule::Const(_) => Ok(List::new(alloc)),
     }
 }
 
 /// The table of numbers.
-fn spelled_codes(alloc: Global, spelling: &Spelling, face: &NumberFace) -> Result<Vec<u8>, NoMem>
-    ensures { IfOk result (λ codes. AreCodesOf spelling.now face.now codes.items) }
+fn texts_of_bytes(
+    alloc: Global,
+    spelling: &Spelling,
+    face: &NumberFace,
+) -> Result<List<ByteText>, NoMem>
+    ensures { IfOk result (λ codes. AreCodesOf spelling.now face.now codes) }
 {
-    let mut codes = [0u8; CODES_ROOM];
+    let mut codes = List::new(alloc);
     for byte in 0..BYTES {
-        codes[byte] = code_of(spelling, face, byte as u8);
+        codes.push(text_of_byte(spelling, face, byte as u8))?;
     }
-    Ok(Vec::from_slice(alloc, &codes)?)
+    Ok(codes)
 }
 
-/// The code of the number that a byte shows, or 0.
-fn code_of(spelling: &Spelling, face: &NumberFace, byte: u8) -> u8
-    ensures { IsCodeByte spelling.now face.now byte result }
+/// The text of the number that a byte shows.
+fn text_of_byte(spelling: &Spelling, face: &NumberFace, byte: u8) -> ByteText
+    ensures { IsByteText spelling.now face.now byte result }
 {
     match face.read(&[byte]) {
-        Found::Number(n) => {
-            if n != byte as i64 {
-                return 0;
-            }
-            spelled_byte(spelling, n)
-        }
-        Found::Null => 0,
-        Found::Unknown => 0,
+        Found::Number(n) => number_text(spelling, n),
+        Found::Null => ByteText::none(),
+        Found::Unknown => ByteText::none(),
     }
 }
 
-/// The text of a number, if it is found without the general rules and has one byte, or 0.
-fn spelled_byte(spelling: &Spelling, n: i64) -> u8
-    ensures { 2 ≤ result → field_text (text_of spelling.now n) ≡ Ok (Some (result ∷ [])) }
+/// The text of a number, if it is found without the general rules and is short.
+fn number_text(spelling: &Spelling, n: i64) -> ByteText
+    ensures { 0 < length result → IsNumberText spelling.now n result }
 {
     let mut room = [0; SMALL_ROOM];
     match spelling.quick(n as i128, &mut room) {
-        Quick::Text(text) => single_byte(text),
-        Quick::Room(_) => 0,
-        Quick::Nothing => 0,
-        Quick::Other => 0,
+        Quick::Text(text) => ByteText::new(text),
+        Quick::Room(at) => ByteText::new(&room[at..]),
+        Quick::Nothing => ByteText::none(),
+        Quick::Other => ByteText::none(),
     }
-}
-
-/// The byte of a text of one byte, or 0.
-fn single_byte(text: &[u8]) -> u8
-    ensures { 2 ≤ result → text.now ≡ result ∷ [] }
-{
-    if text.len() != 1 {
-        return 0;
-    }
-    text[0]
 }

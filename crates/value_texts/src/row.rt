@@ -16,6 +16,7 @@ use crate::at::{
     passage_at, quick_decimal_at, quick_number_at, quick_passage_at,
 };
 use crate::bytes::{front_of_value, text_of_bytes};
+use crate::codes::ByteText;
 use crate::face::NumberFace;
 use crate::quick::Quick;
 use crate::small::SMALL_ROOM;
@@ -23,7 +24,7 @@ use crate::spelling::Spelling;
 use bridge_table::{Epoch, Unit};
 use fix_values::V;
 use flyweight_view::{BlockView, TableBlock};
-use lists::Bytes;
+use lists::{Bytes, List};
 use message_walk::{Halt, Lead, Put, PutValue, put_front, put_text};
 use sbe_types::Leaf;
 use tagvalue_codec::FixWriter;
@@ -51,13 +52,13 @@ pub enum TextRule {
     Const(ConstText),
 }
 
-/// How the values of a field are written, how their numbers are read from bytes at a fixed place, and the codes of such
-/// bytes.
+/// How the values of a field are written, how their numbers are read from bytes at a fixed place, and the texts of numbers of one
+/// byte.
 #[derive(Drop)]
 pub struct ValueText {
     pub(crate) rule: TextRule,
     pub(crate) face: NumberFace,
-    pub(crate) codes: Vec<u8>,
+    pub(crate) codes: List<ByteText>,
 }
 
 /// The text of a constant, or why it has none.
@@ -136,7 +137,7 @@ fn put_bytes(
     requires open { out.old.phase ≡ Open }
     ensures open { out.new.phase ≡ Open }
     ensures put { (lists : TagLists) → length_in lead.now lists.lengths ≡ None → Reads row.now.rule row.now.face (field_of block.now number) bytes.now
-        → AreCodes row.now.rule row.now.face row.now.codes.items → number < length block.now.fields → CanAskOf row.now.rule number block.now
+        → AreCodes row.now.rule row.now.face row.now.codes → number < length block.now.fields → CanAskOf row.now.rule number block.now
         → IsPut lists out.old lead.now (row_text row.now.rule (field_of block.now number)) (record { put = result; draft = out.new; halt = halt.new }) }
 {
     match front_of_value(row, bytes) {
