@@ -2,7 +2,7 @@ ghost use Rattle.std.specs.Prelude.{◌≡◌, ◌∷◌, ◌++◌, [], ◌<◌,
 ghost use Rattle.std.specs.Bool.{OnTrue};
 ghost use Rattle.std.specs.List.{list_all};
 ghost use Rattle.sbe_types.specs.Numbers.{natural};
-ghost use Rattle.fix_values.specs.Codes.{bit_of, bits_of, code_number, code_text, codes_in, found_text, has_short_text, is_apart, is_choice, judged_set, same_number, set_number, set_text};
+ghost use Rattle.fix_values.specs.Codes.{bit_of, bits_of, code_number, code_text, codes_in, found_text, has_bit, has_short_text, is_apart, is_choice, judged_set, same_number, set_number, set_text};
 ghost use Rattle.fix_values.specs.Tables as tables;
 ghost use Rattle.fix_values.specs.Values.{Leaves};
 
@@ -88,12 +88,19 @@ fn put_choice(code: &Code, bits: u64, out: &mut Short) -> u64
     ensures small { result ≤ 2 ^ 63 }
     ensures room { length out.new ≤ length out.old + 2 * length (codes_in (code.now ∷ []) bits) }
 {
-    let bit = choice_bit(code);
-    if bits / bit % 2 == 1 {
+    if has_choice(code, bits) {
         put_code(code, out);
-        return bit;
+        return choice_bit(code);
     }
     0
+}
+
+/// Whether the bit of a choice is one of these.
+fn has_choice(code: &Code, bits: u64) -> bool
+    requires { IsTrue (is_choice code.now) }
+    ensures { result ≡ has_bit bits code.now }
+{
+    (bits >> code.number as u32) % 2 == 1
 }
 
 /// The bit of a choice.
@@ -116,7 +123,10 @@ fn put_code(code: &Code, out: &mut Short)
     if !out.is_empty() {
         out.push(b' ');
     }
-    out.extend(code.text.as_slice());
+    match code.text.as_slice() {
+        [byte] => out.push(*byte),
+        text => out.extend(text),
+    }
 }
 
 /// Clears the text of a set if a bit has no code, there is no bit, or the text contains SOH.
