@@ -62,6 +62,7 @@ fn is_clean_root(layout: &Layout, n: usize, level: &Level, body: &[u8]) -> bool
 }
 
 /// The end of an entry that begins at an offset of the body, if its bytes are clean.
+#[inline(always)]
 #[cycle(walk)]
 fn entry_end(layout: &Layout, n: usize, level: &Level, body: &[u8], at: usize) -> Option<usize>
     requires level { level_at layout.now n ≡ Some level.now }

@@ -1,10 +1,12 @@
 // Blocks of a text's fields, taken on trust. No contract covers the result.
-use crate::digits::{long_decimal_at, short_decimal_at, short_natural_at};
-use crate::fields::{Fields, Range};
+use crate::digits::{long_decimal, short_decimal, short_natural};
+use crate::fields::{Fields, Range, length_of};
 use crate::lead::TagLead;
-use crate::level::{BackLevels, DraftGroup, DraftLevel, DraftPart, DraftRow, DraftTree, FieldForm};
+use crate::level::{
+    BackLevels, DraftGroup, DraftLevel, DraftPart, DraftRow, DraftTree, NumberPlace,
+};
 use crate::values::put_value;
-use crate::words::{SOH, short_text_at};
+use crate::words::{SOH, short_text};
 use field_judge::{BackLevel, BackPart, level_at};
 use line_draft::BodyDraft;
 use sbe_types::{DataField, Field, Group, Level, Order, WireSchema};
@@ -38,12 +40,6 @@ struct Block<'a> {
 }
 
 impl Block<'_> {
-    /// The place of a field with this offset in the block.
-    #[inline(always)]
-    fn place(&self, begin: usize) -> usize {
-        self.at.wrapping_add(begin)
-    }
-
     /// Counts group `i`, and says whether it is the next one.
     fn has_next(&mut self, i: usize) -> bool {
         let is_next = i == self.groups;
@@ -136,99 +132,138 @@ fn put_part(
     let (k, row) = place;
     let order = by.schema.order;
     match &row.part {
-        DraftPart::Field(begin, form) => {
-            field_in(&row.lead, form, fields, draft, block.place(*begin))
-        }
         DraftPart::Other(begin, i) => match fields.takes(&row.lead) {
             None => true,
             Some(text) => {
                 let part = (value_at(rows.back, k), field_at(level, *i));
-                other_in(order, part, text, draft, block.place(*begin))
+                other_in(order, part, text, draft, block.at.wrapping_add(*begin))
             }
         },
         DraftPart::Data(i, lead) => data_in(&row.lead, *i, lead, fields, block.data),
         DraftPart::Group(i, delimiter) => {
             block.has_next(*i) && group_in(by, rows, level, (k, *i, row), delimiter, fields, draft)
         }
+        DraftPart::Number(_, _, _)
+        | DraftPart::Word(_)
+        | DraftPart::Character(_)
+        | DraftPart::Text(_, _) => field_in(row, fields, draft, block.at),
     }
 }
 
-/// The value of a field, from an offset of the draft on, if the field comes next.
+/// A plain field of a block that begins at an offset of the draft, if the field comes next. False for any other part.
 #[inline(always)]
-fn field_in(
-    lead: &TagLead,
-    form: &FieldForm,
-    fields: &mut Fields<'_>,
-    draft: &mut BodyDraft,
-    at: usize,
-) -> bool {
-    let Some(from) = fields.value_of(lead) else {
-        return true;
-    };
-    match form {
-        FieldForm::Number(_, _) => number_in(form, from, fields, draft, at),
-        FieldForm::Word => match short_text_at(fields.text(), from) {
-            Some((word, end)) => {
-                fields.pass(end);
-                draft.put_masked(at, word, u64::MAX)
+fn field_in(row: &DraftRow, fields: &mut Fields<'_>, draft: &mut BodyDraft, block: usize) -> bool {
+    let lead = &row.lead;
+    match &row.part {
+        DraftPart::Number(begin, place, places) => match fields.value_of(lead) {
+            None => true,
+            Some(value) => {
+                number_in(
+                    (place, *places),
+                    value,
+                    fields,
+                    draft,
+                    block.wrapping_add(*begin),
+                )
             }
-            None => false,
         },
-        FieldForm::Character => character_in(from, fields, draft, at),
-        FieldForm::Text(most) => text_in(*most, from, fields, draft, at),
+        DraftPart::Word(begin) => match fields.value_of(lead) {
+            None => true,
+            Some(value) => word_in(value, fields, draft, block.wrapping_add(*begin)),
+        },
+        DraftPart::Character(begin) => match fields.value_of(lead) {
+            None => true,
+            Some(value) => character_in(value, fields, draft, block.wrapping_add(*begin)),
+        },
+        DraftPart::Text(begin, most) => match fields.value_of(lead) {
+            None => true,
+            Some(value) => text_in(*most, value, fields, draft, block.wrapping_add(*begin)),
+        },
+        DraftPart::Other(_, _) => false,
+        DraftPart::Data(_, _) => false,
+        DraftPart::Group(_, _) => false,
     }
 }
 
-/// A number, with its sign and its point.
-#[inline(never)]
-fn number_in(
-    form: &FieldForm,
-    from: usize,
-    fields: &mut Fields<'_>,
+/// A number, with its sign and its point: its place, and the most digits after its point.
+#[inline(always)]
+fn number_in<'a>(
+    form: (&NumberPlace, usize),
+    value: &'a [u8],
+    fields: &mut Fields<'a>,
     draft: &mut BodyDraft,
     at: usize,
 ) -> bool {
-    let FieldForm::Number(place, places) = form else {
-        return false;
-    };
-    let text = fields.text();
-    let read = match short_decimal_at(text, from, *places) {
-        Some(read) => Some(read),
-        None => long_decimal_at(text, from, *places),
-    };
-    let Some((bits, end)) = read else {
-        return false;
-    };
-    fields.pass(end);
-    place.put(bits, draft, at)
+    let (place, places) = form;
+    match short_decimal(value, places) {
+        Some((bits, many)) => {
+            fields.pass(value, many);
+            place.put(bits, draft, at)
+        }
+        None => long_number_in(form, value, fields, draft, at),
+    }
+}
+
+/// The same of any length.
+#[inline(never)]
+fn long_number_in<'a>(
+    form: (&NumberPlace, usize),
+    value: &'a [u8],
+    fields: &mut Fields<'a>,
+    draft: &mut BodyDraft,
+    at: usize,
+) -> bool {
+    let (place, places) = form;
+    match long_decimal(value, places) {
+        Some((bits, many)) => {
+            fields.pass(value, many);
+            place.put(bits, draft, at)
+        }
+        None => false,
+    }
+}
+
+/// A text in a field of eight bytes.
+#[inline(always)]
+fn word_in<'a>(value: &'a [u8], fields: &mut Fields<'a>, draft: &mut BodyDraft, at: usize) -> bool {
+    match short_text(value) {
+        Some((word, many)) => {
+            fields.pass(value, many);
+            draft.put_masked(at, word, u64::MAX)
+        }
+        None => false,
+    }
 }
 
 /// A character.
 #[inline(always)]
-fn character_in(from: usize, fields: &mut Fields<'_>, draft: &mut BodyDraft, at: usize) -> bool {
-    let text = fields.from_offset(from);
-    let [byte, SOH, ..] = text else {
+fn character_in<'a>(
+    value: &'a [u8],
+    fields: &mut Fields<'a>,
+    draft: &mut BodyDraft,
+    at: usize,
+) -> bool {
+    let [byte, SOH, ..] = value else {
         return false;
     };
-    fields.pass(from.wrapping_add(1));
+    fields.pass(value, 1);
     draft.put_masked(at, u64::from(*byte), 0xFF)
 }
 
 /// A text of at most so many bytes.
 #[inline(never)]
-fn text_in(
+fn text_in<'a>(
     most: usize,
-    from: usize,
-    fields: &mut Fields<'_>,
+    value: &'a [u8],
+    fields: &mut Fields<'a>,
     draft: &mut BodyDraft,
     at: usize,
 ) -> bool {
-    let Some(end) = fields.end_of(from) else {
+    let Some(many) = length_of(value) else {
         return false;
     };
-    let text = fields.bytes((from, end));
-    fields.pass(end);
-    text.len() <= most && draft.put(at, text)
+    fields.pass(value, many);
+    many <= most && draft.put(at, &value[..many])
 }
 
 /// The same for any value, as its text is read.
@@ -382,7 +417,7 @@ fn entries_in(
     true
 }
 
-/// The same, of a level with nothing but fields that have a form.
+/// The same, of a level with nothing but plain fields.
 #[inline(always)]
 fn flat_entries_in(
     level: &DraftLevel,
@@ -406,9 +441,7 @@ fn flat_block_in(level: &DraftLevel, fields: &mut Fields<'_>, draft: &mut BodyDr
         return false;
     };
     for row in level.rows.as_slice() {
-        if let DraftPart::Field(begin, form) = &row.part
-            && !field_in(&row.lead, form, fields, draft, at.wrapping_add(*begin))
-        {
+        if !field_in(row, fields, draft, at) {
             return false;
         }
     }
@@ -418,11 +451,11 @@ fn flat_block_in(level: &DraftLevel, fields: &mut Fields<'_>, draft: &mut BodyDr
 /// The number of entries, or 0 if the field of the count doesn't come next. `None` if that isn't a number.
 #[inline(always)]
 fn count_in(row: &DraftRow, fields: &mut Fields<'_>) -> Option<u64> {
-    let Some(from) = fields.value_of(&row.lead) else {
+    let Some(value) = fields.value_of(&row.lead) else {
         return Some(0);
     };
-    let (count, end) = short_natural_at(fields.text(), from)?;
-    fields.pass(end);
+    let (count, many) = short_natural(value)?;
+    fields.pass(value, many);
     Some(count)
 }
 

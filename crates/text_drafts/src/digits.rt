@@ -1,5 +1,5 @@
 // Numbers in texts, as their bits, and where they end. No contract covers the result.
-use crate::words::{is_end, number_in, short_text_at, without_point};
+use crate::words::{is_end, number_in, short_text, without_point};
 
 /// The most digits after a point.
 pub(crate) const MOST_PLACES: usize = 18;
@@ -27,19 +27,18 @@ const POWERS: [u64; MOST_PLACES + 1] = [
     1_000_000_000_000_000_000,
 ];
 
-/// The natural number of at most eight digits that begins at an offset and that SOH ends, and where it ends. `None` if there is none.
+/// The natural number of at most eight digits that SOH ends, and how many bytes it has. `None` if there is none.
 #[inline(always)]
-pub(crate) fn short_natural_at(text: &[u8], from: usize) -> Option<(u64, usize)> {
-    let (word, end) = short_text_at(text, from)?;
-    Some((number_in(word, end.wrapping_sub(from))?, end))
+pub(crate) fn short_natural(value: &[u8]) -> Option<(u64, usize)> {
+    let (word, many) = short_text(value)?;
+    Some((number_in(word, many)?, many))
 }
 
-/// The bits of the mantissa of a decimal that begins at an offset and that SOH ends, and where it ends. `None` if there is none, or if
-/// it has a sign, more than eight bytes, or more than `places` digits after its point.
+/// The bits of the mantissa of a decimal that SOH ends, and how many bytes it has. `None` if there is none, or if it has a sign, more
+/// than eight bytes, or more than `places` digits after its point.
 #[inline(always)]
-pub(crate) fn short_decimal_at(text: &[u8], from: usize, places: usize) -> Option<(u64, usize)> {
-    let (word, end) = short_text_at(text, from)?;
-    let many = end.wrapping_sub(from);
+pub(crate) fn short_decimal(value: &[u8], places: usize) -> Option<(u64, usize)> {
+    let (word, many) = short_text(value)?;
     let (number, left) = match without_point(word) {
         None => (number_in(word, many)?, places),
         Some((digits, before)) => {
@@ -48,27 +47,18 @@ pub(crate) fn short_decimal_at(text: &[u8], from: usize, places: usize) -> Optio
             (number_in(digits, count)?, left)
         }
     };
-    Some((with_zeros(number, left), end))
+    Some((with_zeros(number, left), many))
 }
 
 /// The same of any length, with a sign or without.
 #[inline(never)]
-pub(crate) fn long_decimal_at(text: &[u8], from: usize, places: usize) -> Option<(u64, usize)> {
-    if from > text.len() {
-        return None;
-    }
-    match &text[from..] {
+pub(crate) fn long_decimal(value: &[u8], places: usize) -> Option<(u64, usize)> {
+    match value {
         [b'-', rest @ ..] => {
             let (mantissa, many) = mantissa_in(rest, places)?;
-            Some((
-                mantissa.wrapping_neg(),
-                from.wrapping_add(many).wrapping_add(1),
-            ))
+            Some((mantissa.wrapping_neg(), many.wrapping_add(1)))
         }
-        rest => {
-            let (mantissa, many) = mantissa_in(rest, places)?;
-            Some((mantissa, from.wrapping_add(many)))
-        }
+        rest => mantissa_in(rest, places),
     }
 }
 

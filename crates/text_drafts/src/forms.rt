@@ -1,38 +1,49 @@
-// How the values of fields are put, found out once. No contract covers the result.
+// The parts of plain fields, found out once. No contract covers the result.
 use crate::digits::MOST_PLACES;
-use crate::level::{FieldForm, NumberPlace};
+use crate::level::{DraftPart, NumberPlace};
 use sbe_types::{Kind, Leaf, Member, Named, Order, Prim};
 use text_values::{ReadValue, TextValue};
 
-/// How the value of a field is put. `None` if it is read as the structure says.
-pub(crate) fn form_of(order: Order, value: &TextValue, kind: &Kind) -> Option<FieldForm> {
+/// The part of a field with this offset in the block. `None` if it is read as the structure says.
+pub(crate) fn plain_part(
+    order: Order,
+    value: &TextValue,
+    kind: &Kind,
+    begin: usize,
+) -> Option<DraftPart> {
     match value {
-        TextValue::Number(_, leaf) => Some(number_form(order, leaf)),
-        TextValue::Decimal(leaf, exponent) => decimal_form(order, leaf, *exponent, kind),
-        TextValue::Passage(leaf) => Some(text_form(leaf)),
-        TextValue::Listed(_, leaf) => character_form(value, leaf, kind),
+        TextValue::Number(_, leaf) => Some(number_part(order, leaf, begin)),
+        TextValue::Decimal(leaf, exponent) => decimal_part(order, leaf, *exponent, kind, begin),
+        TextValue::Passage(leaf) => Some(text_part(leaf, begin)),
+        TextValue::Listed(_, leaf) => character_part(value, leaf, kind, begin),
         _ => None,
     }
 }
 
-/// How a number is put: a char is one byte.
-fn number_form(order: Order, leaf: &Leaf) -> FieldForm {
+/// A number: a char is one byte.
+fn number_part(order: Order, leaf: &Leaf, begin: usize) -> DraftPart {
     match leaf.prim {
-        Prim::Char => FieldForm::Character,
-        prim => FieldForm::Number(NumberPlace::new(order, prim), 0),
+        Prim::Char => DraftPart::Character(begin),
+        prim => DraftPart::Number(begin, NumberPlace::new(order, prim), 0),
     }
 }
 
-/// How a text is put.
-fn text_form(leaf: &Leaf) -> FieldForm {
+/// A text.
+fn text_part(leaf: &Leaf, begin: usize) -> DraftPart {
     if leaf.length == 8 {
-        return FieldForm::Word;
+        return DraftPart::Word(begin);
     }
-    FieldForm::Text(leaf.length as usize)
+    DraftPart::Text(begin, leaf.length as usize)
 }
 
-/// How a decimal is put, if its mantissa is the first member and is at the place of the composite.
-fn decimal_form(order: Order, leaf: &Leaf, exponent: i128, kind: &Kind) -> Option<FieldForm> {
+/// A decimal, if its mantissa is the first member and is at the place of the composite.
+fn decimal_part(
+    order: Order,
+    leaf: &Leaf,
+    exponent: i128,
+    kind: &Kind,
+    begin: usize,
+) -> Option<DraftPart> {
     let Kind::Comp(members) = kind else {
         return None;
     };
@@ -43,7 +54,8 @@ fn decimal_form(order: Order, leaf: &Leaf, exponent: i128, kind: &Kind) -> Optio
     if places > MOST_PLACES {
         return None;
     }
-    Some(FieldForm::Number(NumberPlace::new(order, leaf.prim), places))
+    let place = NumberPlace::new(order, leaf.prim);
+    Some(DraftPart::Number(begin, place, places))
 }
 
 /// Whether the first member is at the place of its composite and isn't a constant.
@@ -57,15 +69,15 @@ fn begins_with_mantissa(members: &[Member]) -> bool {
     }
 }
 
-/// How an enum of characters is put, if each is the text of its code.
-fn character_form(value: &TextValue, leaf: &Leaf, kind: &Kind) -> Option<FieldForm> {
+/// An enum of characters, if each is the text of its code.
+fn character_part(value: &TextValue, leaf: &Leaf, kind: &Kind, begin: usize) -> Option<DraftPart> {
     let Kind::Enum(_, names) = kind else {
         return None;
     };
     if leaf.prim != Prim::Char || !are_characters(value, names.as_slice()) {
         return None;
     }
-    Some(FieldForm::Character)
+    Some(DraftPart::Character(begin))
 }
 
 /// Whether the text of each valid value is its own character.

@@ -5,12 +5,18 @@ use line_draft::BodyDraft;
 use lists::List;
 use sbe_types::{Order, Prim};
 
-/// What is at a place of a level.
+/// What is at a place of a level. Fields are given by their offset in the block.
 #[derive(Clone, Copy)]
 pub(crate) enum DraftPart {
-    /// A field, by its offset in the block.
-    Field(usize, FieldForm),
-    /// A field whose text is read as the structure says: its offset, and its number.
+    /// An integer, or the mantissa of a decimal, which has this number of digits after the point.
+    Number(usize, NumberPlace, usize),
+    /// A text of at most this many bytes.
+    Text(usize, usize),
+    /// A text in a field of eight bytes.
+    Word(usize),
+    /// A character.
+    Character(usize),
+    /// A field whose text is read as the structure says, by its number.
     Other(usize, usize),
     /// Data: its number, and what begins its length field.
     Data(usize, TagLead),
@@ -18,17 +24,19 @@ pub(crate) enum DraftPart {
     Group(usize, TagLead),
 }
 
-/// How the value of a field is put.
-#[derive(Clone, Copy)]
-pub(crate) enum FieldForm {
-    /// An integer, or the mantissa of a decimal, which has this number of digits after the point.
-    Number(NumberPlace, usize),
-    /// A text of at most this many bytes.
-    Text(usize),
-    /// A text in a field of eight bytes.
-    Word,
-    /// A character.
-    Character,
+impl DraftPart {
+    /// Whether it is a field that isn't read as the structure says.
+    pub(crate) fn is_plain(&self) -> bool {
+        match self {
+            DraftPart::Number(_, _, _) => true,
+            DraftPart::Text(_, _) => true,
+            DraftPart::Word(_) => true,
+            DraftPart::Character(_) => true,
+            DraftPart::Other(_, _) => false,
+            DraftPart::Data(_, _) => false,
+            DraftPart::Group(_, _) => false,
+        }
+    }
 }
 
 /// How the bits of a number are laid in bytes: which of a word's bytes they take, and how far they are moved up before the bytes are
@@ -85,7 +93,7 @@ pub(crate) struct DraftGroup {
 }
 
 /// A level: a block in which each field has the value that it has without a text, the places, the groups, and whether all places
-/// are those of fields with a form.
+/// are those of plain fields.
 #[derive(Drop)]
 pub(crate) struct DraftLevel {
     pub empty: Vec<u8>,

@@ -1,8 +1,6 @@
 // The levels of a template, made once. No contract covers the result.
 use crate::empty::{copy_of, empty_block};
-use crate::level::{
-    BackLevels, DraftGroup, DraftLevel, DraftPart, DraftRow, DraftTree, NumberPlace,
-};
+use crate::level::{BackLevels, DraftGroup, DraftLevel, DraftRow, DraftTree, NumberPlace};
 use crate::rows::{NO_PART, make_rows};
 use bridge_mapping::TagTable;
 use field_judge::{BackLevel, BackPart, level_at, place_in};
@@ -63,7 +61,7 @@ fn make_level(
     let groups = make_groups(alloc, by, level.groups.as_slice(), own, levels, draft)?;
     let rows = make_rows(alloc, by.order, by.tags, level, own)?;
     let empty = empty_block(alloc, by.order, level, own, draft)?;
-    let is_flat = level.groups.is_empty() && level.parts.is_empty() && have_forms(&rows);
+    let is_flat = level.groups.is_empty() && level.parts.is_empty() && are_plain(&rows);
     Ok(DraftLevel {
         empty,
         rows,
@@ -72,12 +70,9 @@ fn make_level(
     })
 }
 
-/// Whether each place is that of a field with a form.
-fn have_forms(rows: &[DraftRow]) -> bool {
-    rows.iter().all(|row| match row.part {
-        DraftPart::Field(_, _) => true,
-        _ => false,
-    })
+/// Whether each place is that of a plain field.
+fn are_plain(rows: &[DraftRow]) -> bool {
+    rows.iter().all(|row| row.part.is_plain())
 }
 
 /// The groups of a level, and the levels of their entries. A group without a row gets the number of a level that isn't

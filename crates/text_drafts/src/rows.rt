@@ -1,5 +1,5 @@
 // The rows of a level, made once. No contract covers the result.
-use crate::forms::form_of;
+use crate::forms::plain_part;
 use crate::lead::TagLead;
 use crate::level::{DraftPart, DraftRow};
 use bridge_mapping::TagTable;
@@ -86,10 +86,7 @@ fn field_part(
     let BackPart::Value(value) = &own.rows.at(k).part else {
         return other;
     };
-    match form_of(order, value, kind) {
-        Some(form) => DraftPart::Field(begin, form),
-        None => other,
-    }
+    plain_part(order, value, kind, begin).unwrap_or(other)
 }
 
 /// Sets the row of the part with this tag, if the structure has one.

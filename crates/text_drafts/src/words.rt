@@ -31,28 +31,27 @@ const ODD_PAIRS: u64 = 0x000F_4240_0000_0064;
 /// What the second and the fourth pair count for: 1, and in the upper half 10,000.
 const EVEN_PAIRS: u64 = 0x0000_2710_0000_0001;
 
-/// The eight bytes from an offset of a text on, or 0 if it has fewer.
+/// The first eight bytes, or 0 if there are fewer.
 #[inline(always)]
-pub(crate) fn word_at(text: &[u8], at: usize) -> u64 {
-    if at > text.len() || text.len() - at < WORD {
+pub(crate) fn word_of(bytes: &[u8]) -> u64 {
+    if bytes.len() < WORD {
         return 0;
     }
-    LittleEndian::read_u64(&text[at..])
+    LittleEndian::read_u64(bytes)
 }
 
-/// A value of at most eight bytes, with zeros after it, and where it ends. `None` if it has more.
+/// A value of at most eight bytes that SOH ends, with zeros after it, and how many bytes it has. `None` if it has more.
 #[inline(always)]
-pub(crate) fn short_text_at(text: &[u8], from: usize) -> Option<(u64, usize)> {
-    let word = word_at(text, from);
+pub(crate) fn short_text(value: &[u8]) -> Option<(u64, usize)> {
+    let word = word_of(value);
     let marks = zeros_in(word ^ ONES);
     if marks != 0 {
         let many = marks.trailing_zeros() / 8;
         let kept = !u64::MAX.wrapping_shl(many.wrapping_mul(8));
-        return Some((word & kept, from.wrapping_add(many as usize)));
+        return Some((word & kept, many as usize));
     }
-    let end = from.wrapping_add(WORD);
-    if is_end(text, end) {
-        return Some((word, end));
+    if is_end(value, WORD) {
+        return Some((word, WORD));
     }
     None
 }
