@@ -1,0 +1,4 @@
+mod Bits
+mod Grown
+mod RunTexts
+mod Written
