@@ -193,6 +193,11 @@ pub made_as : (o : Option TextRule) (own : TextRule) (P : TextRule → Type 0) �
 made_as None own P is made = tt
 made_as (Some r) own P is made = subst P (sym is) made
 
+-- the same of what memory may fail for
+pub made_ok : {E : Type 0} (o : Result (Option TextRule) E) (row : TextRule) (P : TextRule → Type 0) → IfOk o (λ made. IfSome made (λ r. r ≡ row)) → P row → IfOk o (λ made. IfSome made P)
+made_ok (Ok made) row P is own = made_as made row P is own
+made_ok (Err e) row P is own = tt
+
 -- an enum's row
 pub spells_enum : (rule : EnumRule) (names : List Named) → SpellsText (row.Number (enum_spelling rule)) (enum_with names rule)
 spells_enum (listed.Code leaf codes) names = spells_code leaf names codes

@@ -5,5 +5,6 @@ pub mod Fronts
 pub mod Made
 pub mod Quick
 pub mod Rows
+pub mod SetRules
 pub mod Small
 pub mod Spelled

@@ -13,10 +13,11 @@ use crate::composite::{mantissa_of, members_at};
 use crate::decimals::{put_fixed_decimal, put_floating};
 use crate::fixed::put_constant;
 use crate::moments::{put_day, put_moment, put_month};
-use crate::numbers::{put_number, put_passage};
+use crate::numbers::{put_choices, put_number, put_passage};
 use crate::quick::{Quick, quick_decimal, quick_front};
 use crate::row::ConstText;
 use crate::seen::{choices_of, field_at, number_of, text_of};
+use crate::sets::SetSpelling;
 use crate::small::SMALL_ROOM;
 use crate::spelling::Spelling;
 use bridge_table::{Epoch, Unit};
@@ -104,7 +105,7 @@ pub(crate) fn number_at(
 /// Writes the field of a set, unless it is empty.
 #[inline(never)]
 pub(crate) fn choices_at(
-    rule: &Spelling,
+    rule: &SetSpelling,
     lead: &Lead,
     block: &BlockView<'_>,
     number: usize,
@@ -119,7 +120,7 @@ pub(crate) fn choices_at(
 {
     let field = field_at(block, number);
     let n = choices_of(field);
-    put_number(rule, n, lead, out, halt)
+    put_choices(rule, n, lead, out, halt)
 }
 
 /// Writes the field of a text, if there is one.

@@ -84,6 +84,30 @@ fn put_wide(
 fn show_any_decimal(mantissa: i128, exponent: i128, out: &mut Short) -> Result<(), V>
     ensures { Leaves result out.new (decimal_text (dec mantissa exponent)) }
 {
+    match small_of(mantissa, exponent) {
+        Some(small) => {
+            show_small(small, out);
+            Ok(())
+        }
+        None => show_wide(mantissa, exponent, out),
+    }
+}
+
+/// Writes a decimal with a mantissa of at most 64 bits as text.
+fn show_small(small: SmallDecimal, out: &mut Short)
+    requires { small.places ≤ 18 }
+    ensures { out.new ≡ parts_text (small_parts small) }
+{
+    let mut room = [0; SMALL_ROOM];
+    let at = write_small(small, &mut room);
+    out.clear();
+    out.extend(&room[at..]);
+}
+
+/// Writes a decimal as text by the general rule.
+fn show_wide(mantissa: i128, exponent: i128, out: &mut Short) -> Result<(), V>
+    ensures { Leaves result out.new (decimal_text (dec mantissa exponent)) }
+{
     match i32::try_from(exponent) {
         Ok(exponent) => show_decimal(mantissa, exponent, out),
         Err(_) => {

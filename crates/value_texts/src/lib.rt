@@ -15,10 +15,12 @@ mod numbers;
 mod quick;
 mod row;
 mod seen;
+mod sets;
 mod shown;
 mod small;
 mod spelling;
 
 pub use face::NumberFace;
 pub use row::{ConstText, TextRule, ValueText};
+pub use sets::SetSpelling;
 pub use spelling::Spelling;

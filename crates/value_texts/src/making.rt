@@ -15,6 +15,7 @@ use crate::codes::codes_of;
 use crate::face::{NumberFace, UNREAD};
 use crate::moments::show_day_number;
 use crate::row::{ConstText, TextRule, ValueText};
+use crate::sets::SetSpelling;
 use crate::spelling::Spelling;
 use bridge_table::{ConstRule, EnumRule, FieldRule};
 use fix_values::{NumRule, Short, V};
@@ -91,7 +92,7 @@ fn text_rule(alloc: Global, rule: FieldRule) -> Result<Option<TextRule>, NoMem>
         }
         FieldRule::CharArray(_) => Ok(Some(TextRule::Passage)),
         FieldRule::Enum(rule) => Ok(number(enum_rule(rule))),
-        FieldRule::ChoiceSet(codes) => Ok(choices(NumRule::Codes(codes))),
+        FieldRule::ChoiceSet(codes) => choices(alloc, NumRule::Codes(codes)),
         FieldRule::DayCount(_) => Ok(Some(TextRule::Day)),
         FieldRule::Moment(epoch, _, unit) => Ok(Some(TextRule::Moment(epoch, unit))),
         FieldRule::MonthYear(_) => Ok(Some(TextRule::Month)),
@@ -111,13 +112,13 @@ fn number(rule: NumRule) -> Option<TextRule>
     }
 }
 
-fn choices(rule: NumRule) -> Option<TextRule>
-    ensures same { IfSome result (λ row. row ≡ rows.Choices rule) }
-    ensures some { is_some result ≡ can_show rule }
+fn choices(alloc: Global, rule: NumRule) -> Result<Option<TextRule>, NoMem>
+    ensures same { IfOk result (λ made. IfSome made (λ row. row ≡ rows.Choices rule)) }
+    ensures some { IfOk result (λ made. is_some made ≡ can_show rule) }
 {
-    match Spelling::new(rule) {
-        Some(spelling) => Some(TextRule::Choices(spelling)),
-        None => None,
+    match SetSpelling::new(alloc, rule)? {
+        Some(set) => Ok(Some(TextRule::Choices(set))),
+        None => Ok(None),
     }
 }
 

@@ -11,6 +11,7 @@ ghost use Rattle.bridge_rules.specs.Texts.{judged_text, text_if_any};
 ghost use Rattle.value_texts.specs.Rows.{CanAsk};
 
 use crate::fronts::Front;
+use crate::sets::SetSpelling;
 use crate::spelling::Spelling;
 use itoa::Buffer;
 use message_walk::{Halt, Lead, Put, put_judged, put_text};
@@ -20,6 +21,26 @@ use tagvalue_codec::FixWriter;
 #[inline(always)]
 pub(crate) fn put_number(
     rule: &Spelling,
+    number: Option<i128>,
+    lead: &Lead,
+    out: &mut FixWriter,
+    halt: &mut Halt,
+) -> Put
+    requires { out.old.phase ≡ Open }
+    ensures open { out.new.phase ≡ Open }
+    ensures put { (lists : TagLists) → length_in lead.now lists.lengths ≡ None → CanAsk rule.now number
+        → IsPut lists out.old lead.now (text_if_any number (λ n. text_of rule.now n)) (record { put = result; draft = out.new; halt = halt.new }) }
+{
+    match number {
+        None => Put::Nothing,
+        Some(n) => rule.put(n, lead, out, halt),
+    }
+}
+
+/// Writes the field of a set's number, if there is one.
+#[inline(always)]
+pub(crate) fn put_choices(
+    rule: &SetSpelling,
     number: Option<i128>,
     lead: &Lead,
     out: &mut FixWriter,

@@ -19,6 +19,7 @@ use crate::bytes::{front_of_value, text_of_bytes};
 use crate::codes::ByteText;
 use crate::face::NumberFace;
 use crate::quick::Quick;
+use crate::sets::SetSpelling;
 use crate::small::SMALL_ROOM;
 use crate::spelling::Spelling;
 use bridge_table::{Epoch, Unit};
@@ -35,7 +36,7 @@ pub enum TextRule {
     /// A number.
     Number(Spelling),
     /// The choices of a set.
-    Choices(Spelling),
+    Choices(SetSpelling),
     /// A decimal with this exponent.
     Decimal(i128),
     /// A decimal whose exponent is on the wire: the types of both.

@@ -5,7 +5,7 @@ use Rattle.std.proofs.lemmas.Int.{to_z-of_z}
 use Rattle.fix_values.specs.declared.rule.NumRule.TheVariants as spelling
 use Rattle.value_texts.specs.declared.row.TextRule.TheVariants as row
 use Rattle.value_texts.specs.Made.{enum_spelling, IsMadeFor}
-use Rattle.value_texts.proofs.MadeRows.{made_array, made_as, made_char, made_day, made_enum, made_fixed, made_floating, made_integer, made_moment, made_month, made_set, made_unscaled}
+use Rattle.value_texts.proofs.MadeRows.{made_array, made_as, made_char, made_day, made_enum, made_fixed, made_floating, made_integer, made_moment, made_month, made_ok, made_set, made_unscaled}
 use Rattle.value_texts.proofs.making.text_rule.Goals as goal
 
 pub returns-in-Integer-clause-made : goal.returns-in-Integer-clause-made
@@ -42,7 +42,7 @@ returns-in-Enum-clause-made c =
 
 pub returns-in-ChoiceSet-clause-made : goal.returns-in-ChoiceSet-clause-made
 returns-in-ChoiceSet-clause-made c =
-    made_as c.choices.result (row.Choices (spelling.Codes c.in-ChoiceSet.codes)) (IsMadeFor c.args.rule) c.choices.ensures.same
+    made_ok c.choices.result (row.Choices (spelling.Codes c.in-ChoiceSet.codes)) (IsMadeFor c.args.rule) c.choices.ensures.same
     (subst (λ r. IsMadeFor r (row.Choices (spelling.Codes c.in-ChoiceSet.codes))) (sym c.in-ChoiceSet.is) (made_set c.in-ChoiceSet.codes))
 
 pub returns-in-DayCount-clause-made : goal.returns-in-DayCount-clause-made
