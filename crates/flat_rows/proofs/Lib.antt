@@ -1,3 +1,4 @@
+pub mod Bits
 pub mod Growing
 pub mod Inside
 pub mod Listed

@@ -1,13 +1,15 @@
--- What a row stores of its kind, so that numbers and texts are checked and printed by their bytes alone. Own profile.
-use Rattle.std.specs.Prelude.{◌≡◌, ◌≤◌, ℕ, Bool, true, false, ◌&&◌, ◌==◌, int_le, if◌then◌else◌, List, [], ◌∷◌, ℤ, pos, ⊤}
+-- What a row stores of its kind, so that numbers and texts are checked and printed, and sets checked, by their bytes
+-- alone. Own profile.
+use Rattle.std.specs.Prelude.{◌≡◌, ◌≤◌, ◌<◌, ℕ, Bool, true, false, ◌&&◌, ◌||◌, ◌==◌, int_le, if◌then◌else◌, List, [], ◌∷◌, ℤ, pos, ⊤}
+use Rattle.std.specs.Int.{bit_at, cast_unsigned, w64}
 use Rattle.std.specs.Ordering.{int_eq}
-use Rattle.sbe_types.specs.declared.kind.Kind.{Kind, Leaf, Enum}
+use Rattle.sbe_types.specs.declared.kind.Kind.{Kind, Leaf, Enum, Set}
 use Rattle.sbe_types.specs.declared.kind.Leaf.{Leaf as LeafOf}
 use Rattle.sbe_types.specs.declared.kind.LeafShape.TheVariants.{Number, RangedText}
 use Rattle.sbe_types.specs.declared.kind.Named.{Named}
 use Rattle.sbe_types.specs.declared.kind.Primitive.{Primitive}
 use Rattle.sbe_types.specs.declared.kind.Primitive.TheVariants.{Char, I8, I16, I32, I64, U8, U16, U32, U64}
-use Rattle.sbe_types.specs.Shown.{is_optional}
+use Rattle.sbe_types.specs.Shown.{is_listed, is_optional}
 use Rattle.flat_rows.specs.declared.rows.Look.{Look}
 use Rattle.flat_rows.specs.declared.rows.Look.TheVariants as look
 use Rattle.flat_rows.specs.declared.rows.Quick.{Quick}
@@ -69,6 +71,14 @@ KeepsText q kind = (leaf : LeafOf) × (kind ≡ Leaf leaf) × IsQuickText q leaf
 abbrev pub IsEnum : Kind → Type 0
 IsEnum kind = (leaf : LeafOf) × (names : List Named) × (kind ≡ Enum leaf names)
 
+-- exactly the bits of the choices are set
+abbrev pub AreListedBits : ℕ → List Named → Type 0
+AreListedBits bits choices = (k : ℕ) → k < 64 → (bit_at bits k == 1) ≡ is_listed choices (pos k)
+
+-- the kind is a set, and the stored bits are those of its choices
+abbrev pub KeepsBits : Quick → Kind → Type 0
+KeepsBits q kind = (prim : Primitive) × (choices : List Named) × (kind ≡ Set prim choices) × AreListedBits (cast_unsigned w64 q.null) choices
+
 -- what is stored is that of the kind; of an enum only that it is one, and of other kinds nothing
 abbrev pub IsQuickAs : Look → Quick → Kind → Type 0
 IsQuickAs look.I8 q kind = KeepsNumber I8 q kind
@@ -80,6 +90,7 @@ IsQuickAs look.U16 q kind = KeepsNumber U16 q kind
 IsQuickAs look.U32 q kind = KeepsNumber U32 q kind
 IsQuickAs look.Text q kind = KeepsText q kind
 IsQuickAs look.Enum q kind = IsEnum kind
+IsQuickAs look.Set q kind = KeepsBits q kind
 IsQuickAs look.Other q kind = ⊤
 
 -- the same, by the stored look
@@ -98,3 +109,9 @@ is_between q n = int_le q.low n && int_le n q.high
 abbrev pub is_text_within : Quick → List ℕ → Bool
 is_text_within q [] = true
 is_text_within q (b ∷ bs) = if is_between q (pos b) then is_text_within q bs else b == 0
+
+-- ---- while the bits are gathered
+
+-- one more bit is set
+abbrev pub AddsBit : ℤ → ℕ → ℕ → Type 0
+AddsBit number old new = (k : ℕ) → k < 64 → (bit_at new k == 1) ≡ (int_eq number (pos k) || (bit_at old k == 1))

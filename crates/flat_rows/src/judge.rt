@@ -7,8 +7,9 @@ ghost use Rattle.sbe_types.specs.Places.{width};
 ghost use Rattle.sbe_types.specs.LeafBad.{leaf_bad};
 ghost use Rattle.sbe_types.specs.Shown.{is_listed, is_null};
 ghost use Rattle.schema_facts.specs.InOrder.{IsKindInOrder, IsLeafInOrder};
+ghost use Rattle.schema_rules.specs.TypeRules.{is_set_primitive};
 ghost use Rattle.flat_rows.specs.BlockChecks.{bytes_there, ScalarsShow, ShowsSome};
-ghost use Rattle.flat_rows.specs.Quick.{is_between, is_none, is_text_within, is_word, IsByte};
+ghost use Rattle.flat_rows.specs.Quick.{is_between, is_none, is_text_within, is_word, IsByte, KeepsBits};
 ghost use Rattle.flat_rows.specs.Tables.{stands_for, IsRow, IsTable, RowsFit};
 
 use crate::bytes::is_valid;
@@ -73,6 +74,7 @@ fn shows_value(row: &FlatRow, known: bool, bytes: &[u8]) -> bool
         Look::U32 => shows_number(quick, number_in(Prim::U32, bytes)),
         Look::Text => is_text(quick, bytes),
         Look::Enum => shows_listed(known, row, bytes),
+        Look::Set => shows_set(quick, &row.kind, bytes),
         Look::Other => shows_kind(&row.kind, bytes),
     }
 }
@@ -149,7 +151,7 @@ fn as_byte(n: i64) -> u8
     n as u8
 }
 
-/// Whether the fast check accepts bytes as a value of a kind that isn't an enum.
+/// Whether the fast check accepts bytes as a value of a kind that is neither an enum nor a set.
 fn shows_kind(kind: &Kind, bytes: &[u8]) -> bool
     requires order { IsKindInOrder kind.now }
     requires wide { length bytes.now ≡ width kind.now }
@@ -184,6 +186,45 @@ fn shows_kind_listed(known: bool, kind: &Kind, bytes: &[u8]) -> bool
     match kind {
         Kind::Enum(leaf, names) => shows_enum(known, leaf, names, bytes),
         Kind::Leaf(_) | Kind::Set(_, _) | Kind::Comp(_) | Kind::Const(_) => false,
+    }
+}
+
+/// Whether bytes are a value of a set: each bit that is set belongs to a choice.
+#[inline(always)]
+fn shows_set(quick: &Quick, kind: &Kind, bytes: &[u8]) -> bool
+    requires bits { KeepsBits quick.now kind.now }
+    requires order { IsKindInOrder kind.now }
+    requires wide { length bytes.now ≡ width kind.now }
+    ensures { result ≡ true → (known : Bool) → ShowsSome Little known kind.now bytes.now }
+{
+    match kind {
+        Kind::Set(prim, _) => set_number(*prim, bytes) & !quick.null.cast_unsigned() == 0,
+        Kind::Leaf(_) | Kind::Enum(_, _) | Kind::Comp(_) | Kind::Const(_) => false,
+    }
+}
+
+/// The number of a set's bytes, in little-endian order.
+#[inline(always)]
+fn set_number(prim: Prim, bytes: &[u8]) -> u64
+    requires encoding { is_set_primitive prim ≡ true }
+    requires wide { length bytes.now ≡ prim_width prim }
+    ensures { pos result ≡ number_of Little prim bytes.now }
+{
+    read_bits::<LittleEndian>(prim, bytes)
+}
+
+#[inline(always)]
+fn read_bits<O: ByteOrder>(prim: Prim, bytes: &[u8]) -> u64
+    requires encoding { is_set_primitive prim ≡ true }
+    requires wide { length bytes.now ≡ prim_width prim }
+    ensures { pos result ≡ read_as O.number_of prim bytes.now }
+{
+    match prim {
+        Prim::U8 => bytes[0] as u64,
+        Prim::U16 => O::read_u16(bytes) as u64,
+        Prim::U32 => O::read_u32(bytes) as u64,
+        Prim::U64 => O::read_u64(bytes),
+        Prim::I8 | Prim::I16 | Prim::I32 | Prim::I64 | Prim::Char => 0,
     }
 }
 

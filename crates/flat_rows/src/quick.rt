@@ -1,12 +1,14 @@
 // What a row stores of its kind.
 ghost use Rattle.std.specs.Prelude.{◌≡◌, IfSome, pos};
-ghost use Rattle.sbe_types.specs.declared.kind.Kind.{Leaf as LeafKind};
+ghost use Rattle.sbe_types.specs.declared.kind.Kind.{Leaf as LeafKind, Set as SetKind};
 ghost use Rattle.sbe_types.specs.declared.kind.LeafShape.TheVariants.{Number, RangedText};
+ghost use Rattle.sbe_types.specs.declared.kind.Primitive.{Primitive};
 ghost use Rattle.sbe_types.specs.Shown.{is_optional};
-ghost use Rattle.flat_rows.specs.Quick.{look_of, IsQuick};
+ghost use Rattle.flat_rows.specs.Quick.{look_of, AddsBit, AreListedBits, IsQuick};
 
 use crate::rows::{Look, Quick};
-use sbe_types::{Kind, Leaf, LeafShape, Presence, Prim};
+use named_numbers::bit_of;
+use sbe_types::{Kind, Leaf, LeafShape, Named, Presence, Prim};
 
 /// For kinds of which nothing is stored.
 const OTHER: Quick = Quick {
@@ -33,7 +35,44 @@ pub(crate) fn quick_of(kind: &Kind) -> Quick
     match kind {
         Kind::Leaf(leaf) => leaf_quick(leaf),
         Kind::Enum(_, _) => ENUM,
-        Kind::Set(_, _) | Kind::Comp(_) | Kind::Const(_) => OTHER,
+        Kind::Set(_, choices) => set_quick(choices.as_slice()),
+        Kind::Comp(_) | Kind::Const(_) => OTHER,
+    }
+}
+
+/// What a row stores of a set.
+#[tactic(auto, using(crate::proofs::Bits::stored_bits))]
+fn set_quick(choices: &[Named]) -> Quick
+    ensures { (prim : Primitive) → IsQuick result (SetKind prim choices.now) }
+{
+    Quick {
+        look: Look::Set,
+        optional: false,
+        null: bits_of(choices).cast_signed(),
+        low: 0,
+        high: 0,
+    }
+}
+
+/// The bits of choices.
+fn bits_of(choices: &[Named]) -> u64
+    ensures { AreListedBits result choices.now }
+{
+    let mut bits = 0;
+    for choice in choices {
+        bits = with_bit(bits, &choice.number);
+    }
+    bits
+}
+
+/// The bits with the bit of this number set, if it is one of the 64 bits.
+#[tactic(auto, using(crate::proofs::Bits::bit_added, crate::proofs::Bits::no_bit_added))]
+fn with_bit(bits: u64, number: &i128) -> u64
+    ensures { AddsBit number.now bits result }
+{
+    match bit_of(number) {
+        Some(place) => bits | 1 << place,
+        None => bits,
     }
 }
 

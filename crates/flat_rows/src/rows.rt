@@ -15,6 +15,8 @@ pub enum Look {
     Text,
     /// An enum, by its kind.
     Enum,
+    /// A set, by the bits of its choices.
+    Set,
     /// Any other kind, by that kind.
     Other,
 }
@@ -25,6 +27,7 @@ pub struct Quick {
     pub look: Look,
     /// Whether a number may be null.
     pub optional: bool,
+    /// The null of a number; of a set, which has none, the bits of its choices, so that a row is no longer than without them.
     pub null: i64,
     /// The least number, or the least byte of a text.
     pub low: i64,

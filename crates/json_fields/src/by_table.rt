@@ -58,7 +58,7 @@ fn put_row<O: Sink>(printer: &mut Printer<'_, O>, row: &TextRow, block: &[u8])
         Look::U32 => put_number(printer, value, Prim::U32, block),
         Look::Text => put_row_text(printer, value, bytes_of(value, block)),
         Look::Enum => put_row_name(printer, value, &row.codes, bytes_of(value, block)),
-        Look::Other => put_by_kind(printer, &value.kind, bytes_of(value, block)),
+        Look::Other | Look::Set => put_by_kind(printer, &value.kind, bytes_of(value, block)),
     }
 }
 

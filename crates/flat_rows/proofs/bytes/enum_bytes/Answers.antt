@@ -1,4 +1,4 @@
-use Rattle.flat_rows.proofs.ValidBytes.{none_set, enum_noted, wide_enum}
+use Rattle.flat_rows.proofs.ValidBytes.{none_set}
 use Rattle.flat_rows.proofs.bytes.enum_bytes.Goals as goal
 
 pub note_names-requires-clause-none : goal.note_names-requires-clause-none

@@ -3,7 +3,7 @@ use mir.Syntax.{w128}
 use Rattle.std.proofs.lemmas.Int.{to_z-of_z}
 use Rattle.sbe_types.specs.Shown.{is_null}
 use Rattle.flat_rows.specs.Bytes.{Notes}
-use Rattle.flat_rows.proofs.ValidBytes.{null_noted, no_null}
+use Rattle.flat_rows.proofs.ValidBytes.{null_noted}
 use Rattle.flat_rows.proofs.bytes.note_null.Goals as goal
 
 pub returns-then-is_null-clause-noted : goal.returns-then-is_null-clause-noted

@@ -60,5 +60,13 @@ returns-in-Text c = λ yes.
     let row = c.args.row.now in
     text_kind row.kind row.quick c.args.known c.args.bytes.now (subst (λ l. IsQuickAs l row.quick row.kind) c.in-Text.is c.requires.row.quick) c.requires.wide (sym c.is_text.ensures ∙ yes)
 
+pub shows_set-requires-clause-bits : goal.shows_set-requires-clause-bits
+shows_set-requires-clause-bits c =
+    let row = c.args.row.now in
+    subst (λ l. IsQuickAs l row.quick row.kind) c.in-Set.is c.requires.row.quick
+
+pub returns-in-Set : goal.returns-in-Set
+returns-in-Set c = λ yes. c.shows_set.ensures yes c.args.known
+
 pub returns-in-Other : goal.returns-in-Other
 returns-in-Other c = λ yes. c.shows_kind.ensures yes c.args.known
