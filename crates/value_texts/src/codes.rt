@@ -6,11 +6,10 @@ ghost use Rattle.value_texts.specs.Fronts.{IsFrontText};
 
 use crate::face::{Found, NumberFace};
 use crate::fronts::FrontText;
-use crate::quick::Quick;
 use crate::row::TextRule;
-use crate::small::SMALL_ROOM;
 use crate::spelling::Spelling;
 use byte_places::place;
+use fix_values::Short;
 use lists::{List, NoMem};
 use std::alloc::Global;
 use std::marker::Model;
@@ -95,8 +94,8 @@ pub(crate) fn code_front<'a>(codes: &'a List<ByteText>, bytes: &[u8]) -> Option<
     codes.at(at).front()
 }
 
-/// For each byte the text of the number that it shows, if it is found without the general rules and has at most eight bytes. Empty
-/// for rules without numbers, and for numbers of several bytes.
+/// For each byte the text of the number that it shows, if it has one of at most eight bytes. Empty for rules without numbers, and for
+/// numbers of several bytes.
 pub(crate) fn codes_of(
     alloc: Global,
     rule: &TextRule,
@@ -146,15 +145,13 @@ fn text_of_byte(spelling: &Spelling, face: &NumberFace, byte: u8) -> ByteText
     }
 }
 
-/// The text of a number, if it is found without the general rules and is short.
+/// The text of a number, if it has one and it is short.
 fn number_text(spelling: &Spelling, n: i64) -> ByteText
     ensures { 0 < length result → IsNumberText spelling.now n result }
 {
-    let mut room = [0; SMALL_ROOM];
-    match spelling.quick(n as i128, &mut room) {
-        Quick::Text(text) => ByteText::new(text),
-        Quick::Room(at) => ByteText::new(&room[at..]),
-        Quick::Nothing => ByteText::none(),
-        Quick::Other => ByteText::none(),
+    let mut text = Short::new();
+    match spelling.show(n as i128, &mut text) {
+        Ok(()) => ByteText::new(text.bytes()),
+        Err(_) => ByteText::none(),
     }
 }

@@ -1,6 +1,7 @@
 // How a number is written.
-ghost use Rattle.std.specs.Prelude.{◌≡◌, length, true, is_some, None, Some, IfSome};
+ghost use Rattle.std.specs.Prelude.{◌≡◌, length, true, is_some, None, Some, IfOk, IfSome};
 ghost use Rattle.tagvalue_codec.specs.declared.write.Phase.TheVariants.{Open};
+ghost use Rattle.tagvalue_codec.specs.Drafts.{IsValue};
 ghost use Rattle.bridge_terms.specs.MessageFields.{length_in};
 ghost use Rattle.bridge_terms.specs.Parts.{TagLists};
 ghost use Rattle.message_walk.specs.States.{IsPut};
@@ -90,7 +91,9 @@ impl Spelling {
 
     /// Writes a number as text. One that the rule can't be given is refused.
     pub(crate) fn show(&self, n: i128, out: &mut Short) -> Result<(), V>
-        ensures { is_asked self.now n ≡ true → Leaves result out.new (text_of self.now n) }
+        ensures asked { IfOk result (λ u. is_asked self.now n ≡ true) }
+        ensures shown { is_asked self.now n ≡ true → Leaves result out.new (text_of self.now n) }
+        ensures value { IfOk result (λ u. IsValue out.new) }
     {
         if !is_asked(&self.rule, n) {
             return Err(V::Range);
