@@ -9,6 +9,7 @@ ghost use Rattle.fix_values.specs.Decimals.{dec, decimal_of, decimal_text, parts
 ghost use Rattle.fix_values.specs.Numerals.{is_value};
 ghost use Rattle.fix_values.specs.Values.{Leaves};
 ghost use Rattle.bridge_rules.specs.Texts.{decimal_in_types, field_text, floating_text, if_read, text_if_any};
+ghost use Rattle.reduced_decimals.specs.Forms.{form_of};
 ghost use Rattle.value_texts.specs.Rows.{is_ok_of};
 ghost use Rattle.value_texts.specs.Small.{small_parts};
 ghost use Rattle.value_texts.specs.FieldViews.{members_seen, nth_number, HasMembers};
@@ -19,6 +20,7 @@ use crate::small::{SMALL_ROOM, SmallDecimal, small_of, write_small};
 use fix_values::{Short, V, read_decimal, show_decimal};
 use flyweight_view::BlockView;
 use message_walk::{Halt, Lead, Put, put_text};
+use reduced_decimals::{Reduced, reduced_of};
 use sbe_types::Leaf;
 use tagvalue_codec::FixWriter;
 
@@ -168,9 +170,23 @@ fn show_back(mantissa: &Leaf, exponent: &Leaf, m: i128, e: i128, out: &mut Short
     ensures { Leaves result out.new (floating_text mantissa.now exponent.now (Some e) m) }
 {
     match show_any_decimal(m, e, out) {
-        Ok(()) => judge_back(mantissa, exponent, out),
+        Ok(()) => match reduced_of(m, e) {
+            Some(form) => judge_form(mantissa, exponent, form, out),
+            None => judge_back(mantissa, exponent, out),
+        },
         Err(why) => Err(why),
     }
+}
+
+/// Keeps the text of a decimal if its reduced form, which is what is read of it, is one of these types.
+fn judge_form(mantissa: &Leaf, exponent: &Leaf, form: Reduced, out: &mut Short) -> Result<(), V>
+    ensures { Leaves result out.new (if_read out.old (decimal_in_types mantissa.now exponent.now (Ok (form_of form)))) }
+{
+    if is_value(mantissa, form.mantissa()) && is_value(exponent, form.exponent) {
+        return Ok(());
+    }
+    out.clear();
+    Err(V::Range)
 }
 
 /// Keeps a text if it is read as a decimal of these types.
