@@ -7,7 +7,7 @@ use sbe_types::{Order, Prim};
 use std::marker::Model;
 
 /// The size of a draft in bytes. A longer body takes the general path.
-pub const DRAFT_BYTES: usize = 4096;
+pub const DRAFT_BYTES: usize = 32_768;
 
 /// How many bytes a word has.
 const WORD: usize = 8;
