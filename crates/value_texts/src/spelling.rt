@@ -10,33 +10,40 @@ ghost use Rattle.fix_values.specs.Codes.{code_text, found_text, has_short_text};
 ghost use Rattle.fix_values.specs.Values.{can_show, is_asked, text_of, Leaves};
 ghost use Rattle.bridge_rules.specs.Texts.{field_text};
 ghost use Rattle.value_texts.specs.Quick.{HasValue, IsQuick};
-ghost use Rattle.value_texts.specs.Spelled.{is_plain};
+ghost use Rattle.value_texts.specs.Spelled.{is_plain, HasGrowing};
 
 use crate::numbers::put_digits;
 use crate::quick::{Quick, quick_code, quick_digits};
 use crate::shown::{put_shown, refuse};
 use crate::small::SMALL_ROOM;
+use code_search::are_growing;
 use fix_values::{Code, CodeList, NumRule, Short, V, show_num};
 use message_walk::{Halt, Lead, Put, put_judged};
 use std::marker::Model;
 use tagvalue_codec::FixWriter;
 
+/// Up to so many codes are looked through one after another.
+const FEW: usize = 16;
+
 /// A rule by which numbers can be written.
 #[derive(Drop)]
 pub struct Spelling {
     rule: NumRule,
+    /// Whether there are many codes, and their numbers grow.
+    grows: bool,
 }
 
 impl Model for Spelling {
     ghost use Rattle.std.specs.Prelude.{◌≡◌, true};
     ghost use Rattle.fix_values.specs.declared.rule.NumRule.{NumRule as AnyRule};
     ghost use Rattle.fix_values.specs.Values.{can_show};
+    ghost use Rattle.value_texts.specs.Spelled.{HasGrowing};
 
     ghost Value = { AnyRule };
 
     ghost view = { λ spelling. spelling.rule };
 
-    ghost invariant = { λ spelling. can_show spelling.rule ≡ true };
+    ghost invariant = { λ spelling. (can_show spelling.rule ≡ true) × (spelling.grows ≡ true → HasGrowing spelling.rule) };
 }
 
 impl Spelling {
@@ -46,7 +53,8 @@ impl Spelling {
         ensures some { is_some result ≡ can_show rule }
     {
         if rule.can_show() {
-            return Some(Spelling { rule });
+            let grows = is_searched(&rule);
+            return Some(Spelling { rule, grows });
         }
         None
     }
@@ -82,7 +90,7 @@ impl Spelling {
         match &self.rule {
             NumRule::Int => quick_digits(n, room),
             NumRule::Decimal => quick_digits(n, room),
-            NumRule::Code(codes) => quick_code(codes, n),
+            NumRule::Code(codes) => quick_code(codes, self.grows, n),
             NumRule::Char => Quick::Other,
             NumRule::Boolean(_) => Quick::Other,
             NumRule::Codes(_) => Quick::Other,
@@ -144,6 +152,17 @@ fn put_code_text(code: &Code, lead: &Lead, out: &mut FixWriter, halt: &mut Halt)
         → IsPut lists out.old lead.now (field_text (found_text (Some code.now))) (record { put = result; draft = out.new; halt = halt.new }) }
 {
     put_judged(lead, code.text.as_slice(), out, halt)
+}
+
+/// Whether the codes of a rule are many, and their numbers grow.
+fn is_searched(rule: &NumRule) -> bool
+    ensures { result ≡ true → HasGrowing rule.now }
+{
+    match rule {
+        NumRule::Code(codes) => codes.len() > FEW && are_growing(codes.as_slice()),
+        NumRule::Int | NumRule::Decimal | NumRule::Char => false,
+        NumRule::Boolean(_) | NumRule::Codes(_) => false,
+    }
 }
 
 /// Whether numbers are written as digits.

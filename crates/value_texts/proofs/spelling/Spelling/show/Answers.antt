@@ -8,4 +8,4 @@ returns-clause-value c =
     let shown = c.show_num in
     let rule = c.self.inside.rule in
     leaves_value shown.result shown.new.out (text_of rule c.args.n) (whole (λ n. Leaves shown.result shown.new.out (text_of rule n)) c.args.n c.ranges.n shown.ensures)
-    (λ t h. value_of_plain t (number_plain rule c.args.n c.ranges.n c.self.invariant t h))
+    (λ t h. value_of_plain t (number_plain rule c.args.n c.ranges.n c.self.invariant.0 t h))
