@@ -1,5 +1,5 @@
 -- The text of a message, of fields that may follow one another, is a text of them.
-use Rattle.std.proofs.Common.{◌≡◌, ◌≤◌, ◌<◌, ◌+◌, ℕ, List, ◌++◌, length, refl, sym, ap, ◌∙◌, subst, arith, append_assoc, length-append, lit<}
+use Rattle.std.proofs.Common.{◌≡◌, ◌≤◌, ◌<◌, ◌+◌, ℕ, List, [], ◌∷◌, ◌++◌, length, refl, sym, ap, ◌∙◌, subst, arith, append_assoc, append-nil, length-append, lit<}
 use Rattle.std.proofs.lemmas.Grind.{flat_map-append}
 use Rattle.tagvalue_codec.specs.declared.data_tags.Pair.{Pair}
 use Rattle.tagvalue_codec.specs.Drafts.{IsValue, typed}
@@ -25,10 +25,9 @@ body_short begin body =
     let three = length-append size body in
     omega (arith, one, two, three)
 
--- the bytes between the first three parts and the last one
-regroup : (a b k r l : List ℕ) → (a ++ (b ++ (k ++ r))) ++ l ≡ (a ++ (b ++ k)) ++ (r ++ l)
+regroup : (a b k r l : List ℕ) → (a ++ (b ++ (k ++ r))) ++ l ≡ a ++ (b ++ (k ++ (r ++ l)))
 regroup a b k r l =
-    ap (λ x. (a ++ x) ++ l) (sym (append_assoc b k r)) ∙ ap (λ x. x ++ l) (sym (append_assoc a (b ++ k) r)) ∙ append_assoc (a ++ (b ++ k)) r l
+    append_assoc a (b ++ (k ++ r)) l ∙ ap (λ x. a ++ x) (append_assoc b (k ++ r) l ∙ ap (λ x. b ++ x) (append_assoc k r l))
 
 module _ (lists : TagLists) (kind : List ℕ) (head : Head) (fields : List Field) where
   -- the fields between MsgType and CheckSum
@@ -57,13 +56,21 @@ module _ (lists : TagLists) (kind : List ℕ) (head : Head) (fields : List Field
       ap length (flat_map-append field_bytes (given_fields head) (with_lengths lists fields)) ∙ length-append (bytes_of (given_fields head)) (bytes_of (with_lengths lists fields)) in
       omega (arith, within, body_within, one, two)
 
+  over_is : text_over head.begin body_bytes ≡ bytes_of (fields_over head.begin (typed kind) between body_bytes)
+  over_is =
+      let first = field_bytes (record { tag = 8; value = head.begin }) in
+      let size = field_bytes (size_field (length body_bytes)) in
+      let last = sum_field (sized head.begin body_bytes) in
+      regroup first size (field_bytes (typed kind)) (bytes_of between) (field_bytes last)
+      ∙ ap (λ b. first ++ (size ++ (field_bytes (typed kind) ++ (bytes_of between ++ b)))) (sym (append-nil (field_bytes last)))
+      ∙ ap (λ b. first ++ (size ++ (field_bytes (typed kind) ++ b))) (sym (flat_map-append field_bytes between (last ∷ [])))
+
   -- the fields between are few where those of the text are
   pub between_few : HasFewFields text → length between ≤ most_between
   between_few few =
-      let first = field_bytes (record { tag = 8; value = head.begin }) in
-      let size = field_bytes (size_field (length body_bytes)) in
-      let last = field_bytes (sum_field (sized head.begin body_bytes)) in
-      few (first ++ (size ++ field_bytes (typed kind))) last between (text_is ∙ regroup first size (field_bytes (typed kind)) (bytes_of between) last)
+      let last = sum_field (sized head.begin body_bytes) in
+      let all = few (fields_over head.begin (typed kind) between body_bytes) (text_is ∙ over_is) in
+      omega (arith, all, length-append between (last ∷ []))
 
   pub sent_text : (tags : List Pair) → IsValue head.begin → IsValue kind → length text < 1000000000 → Body tags Free between (bytes_of between) → length between ≤ most_between
       → FixText tags (fields_over head.begin (typed kind) between body_bytes) text

@@ -1,5 +1,5 @@
 -- A message that is written as a given text. Own profile.
-use Rattle.std.specs.Prelude.{◌≡◌, ◌<◌, ◌≤◌, ℕ, true, List, ◌∷◌, ◌++◌, length, slice_get, None, Some}
+use Rattle.std.specs.Prelude.{◌≡◌, ◌<◌, ◌≤◌, ◌+◌, ℕ, true, List, ◌∷◌, length, slice_get, None, Some}
 use Rattle.byte_digits.specs.Digits.{IsBytes}
 use Rattle.sbe_types.specs.declared.message.Msg.{Msg}
 use Rattle.sbe_types.specs.declared.message.Value.{Value}
@@ -73,9 +73,13 @@ pub record IsReadPlan (tags : List Pair) (m : Mapping) (s : Structure) (level : 
   pub tagged : AreTags tags (all_tags (plan_of m s level))
   pub plan : IsExactPlan m s level
 
+-- the most fields of a text: those between MsgType and CheckSum, and the four that frame them
+abbrev pub most_fields : ℕ
+most_fields = 4 + most_between
+
 -- the text has few enough fields, however it is made of them
 abbrev pub HasFewFields : List ℕ → Type 0
-HasFewFields text = (front back : List ℕ) (fields : List Field) → text ≡ front ++ (bytes_of fields ++ back) → length fields ≤ most_between
+HasFewFields text = (fields : List Field) → text ≡ bytes_of fields → length fields ≤ most_fields
 
 -- how texts are written: by a mapping with its pairs of tags, the structure and the level of a template, and a head
 pub record Writing : Type 0 where

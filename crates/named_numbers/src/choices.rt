@@ -1,4 +1,4 @@
-ghost use Rattle.std.specs.Prelude.{◌≡◌, ◌<◌, if◌then◌else◌, pos, ℕ, IfSome};
+ghost use Rattle.std.specs.Prelude.{◌≡◌, ◌<◌, true, if◌then◌else◌, pos, ℕ, IfSome};
 ghost use Rattle.std.specs.Int.{bit_at};
 ghost use Rattle.std.specs.Ordering.{int_eq};
 ghost use Rattle.sbe_types.specs.Shown.{has_listed_bits, is_listed};
@@ -6,12 +6,40 @@ ghost use Rattle.named_numbers.specs.Bits.{bit_of};
 
 use sbe_types::Named;
 
+/// Up to so many names are looked through one after another.
+const FEW: usize = 16;
+
 /// Whether `number` is the number of one of the names.
 #[inline(always)]
 pub fn is_listed(names: &[Named], number: i128) -> bool
     ensures { result ≡ is_listed names.now number }
 {
+    if names.len() > FEW && is_found(names, number) {
+        return true;
+    }
     names.iter().any(|name| name.number == number)
+}
+
+/// Whether a search by halves finds the number. `false` is inconclusive, since the names may be in any order.
+#[inline(never)]
+fn is_found(names: &[Named], number: i128) -> bool
+    ensures { result ≡ true → is_listed names.now number ≡ true }
+{
+    let mut low = 0;
+    let mut high = names.len();
+    while low < high {
+        let middle = low + (high - low) / 2;
+        let here = names[middle].number;
+        if here == number {
+            return true;
+        }
+        if here < number {
+            low = middle + 1;
+        } else {
+            high = middle;
+        }
+    }
+    false
 }
 
 /// Whether each bit that is set belongs to a choice.

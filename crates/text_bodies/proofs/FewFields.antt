@@ -21,12 +21,10 @@ fields_long (f ∷ fs) =
     let rest = fields_long fs in
     omega (arith, first, rest, length-append (field_bytes f) (bytes_of fs))
 
-pub few_by_length : (text : List ℕ) → length text ≤ 8184 → HasFewFields text
-few_by_length text short front back fields is =
-    let whole : length text ≡ length (front ++ (bytes_of fields ++ back)) = ap length is in
-    let one = length-append front (bytes_of fields ++ back) in
-    let two = length-append (bytes_of fields) back in
-    omega (arith, short, whole, one, two, fields_long fields)
+pub few_by_length : (text : List ℕ) → length text ≤ 8192 → HasFewFields text
+few_by_length text short fields is =
+    let whole : length text ≡ length (bytes_of fields) = ap length is in
+    omega (arith, short, whole, fields_long fields)
 
 -- ---- by the number of bytes that end a field
 
@@ -49,9 +47,7 @@ fields_end (f ∷ fs) =
     let rest = fields_end fs in
     omega (arith, first, rest, ends_append (field_bytes f) (bytes_of fs))
 
-pub few_by_ends : (text : List ℕ) → ends text ≤ 4092 → HasFewFields text
-few_by_ends text few front back fields is =
-    let whole : ends text ≡ ends (front ++ (bytes_of fields ++ back)) = ap ends is in
-    let one = ends_append front (bytes_of fields ++ back) in
-    let two = ends_append (bytes_of fields) back in
-    omega (arith, few, whole, one, two, fields_end fields)
+pub few_by_ends : (text : List ℕ) → ends text ≤ 4096 → HasFewFields text
+few_by_ends text few fields is =
+    let whole : ends text ≡ ends (bytes_of fields) = ap ends is in
+    omega (arith, few, whole, fields_end fields)

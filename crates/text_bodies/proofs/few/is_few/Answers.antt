@@ -5,5 +5,5 @@ use Rattle.text_bodies.proofs.few.is_few.Goals as goal
 
 pub returns : goal.returns
 returns c = λ yes.
-    let low : c.ends_in.result ≤ 4092 = grind (arith, nat_tests) in
-    few_by_ends c.args.text.now (subst (λ (n : ℕ). n ≤ 4092) c.ends_in.ensures low)
+    let low : c.ends_in.result ≤ 4096 = grind (arith, nat_tests) in
+    few_by_ends c.args.text.now (subst (λ (n : ℕ). n ≤ 4096) c.ends_in.ensures low)
